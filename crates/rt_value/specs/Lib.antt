@@ -1,0 +1,9 @@
+pub mod Arith
+pub mod Gives
+pub mod Keep
+pub mod Numeral
+pub mod Order
+pub mod Row
+pub mod Truth
+pub mod Value
+pub mod formers

@@ -1,0 +1,98 @@
+ghost use Rattle.std.specs.Prelude.{◌≡◌, ◌==◌, IfOk, string_bytes};
+ghost use Rattle.std.specs.Cmp.{partial_order_from_own_ties};
+ghost use Rattle.std.specs.Cmp.Lexicographic.{slice_cmp};
+ghost use Rattle.std.specs.Cmp.Rules.{comparing};
+ghost use Rattle.std.specs.Ordering.{nat_cmp, as_partial_cmp};
+ghost use Rattle.std.proofs.Common.{rules};
+ghost use lib.Pointwise.{pointwise};
+
+use crate::no_memory::NoMemory;
+use std::alloc::Global;
+use std::cmp::Ordering;
+use std::marker::Model;
+
+/// An owned UTF-8 text, which contracts see as its bytes. Texts are ordered by their bytes.
+#[derive(Debug, Drop)]
+pub struct Txt {
+    text: String,
+}
+
+impl Model for Txt {
+    ghost use Rattle.std.specs.Prelude.{List, ℕ};
+    ghost use Rattle.std.specs.String.{string_bytes};
+
+    ghost Value = { List ℕ };
+
+    ghost view = { λ t. string_bytes t.text };
+}
+
+impl Txt {
+    pub fn of(alloc: Global, text: &str) -> Result<Txt, NoMemory>
+        ensures { IfOk result (λ t. t ≡ text.now) }
+    {
+        let text = String::from_str(alloc, text)?;
+        Ok(Txt { text })
+    }
+
+    pub fn from_string(text: String) -> Txt
+        ensures { result ≡ string_bytes text }
+    {
+        Txt { text }
+    }
+
+    pub fn copy(&self, alloc: Global) -> Result<Txt, NoMemory>
+        ensures { IfOk result (λ t. t ≡ self.now) }
+    {
+        Txt::of(alloc, self.as_str())
+    }
+
+    pub fn as_str(&self) -> &str
+        ensures { result.now ≡ self.now }
+    {
+        self.text.as_str()
+    }
+
+    pub fn as_bytes(&self) -> &[u8]
+        ensures { result.now ≡ self.now }
+    {
+        self.text.as_str().as_bytes()
+    }
+}
+
+impl PartialEq for Txt {
+    ghost eq = { pointwise ◌==◌ };
+
+    ghost laws = { Prim.search (comparing, rules) };
+
+    fn eq(&self, other: &Txt) -> bool {
+        self.text.as_str() == other.text.as_str()
+    }
+}
+
+impl Eq for Txt {
+    ghost laws = { Prim.search (comparing, rules) };
+}
+
+impl Ord for Txt {
+    ghost cmp = { slice_cmp nat_cmp };
+
+    ghost total = { Prim.search (comparing, rules) };
+
+    ghost matches_partial_cmp = { Prim.search (comparing, rules) };
+
+    ghost matches_eq = { Prim.search (comparing, rules) };
+
+    fn cmp(&self, other: &Txt) -> Ordering {
+        self.text.as_str().cmp(&other.text.as_str())
+    }
+}
+
+impl PartialOrd for Txt {
+    ghost partial_cmp = { as_partial_cmp (slice_cmp nat_cmp) };
+
+    ghost laws = { partial_order_from_own_ties (Prim.search (comparing, rules)) (Prim.search (comparing, rules)) };
+
+    fn partial_cmp(&self, other: &Txt) -> Option<Ordering> {
+        Some(self.cmp(other))
+    }
+}
