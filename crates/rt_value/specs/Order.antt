@@ -1,6 +1,6 @@
 -- The laws of the order and of the sameness of values and rows, which the impls cite.
 use Rattle.std.specs.Prelude.{Bool, true, false, ◌&&◌}
-use Rattle.std.proofs.Common.{◌≡◌, refl, List, [], ◌∷◌, arith, rules}
+use Rattle.std.proofs.Common.{◌≡◌, refl, List, [], ◌∷◌, rules}
 use Rattle.std.specs.declared.cmp.Ordering.{Ordering}
 use Rattle.std.specs.declared.cmp.Ordering.TheVariants.{Less, Equal, Greater}
 use Rattle.std.specs.Ordering.{ordering_reverse, ordering_then, is_eq}
