@@ -1,0 +1,6 @@
+pub mod Counts
+pub mod Edge
+pub mod Failing
+pub mod Held
+pub mod MemFiles
+pub mod MemSink

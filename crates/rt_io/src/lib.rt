@@ -1,0 +1,28 @@
+//! The outside: files that are read, sinks that are written, and what is known of both.
+//!
+//! A call of the outside may fail at any time. So each object keeps a count of its faults, and a
+//! contract says of a fault that this count rose. Files in memory and sinks in memory also tell
+//! their contents; the files of the system and its writers tell none.
+#![tactic(auto)]
+
+mod counts;
+mod files;
+mod held;
+mod mem_files;
+mod mem_sink;
+mod real_files;
+mod real_sink;
+mod sink;
+mod sure_files;
+mod sure_sink;
+#[cfg(test)]
+mod tests;
+
+pub use files::{BeginFail, Failed, Files, ReadFail, read_file};
+pub use mem_files::MemFiles;
+pub use mem_sink::MemSink;
+pub use real_files::RealFiles;
+pub use real_sink::RealSink;
+pub use sink::{Sink, SinkFail, write_text};
+pub use sure_files::SureFiles;
+pub use sure_sink::SureSink;
