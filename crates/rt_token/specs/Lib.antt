@@ -1,0 +1,4 @@
+pub mod Layout
+pub mod Lexed
+pub mod Reserved
+pub mod Spelled

@@ -1,0 +1,18 @@
+/// A symbol: `(` `)` `,` `.` `;` `*` `+` `-` `=` `<>` `<` `<=` `>` `>=`, in this order.
+#[derive(Clone, Copy, PartialEq, Eq, Debug)]
+pub enum Sym {
+    Left,
+    Right,
+    Comma,
+    Dot,
+    Semi,
+    Star,
+    Plus,
+    Minus,
+    Eq,
+    Ne,
+    Lt,
+    Le,
+    Gt,
+    Ge,
+}
