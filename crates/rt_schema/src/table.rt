@@ -1,0 +1,38 @@
+use rt_value::{List, Txt};
+
+/// The type of a column: INTEGER or TEXT.
+#[derive(Clone, Copy, PartialEq, Eq, Debug)]
+pub enum ColKind {
+    Whole,
+    Text,
+}
+
+#[derive(PartialEq, Eq, Debug, Drop)]
+pub struct Column {
+    pub name: Txt,
+    pub kind: ColKind,
+}
+
+/// A foreign key: the referencing columns, the number of the referenced table, and its columns in
+/// the same order.
+#[derive(PartialEq, Eq, Debug, Drop)]
+pub struct Foreign {
+    pub from: List<usize>,
+    pub table: usize,
+    pub to: List<usize>,
+}
+
+/// A rule of a table. Columns and tables are named by their numbers from 0.
+#[derive(PartialEq, Eq, Debug, Drop)]
+pub enum Rule {
+    NotNull(usize),
+    Key(List<usize>),
+    Foreign(Foreign),
+}
+
+#[derive(PartialEq, Eq, Debug, Drop)]
+pub struct Table {
+    pub name: Txt,
+    pub columns: List<Column>,
+    pub rules: List<Rule>,
+}
