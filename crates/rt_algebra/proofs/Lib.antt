@@ -1,0 +1,5 @@
+pub mod Bounded
+pub mod Bounds
+pub mod Exact
+pub mod Instances
+pub mod Rows

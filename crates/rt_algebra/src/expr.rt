@@ -1,0 +1,22 @@
+use rt_value::{List, Txt};
+
+/// An expression over the rows in scope. The first number of `Col` counts rows outward, the
+/// second is the column. `Sum` adds its signed members, `Mul` multiplies.
+#[cycle(expr)]
+#[derive(Drop)]
+pub enum Expr {
+    Col(usize, usize),
+    Int(i128),
+    Text(Txt),
+    Null,
+    Sum(List<Term>),
+    Mul(List<Expr>),
+}
+
+/// A member of a sum, with its sign.
+#[cycle(expr)]
+#[derive(Drop)]
+pub struct Term {
+    pub minus: bool,
+    pub of: Expr,
+}

@@ -1,0 +1,24 @@
+ghost use Rattle.std.specs.Prelude.{◌≡◌, length};
+
+use crate::query::Query;
+use rt_schema::ColKind;
+use rt_value::{List, Txt};
+
+/// A query with the kinds, bounds and names of its columns, one entry a column. No whole number
+/// in a column is larger in size than the column's bound.
+#[derive(Drop)]
+pub struct Typed {
+    pub query: Query,
+    pub kinds: List<ColKind>,
+    pub bounds: List<u128>,
+    pub names: List<Option<Txt>>,
+}
+
+impl Typed {
+    /// The number of columns.
+    pub fn width(&self) -> usize
+        ensures { result ≡ length self.now.kinds }
+    {
+        self.kinds.len()
+    }
+}
