@@ -1,0 +1,13 @@
+//! Plain evaluation: the answer of a query on the kept rows, computed row by row.
+#![tactic(auto)]
+
+mod answer;
+mod kept;
+mod lists;
+mod query;
+mod rows;
+#[cfg(test)]
+mod tests;
+
+pub use answer::answers;
+pub use rows::Rows;

@@ -1,0 +1,117 @@
+ghost use Rattle.std.specs.Prelude.{◌≡◌, ◌∷◌, ◌++◌, map, not, IfOk};
+ghost use Rattle.std.specs.List.{filter};
+ghost use Rattle.rt_algebra.specs.Expression.{wrapped, row_by};
+ghost use Rattle.rt_algebra.specs.Answer.{has_row, some_truth, member_truth, pairs, join_each};
+
+use rt_algebra::{Expr, cell_truth, row, scope};
+use rt_value::{List, NoMemory, Row, Truth, Value};
+use std::alloc::Global;
+
+/// Whether there is a row.
+pub fn some_truth(rows: &[Row]) -> Truth
+    ensures { result ≡ some_truth rows.now }
+{
+    match rows {
+        [] => Truth::No,
+        [_, ..] => Truth::Yes,
+    }
+}
+
+/// IN with a query: whether the value compares equal to one of the rows.
+pub fn member_truth(value: &Value, rows: &[Row]) -> Truth
+    ensures { result ≡ member_truth value.now rows.now }
+{
+    let mut truth = Truth::No;
+    for row in rows {
+        truth = truth.or(cell_truth(value, row));
+    }
+    truth
+}
+
+/// Whether the row stands among the rows.
+pub fn has_row(rows: &[Row], row: &Row) -> bool
+    ensures { result ≡ has_row rows.now row.now }
+{
+    rows.iter().any(|other| *row == *other)
+}
+
+/// The rows, and copies of `more` after them.
+pub fn appended(alloc: Global, rows: List<Row>, more: &[Row]) -> Result<List<Row>, NoMemory>
+    ensures { IfOk result (λ out. out ≡ rows ++ more.now) }
+{
+    let mut out = rows;
+    for row in more {
+        out.push(row.copy(alloc)?)?;
+    }
+    Ok(out)
+}
+
+/// The rows that stand among the others.
+pub fn common(alloc: Global, rows: &[Row], others: &[Row]) -> Result<List<Row>, NoMemory>
+    ensures { IfOk result (λ out. out ≡ filter (has_row others.now) rows.now) }
+{
+    let mut out = List::new(alloc);
+    for row in rows {
+        if has_row(others, row) {
+            out.push(row.copy(alloc)?)?;
+        }
+    }
+    Ok(out)
+}
+
+/// The rows that do not stand among the others.
+pub fn difference(alloc: Global, rows: &[Row], others: &[Row]) -> Result<List<Row>, NoMemory>
+    ensures { IfOk result (λ out. out ≡ filter (λ r. not (has_row others.now r)) rows.now) }
+{
+    let mut out = List::new(alloc);
+    for row in rows {
+        if !has_row(others, row) {
+            out.push(row.copy(alloc)?)?;
+        }
+    }
+    Ok(out)
+}
+
+/// The values of the items for each row as the innermost in scope.
+pub fn projected(
+    alloc: Global,
+    rows: &[Row],
+    items: &[Expr],
+    env: &[&Row],
+) -> Result<List<Row>, NoMemory>
+    ensures { IfOk result (λ out. out ≡ map (λ r. row_by wrapped items.now (r ∷ map (λ s. s.now) env.now)) rows.now) }
+{
+    let mut out = List::new(alloc);
+    for source in rows {
+        let inner = scope(alloc, source, env)?;
+        out.push(row(alloc, items, inner.as_slice())?)?;
+    }
+    Ok(out)
+}
+
+/// Each concatenation of one of the rows and one of the others.
+pub fn joined(alloc: Global, rows: &[Row], others: &[Row]) -> Result<List<Row>, NoMemory>
+    ensures { IfOk result (λ out. out ≡ pairs rows.now others.now) }
+{
+    let mut out = List::new(alloc);
+    for row in rows {
+        out = joined_each(alloc, out, row, others)?;
+    }
+    Ok(out)
+}
+
+/// `out`, and the row before each of the others.
+fn joined_each(
+    alloc: Global,
+    out: List<Row>,
+    row: &Row,
+    others: &[Row],
+) -> Result<List<Row>, NoMemory>
+    ensures { IfOk result (λ o. o ≡ out ++ join_each row.now others.now) }
+{
+    let mut out = out;
+    for other in others {
+        out.push(row.join(alloc, other)?)?;
+    }
+    Ok(out)
+}

@@ -1,0 +1,173 @@
+ghost use Rattle.std.specs.Prelude.{◌≡◌, ◌∷◌, [], map, IfOk};
+ghost use Rattle.std.specs.List.{filter};
+ghost use Rattle.rt_algebra.specs.Expression.{wrapped};
+ghost use Rattle.rt_algebra.specs.Answer.{pred_by, answer_by, is_yes, product_after, all_of, any_of};
+
+use crate::lists::{appended, common, difference, joined, member_truth, projected, some_truth};
+use rt_algebra::{Pred, Query, null_truth, one_of_truth, scope, value};
+use rt_value::{List, NoMemory, Row, Truth, compare};
+use std::alloc::Global;
+
+/// The answer of a query on the rows of the tables, under the rows in scope.
+#[cycle(answer)]
+pub fn answer(
+    alloc: Global,
+    query: &Query,
+    tables: &[List<Row>],
+    env: &[&Row],
+) -> Result<List<Row>, NoMemory>
+    ensures { IfOk result (λ rows. rows ≡ answer_by wrapped query.now tables.now (map (λ r. r.now) env.now)) }
+{
+    match query {
+        Query::Table(table) => match tables.get(*table) {
+            None => Ok(List::new(alloc)),
+            Some(rows) => appended(alloc, List::new(alloc), rows.as_slice()),
+        },
+        Query::Select(source, condition) => {
+            let rows = answer(alloc, source.get(), tables, env)?;
+            selected(alloc, rows.as_slice(), condition, tables, env)
+        }
+        Query::Project(source, items) => {
+            let rows = answer(alloc, source.get(), tables, env)?;
+            projected(alloc, rows.as_slice(), items.as_slice(), env)
+        }
+        Query::Product(members) => product(alloc, members.as_slice(), tables, env),
+        Query::Union(a, b) => {
+            let first = answer(alloc, a.get(), tables, env)?;
+            let second = answer(alloc, b.get(), tables, env)?;
+            appended(alloc, first, second.as_slice())
+        }
+        Query::Except(a, b) => {
+            let first = answer(alloc, a.get(), tables, env)?;
+            let second = answer(alloc, b.get(), tables, env)?;
+            difference(alloc, first.as_slice(), second.as_slice())
+        }
+        Query::Intersect(a, b) => {
+            let first = answer(alloc, a.get(), tables, env)?;
+            let second = answer(alloc, b.get(), tables, env)?;
+            common(alloc, first.as_slice(), second.as_slice())
+        }
+    }
+}
+
+/// The rows whose condition is true, each as the innermost in scope.
+#[cycle(answer)]
+fn selected(
+    alloc: Global,
+    rows: &[Row],
+    condition: &Pred,
+    tables: &[List<Row>],
+    env: &[&Row],
+) -> Result<List<Row>, NoMemory>
+    ensures { IfOk result (λ out. out ≡ filter (λ r. is_yes (pred_by wrapped condition.now tables.now (r ∷ map (λ s. s.now) env.now))) rows.now) }
+{
+    let mut out = List::new(alloc);
+    for row in rows {
+        let inner = scope(alloc, row, env)?;
+        let truth = pred(alloc, condition, tables, inner.as_slice())?;
+        if is_yes(truth) {
+            out.push(row.copy(alloc)?)?;
+        }
+    }
+    Ok(out)
+}
+
+#[cycle(answer)]
+fn product(
+    alloc: Global,
+    members: &[Query],
+    tables: &[List<Row>],
+    env: &[&Row],
+) -> Result<List<Row>, NoMemory>
+    ensures { IfOk result (λ out. out ≡ product_after ([] ∷ []) (map (answer_by wrapped) members.now) tables.now (map (λ r. r.now) env.now)) }
+{
+    let mut out = List::new(alloc);
+    out.push(Row::new(alloc))?;
+    for member in members {
+        let rows = answer(alloc, member, tables, env)?;
+        out = joined(alloc, out.as_slice(), rows.as_slice())?;
+    }
+    Ok(out)
+}
+
+/// The truth of a condition on the rows of the tables, under the rows in scope.
+#[cycle(answer)]
+fn pred(
+    alloc: Global,
+    condition: &Pred,
+    tables: &[List<Row>],
+    env: &[&Row],
+) -> Result<Truth, NoMemory>
+    ensures { IfOk result (λ t. t ≡ pred_by wrapped condition.now tables.now (map (λ r. r.now) env.now)) }
+{
+    match condition {
+        Pred::Cmp(op, a, b) => {
+            let left = value(alloc, a, env)?;
+            let right = value(alloc, b, env)?;
+            Ok(compare(&left, &right, *op))
+        }
+        Pred::IsNull(expr) => {
+            let value = value(alloc, expr, env)?;
+            Ok(null_truth(&value))
+        }
+        Pred::OneOf(expr, items) => {
+            let left = value(alloc, expr, env)?;
+            one_of_truth(alloc, &left, items.as_slice(), env)
+        }
+        Pred::And(members) => all(alloc, members.as_slice(), tables, env),
+        Pred::Or(members) => any(alloc, members.as_slice(), tables, env),
+        Pred::Not(member) => {
+            let truth = pred(alloc, member.get(), tables, env)?;
+            Ok(truth.not())
+        }
+        Pred::Exists(query) => {
+            let rows = answer(alloc, query.get(), tables, env)?;
+            Ok(some_truth(rows.as_slice()))
+        }
+        Pred::Member(expr, query) => {
+            let left = value(alloc, expr, env)?;
+            let rows = answer(alloc, query.get(), tables, env)?;
+            Ok(member_truth(&left, rows.as_slice()))
+        }
+    }
+}
+
+#[cycle(answer)]
+fn all(
+    alloc: Global,
+    members: &[Pred],
+    tables: &[List<Row>],
+    env: &[&Row],
+) -> Result<Truth, NoMemory>
+    ensures { IfOk result (λ t. t ≡ all_of (map (pred_by wrapped) members.now) tables.now (map (λ r. r.now) env.now)) }
+{
+    let mut truth = Truth::Yes;
+    for member in members {
+        let next = pred(alloc, member, tables, env)?;
+        truth = truth.and(next);
+    }
+    Ok(truth)
+}
+
+#[cycle(answer)]
+fn any(
+    alloc: Global,
+    members: &[Pred],
+    tables: &[List<Row>],
+    env: &[&Row],
+) -> Result<Truth, NoMemory>
+    ensures { IfOk result (λ t. t ≡ any_of (map (pred_by wrapped) members.now) tables.now (map (λ r. r.now) env.now)) }
+{
+    let mut truth = Truth::No;
+    for member in members {
+        let next = pred(alloc, member, tables, env)?;
+        truth = truth.or(next);
+    }
+    Ok(truth)
+}
+
+fn is_yes(truth: Truth) -> bool
+    ensures { result ≡ is_yes truth }
+{
+    truth == Truth::Yes
+}
