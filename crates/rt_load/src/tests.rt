@@ -1,0 +1,101 @@
+use crate::{LoadFault, load};
+use rt_schema::{ColKind, Column, Given, Schema, Table, is_sound};
+use rt_value::{List, Txt, Value};
+use std::alloc::{AllocError, Global};
+use std::test::Fail;
+
+// The rows of a file for a table with the columns `a` and `b` of one kind.
+fn read(alloc: Global, kind: ColKind, file: &[u8]) -> Result<Given, LoadFault> {
+    let mut columns = List::new(alloc);
+    for name in ["a", "b"] {
+        let name = Txt::of(alloc, name)?;
+        columns.push(Column { name, kind })?;
+    }
+    let mut tables = List::new(alloc);
+    tables.push(Table {
+        name: Txt::of(alloc, "t")?,
+        columns,
+        rules: List::new(alloc),
+    })?;
+    if !is_sound(tables.as_slice()) {
+        return Err(LoadFault::BadHeader);
+    }
+    let schema = Schema::new(tables);
+    let mut given = Given::new(alloc, &schema)?;
+    load(alloc, &schema, 0, file, &mut given)?;
+    Ok(given)
+}
+
+// The values of all rows, each behind a `|`, and each row behind a `;`.
+fn shown(alloc: Global, given: &Given) -> Result<String, AllocError> {
+    let mut text = String::new(alloc);
+    for rows in given.tables() {
+        for row in rows.as_slice() {
+            text.push_str(";")?;
+            for value in row.as_slice() {
+                let cell = match value {
+                    Value::Null => format!(in alloc; "|NULL")?,
+                    Value::Int(n) => format!(in alloc; "|{n}")?,
+                    Value::Text(t) => format!(in alloc; "|{}", t.as_str())?,
+                };
+                text.push_str(cell.as_str())?;
+            }
+        }
+    }
+    Ok(text)
+}
+
+#[test]
+fn records_are_those_of_rfc_4180(rt: HostRuntime) -> Result<(), Fail> {
+    let texts = [
+        ("a,b\n\"x\"\"y\",z\n", ";|x\"y|z"),
+        ("a,b\n\"x\ny\",\"z,\"\n", ";|x\ny|z,"),
+        ("a,b\r1,2\r3,4\r", ";|1|2;|3|4"),
+        ("a,b\r\n1,2\r\n3,4", ";|1|2;|3|4"),
+        ("a,b\nx\"y,z\"\n", ";|x\"y|z\""),
+        ("\na,b\n\n1,2\n\r\n\n3,4\n\n", ";|1|2;|3|4"),
+        ("a,b\n x ,\n\"\",y", ";| x |NULL;|NULL|y"),
+    ];
+    for (file, want) in texts {
+        match read(rt.alloc(), ColKind::Text, file.as_bytes()) {
+            Ok(given) => assert_eq!(rt; shown(rt.alloc(), &given)?.as_str(), want),
+            Err(e) => panic!(rt; "{e:?}"),
+        }
+    }
+    let file = b"A , b\n 1 ,+2\n\n3,4\n-9223372036854775808,\n";
+    let Ok(given) = read(rt.alloc(), ColKind::Whole, file) else {
+        panic!(rt; "refused");
+    };
+    assert_eq!(rt;
+        shown(rt.alloc(), &given)?.as_str(),
+        ";|1|2;|3|4;|-9223372036854775808|NULL"
+    );
+    Ok(())
+}
+
+#[test]
+fn the_first_fault_decides(rt: HostRuntime) -> Result<(), Fail> {
+    let faults = [
+        ("", LoadFault::BadHeader),
+        ("\u{feff}a,b\n", LoadFault::BadHeader),
+        ("b,a\n1", LoadFault::BadHeader),
+        ("a,b\n1\nx,y\n", LoadFault::FieldCount(2)),
+        ("a,b\n1,2\n\n1,x\n", LoadFault::BadInteger(3, 2)),
+        ("a,b\n9223372036854775808,x\n", LoadFault::BadInteger(2, 1)),
+        (
+            "a,b\n1,1\n1,1\n1,1\n1,1\n1,1\n1,1\n1,1\n1,1\n1,1\n1,1\n1,1\n1,1\n1,1\n1,1\n1,1\n1,1\n1,1\n1\n",
+            LoadFault::TooManyRows,
+        ),
+    ];
+    for (file, want) in faults {
+        match read(rt.alloc(), ColKind::Whole, file.as_bytes()) {
+            Ok(_) => panic!(rt; "accepted"),
+            Err(e) => assert_eq!(rt; e, want),
+        }
+    }
+    match read(rt.alloc(), ColKind::Text, b"a,b\nx,y\xff\n") {
+        Ok(_) => panic!(rt; "accepted"),
+        Err(e) => assert_eq!(rt; e, LoadFault::BadText(2, 2)),
+    }
+    Ok(())
+}
