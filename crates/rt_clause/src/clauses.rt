@@ -1,0 +1,58 @@
+ghost use Rattle.std.specs.Prelude.{◌≡◌, [], ◌∷◌, ◌++◌, ◌<◌, length, OnOk, OnErr};
+ghost use Rattle.rt_clause.specs.Lists.{line_at};
+
+use crate::lit::Lit;
+use rt_value::{List, NoMemory};
+use std::alloc::Global;
+use std::marker::Model;
+
+/// A list of clauses, in the order in which they were pushed.
+#[derive(Drop)]
+pub struct Clauses {
+    items: Vec<List<Lit>>,
+    alloc: Global,
+}
+
+impl Model for Clauses {
+    ghost use Rattle.std.specs.Prelude.{List};
+    ghost use Rattle.rt_clause.specs.Literal.{Literal};
+
+    ghost Value = { List (List Literal) };
+
+    ghost view = { λ c. c.items.items };
+}
+
+impl Clauses {
+    /// No clauses, which takes no memory.
+    pub fn new(alloc: Global) -> Clauses
+        ensures { result ≡ [] }
+    {
+        Clauses {
+            items: Vec::new(alloc),
+            alloc,
+        }
+    }
+
+    pub fn len(&self) -> usize
+        ensures { result ≡ length self.now }
+    {
+        self.items.len()
+    }
+
+    pub fn at(&self, i: usize) -> &[Lit]
+        requires { i < length self.now }
+        ensures { result.now ≡ line_at self.now i }
+    {
+        self.items[i].as_slice()
+    }
+
+    /// Puts a copy of the clause at the end.
+    pub fn push(&mut self, lits: &[Lit]) -> Result<(), NoMemory>
+        ensures ok { OnOk result (self.new ≡ self.old ++ lits.now ∷ []) }
+        ensures err { OnErr result (self.new ≡ self.old) }
+    {
+        let lits = List::from_slice(self.alloc, lits)?;
+        self.items.push(lits)?;
+        Ok(())
+    }
+}

@@ -1,0 +1,21 @@
+//! Literals, clauses, and what holds lists of clauses.
+//!
+//! A solver and the checker of its answers both speak of clauses in the words of this crate's
+//! `specs/`: when a set of literals is closed under unit propagation, when a clause follows by
+//! unit propagation along hints (reverse unit propagation, as in LRAT proofs), when a clause is
+//! fresh, and when some variables determine others.
+#![tactic(auto)]
+
+mod clauses;
+mod gates;
+mod lines;
+mod lit;
+mod named;
+#[cfg(test)]
+mod tests;
+
+pub use clauses::Clauses;
+pub use gates::gate;
+pub use lines::{Adds, Lines};
+pub use lit::{Lit, LitList};
+pub use named::Named;

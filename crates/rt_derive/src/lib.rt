@@ -1,0 +1,12 @@
+//! The checker of derived clauses: what it accepts follows from the lines before.
+//!
+//! It shares nothing with the solver but the definitions of `rt_clause`, so that an answer of the
+//! solver rests on these few functions.
+#![tactic(auto)]
+
+mod checker;
+mod held;
+#[cfg(test)]
+mod tests;
+
+pub use checker::Checker;

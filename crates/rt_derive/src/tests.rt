@@ -1,0 +1,52 @@
+ghost use Rattle.std.specs.Prelude.{◌≡◌, IfOk, length};
+
+use crate::Checker;
+use rt_clause::{Adds, Lines, Lit};
+use rt_value::NoMemory;
+use std::alloc::Global;
+use std::test::Fail;
+
+// The lines x0 or x1, and not x0 or x1.
+fn two_lines(alloc: Global) -> Result<Checker, NoMemory>
+    ensures { IfOk result (λ c. length (⟦<Checker as Adds>⟧.lines c) ≡ 2) }
+{
+    let mut checker = Checker::new(alloc);
+    checker.add(&[Lit::of(0, true), Lit::of(1, true)])?;
+    checker.add(&[Lit::of(0, false), Lit::of(1, true)])?;
+    Ok(checker)
+}
+
+#[test]
+fn a_clause_follows_along_its_hints(rt: HostRuntime) -> Result<(), Fail> {
+    let second = [Lit::of(1, true)];
+    let mut checker = two_lines(rt.alloc())?;
+    assert!(rt; !checker.derive(&second, &[0])?);
+    assert!(rt; checker.derive(&second, &[0, 1])?);
+    // The clause is line 2 now, and by itself refutes nothing.
+    assert!(rt; checker.derive(&second, &[2])?);
+    assert!(rt; !checker.derive(&second[..0], &[2])?);
+    Ok(())
+}
+
+#[test]
+fn two_literals_left_are_no_unit(rt: HostRuntime) -> Result<(), Fail> {
+    let mut checker = Checker::new(rt.alloc());
+    checker.add(&[Lit::of(0, true), Lit::of(1, true), Lit::of(2, true)])?;
+    assert!(rt; !checker.derive(&[Lit::of(0, true)], &[0])?);
+    Ok(())
+}
+
+#[test]
+fn refuting_lines(rt: HostRuntime) -> Result<(), Fail> {
+    let mut checker = Checker::new(rt.alloc());
+    assert!(rt; !checker.refutes(None));
+    let third = Lit::of(3, true);
+    checker.add(&[third.negated()])?;
+    assert!(rt; checker.refutes(Some(third)));
+    assert!(rt; !checker.refutes(None));
+    checker.add(&[third])?;
+    let none = [third];
+    assert!(rt; checker.derive(&none[..0], &[0, 1])?);
+    assert!(rt; checker.refutes(None));
+    Ok(())
+}
