@@ -1,0 +1,14 @@
+pub mod Number
+pub mod Analysis
+pub mod FreshLaws
+pub mod Tables
+pub mod Looks
+pub mod Walks
+pub mod Returning
+pub mod Finish
+pub mod Counting
+pub mod Ends
+pub mod Searching
+pub mod Widths
+pub mod Founds
+pub mod Scans

@@ -1,0 +1,5 @@
+use Rattle.rt_solver.proofs.FreshLaws.{first_law}
+use Rattle.rt_solver.proofs.laws.learned_is_fresh.Goals as goal
+
+pub returns : goal.returns
+returns c = first_law

@@ -1,0 +1,41 @@
+-- What a call of solve answers.
+use Rattle.std.specs.Prelude.{◌≡◌, ℕ, ◌<◌, Bool, true, false, List, [], length, slice_index_or, Option, Some, IfSome, IsSomeAnd, ◌+◌, ◌≤◌}
+use Rattle.rt_clause.specs.Literal.{Literal}
+use Rattle.rt_clause.specs.Lists.{has}
+use Rattle.rt_clause.specs.Models.{lit_true, IsModel}
+use Rattle.rt_clause.specs.Refuting.{IsRefuted}
+use Rattle.rt_solver.specs.declared.solver.Found.{Found}
+use Rattle.rt_solver.specs.declared.solver.Found.TheVariants.{Model, Refuted, Spent}
+use Rattle.rt_solver.specs.declared.trail.Step.{Step}
+use Rattle.rt_solver.specs.Trail.{lits, value_in, decisions, IsApart, IsFounded}
+use Rattle.rt_solver.specs.Table.{Tracked}
+use Rattle.rt_solver.specs.Solving.{IsSpent}
+
+-- the list gives each variable below m the value that the trail does
+abbrev pub Reads : ℕ → List Step → List Bool → Type 0
+Reads m t bools = (v : ℕ) → v < m → value_in t v ≡ Some (slice_index_or bools v false)
+
+-- a model of the lines and of what is assumed, with a Bool for each variable
+pub record IsModelled (lines : List (List Literal)) (assume : Option Literal) (m : ℕ) (bools : List Bool) : Type 0 where
+  pub each : length bools ≡ m
+  pub model : IsModel lines bools
+  pub assumed : IfSome assume (λ a. lit_true bools a ≡ true)
+
+abbrev pub IsFound : List (List Literal) → List (List Literal) → Option Literal → ℕ → Option ℕ → Found → Type 0
+IsFound old new assume m budget (Model bools) = IsModelled new assume m bools
+IsFound old new assume m budget Refuted = IsRefuted new assume
+IsFound old new assume m budget (Spent list) = IsSomeAnd budget (λ b. IsSpent old new assume m b list)
+
+-- where the budget is not spent, fewer clauses came than it says: one line fewer at least, or as many lines where the last one refutes
+abbrev pub IsUnspent : List (List Literal) → List (List Literal) → Option ℕ → Found → Type 0
+IsUnspent old new budget (Model bools) = IfSome budget (λ b. length new < length old + b)
+IsUnspent old new budget Refuted = IfSome budget (λ b. length new ≤ length old + b)
+IsUnspent old new budget (Spent list) = Unit {0}
+
+-- a trail with the assumption alone
+pub record IsBegun (m : ℕ) (assume : Option Literal) (trail : Tracked) : Type 0 where
+  pub vars : trail.vars ≡ m
+  pub undecided : decisions trail.steps ≡ []
+  pub founded : (lines : List (List Literal)) → IsFounded lines assume trail.steps
+  pub assumed : IfSome assume (λ a. has (lits trail.steps) a ≡ true)
+  pub apart : IsApart m trail.steps

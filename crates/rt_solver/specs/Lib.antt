@@ -1,0 +1,11 @@
+pub mod Trail
+pub mod Table
+pub mod Analysis
+pub mod Looking
+pub mod Marking
+pub mod Cut
+pub mod Search
+pub mod State
+pub mod Solving
+pub mod Answers
+pub mod Laws

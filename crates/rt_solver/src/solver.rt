@@ -1,0 +1,211 @@
+ghost use Rattle.std.specs.Prelude.{◌≡◌, ◌≤◌, ◌<◌, ◌^◌, ℕ, List as Seq, Bool, map, true, false, [], ◌∷◌, ◌++◌, length, max, drop, Some, IfSome, IfOk, IsErr, IsTrue, OnOk, OnErr};
+ghost use Rattle.std.specs.Option.{option_to_list};
+ghost use Rattle.rt_clause.specs.Literal.{Literal};
+ghost use Rattle.rt_clause.specs.Lists.{Determined};
+ghost use Rattle.rt_solver.specs.Trail.{value_in};
+ghost use Rattle.rt_solver.specs.Search.{line_of, HasValues};
+ghost use Rattle.rt_solver.specs.Solving.{reach, width, variables, HasSearched};
+ghost use Rattle.rt_solver.specs.State.{has_failed};
+ghost use Rattle.rt_solver.specs.Answers.{Reads, IsFound, IsUnspent, IsBegun};
+
+use crate::search::{Ending, run};
+use crate::store::Store;
+use crate::trail::{Step, Trail, Why};
+use rt_clause::{Adds, Lines, Lit};
+use rt_value::{Keep, List, NoMemory};
+use std::alloc::Global;
+use std::marker::Model;
+
+/// What a call of `solve` found: a model with one Bool a variable; a refuting line among the lines;
+/// or as many fresh clauses as the budget allows, without the assumption's negation.
+#[derive(Drop)]
+pub enum Found {
+    Model(Keep),
+    Refuted,
+    Spent(List<List<Lit>>),
+}
+
+const MOST_VARIABLES: usize = 1 << 62;
+
+/// A solver over lines that check what it derives. Contracts see the lines, and whether an earlier
+/// call answered want of memory.
+#[derive(Drop)]
+pub struct Solver<L: Lines + Drop> {
+    lines: L,
+    clauses: Store,
+    failed: bool,
+    alloc: Global,
+}
+
+impl<L: Lines + Drop> Model for Solver<L> {
+    ghost use Rattle.std.specs.Prelude.{Bool};
+    ghost use Rattle.std.specs.Coded.{coded×, coded_bool};
+    ghost use Rattle.rt_solver.specs.State.{IsSettled};
+
+    ghost Value = { L × Bool };
+
+    ghost coded = { coded× L.code coded_bool };
+
+    ghost view = { λ s. (s.lines, s.failed) };
+
+    ghost invariant = { λ s. IsSettled (L.lines s.lines) s.clauses s.failed };
+}
+
+// One more than the greatest variable that a call speaks of.
+fn variables_of(first: usize, width: usize, assume: &Option<Lit>) -> usize
+    ensures { result ≡ reach (max first width) (option_to_list assume.now) }
+{
+    let least = first.max(width);
+    match assume {
+        None => least,
+        Some(a) => {
+            let lit = *a;
+            least.max(lit.var() + 1)
+        }
+    }
+}
+
+// The trail before a search.
+fn begun(alloc: Global, vars: usize, assume: &Option<Lit>) -> Result<Trail, NoMemory>
+    requires { IfSome assume.now (λ a. a.var < vars) }
+    ensures { IfOk result (λ trail. IsBegun vars assume.now trail) }
+{
+    let mut trail = Trail::new(alloc);
+    for _ in 0..vars {
+        trail.grow()?;
+    }
+    if let Some(a) = assume {
+        trail.push(Step {
+            lit: *a,
+            why: Why::Assumed,
+        })?;
+    }
+    Ok(trail)
+}
+
+// The values of the variables.
+fn values(alloc: Global, trail: &Trail) -> Result<Keep, NoMemory>
+    requires { HasValues trail.now.vars trail.now.steps }
+    ensures len { IfOk result (λ bools. length bools ≡ trail.now.vars) }
+    ensures reads { IfOk result (λ bools. Reads trail.now.vars trail.now.steps bools) }
+{
+    let mut bools = Keep::all(alloc, 0, false)?;
+    for v in 0..trail.vars() {
+        bools.push(trail.value(v).unwrap_or(false))?;
+    }
+    Ok(bools)
+}
+
+// A learned line without the assumption's negation.
+fn clause_of_line(alloc: Global, line: &[Lit], assume: &Option<Lit>) -> Result<List<Lit>, NoMemory>
+    ensures { IfOk result (λ c. (clause : Seq Literal) → line.now ≡ line_of assume.now clause → c ≡ clause) }
+{
+    match (assume, line) {
+        (Some(_), [clause @ .., _]) => List::from_slice(alloc, clause),
+        _ => List::from_slice(alloc, line),
+    }
+}
+
+// The clauses of the lines from a place on.
+fn learned_from(
+    alloc: Global,
+    lines: &Store,
+    start: usize,
+    assume: &Option<Lit>,
+) -> Result<List<List<Lit>>, NoMemory>
+    ensures { IfOk result (λ list. (learned : Seq (Seq Literal)) → drop start lines.now ≡ map (line_of assume.now) learned → list ≡ learned) }
+{
+    let mut list: List<List<Lit>> = List::new(alloc);
+    for i in start..lines.len() {
+        list.push(clause_of_line(alloc, lines.at(i), assume)?)?;
+    }
+    Ok(list)
+}
+
+impl<L: Lines + Drop> Solver<L> {
+    /// A solver over no lines yet, which takes no memory.
+    pub fn new(alloc: Global, lines: L) -> Solver<L>
+        requires { L.lines lines ≡ [] }
+        ensures { result ≡ (lines, false) }
+    {
+        Solver {
+            lines,
+            clauses: Store::new(alloc),
+            failed: false,
+            alloc,
+        }
+    }
+
+    pub fn lines(&self) -> &L
+        ensures { result.now ≡ self.now.0 }
+    {
+        &self.lines
+    }
+
+    /// Searches for a model of the lines and of `assume`, over the variables below `first`, those of
+    /// the lines and that of `assume`. Open variables are decided in their order, so those below
+    /// `first` before others, and set to false. A budget is the number of clauses after which the
+    /// search gives up; without one it ends by itself.
+    pub fn solve(
+        &mut self,
+        assume: Option<Lit>,
+        first: usize,
+        budget: Option<u64>,
+    ) -> Result<Found, NoMemory>
+        requires { IfSome budget (λ b. 1 ≤ b) }
+        ensures searched { HasSearched (L.lines self.old.0) (L.lines self.new.0) (L.derived self.old.0) (L.derived self.new.0) assume (variables (L.lines self.old.0) assume first) }
+        ensures found { IfOk result (λ found. IsFound (L.lines self.old.0) (L.lines self.new.0) assume (variables (L.lines self.old.0) assume first) budget found) }
+        ensures unspent { IfOk result (λ found. IsUnspent (L.lines self.old.0) (L.lines self.new.0) budget found) }
+        ensures failed { IsTrue (has_failed self.old) → IsErr result }
+        ensures fails { OnErr result (IsTrue (has_failed self.new)) }
+    {
+        if self.failed {
+            return Err(NoMemory);
+        }
+        self.failed = true;
+        let vars = variables_of(first, self.clauses.vars(), &assume);
+        if vars > MOST_VARIABLES {
+            return Err(NoMemory);
+        }
+        let mut trail = begun(self.alloc, vars, &assume)?;
+        let start = self.clauses.len();
+        let found = match run(
+            self.alloc,
+            &mut self.lines,
+            &mut self.clauses,
+            &assume,
+            &mut trail,
+            budget,
+        )? {
+            Ending::Whole => Found::Model(values(self.alloc, &trail)?),
+            Ending::Refuted => Found::Refuted,
+            Ending::Spent => Found::Spent(learned_from(self.alloc, &self.clauses, start, &assume)?),
+        };
+        self.failed = false;
+        Ok(found)
+    }
+}
+
+impl<L: Lines + Drop> Adds for Solver<L> {
+    ghost lines = { λ s. L.lines s.0 };
+
+    ghost derived = { λ s. L.derived s.0 };
+
+    fn add(&mut self, lits: &[Lit]) -> Result<(), NoMemory>
+        ensures lines { OnOk result (L.lines self.new.0 ≡ L.lines self.old.0 ++ lits.now ∷ []) }
+        ensures derived { OnOk result (L.derived self.new.0 ≡ L.derived self.old.0 ++ false ∷ []) }
+        ensures err_lines { OnErr result (L.lines self.new.0 ≡ L.lines self.old.0) }
+        ensures err_derived { OnErr result (L.derived self.new.0 ≡ L.derived self.old.0) }
+        ensures failed { IsTrue (has_failed self.old) → IsErr result }
+        ensures fails { OnErr result (IsTrue (has_failed self.new)) }
+    {
+        if self.failed {
+            return Err(NoMemory);
+        }
+        self.failed = true;
+        self.clauses.push(lits)?;
+        self.lines.add(lits)?;
+        self.failed = false;
+        Ok(())
+    }
+}
