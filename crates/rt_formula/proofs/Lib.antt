@@ -1,0 +1,4 @@
+pub mod Gates
+pub mod GroupLemmas
+pub mod Growth
+pub mod Meaning

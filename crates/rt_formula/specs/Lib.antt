@@ -1,0 +1,4 @@
+pub mod Gathering
+pub mod Groups
+pub mod Laws
+pub mod Shared

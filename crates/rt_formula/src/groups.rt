@@ -1,0 +1,73 @@
+ghost use Rattle.std.specs.Prelude.{◌≡◌, ◌++◌, ◌∷◌, [], List, cond, IfOk, OnOk};
+ghost use Rattle.rt_value.specs.Row.{row_eq};
+ghost use Rattle.rt_value.specs.declared.value.Value.{Value};
+ghost use Rattle.rt_formula.specs.Groups.{group_at, standing};
+
+use crate::entry::Node;
+use crate::noted::Noted;
+use rt_value::{List, NoMemory, Row};
+use std::alloc::Global;
+use std::collections::BTreeMap;
+use std::marker::Model;
+
+/// For each row the nodes of the noted rows that are the same as it, in the order in which they
+/// were noted. To find them takes time in the logarithm of the number of different rows.
+#[derive(Drop)]
+pub struct Groups {
+    nodes: BTreeMap<Row, List<Node>>,
+    alloc: Global,
+}
+
+impl Model for Groups {
+    ghost use Rattle.rt_formula.specs.Groups.{Grouped};
+
+    ghost Value = { Grouped };
+
+    ghost view = { λ g. g.nodes.entries };
+}
+
+impl Groups {
+    /// No rows, which takes no memory.
+    pub fn new(alloc: Global) -> Groups
+        ensures { (row : List Value) → group_at result row ≡ [] }
+    {
+        Groups {
+            nodes: BTreeMap::new(alloc),
+            alloc,
+        }
+    }
+
+    /// Notes one more row. After an error the rows that are the same as it may be lost.
+    pub fn put(&mut self, noted: &Noted) -> Result<(), NoMemory>
+        ensures { OnOk result ((row : List Value) → group_at self.new row ≡ group_at self.old row ++ cond (row_eq row noted.now.row) (noted.now.node ∷ []) []) }
+    {
+        let key = noted.row.copy(self.alloc)?;
+        let mut group = self
+            .nodes
+            .remove(&noted.row)
+            .unwrap_or(List::new(self.alloc));
+        group.push(noted.node)?;
+        self.nodes.insert(key, group)?;
+        Ok(())
+    }
+
+    /// All these rows.
+    pub fn of(alloc: Global, rows: &[Noted]) -> Result<Groups, NoMemory>
+        ensures { IfOk result (λ g. (row : List Value) → group_at g row ≡ standing row rows.now) }
+    {
+        let mut groups = Groups::new(alloc);
+        for noted in rows {
+            groups.put(noted)?;
+        }
+        Ok(groups)
+    }
+
+    pub fn get(&self, row: &Row) -> &[Node]
+        ensures { result.now ≡ group_at self.now row.now }
+    {
+        match self.nodes.get(row) {
+            Some(group) => group.as_slice(),
+            None => &[],
+        }
+    }
+}

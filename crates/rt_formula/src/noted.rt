@@ -1,0 +1,9 @@
+use crate::entry::Node;
+use rt_value::Row;
+
+/// A row that may be there, and the node that says at which choices it is.
+#[derive(Debug, Drop)]
+pub struct Noted {
+    pub row: Row,
+    pub node: Node,
+}

@@ -1,0 +1,58 @@
+use crate::{Dag, Node};
+use rt_value::Keep;
+use std::alloc::Global;
+use std::process::Abort;
+use std::test::Fail;
+
+// The values of a node of two rows at none, the first, both, and the second.
+fn values(rt: &impl Abort, alloc: Global, dag: &Dag, node: Node) -> Result<[bool; 4], Fail> {
+    assert!(rt; node.number() < dag.len() && dag.rows() == 2);
+    let mut keep = Keep::all(alloc, 2, false)?;
+    let none = dag.value(node, &keep)?;
+    keep.set(0, true);
+    let first = dag.value(node, &keep)?;
+    keep.set(1, true);
+    let both = dag.value(node, &keep)?;
+    keep.set(0, false);
+    let second = dag.value(node, &keep)?;
+    Ok([none, first, both, second])
+}
+
+#[test]
+fn a_row_or_its_negation(rt: HostRuntime) -> Result<(), Fail> {
+    let mut dag = Dag::new(rt.alloc(), 2)?;
+    let row = dag.row(0)?;
+    let not_row = dag.not(row)?;
+    assert!(rt; row.number() < dag.len() && not_row.number() < dag.len());
+    let either = dag.any(&[row, not_row])?;
+    assert_eq!(rt; values(&rt, rt.alloc(), &dag, either)?, [true; 4]);
+    assert_eq!(rt;
+        values(&rt, rt.alloc(), &dag, row)?,
+        [false, true, true, false]
+    );
+    Ok(())
+}
+
+#[test]
+fn gates_that_are_no_gates(rt: HostRuntime) -> Result<(), Fail> {
+    let mut dag = Dag::new(rt.alloc(), 2)?;
+    let (yes, no) = (dag.yes(), dag.no());
+    assert_eq!(rt; dag.any(&[])?, no);
+    assert_eq!(rt; dag.all(&[])?, yes);
+    let row = dag.row(0)?;
+    assert!(rt; row.number() < dag.len() && yes.number() < dag.len());
+    assert_eq!(rt; dag.all(&[yes, row, row])?, row);
+    assert!(rt; no.number() < dag.len());
+    assert_eq!(rt; dag.not(no)?, yes);
+    Ok(())
+}
+
+#[test]
+fn a_row_has_one_node(rt: HostRuntime) -> Result<(), Fail> {
+    let mut dag = Dag::new(rt.alloc(), 2)?;
+    let before = dag.len();
+    let first = dag.row(1)?;
+    assert_eq!(rt; dag.row(1)?, first);
+    assert!(rt; dag.len() <= before + 1);
+    Ok(())
+}
