@@ -1,0 +1,48 @@
+use Rattle.std.proofs.Common.{◌≡◌, ◌+◌, ℕ, List, Bool, true, false, not, ◌&&◌, ◌∷◌, [], refl, sym, ap, subst, ◌∙◌, drop}
+use Rattle.std.specs.List.{list_all, list_any}
+use Rattle.rt_value.specs.declared.value.Value.{Value}
+use Rattle.rt_value.specs.Row.{row_eq}
+use Rattle.rt_schema.specs.Kept.{kept_rows}
+use Rattle.rt_schema.specs.Law.{agree, cells}
+use Rattle.rt_formula.specs.Shared.{val, bool_at}
+use Rattle.rt_formula.specs.Groups.{group_at}
+use Rattle.rt_formula.proofs.Meaning.{val-grown}
+use Rattle.rt_rules.proofs.KeptLemmas.{no-agree, agree-same}
+use Rattle.rt_rules.proofs.clauses.apart.Goals as goal
+
+never : (b x : Bool) → x ≡ false → true ≡ not (b && x)
+never true true e = absurd (cc)
+never true false e = refl
+never false x e = refl
+
+pub returns-then-has_null-clause-means : goal.returns-then-has_null-clause-means
+returns-then-has_null-clause-means c = record {
+  below = c.yes.ensures.node;
+  same = λ keep l. c.yes.ensures.means keep ∙ never (bool_at keep c.args.place) _ (no-agree c.args.columns.now c.args.columns.now c.args.row.now (kept_rows c.args.others.now (drop (c.args.place + 1) keep)) (sym c.has_null.ensures ∙ c.if-has_null.true));
+}
+
+two : (a b x y : Bool) → a ≡ x → b ≡ y → not (a && (b && true)) ≡ not (x && y)
+two a true x y p q = ap (λ v. not (v && true)) p ∙ ap (λ v. not (x && v)) q
+two a false x y p q = ap (λ v. not (v && false)) p ∙ ap (λ v. not (x && v)) q
+
+pub returns-clause-means : goal.returns-clause-means
+returns-clause-means c = record {
+  below = c.in_ok-clause.ensures.node;
+  same = λ keep l.
+      let values = c.in_ok-values.values in
+      let K = kept_rows c.args.others.now (drop (c.args.place + 1) keep) in
+      let g1 = c.in_ok-clash.ensures.grown in
+      let g2 = c.in_ok-kept.ensures.grown in
+      let g3 = c.in_ok-both.ensures.grown in
+      let g4 = c.in_ok-clause.ensures.grown in
+      let l0 = l ∙ g4.rows ∙ g3.rows ∙ g2.rows ∙ g1.rows in
+      let found : val c.any.new.self keep c.in_ok-clash.clash ≡ list_any (agree c.args.columns.now c.args.columns.now c.args.row.now) K =
+      c.in_ok-clash.ensures.means keep
+      ∙ ap (list_any (val c.args.dag.now keep)) c.get.ensures
+      ∙ c.requires.later.same keep l0 values
+      ∙ ap (λ (v : List Value). list_any (λ r. row_eq v (cells c.args.columns.now r)) K) c.in_ok-values.ensures
+      ∙ agree-same c.args.columns.now c.args.columns.now c.args.row.now K (sym c.has_null.ensures ∙ c.if-has_null.false) in
+      let still : val c.row.new.self keep c.in_ok-clash.clash ≡ list_any (agree c.args.columns.now c.args.columns.now c.args.row.now) K =
+      val-grown c.any.new.self c.row.new.self g2 keep c.in_ok-clash.clash c.in_ok-clash.ensures.node ∙ found in
+      c.in_ok-clause.ensures.means keep ∙ ap not (c.in_ok-both.ensures.means keep) ∙ two _ _ _ _ (c.in_ok-kept.ensures.means keep) still;
+}

@@ -1,0 +1,50 @@
+//! The rows of a table, grouped by their values in some columns.
+ghost use Rattle.std.specs.Prelude.{◌≡◌, ◌<◌, ◌≤◌, ◌+◌, length, IfOk, OnOk};
+ghost use Rattle.rt_formula.specs.Shared.{IsGrown};
+ghost use Rattle.rt_rules.specs.Meaning.{IsIndexed, IsNoted};
+
+use crate::cells::cells;
+use rt_formula::{Dag, Groups, Noted};
+use rt_value::{NoMemory, Row};
+use std::alloc::Global;
+
+/// Notes the row at a place under its values in the columns.
+pub(crate) fn note(
+    alloc: Global,
+    dag: &mut Dag,
+    groups: &mut Groups,
+    columns: &[usize],
+    row: &Row,
+    place: usize,
+) -> Result<(), NoMemory>
+    requires { place < dag.old.rows }
+    ensures grown { IsGrown dag.old dag.new }
+    ensures noted { OnOk result (IsNoted dag.new groups.old groups.new columns.now row.now place) }
+{
+    let key = cells(alloc, columns, row)?;
+    let node = dag.row(place)?;
+    groups.put(&Noted { row: key, node })?;
+    Ok(())
+}
+
+/// All rows of a table, `base` being the place of the first.
+pub(crate) fn index(
+    alloc: Global,
+    dag: &mut Dag,
+    columns: &[usize],
+    rows: &[Row],
+    base: usize,
+) -> Result<Groups, NoMemory>
+    requires { base + length rows.now ≤ dag.old.rows }
+    ensures grown { IsGrown dag.old dag.new }
+    ensures indexed { IfOk result (λ groups. IsIndexed dag.new groups columns.now rows.now base) }
+{
+    let mut groups = Groups::new(alloc);
+    let _places = dag.rows();
+    let mut at = rows.len();
+    'rows: while at > 0 {
+        at -= 1;
+        note(alloc, dag, &mut groups, columns, &rows[at], base + at)?;
+    }
+    Ok(groups)
+}
