@@ -1,0 +1,5 @@
+pub mod ColumnLaws
+pub mod ReadLemmas
+pub mod SoundLemmas
+pub mod TextLaws
+pub mod TreeLemmas

@@ -1,0 +1,12 @@
+use Rattle.std.proofs.Common.{◌∙◌, sym, ap, List, Ok}
+use Rattle.rt_token.specs.declared.token.Token.{Token}
+use Rattle.rt_ddl.proofs.ReadLemmas.{answer-of, tree-answer}
+use Rattle.rt_ddl.proofs.reader.read_schema.Goals as goal
+
+pub returns-in-Ok-clause-answer : goal.returns-in-Ok-clause-answer
+returns-in-Ok-clause-answer c = answer-of c.args.text.now c.as_slice.result.now c.in-Ok.tree c.made.result
+    (c.in_ok-tokens.ensures.value ∙ ap (λ (ts : List Token). Ok ts) (sym c.as_slice.ensures)) c.in-Ok.ensures c.made.ensures
+
+pub returns-in-Ok-clause-tree : goal.returns-in-Ok-clause-tree
+returns-in-Ok-clause-tree c = tree-answer c.args.text.now c.as_slice.result.now c.in-Ok.tree c.made.result
+    (c.in_ok-tokens.ensures.value ∙ ap (λ (ts : List Token). Ok ts) (sym c.as_slice.ensures)) c.in-Ok.ensures c.made.ensures

@@ -1,0 +1,28 @@
+//! What a table's text says, part by part in text order, without the words that have no effect.
+
+use rt_schema::Column;
+use rt_value::{List, Txt};
+
+/// A table's name and its parts, in text order.
+#[derive(PartialEq, Eq, Debug, Drop)]
+pub struct TableText {
+    pub name: Txt,
+    pub parts: List<Part>,
+}
+
+/// A column, or a rule; a rule tells whether it stands for itself or with a column.
+#[derive(PartialEq, Eq, Debug, Drop)]
+pub enum Part {
+    Column(Column),
+    Rule(bool, RuleText),
+}
+
+/// A rule over columns by their names. One that stands with a column names that one.
+#[derive(PartialEq, Eq, Debug, Drop)]
+pub enum RuleText {
+    NotNull(Txt),
+    PrimaryKey(List<Txt>),
+    Unique(List<Txt>),
+    /// The referencing columns, the referenced table, and its columns if they are told.
+    Foreign(List<Txt>, Txt, Option<List<Txt>>),
+}

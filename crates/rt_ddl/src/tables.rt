@@ -1,0 +1,206 @@
+//! Reading rules of a table, tables and the whole text.
+
+ghost use Rattle.std.specs.Prelude.{◌≡◌};
+ghost use Rattle.rt_ddl.specs.Reads as spec;
+ghost use Rattle.rt_grammar.specs.Readers.{lead, list_of};
+ghost use Rattle.rt_grammar.specs.Reads.{Answers, Reads};
+ghost use Rattle.rt_grammar.specs.declared.fixed.Fixed.TheVariants as fixed;
+
+use crate::columns::{column, constraint, maybe_names, names};
+use crate::tree::{Create, Item, Names, SchemaText, TableRule};
+use rt_grammar::{Fixed, Name, ReadFault, Terminal, after, end, expect, expect_word, name, starts};
+use rt_value::List;
+use std::alloc::Global;
+
+// What follows FOREIGN KEY.
+#[tactic(auto, unfolding(crate::specs::Reads::read_foreign))]
+fn foreign<'t>(
+    alloc: Global,
+    terminals: &'t [Terminal],
+) -> Result<((Names, (Name, Option<Names>)), &'t [Terminal]), ReadFault>
+    ensures { Reads result (spec.read_foreign terminals.now) }
+{
+    let (from, rest) = names(alloc, terminals)?;
+    let rest = expect(rest, Fixed::References)?;
+    let (table, rest) = name(alloc, rest)?;
+    let (to, rest) = maybe_names(alloc, rest)?;
+    Ok(((from, (table, to)), rest))
+}
+
+#[tactic(auto, unfolding(crate::specs::Reads::read_table_rule))]
+fn table_rule<'t>(
+    alloc: Global,
+    terminals: &'t [Terminal],
+) -> Result<(TableRule, &'t [Terminal]), ReadFault>
+    ensures { Reads result (spec.read_table_rule terminals.now) }
+{
+    if let Some(rest) = after(terminals, Fixed::Primary) {
+        let (columns, rest) = names(alloc, expect_word(rest, "key")?)?;
+        return Ok((TableRule::PrimaryKey(columns), rest));
+    }
+    if let Some(rest) = after(terminals, Fixed::Unique) {
+        let (columns, rest) = names(alloc, rest)?;
+        return Ok((TableRule::Unique(columns), rest));
+    }
+    let rest = expect(terminals, Fixed::Foreign)?;
+    let ((from, (table, to)), rest) = foreign(alloc, expect_word(rest, "key")?)?;
+    Ok((TableRule::Foreign(from, table, to), rest))
+}
+
+fn is_table_rule(terminals: &[Terminal]) -> bool
+    ensures { result ≡ spec.is_table_rule terminals.now }
+{
+    starts(terminals, Fixed::Constraint)
+        || (starts(terminals, Fixed::Primary)
+            || (starts(terminals, Fixed::Unique) || starts(terminals, Fixed::Foreign)))
+}
+
+#[tactic(auto, unfolding(crate::specs::Reads::read_item))]
+fn item<'t>(alloc: Global, terminals: &'t [Terminal]) -> Result<(Item, &'t [Terminal]), ReadFault>
+    ensures { Reads result (spec.read_item terminals.now) }
+{
+    if is_table_rule(terminals) {
+        let (name, rest) = constraint(alloc, terminals)?;
+        let (rule, rest) = table_rule(alloc, rest)?;
+        return Ok((Item::Rule(name, rule), rest));
+    }
+    let (column, rest) = column(alloc, terminals)?;
+    Ok((Item::Column(column), rest))
+}
+
+fn more_items<'t>(
+    alloc: Global,
+    terminals: &'t [Terminal],
+) -> Result<(List<Item>, &'t [Terminal]), ReadFault>
+    ensures { Reads result (list_of spec.item_step terminals.now) }
+{
+    let mut items = List::new(alloc);
+    let mut rest = terminals;
+    'items: while let Some(next) = after(rest, Fixed::Comma) {
+        let (item, more) = item(alloc, next)?;
+        items.push(item)?;
+        rest = more;
+    }
+    Ok((items, rest))
+}
+
+#[tactic(auto, unfolding(crate::specs::Reads::read_items))]
+fn items<'t>(
+    alloc: Global,
+    terminals: &'t [Terminal],
+) -> Result<((Item, List<Item>), &'t [Terminal]), ReadFault>
+    ensures { Reads result (spec.read_items terminals.now) }
+{
+    let rest = expect(terminals, Fixed::Left)?;
+    let (head, rest) = item(alloc, rest)?;
+    let (tail, rest) = more_items(alloc, rest)?;
+    Ok(((head, tail), expect(rest, Fixed::Right)?))
+}
+
+// A table's name and what it is made of.
+#[tactic(auto, unfolding(crate::specs::Reads::read_made))]
+fn made<'t>(
+    alloc: Global,
+    terminals: &'t [Terminal],
+) -> Result<((Name, (Item, List<Item>)), &'t [Terminal]), ReadFault>
+    ensures { Reads result (spec.read_made terminals.now) }
+{
+    let (name, rest) = name(alloc, terminals)?;
+    let (items, rest) = items(alloc, rest)?;
+    Ok(((name, items), rest))
+}
+
+// Whether IF stands there as a word, and not as the table's name.
+fn is_if(terminals: &[Terminal]) -> bool
+    ensures { result ≡ spec.is_if terminals.now }
+{
+    match terminals {
+        [_, rest @ ..] => starts(rest, Fixed::Not),
+        _ => false,
+    }
+}
+
+#[tactic(auto, unfolding(crate::specs::Reads::read_create))]
+fn create<'t>(
+    alloc: Global,
+    terminals: &'t [Terminal],
+) -> Result<(Create, &'t [Terminal]), ReadFault>
+    ensures { Reads result (spec.read_create terminals.now) }
+{
+    let rest = expect(expect(terminals, Fixed::Create)?, Fixed::Table)?;
+    if is_if(rest) {
+        let rest = expect_word(rest, "if")?;
+        let rest = expect(expect(rest, Fixed::Not)?, Fixed::Exists)?;
+        let ((name, (head, tail)), rest) = made(alloc, rest)?;
+        let if_not_exists = true;
+        return Ok((
+            Create {
+                if_not_exists,
+                name,
+                head,
+                tail,
+            },
+            rest,
+        ));
+    }
+    let ((name, (head, tail)), rest) = made(alloc, rest)?;
+    let if_not_exists = false;
+    Ok((
+        Create {
+            if_not_exists,
+            name,
+            head,
+            tail,
+        },
+        rest,
+    ))
+}
+
+// Whether another table follows a semicolon.
+fn starts_more(terminals: &[Terminal]) -> bool
+    ensures { result ≡ spec.starts_more terminals.now }
+{
+    match terminals {
+        [_, rest @ ..] => starts(terminals, Fixed::Semi) && starts(rest, Fixed::Create),
+        _ => false,
+    }
+}
+
+fn next_create<'t>(
+    alloc: Global,
+    terminals: &'t [Terminal],
+) -> Result<(Create, &'t [Terminal]), ReadFault>
+    ensures { Reads result (lead fixed.Semi spec.read_create terminals.now) }
+{
+    create(alloc, expect(terminals, Fixed::Semi)?)
+}
+
+fn more_creates<'t>(
+    alloc: Global,
+    terminals: &'t [Terminal],
+) -> Result<(List<Create>, &'t [Terminal]), ReadFault>
+    ensures { Reads result (list_of spec.create_step terminals.now) }
+{
+    let mut items = List::new(alloc);
+    let mut rest = terminals;
+    'items: while starts_more(rest) {
+        let (item, more) = next_create(alloc, rest)?;
+        items.push(item)?;
+        rest = more;
+    }
+    Ok((items, rest))
+}
+
+/// The tree of all the terminals.
+#[tactic(auto, unfolding(crate::specs::Reads::read_text))]
+pub fn text(alloc: Global, terminals: &[Terminal]) -> Result<SchemaText, ReadFault>
+    ensures { Answers result (spec.read_text terminals.now) }
+{
+    if terminals.is_empty() {
+        return Ok(SchemaText::Empty);
+    }
+    let (head, rest) = create(alloc, terminals)?;
+    let (tail, rest) = more_creates(alloc, rest)?;
+    let semi = end(rest)?;
+    Ok(SchemaText::Creates(head, tail, semi))
+}

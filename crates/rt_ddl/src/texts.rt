@@ -1,0 +1,167 @@
+//! From the tree of a schema text to what it says, part by part.
+
+ghost use Rattle.std.specs.Prelude.{◌≡◌, ◌++◌, ◌∷◌, [], IfOk, OnOk, map, option_map};
+ghost use Rattle.std.specs.List.{flat_map};
+ghost use Rattle.rt_ddl.specs.Parts as spec;
+
+use crate::parts::{Part, RuleText, TableText};
+use crate::tree::{
+    Column, ColumnConstraint, ColumnRule, Create, Item, KindWord, Names, SchemaText, TableRule,
+};
+use rt_grammar::Name;
+use rt_schema::ColKind;
+use rt_value::{List, NoMemory, Txt};
+use std::alloc::Global;
+
+fn names_of(alloc: Global, names: &Names) -> Result<List<Txt>, NoMemory>
+    ensures { IfOk result (λ texts. texts ≡ spec.names_of names.now) }
+{
+    let mut texts = List::new(alloc);
+    texts.push(names.head.text.copy(alloc)?)?;
+    for name in names.tail.as_slice() {
+        texts.push(name.text.copy(alloc)?)?;
+    }
+    Ok(texts)
+}
+
+fn maybe_names_of(alloc: Global, names: &Option<Names>) -> Result<Option<List<Txt>>, NoMemory>
+    ensures { IfOk result (λ texts. texts ≡ option_map spec.names_of names.now) }
+{
+    match names {
+        Some(names) => Ok(Some(names_of(alloc, names)?)),
+        None => Ok(None),
+    }
+}
+
+// The list of one name.
+fn only(alloc: Global, name: &Txt) -> Result<List<Txt>, NoMemory>
+    ensures { IfOk result (λ texts. texts ≡ name.now ∷ []) }
+{
+    let mut texts = List::new(alloc);
+    texts.push(name.copy(alloc)?)?;
+    Ok(texts)
+}
+
+fn maybe_only(alloc: Global, name: &Option<Name>) -> Result<Option<List<Txt>>, NoMemory>
+    ensures { IfOk result (λ texts. texts ≡ option_map (λ n. n.text ∷ []) name.now) }
+{
+    match name {
+        Some(name) => Ok(Some(only(alloc, &name.text)?)),
+        None => Ok(None),
+    }
+}
+
+fn kind_of(kind: &KindWord) -> ColKind
+    ensures { result ≡ spec.kind_of kind.now }
+{
+    match kind {
+        KindWord::Integer => ColKind::Whole,
+        KindWord::Int => ColKind::Whole,
+        KindWord::BigInt => ColKind::Whole,
+        KindWord::Text => ColKind::Text,
+        KindWord::Char(_) => ColKind::Text,
+        KindWord::VarChar(_) => ColKind::Text,
+    }
+}
+
+// The rule that stands with the column of this name, unless it has no effect.
+fn column_rule(alloc: Global, column: &Txt, rule: &ColumnRule) -> Result<Option<RuleText>, NoMemory>
+    ensures { IfOk result (λ r. spec.rule_parts r ≡ spec.column_rule_parts column.now rule.now) }
+{
+    match rule {
+        ColumnRule::NotNull => Ok(Some(RuleText::NotNull(column.copy(alloc)?))),
+        ColumnRule::Null => Ok(None),
+        ColumnRule::PrimaryKey => Ok(Some(RuleText::PrimaryKey(only(alloc, column)?))),
+        ColumnRule::Unique => Ok(Some(RuleText::Unique(only(alloc, column)?))),
+        ColumnRule::References(table, to) => {
+            let from = only(alloc, column)?;
+            let to = maybe_only(alloc, to)?;
+            Ok(Some(RuleText::Foreign(from, table.text.copy(alloc)?, to)))
+        }
+    }
+}
+
+// Puts the rules of a column at the end of the parts.
+fn push_column_rules(
+    alloc: Global,
+    parts: &mut List<Part>,
+    column: &Txt,
+    rules: &[ColumnConstraint],
+) -> Result<(), NoMemory>
+    ensures { OnOk result (parts.new ≡ parts.old ++ flat_map (λ r. spec.column_rule_parts column.now r.rule) rules.now) }
+{
+    for constraint in rules {
+        if let Some(rule) = column_rule(alloc, column, &constraint.rule)? {
+            parts.push(Part::Rule(false, rule))?;
+        }
+    }
+    Ok(())
+}
+
+fn push_column(alloc: Global, parts: &mut List<Part>, column: &Column) -> Result<(), NoMemory>
+    ensures { OnOk result (parts.new ≡ parts.old ++ spec.column_parts column.now) }
+{
+    let name = column.name.text.copy(alloc)?;
+    let kind = kind_of(&column.kind);
+    parts.push(Part::Column(rt_schema::Column { name, kind }))?;
+    push_column_rules(alloc, parts, &column.name.text, column.rules.as_slice())
+}
+
+fn table_rule(alloc: Global, rule: &TableRule) -> Result<RuleText, NoMemory>
+    ensures { IfOk result (λ r. r ≡ spec.table_rule_text rule.now) }
+{
+    match rule {
+        TableRule::PrimaryKey(columns) => Ok(RuleText::PrimaryKey(names_of(alloc, columns)?)),
+        TableRule::Unique(columns) => Ok(RuleText::Unique(names_of(alloc, columns)?)),
+        TableRule::Foreign(from, table, to) => {
+            let from = names_of(alloc, from)?;
+            let to = maybe_names_of(alloc, to)?;
+            Ok(RuleText::Foreign(from, table.text.copy(alloc)?, to))
+        }
+    }
+}
+
+fn push_item(alloc: Global, parts: &mut List<Part>, item: &Item) -> Result<(), NoMemory>
+    ensures { OnOk result (parts.new ≡ parts.old ++ spec.item_parts item.now) }
+{
+    match item {
+        Item::Column(column) => push_column(alloc, parts, column),
+        Item::Rule(_, rule) => {
+            parts.push(Part::Rule(true, table_rule(alloc, rule)?))?;
+            Ok(())
+        }
+    }
+}
+
+fn table_text(alloc: Global, create: &Create) -> Result<TableText, NoMemory>
+    ensures { IfOk result (λ t. t ≡ spec.table_text create.now) }
+{
+    let name = create.name.text.copy(alloc)?;
+    let mut parts = List::new(alloc);
+    push_item(alloc, &mut parts, &create.head)?;
+    for item in create.tail.as_slice() {
+        push_item(alloc, &mut parts, item)?;
+    }
+    Ok(TableText { name, parts })
+}
+
+fn created(alloc: Global, head: &Create, tail: &[Create]) -> Result<List<TableText>, NoMemory>
+    ensures { IfOk result (λ ts. ts ≡ spec.table_text head.now ∷ map spec.table_text tail.now) }
+{
+    let mut tables = List::new(alloc);
+    tables.push(table_text(alloc, head)?)?;
+    for create in tail {
+        tables.push(table_text(alloc, create)?)?;
+    }
+    Ok(tables)
+}
+
+/// The tables of a text, in text order.
+pub fn table_texts(alloc: Global, text: &SchemaText) -> Result<List<TableText>, NoMemory>
+    ensures { IfOk result (λ ts. ts ≡ spec.table_texts text.now) }
+{
+    match text {
+        SchemaText::Empty => Ok(List::new(alloc)),
+        SchemaText::Creates(head, tail, _) => created(alloc, head, tail.as_slice()),
+    }
+}

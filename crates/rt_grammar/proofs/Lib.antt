@@ -1,0 +1,9 @@
+pub mod CalmLemmas
+pub mod EndLaws
+pub mod FrontLemmas
+pub mod Laws
+pub mod ListLaws
+pub mod Loops
+pub mod ManyLemmas
+pub mod MarkLemmas
+pub mod PlaceLemmas

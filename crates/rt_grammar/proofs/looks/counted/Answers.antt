@@ -1,0 +1,12 @@
+use Rattle.std.proofs.Common.{arith, sym, ap, ◌∙◌, ℕ}
+use Rattle.rt_grammar.specs.Terminals.{Kinds}
+use Rattle.rt_grammar.proofs.FrontLemmas.{counted-some}
+use Rattle.rt_grammar.proofs.looks.counted.Goals as goal
+
+pub run-preserved : goal.run-preserved
+run-preserved c =
+    let more = counted-some c.args.fixed c.run.rest.now c.in-Some.next.now (sym c.in-Some.ensures) in
+    let count = ap (λ (q : ℕ × Kinds). q.0) more.0 in
+    let rest = ap (λ (q : ℕ × Kinds). q.1) more.0 in
+    let invariant = c.run.invariant in
+    record { count = omega (arith, count, invariant.count); rest = sym rest ∙ invariant.rest; within = omega (arith, more.1, invariant.within) }

@@ -1,0 +1,5 @@
+pub mod Places
+pub mod Readers
+pub mod Reads
+pub mod Terminals
+pub mod Words

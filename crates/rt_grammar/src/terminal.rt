@@ -1,0 +1,18 @@
+use crate::fixed::Fixed;
+use rt_value::Txt;
+
+/// A name: a word that isn't reserved, or a quoted one.
+#[derive(PartialEq, Eq, Debug, Drop)]
+pub struct Name {
+    pub text: Txt,
+    pub quoted: bool,
+}
+
+/// A token as the grammars see it.
+#[derive(PartialEq, Eq, Debug, Drop)]
+pub enum Terminal {
+    Fixed(Fixed),
+    Name(Name),
+    Number(i128),
+    Str(Txt),
+}
