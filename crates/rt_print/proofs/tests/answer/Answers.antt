@@ -1,0 +1,10 @@
+use Rattle.std.specs.List.Sorted.{IsStrictlySortedBy}
+use Rattle.rt_print.proofs.tests.answer.Goals as goal
+
+pub returns-then-is_empty : goal.returns-then-is_empty
+unfolding IsStrictlySortedBy
+returns-then-is_empty c = rw c.new-rows.ensures tt
+
+pub returns : goal.returns
+unfolding IsStrictlySortedBy
+returns c = rw (c.in_ok-push.ensures.ok, c.new-rows.ensures) (tt, tt)
