@@ -1,0 +1,6 @@
+mod FormLemmas
+mod SearchLemmas
+mod StepLemmas
+mod TableLemmas
+mod TypedLemmas
+mod VerdictLemmas

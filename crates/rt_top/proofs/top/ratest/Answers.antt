@@ -1,0 +1,11 @@
+use Rattle.rt_top.specs.Answers.{call, log}
+use Rattle.rt_top.proofs.VerdictLemmas.{gets_verdict}
+use Rattle.rt_top.proofs.top.ratest.Goals as goal
+
+pub returns-in-Ok-clause-complete : goal.returns-in-Ok-clause-complete
+returns-in-Ok-clause-complete g c = gets_verdict
+    (call c.args.words.now g.F.Files.tells (g.F.Files.held c.args.files.now) (g.F.Files.faults c.args.files.now) (g.F.Files.faults c.prepare.new.files)
+    (g.F.Files.current c.prepare.new.files) (g.F.Files.taken c.prepare.new.files))
+    (log g.O.Sink.tells (g.O.Sink.contents c.args.out.now) (g.O.Sink.contents c.speak.new.out) (g.O.Sink.faults c.args.out.now) (g.O.Sink.faults c.speak.new.out))
+    (log g.E.Sink.tells (g.E.Sink.contents c.args.err.now) (g.E.Sink.contents c.speak.new.err) (g.E.Sink.faults c.args.err.now) (g.E.Sink.faults c.speak.new.err))
+    c.in-Ok.answer.outcome c.in-Ok.answer.text c.speak.result c.in-Ok.ensures.row c.speak.ensures

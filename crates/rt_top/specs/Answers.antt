@@ -1,0 +1,229 @@
+-- When each outcome of a call comes, and what the call writes.
+use Rattle.std.specs.Prelude.{◌≡◌, ℕ, ◌⊎◌, Bool, IsTrue, List, ◌++◌, Option, None, Some, Ok, Err, IsSome, IsSomeAnd, ⊤}
+use Rattle.rt_io.specs.Edge.{Rose, AddsPrefix}
+use Rattle.rt_top.specs.declared.part.Part.{Part}
+use Rattle.rt_top.specs.declared.outcome.Fault.{Fault}
+use Rattle.rt_top.specs.declared.outcome.Limit.{Limit}
+use Rattle.rt_top.specs.declared.outcome.Limit.TheVariants as limit
+use Rattle.rt_top.specs.declared.outcome.Outcome.{Outcome}
+use Rattle.rt_top.specs.declared.outcome.Outcome.TheVariants as outcome
+use Rattle.rt_top.specs.declared.place.Place.{Place}
+use Rattle.rt_top.specs.declared.place.Place.TheVariants as at
+use Rattle.rt_top.specs.declared.command.Paths.{Paths}
+use Rattle.rt_top.specs.Accepted.{Accepted}
+use Rattle.rt_top.specs.Command.{command, file_name}
+use Rattle.rt_top.specs.Judged.{Holding, judged, Reaches, IsNamed}
+use Rattle.rt_top.specs.Smallest.{IsSmallest, Agrees}
+use Rattle.rt_top.specs.Steps.{Seen, seen, Failed, IsLong, is_refusal}
+use Rattle.rt_top.specs.Texts.{place, plain_text, witness_of}
+
+-- ---- when an outcome comes
+
+-- a call: its words, and what is known of the files over it
+pub record Call : Type 0 where
+  pub words : List (List ℕ)
+  pub files : Seen
+
+abbrev pub call : List (List ℕ) → Bool → Holding → (List ℕ → ℕ) → (List ℕ → ℕ) → Option (List ℕ) → ℕ → Call
+call words tells held before after current taken = record { words = words; files = seen tells held before after current taken }
+
+-- an input that was read in the call: where the files tell their contents, the one that is judged
+pub record IsRead (c : Call) (input : Accepted) : Type 0 where
+  pub command : IsSome (command c.words)
+  pub told : IsTrue c.files.tells → judged c.words c.files.held ≡ Ok input
+
+abbrev pub AgreeRow : Call → Type 0
+AgreeRow c = (input : Accepted) × IsRead c input × Agrees input
+
+abbrev pub WitnessRow : Call → List Bool → Type 0
+WitnessRow c keep = (input : Accepted) × IsRead c input × IsSmallest input keep
+
+abbrev pub UsageRow : Call → Type 0
+UsageRow c = command c.words ≡ None
+
+abbrev pub RefusedRow : Call → Part → Fault → Type 0
+RefusedRow c part fault = IsSome (command c.words) × IsTrue (is_refusal fault) × (IsTrue c.files.tells → judged c.words c.files.held ≡ Err (outcome.Refused part fault))
+
+-- a file is too long where one byte more than it may have was taken
+abbrev pub LimitRow : Call → Limit → Type 0
+LimitRow c (limit.TooLong part) = IsSomeAnd (command c.words) (λ paths. IsLong c.files (file_name paths part)) × (IsTrue c.files.tells → judged c.words c.files.held ≡ Err (outcome.Limit (limit.TooLong part)))
+LimitRow c limit.Rows = IsSome (command c.words) × (IsTrue c.files.tells → judged c.words c.files.held ≡ Err (outcome.Limit limit.Rows))
+
+-- the file of this part failed in this call, and nothing before it is refused
+pub record ReadFaultAt (s : Seen) (part : Part) (paths : Paths) : Type 0 where
+  pub failed : Failed s (file_name paths part)
+  pub reached : IsTrue s.tells → Reaches paths s.held part
+
+abbrev pub ReadFaultRow : Call → Part → Type 0
+ReadFaultRow c part = IsSomeAnd (command c.words) (ReadFaultAt c.files part)
+
+-- an outcome that its own row allows, what it says of growth left aside
+abbrev pub Row : Call → Outcome → Type 0
+Row c outcome.Agree = AgreeRow c
+Row c (outcome.Witness keep) = WitnessRow c keep
+Row c outcome.Usage = UsageRow c
+Row c (outcome.Refused part fault) = RefusedRow c part fault
+Row c (outcome.Limit limit) = LimitRow c limit
+Row c (outcome.ReadFault part) = ReadFaultRow c part
+Row c outcome.WriteFault = ⊥
+Row c outcome.NoMemory = ⊥
+
+-- what stops the reading of an input: its row, or want of memory
+abbrev pub Stop : Call → Outcome → Type 0
+Stop c outcome.Agree = ⊥
+Stop c (outcome.Witness keep) = ⊥
+Stop c outcome.Usage = UsageRow c
+Stop c (outcome.Refused part fault) = RefusedRow c part fault
+Stop c (outcome.Limit limit) = LimitRow c limit
+Stop c (outcome.ReadFault part) = ReadFaultRow c part
+Stop c outcome.WriteFault = ⊥
+Stop c outcome.NoMemory = ⊤
+
+-- ---- words on one outcome
+
+abbrev pub IfAgree : Outcome → Type 0 → Type 0
+IfAgree outcome.Agree P = P
+IfAgree _ P = ⊤
+
+abbrev pub IfWitness : Outcome → (List Bool → Type 0) → Type 0
+IfWitness (outcome.Witness keep) P = P keep
+IfWitness _ P = ⊤
+
+abbrev pub IfUsage : Outcome → Type 0 → Type 0
+IfUsage outcome.Usage P = P
+IfUsage _ P = ⊤
+
+abbrev pub IfRefused : Outcome → (Part → Fault → Type 0) → Type 0
+IfRefused (outcome.Refused part fault) P = P part fault
+IfRefused _ P = ⊤
+
+abbrev pub IfLimit : Outcome → (Limit → Type 0) → Type 0
+IfLimit (outcome.Limit limit) P = P limit
+IfLimit _ P = ⊤
+
+abbrev pub IfReadFault : Outcome → (Part → Type 0) → Type 0
+IfReadFault (outcome.ReadFault part) P = P part
+IfReadFault _ P = ⊤
+
+abbrev pub IfWriteFault : Outcome → Type 0 → Type 0
+IfWriteFault outcome.WriteFault P = P
+IfWriteFault _ P = ⊤
+
+abbrev pub IfNoMemory : Outcome → Type 0 → Type 0
+IfNoMemory outcome.NoMemory P = P
+IfNoMemory _ P = ⊤
+
+-- ---- where an outcome has to come
+
+-- what an answer may be where a refusal stands: that refusal, or a fault
+abbrev pub YieldsTo : Outcome → Outcome → Type 0
+YieldsTo refusal outcome.NoMemory = ⊤
+YieldsTo refusal outcome.WriteFault = ⊤
+YieldsTo refusal (outcome.ReadFault part) = ⊤
+YieldsTo refusal o = o ≡ refusal
+
+-- the same where no file is read
+abbrev pub YieldsToWrite : Outcome → Outcome → Type 0
+YieldsToWrite refusal outcome.NoMemory = ⊤
+YieldsToWrite refusal outcome.WriteFault = ⊤
+YieldsToWrite refusal o = o ≡ refusal
+
+-- a verdict, or want of memory
+abbrev pub IsVerdict : Outcome → Type 0
+IsVerdict outcome.Agree = ⊤
+IsVerdict (outcome.Witness keep) = ⊤
+IsVerdict outcome.NoMemory = ⊤
+IsVerdict _ = ⊥
+
+-- no count of a file that the command names rose
+abbrev pub NoFileRose : Call → Type 0
+NoFileRose c = (paths : Paths) → command c.words ≡ Some paths → (part : Part) → IsNamed paths c.files.held part
+    → Failed c.files (file_name paths part) → ⊥
+
+-- ---- what is written
+
+-- the text of an outcome; a witness is printed with the input of which it is the smallest
+abbrev pub Says : Call → Outcome → List ℕ → Type 0
+Says c (outcome.Witness keep) said = (input : Accepted) × IsRead c input × IsSmallest input keep × (said ≡ witness_of input keep)
+Says c o said = said ≡ plain_text o
+
+-- one sink over a call: whether it tells its bytes, these, and its count, before and after
+pub record Log : Type 0 where
+  pub tells : Bool
+  pub old : List ℕ
+  pub new : List ℕ
+  pub before : ℕ
+  pub after : ℕ
+
+abbrev pub log : Bool → List ℕ → List ℕ → ℕ → ℕ → Log
+log tells old new before after = record { tells = tells; old = old; new = new; before = before; after = after }
+
+-- this sink grew by all of a text of the outcome
+abbrev pub GrewByWhole : Call → Outcome → Log → Type 0
+GrewByWhole c o sink = (said : List ℕ) × Says c o said × (IsTrue sink.tells → sink.new ≡ sink.old ++ said)
+
+-- this sink grew by a prefix of a text of the outcome
+abbrev pub GrewByPrefix : Call → Outcome → Log → Type 0
+GrewByPrefix c o sink = (said : List ℕ) × Says c o said × (IsTrue sink.tells → AddsPrefix sink.old sink.new said)
+
+abbrev pub IsKept : Log → Type 0
+IsKept sink = IsTrue sink.tells → sink.new ≡ sink.old
+
+-- the sink of an outcome, and the other one
+abbrev pub at_place : Place → Log → Log → Log
+at_place at.Out out err = out
+at_place at.Err out err = err
+
+abbrev pub other_place : Place → Log → Log → Log
+other_place at.Out out err = err
+other_place at.Err out err = out
+
+-- the whole text of the outcome went to its sink, and nothing to the other
+pub record Said (c : Call) (o : Outcome) (out err : Log) : Type 0 where
+  pub whole : GrewByWhole c o (at_place (place o) out err)
+  pub kept : IsKept (other_place (place o) out err)
+
+-- a prefix of a text of an outcome that its row allows went to its sink, and nothing to the other
+pub record Begun (c : Call) (out err : Log) (o : Outcome) : Type 0 where
+  pub row : Row c o
+  pub begun : GrewByPrefix c o (at_place (place o) out err)
+  pub kept : IsKept (other_place (place o) out err)
+
+-- the same, where that sink failed
+pub record Broke (c : Call) (out err : Log) (o : Outcome) : Type 0 where
+  pub begun : Begun c out err o
+  pub rose : Rose (at_place (place o) out err).before (at_place (place o) out err).after
+
+-- of an outcome that has a text
+abbrev pub IfText : Outcome → Type 0 → Type 0
+IfText outcome.WriteFault P = ⊤
+IfText outcome.NoMemory P = ⊤
+IfText _ P = P
+
+-- nothing was written
+pub record IsSilent (out err : Log) : Type 0 where
+  pub out_kept : IsKept out
+  pub err_kept : IsKept err
+
+-- how the writing of a text ended: all of it was taken, the sink failed, or memory was wanting
+abbrev pub Ends : Log → Outcome → List ℕ → Outcome → Type 0
+Ends sink o said result =
+    ((result ≡ o) × (IsTrue sink.tells → sink.new ≡ sink.old ++ said))
+    ⊎ (((result ≡ outcome.WriteFault) × Rose sink.before sink.after × (IsTrue sink.tells → AddsPrefix sink.old sink.new said))
+    ⊎ ((result ≡ outcome.NoMemory) × (IsTrue sink.tells → AddsPrefix sink.old sink.new said)))
+
+-- the same at the sink of an outcome, with nothing at the other
+pub record Spoke (out err : Log) (o : Outcome) (said : List ℕ) (result : Outcome) : Type 0 where
+  pub ends : Ends (at_place (place o) out err) o said result
+  pub kept : IsKept (other_place (place o) out err)
+
+-- neither sink failed
+pub record NoSinkRose (out err : Log) : Type 0 where
+  pub out_rose : Rose out.before out.after → ⊥
+  pub err_rose : Rose err.before err.after → ⊥
+
+-- what is said of an accepted input
+abbrev pub Judges : Accepted → Outcome → List ℕ → Type 0
+Judges input outcome.Agree said = Agrees input × (said ≡ plain_text outcome.Agree)
+Judges input (outcome.Witness keep) said = IsSmallest input keep × (said ≡ witness_of input keep)
+Judges input _ said = ⊥

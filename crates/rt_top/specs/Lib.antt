@@ -1,0 +1,11 @@
+pub mod Accepted
+pub mod Answers
+pub mod Command
+pub mod Form
+pub mod Judged
+pub mod QueryForm
+pub mod SchemaForm
+pub mod Search
+pub mod Smallest
+pub mod Steps
+pub mod Texts

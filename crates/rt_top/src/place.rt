@@ -1,0 +1,23 @@
+ghost use Rattle.std.specs.Prelude.{◌≡◌};
+ghost use Rattle.rt_top.specs.Texts.{place};
+
+use crate::outcome::Outcome;
+
+/// The sink that a text belongs to.
+#[derive(Clone, Copy)]
+pub(crate) enum Place {
+    Out,
+    Err,
+}
+
+impl Outcome {
+    /// The sink of its text.
+    pub(crate) fn place(&self) -> Place
+        ensures { result ≡ place self.now }
+    {
+        match self {
+            Outcome::Agree | Outcome::Witness(_) => Place::Out,
+            _ => Place::Err,
+        }
+    }
+}

@@ -1,0 +1,164 @@
+ghost use Rattle.std.specs.Prelude.{◌≡◌, ℕ, ◌⊎◌, None, List, IsTrue, IfOk, Ok, Err, IsOk};
+ghost use Rattle.rt_io.specs.Edge.{NoneFell};
+ghost use Rattle.rt_top.specs.Command.{command};
+ghost use Rattle.rt_top.specs.Judged.{judged};
+ghost use Rattle.rt_top.specs.Smallest.{Agrees, IsSmallest};
+ghost use Rattle.rt_top.specs.Texts.{plain_text, witness_of};
+ghost use Rattle.rt_top.specs.Answers.{call, Row, AgreeRow, WitnessRow, UsageRow, RefusedRow, LimitRow, ReadFaultRow, IfAgree, IfWitness, IfUsage, IfRefused, IfLimit, IfReadFault, IfWriteFault, IfNoMemory, IfText, YieldsTo, YieldsToWrite, IsVerdict, NoFileRose, NoSinkRose, Says, log, Ends, Spoke, Said, Begun, Broke, IsSilent, Judges};
+ghost use Rattle.rt_top.specs.declared.outcome.Outcome.{Outcome};
+ghost use Rattle.rt_top.specs.declared.outcome.Outcome.TheVariants as outcome;
+
+use crate::best::Best;
+use crate::input::Input;
+use crate::outcome::Outcome;
+use crate::place::Place;
+use crate::read::read_input;
+use crate::say::plain_text;
+use crate::trial::decide;
+use rt_eval::answers;
+use rt_io::{Files, Sink, SinkFail, write_text};
+use rt_print::witness_text;
+use rt_value::{Bytes, Keep, NoMemory, Txt};
+use std::alloc::Global;
+
+/// An outcome and its text.
+#[derive(Drop)]
+struct Answer {
+    outcome: Outcome,
+    text: Bytes,
+}
+
+/// The text of a smallest counterexample.
+fn witness_of(alloc: Global, input: &Input, keep: &Keep) -> Result<Bytes, NoMemory>
+    requires { IsSmallest input.now keep.now }
+    ensures { IfOk result (λ text. text ≡ witness_of input.now keep.now) }
+{
+    let schema = input.schema();
+    let left = answers(alloc, input.left(), input.given(), keep)?;
+    let right = answers(alloc, input.right(), input.given(), keep)?;
+    witness_text(
+        alloc,
+        schema,
+        input.given(),
+        keep,
+        left.as_slice(),
+        right.as_slice(),
+    )
+}
+
+/// What is to be said of an accepted input.
+fn verdict(alloc: Global, input: &Input) -> Result<Answer, NoMemory>
+    ensures { IfOk result (λ a. Judges input.now a.outcome a.text) }
+{
+    match decide(alloc, input)? {
+        Best::Never => {
+            let outcome = Outcome::Agree;
+            let text = plain_text(alloc, &outcome)?;
+            Ok(Answer { outcome, text })
+        }
+        Best::Least(keep) => {
+            let text = witness_of(alloc, input, &keep)?;
+            let outcome = Outcome::Witness(keep);
+            Ok(Answer { outcome, text })
+        }
+    }
+}
+
+/// What is to be said of a command.
+fn prepare<F: Files>(alloc: Global, words: &[Txt], files: &mut F) -> Result<Answer, NoMemory>
+    ensures row { let c = call words.now F.tells (F.held files.old) (F.faults files.old) (F.faults files.new) (F.current files.new) (F.taken files.new) in
+        IfOk result (λ a. Row c a.outcome) }
+    ensures says { let c = call words.now F.tells (F.held files.old) (F.faults files.old) (F.faults files.new) (F.current files.new) (F.taken files.new) in
+        IfOk result (λ a. Says c a.outcome a.text) }
+    ensures held { F.held files.new ≡ F.held files.old }
+    ensures rises { NoneFell (F.faults files.old) (F.faults files.new) }
+{
+    match read_input(alloc, words, files) {
+        Ok(input) => verdict(alloc, &input),
+        Err(Outcome::NoMemory) => Err(NoMemory),
+        Err(outcome) => {
+            let text = plain_text(alloc, &outcome)?;
+            Ok(Answer { outcome, text })
+        }
+    }
+}
+
+/// Writes the text of an answer.
+fn finish<S: Sink>(sink: &mut S, answer: Answer) -> Outcome
+    ensures { Ends (log S.tells (S.contents sink.old) (S.contents sink.new) (S.faults sink.old) (S.faults sink.new)) answer.outcome answer.text result }
+{
+    match write_text(sink, answer.text.as_slice()) {
+        Ok(()) => answer.outcome,
+        Err(SinkFail::Failed) => Outcome::WriteFault,
+        Err(SinkFail::NoMemory) => Outcome::NoMemory,
+    }
+}
+
+/// Writes the text of an answer to its sink.
+fn speak<O: Sink, E: Sink>(out: &mut O, err: &mut E, answer: Answer) -> Outcome
+    ensures { Spoke (log O.tells (O.contents out.old) (O.contents out.new) (O.faults out.old) (O.faults out.new))
+        (log E.tells (E.contents err.old) (E.contents err.new) (E.faults err.old) (E.faults err.new))
+        answer.outcome answer.text result }
+{
+    match answer.outcome.place() {
+        Place::Out => finish(out, answer),
+        Place::Err => finish(err, answer),
+    }
+}
+
+/// Reads the files of a command, decides on the input, and writes the verdict to `out`, or to
+/// `err` why there is none.
+pub fn ratest<F: Files, O: Sink, E: Sink>(
+    alloc: Global,
+    words: &[Txt],
+    files: &mut F,
+    out: &mut O,
+    err: &mut E,
+) -> Outcome
+    // Only where all lawful sub-instances of the input agree.
+    ensures agree { let c = call words.now F.tells (F.held files.old) (F.faults files.old) (F.faults files.new) (F.current files.new) (F.taken files.new) in
+        IfAgree result (AgreeRow c) }
+    // Only where the choice is the smallest counterexample of the input.
+    ensures witness { let c = call words.now F.tells (F.held files.old) (F.faults files.old) (F.faults files.new) (F.current files.new) (F.taken files.new) in
+        IfWitness result (WitnessRow c) }
+    // Only where the words are no command, and there always.
+    ensures usage { let c = call words.now F.tells (F.held files.old) (F.faults files.old) (F.faults files.new) (F.current files.new) (F.taken files.new) in
+        IfUsage result (UsageRow c) }
+    ensures usage_exact { command words.now ≡ None → YieldsToWrite outcome.Usage result }
+    // Only where this is the first refusal, and there always.
+    ensures refused { let c = call words.now F.tells (F.held files.old) (F.faults files.old) (F.faults files.new) (F.current files.new) (F.taken files.new) in
+        IfRefused result (RefusedRow c) }
+    ensures limit { let c = call words.now F.tells (F.held files.old) (F.faults files.old) (F.faults files.new) (F.current files.new) (F.taken files.new) in
+        IfLimit result (LimitRow c) }
+    ensures exact { IsTrue F.tells → (refusal : Outcome) → judged words.now (F.held files.old) ≡ Err refusal → YieldsTo refusal result }
+    // Only where the count of that part's file rose in this call.
+    ensures read_fault { let c = call words.now F.tells (F.held files.old) (F.faults files.old) (F.faults files.new) (F.current files.new) (F.taken files.new) in
+        IfReadFault result (ReadFaultRow c) }
+    // Only where the sink of an outcome that its row allows failed in this call.
+    ensures write_fault { let c = call words.now F.tells (F.held files.old) (F.faults files.old) (F.faults files.new) (F.current files.new) (F.taken files.new) in
+        let o = log O.tells (O.contents out.old) (O.contents out.new) (O.faults out.old) (O.faults out.new) in
+        let e = log E.tells (E.contents err.old) (E.contents err.new) (E.faults err.old) (E.faults err.new) in
+        IfWriteFault result ((allowed : Outcome) × Broke c o e allowed) }
+    // Want of memory may come anywhere; at most a prefix of such a text was written.
+    ensures no_memory { let c = call words.now F.tells (F.held files.old) (F.faults files.old) (F.faults files.new) (F.current files.new) (F.taken files.new) in
+        let o = log O.tells (O.contents out.old) (O.contents out.new) (O.faults out.old) (O.faults out.new) in
+        let e = log E.tells (E.contents err.old) (E.contents err.new) (E.faults err.old) (E.faults err.new) in
+        IfNoMemory result (IsSilent o e ⊎ ((allowed : Outcome) × Begun c o e allowed)) }
+    // The whole text went to its sink, and nothing to the other.
+    ensures said { let c = call words.now F.tells (F.held files.old) (F.faults files.old) (F.faults files.new) (F.current files.new) (F.taken files.new) in
+        let o = log O.tells (O.contents out.old) (O.contents out.new) (O.faults out.old) (O.faults out.new) in
+        let e = log E.tells (E.contents err.old) (E.contents err.new) (E.faults err.old) (E.faults err.new) in
+        IfText result (Said c result o e) }
+    // An accepted command over files and sinks that don't fail gets a verdict.
+    ensures complete { let c = call words.now F.tells (F.held files.old) (F.faults files.old) (F.faults files.new) (F.current files.new) (F.taken files.new) in
+        let o = log O.tells (O.contents out.old) (O.contents out.new) (O.faults out.old) (O.faults out.new) in
+        let e = log E.tells (E.contents err.old) (E.contents err.new) (E.faults err.old) (E.faults err.new) in
+        IsTrue F.tells → NoFileRose c → NoSinkRose o e → IsOk (judged words.now (F.held files.old)) → IsVerdict result }
+    ensures held { F.held files.new ≡ F.held files.old }
+    ensures rises { NoneFell (F.faults files.old) (F.faults files.new) }
+{
+    match prepare(alloc, words, files) {
+        Ok(answer) => speak(out, err, answer),
+        Err(NoMemory) => Outcome::NoMemory,
+    }
+}
