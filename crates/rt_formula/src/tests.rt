@@ -56,3 +56,24 @@ fn a_row_has_one_node(rt: HostRuntime) -> Result<(), Fail> {
     assert!(rt; dag.len() <= before + 1);
     Ok(())
 }
+
+#[test]
+fn a_gate_of_a_million_children(rt: HostRuntime) -> Result<(), Fail> {
+    let mut dag = Dag::new(rt.alloc(), 2)?;
+    let mut node = dag.row(0)?;
+    let mut children = Vec::new(rt.alloc());
+    for _ in 0..1_000_000 {
+        assert!(rt; dag.rows() == 2 && node.number() < dag.len());
+        let other = dag.row(1)?;
+        assert!(rt; node.number() < dag.len());
+        let either = dag.any(&[node, other])?;
+        children.push(either)?;
+        assert!(rt; either.number() < dag.len());
+        node = dag.not(either)?;
+    }
+    assert!(rt; children.iter().all(|child| child.number() < dag.len()));
+    let before = dag.len();
+    let gate = dag.all(&children)?;
+    assert!(rt; gate.number() == before && dag.len() == before + 1);
+    Ok(())
+}
