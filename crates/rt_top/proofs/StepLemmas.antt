@@ -1,7 +1,7 @@
 -- What stops one step of the reading stops the reading.
-use Rattle.std.proofs.Common.{◌≡◌, ℕ, ◌+◌, ◌-◌, ◌^◌, ◌≤◌, min, Bool, IsTrue, List, Result, Ok, Err, refl, arith}
-use Rattle.std.specs.Prelude.{Option, MatchBool, true, false}
-use Rattle.rt_io.specs.Edge.{Rose, NoneFell}
+use Rattle.std.proofs.Common.{◌≡◌, ℕ, Bool, IsTrue, List, Result, Ok, Err, refl, arith}
+use Rattle.std.specs.Prelude.{Option}
+use Rattle.rt_io.specs.Edge.{NoneFell}
 use Rattle.rt_value.specs.Gives.{Gives}
 use Rattle.rt_schema.specs.Given.{Rows}
 use Rattle.rt_load.specs.declared.fault.LoadFault.{LoadFault}
@@ -13,8 +13,8 @@ use Rattle.rt_top.specs.declared.outcome.Outcome.{Outcome}
 use Rattle.rt_top.specs.declared.outcome.Outcome.TheVariants as outcome
 use Rattle.rt_top.specs.declared.command.Paths.{Paths}
 use Rattle.rt_top.specs.Command.{file_name}
-use Rattle.rt_top.specs.Judged.{Holding, then_read, loaded_as, load_outcome}
-use Rattle.rt_top.specs.Steps.{Seen, seen, Failed, Stops}
+use Rattle.rt_top.specs.Judged.{Holding, then_read, load_outcome}
+use Rattle.rt_top.specs.Steps.{Seen, seen, Stops}
 
 pub then_ok : {T U E : Type 0} (r : Result T E) (x : T) (f : T → Result U E) (y : Result U E) → r ≡ Ok x → f x ≡ y → then_read r f ≡ y
 then_ok r x f y p q = rw p q

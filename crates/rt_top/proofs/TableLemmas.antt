@@ -1,11 +1,9 @@
 -- Reading tables one after another, and how many rows they have.
-use Rattle.std.proofs.Common.{◌≡◌, ℕ, zero, suc, ◌+◌, ◌<◌, ◌≤◌, List, [], ◌∷◌, ◌++◌, length, take, drop, get_or, Bool, true, false, IsTrue, Result, Ok, Err, refl, sym, ap, subst, ◌∙◌, arith, add-zero, if◌then◌else◌, nat_lt, slice_set, replicate}
-use Rattle.std.specs.Prelude.{Option, Some, None, IsOk, slice_get, ◌==◌}
+use Rattle.std.proofs.Common.{◌≡◌, ℕ, zero, suc, ◌+◌, ◌<◌, ◌≤◌, List, [], ◌∷◌, ◌++◌, length, take, drop, get_or, Bool, true, false, Result, Ok, Err, refl, sym, ap, subst, ◌∙◌, arith, add-zero, if◌then◌else◌, nat_lt, slice_set, replicate}
+use Rattle.std.specs.Prelude.{Some, slice_get, ◌==◌}
 use Rattle.std.proofs.Math.Seq.{drop-cons}
 use Rattle.std.proofs.lemmas.Bool.Decides.{nat_tests}
 use Rattle.std.proofs.lemmas.List.{take-append-drop, length-take-le, take_more}
-use Rattle.std.proofs.lemmas.Option.{slice_get-get_or}
-use Rattle.rt_value.specs.declared.value.Value.{Value}
 use Rattle.rt_schema.specs.declared.table.Column.{Column}
 use Rattle.rt_schema.specs.declared.table.Table.{Table}
 use Rattle.rt_schema.specs.Given.{Rows, Tables, rows_at, places}

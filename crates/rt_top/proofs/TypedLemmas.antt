@@ -1,14 +1,12 @@
 -- Queries of the first form are typed.
-use Rattle.std.proofs.Common.{◌≡◌, ℕ, zero, suc, ◌<◌, Bool, true, false, ◌&&◌, if◌then◌else◌, IsTrue, List, [], ◌∷◌, length, map, get_or, nat_eq, refl, sym, ap, subst, ◌∙◌, ℤ}
+use Rattle.std.proofs.Common.{◌≡◌, ℕ, zero, suc, Bool, true, false, ◌&&◌, if◌then◌else◌, List, [], ◌∷◌, length, map, get_or, nat_eq, refl, sym, ap, subst, ◌∙◌, ℤ}
 use Rattle.std.specs.Prelude.{Option, None, Some, slice_get, codes, unsigned_abs}
 use Rattle.std.specs.Option.{option_and_then}
 use Rattle.std.specs.List.{position}
 use Rattle.std.specs.Str.{bytes_eq}
-use Rattle.std.proofs.lemmas.Bool.Decides.{nat_tests}
 use Rattle.std.proofs.lemmas.List.Quantifiers.{position-Some}
 use Rattle.std.proofs.lemmas.Option.{slice_get-get_or}
 use lib.Pointwise.{pointwise}
-use Rattle.rt_token.specs.declared.token.TokenKind.{TokenKind}
 use Rattle.rt_token.specs.declared.token.Token.{Token}
 use Rattle.rt_value.specs.declared.value.Op.{Op}
 use Rattle.rt_schema.specs.declared.table.ColKind.{ColKind}
@@ -30,9 +28,9 @@ use Rattle.rt_algebra.specs.declared.expr.Expr.TheOpen as expr_layer
 use Rattle.rt_algebra.specs.declared.expr.Expr.TheFolds.{fold-roll-Expr}
 use Rattle.rt_algebra.specs.Columns as c
 use Rattle.rt_algebra.specs.Columns.{Columns, Scopes, ConditionTest, QueryColumns, table_column, table_columns, column_of, comparable, pred_typed, query_columns}
-use Rattle.rt_algebra.specs.Typed.{are_columns, has_columns, IsTyped, IsTypedOf}
+use Rattle.rt_algebra.specs.Typed.{are_columns, IsTypedOf}
 use Rattle.rt_top.specs.Form.{form_tokens, is_word, is_star, is_end, plain_name}
-use Rattle.rt_top.specs.QueryForm.{bound_of, is_whole, column_form, comparison, op_form, number_form, selected, where_form, typed_over, typed_rows, over_table, table_named, select_form, query_form}
+use Rattle.rt_top.specs.QueryForm.{bound_of, is_whole, column_form, comparison, op_form, number_form, selected, where_form, typed_rows, over_table, table_named, select_form, query_form}
 
 -- ---- kinds
 

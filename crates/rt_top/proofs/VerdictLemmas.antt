@@ -1,7 +1,7 @@
 -- What the rows of a call's answers follow from, and that an accepted command over files and sinks
 -- that don't fail gets a verdict.
-use Rattle.std.proofs.Common.{◌≡◌, ℕ, List, Bool, IsTrue, Result, Ok, Err, refl, sym, ap, subst, inl, inr, ◌∙◌}
-use Rattle.std.specs.Prelude.{Option, Some, None, IfOk, IsOk, IsOkAnd, IsSome, IsSomeAnd, slice_get}
+use Rattle.std.proofs.Common.{◌≡◌, ℕ, List, IsTrue, Result, Ok, Err, refl, sym, ap, subst, inl, inr, ◌∙◌}
+use Rattle.std.specs.Prelude.{Option, Some, None, IfOk, IsOk, IsOkAnd, IsSome, IsSomeAnd}
 use Rattle.rt_io.specs.Edge.{Rose}
 use Rattle.rt_schema.specs.declared.table.Table.{Table as TableOf}
 use Rattle.rt_top.specs.declared.command.Paths.{Paths}
@@ -15,7 +15,7 @@ use Rattle.rt_top.specs.declared.place.Place.TheVariants as at
 use Rattle.rt_top.specs.Accepted.{Accepted}
 use Rattle.rt_top.specs.Command.{command, file_name}
 use Rattle.rt_top.specs.Judged.{Holding, files_judged, judged, paths_judged, schema_judged, HasTable, IsNamed, Reaches, TableReached}
-use Rattle.rt_top.specs.Steps.{Seen, Failed, IsLong, Stops}
+use Rattle.rt_top.specs.Steps.{IsLong, Stops}
 use Rattle.rt_top.specs.Texts.{place}
 use Rattle.rt_top.specs.Answers.{Call, IsVerdict, Log, NoFileRose, NoSinkRose, ReadFaultAt, ReadFaultRow, Row, Spoke, Stop, at_place, Judges, Says, IsRead}
 

@@ -1,5 +1,5 @@
 -- An accepted input, as contracts see it: a schema, the rows given for it, and two queries over it.
-use Rattle.std.specs.Prelude.{◌≡◌, ℕ, ◌≤◌, List}
+use Rattle.std.specs.Prelude.{◌≡◌, ◌≤◌, List}
 use Rattle.rt_schema.specs.declared.table.Table.{Table}
 use Rattle.rt_schema.specs.Given.{Instance, IsOf, places}
 use Rattle.rt_algebra.specs.declared.typed.Typed.{Typed}

@@ -1,6 +1,6 @@
 -- What the files of a command hold, or the first refusal in the order of the files: the schema, the
 -- tables in schema order, query 1, query 2, and of each file first its length and then its contents.
-use Rattle.std.specs.Prelude.{◌≡◌, ℕ, ◌+◌, ◌==◌, ◌&&◌, nat_lt, Bool, true, false, List, [], ◌∷◌, length, take, replicate, Option, None, Some, Result, Ok, Err, IsOk, IsOkAnd, slice_get, slice_set, if◌then◌else◌}
+use Rattle.std.specs.Prelude.{◌≡◌, ℕ, ◌+◌, ◌==◌, ◌&&◌, nat_lt, List, [], ◌∷◌, length, take, replicate, Option, None, Some, Result, Ok, Err, IsOk, IsOkAnd, slice_get, slice_set, if◌then◌else◌}
 use Rattle.std.specs.Option.{option_map}
 use lib.Pointwise.{pointwise}
 use Rattle.rt_schema.specs.declared.table.Table.{Table as TableOf}
@@ -12,7 +12,6 @@ use Rattle.rt_load.specs.declared.fault.LoadFault.TheVariants as load
 use Rattle.rt_load.specs.Loaded.{loaded}
 use Rattle.rt_top.specs.declared.part.Part.{Part}
 use Rattle.rt_top.specs.declared.part.Part.TheVariants.{Schema, Table, Query1, Query2}
-use Rattle.rt_top.specs.declared.outcome.Fault.{Fault}
 use Rattle.rt_top.specs.declared.outcome.Fault.TheVariants.{Form, Load}
 use Rattle.rt_top.specs.declared.outcome.Limit.TheVariants as limit
 use Rattle.rt_top.specs.declared.outcome.Outcome.{Outcome}

@@ -1,12 +1,12 @@
 -- The first form of a query: SELECT * FROM n, or SELECT * FROM n WHERE c op v, where n is a table of
 -- the schema, c an INTEGER column of it and v a whole number of 64 bits (ISO/IEC 9075-2, query
 -- specification).
-use Rattle.std.specs.Prelude.{ℕ, zero, ℤ, pos, ◌^◌, ◌-◌, Bool, true, false, ◌&&◌, if◌then◌else◌, List, [], ◌∷◌, map, Option, None, Some, codes, int_le, position, slice_get}
+use Rattle.std.specs.Prelude.{ℕ, ℤ, pos, ◌^◌, ◌-◌, Bool, true, false, ◌&&◌, if◌then◌else◌, List, ◌∷◌, map, Option, None, Some, codes, int_le, position, slice_get}
 use Rattle.std.specs.Option.{option_and_then}
 use Rattle.std.specs.Str.{bytes_eq}
 use Rattle.rt_token.specs.declared.sym.Sym.TheVariants as sym
 use Rattle.rt_token.specs.declared.token.TokenKind.{TokenKind}
-use Rattle.rt_token.specs.declared.token.TokenKind.TheVariants.{Word, Quoted, Number, Str, Sym}
+use Rattle.rt_token.specs.declared.token.TokenKind.TheVariants.{Number, Sym}
 use Rattle.rt_token.specs.declared.token.Token.{Token}
 use Rattle.rt_value.specs.declared.value.Op.{Op}
 use Rattle.rt_value.specs.declared.value.Op.TheVariants as op

@@ -1,6 +1,6 @@
 -- Counterexamples, and the smallest of them (Miao, Roy and Yang, SIGMOD 2019): lawful
 -- sub-instances at which the answers of two queries differ.
-use Rattle.std.specs.Prelude.{◌≡◌, ℕ, ◌≤◌, Bool, true, false, not, ◌&&◌, List, [], ◌∷◌, length}
+use Rattle.std.specs.Prelude.{◌≡◌, ◌≤◌, Bool, true, false, not, ◌&&◌, List, [], ◌∷◌, length}
 use Rattle.rt_value.specs.Keep.{size}
 use Rattle.rt_schema.specs.Given.{Rows, places}
 use Rattle.rt_schema.specs.Kept.{kept}

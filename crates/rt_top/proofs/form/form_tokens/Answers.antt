@@ -1,4 +1,4 @@
-use Rattle.std.proofs.Common.{sym, ◌∙◌}
+use Rattle.std.proofs.Common.{sym}
 use Rattle.std.specs.List.{list_any}
 use Rattle.rt_token.specs.Lexed.{lexed}
 use Rattle.rt_top.specs.Form.{begins_comment}

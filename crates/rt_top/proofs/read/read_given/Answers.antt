@@ -1,4 +1,4 @@
-use Rattle.std.proofs.Common.{◌≡◌, ◌<◌, ◌≤◌, ℕ, arith, ◌∙◌, sym, ap, refl, subst, Ok, Err, Result, List, length, get_or, take}
+use Rattle.std.proofs.Common.{◌≡◌, ◌<◌, ℕ, arith, ◌∙◌, sym, ap, refl, subst, Ok, Result, List, length, get_or}
 use Rattle.std.specs.Prelude.{Some, IsOk, slice_get}
 use Rattle.std.specs.Option.{option_map}
 use Rattle.std.proofs.lemmas.Option.{slice_get-get_or}
@@ -7,7 +7,6 @@ use Rattle.rt_schema.specs.declared.table.Table.{Table}
 use Rattle.rt_schema.specs.Given.{Tables, places, rows_at}
 use Rattle.rt_schema.proofs.GivenLemmas.{no_rows-places}
 use Rattle.rt_top.specs.declared.outcome.Outcome.{Outcome}
-use Rattle.rt_top.specs.declared.part.Part.{Part}
 use Rattle.rt_top.specs.declared.part.Part.TheVariants as part
 use Rattle.rt_top.specs.Judged.{IsTableReached, no_rows, table_judged, tables_judged}
 use Rattle.rt_top.proofs.StepLemmas.{stops_on}

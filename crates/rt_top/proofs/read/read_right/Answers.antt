@@ -1,4 +1,4 @@
-use Rattle.std.proofs.Common.{◌≡◌, sym, ◌∙◌, ap, true}
+use Rattle.std.proofs.Common.{sym, ◌∙◌, ap}
 use lib.Pointwise.{pointwise}
 use Rattle.rt_schema.specs.Schema.{kind_eq}
 use Rattle.rt_top.proofs.TypedLemmas.{kinds_same}

@@ -1,10 +1,10 @@
-use Rattle.std.proofs.Common.{◌≡◌, ◌<◌, ◌≤◌, sym, ap, ◌∙◌, subst, arith, length, Ok, Err}
+use Rattle.std.proofs.Common.{◌≡◌, ◌<◌, sym, ap, ◌∙◌, arith, length, Ok, Err}
 use Rattle.rt_schema.specs.Given.{places, rows_at}
-use Rattle.rt_load.specs.Loaded.{columns_at, loaded, row_limit}
+use Rattle.rt_load.specs.Loaded.{columns_at, loaded}
 use Rattle.rt_load.proofs.SuitLemmas.{same-length}
 use Rattle.rt_top.specs.declared.part.Part.TheVariants as part
 use Rattle.rt_top.specs.Judged.{table_judged}
-use Rattle.rt_top.specs.Steps.{seen, Stops}
+use Rattle.rt_top.specs.Steps.{seen}
 use Rattle.rt_top.proofs.StepLemmas.{stops_loaded}
 use Rattle.rt_top.proofs.TableLemmas.{columns_at-get, few_after, get-within, table_read}
 use Rattle.rt_top.proofs.read.read_table.Goals as goal
