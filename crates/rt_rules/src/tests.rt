@@ -52,24 +52,37 @@ fn values(alloc: Global, dag: &Dag, node: Node) -> Result<List<bool>, NoMemory>
     Ok(values)
 }
 
-/// The law of two rows at each choice; nothing where the rows do not suit the table.
-fn law_values(alloc: Global, table: Table, rows: Vec<Row>) -> Result<List<bool>, NoMemory> {
+/// The law of these rows; nothing where they do not suit the table.
+fn law_of(alloc: Global, table: Table, rows: Vec<Row>) -> Result<Option<(Dag, Node)>, NoMemory> {
     let tables = List::from_vec(vec![in alloc; table]?);
     if !is_sound(tables.as_slice()) {
-        return Ok(List::new(alloc));
+        return Ok(None);
     }
     let schema = Schema::new(tables);
     let mut given = Given::new(alloc, &schema)?;
     let rows = List::from_vec(rows);
     if given.tables().is_empty() || !given.suits(0, rows.as_slice()) || rows.len() > ROWS {
-        return Ok(List::new(alloc));
+        return Ok(None);
     }
     if given.rows(0) == 0 && given.total() == 0 {
         given.fill(0, rows);
     }
     let mut dag = Dag::new(alloc, given.total())?;
     let node = law(alloc, &mut dag, &schema, &given)?;
-    values(alloc, &dag, node)
+    Ok(Some((dag, node)))
+}
+
+/// The law of two rows at each choice.
+fn law_values(alloc: Global, table: Table, rows: Vec<Row>) -> Result<List<bool>, NoMemory> {
+    match law_of(alloc, table, rows)? {
+        Some((dag, node)) => {
+            if node.number() < dag.len() {
+                return values(alloc, &dag, node);
+            }
+            Ok(List::new(alloc))
+        }
+        None => Ok(List::new(alloc)),
+    }
 }
 
 #[test]
@@ -105,5 +118,33 @@ fn law_of_two_rows_at_each_choice(rt: HostRuntime) -> Result<(), Fail> {
     let rows = vec![in alloc; row(alloc, None, Some(5))?, row(alloc, Some(7), None)?]?;
     let lawful = law_values(alloc, table(alloc, not_null)?, rows)?;
     assert_eq!(rt; lawful.as_slice(), [true, false, true, false].as_slice());
+    Ok(())
+}
+
+#[test]
+fn law_of_two_thousand_rows(rt: HostRuntime) -> Result<(), Fail> {
+    let alloc = rt.alloc();
+    let key = List::from_slice(alloc, &[0])?;
+    let from = List::from_slice(alloc, &[1])?;
+    let to = List::from_slice(alloc, &[0])?;
+    let ring = vec![in alloc;
+        Rule::Key(key),
+        Rule::Foreign(Foreign { from, table: 0, to }),
+    ]?;
+    let mut rows = Vec::new(alloc);
+    for n in 0..2_000_usize {
+        let next = (n + 1) % 2_000;
+        rows.push(row(alloc, Some(n as i128), Some(next as i128))?)?;
+    }
+    match law_of(alloc, table(alloc, ring)?, rows)? {
+        Some((dag, node)) => {
+            let mut keep = Keep::all(alloc, 2_000, true)?;
+            assert!(rt; node.number() < dag.len() && dag.rows() == keep.len());
+            assert!(rt; dag.value(node, &keep)?);
+            keep.set(1_000, false);
+            assert!(rt; !dag.value(node, &keep)?);
+        }
+        None => assert!(rt; false, "the rows suit the table"),
+    }
     Ok(())
 }
