@@ -1,0 +1,9 @@
+use Rattle.std.proofs.Common.{◌∙◌, sym}
+use Rattle.rt_sql.proofs.ParseLemmas.{refused-by, tree-gives}
+use Rattle.rt_sql.proofs.parser.parse.Goals as goal
+
+pub returns-in-Some-clause-tree : goal.returns-in-Some-clause-tree
+returns-in-Some-clause-tree c = λ t f. refused-by c.args.tokens.now (c.in-Some.word.now, c.in-Some.at) c.in-Some.ensures t _ f
+
+pub returns-in-Ok-clause-tree : goal.returns-in-Ok-clause-tree
+returns-in-Ok-clause-tree c = tree-gives c.args.tokens.now c.in-Ok.tree (sym c.is_deep.ensures ∙ c.if-is_deep.false) c.in-Ok.ensures

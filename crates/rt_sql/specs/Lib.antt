@@ -1,0 +1,5 @@
+pub mod Depth
+pub mod Formed
+pub mod Reads
+pub mod Refusals
+pub mod Trees

@@ -1,0 +1,118 @@
+//! Tokens that are nested too deep.
+
+ghost use Rattle.std.specs.Prelude.{◌≡◌, codes};
+ghost use Rattle.rt_grammar.specs.Words.{kinds};
+ghost use Rattle.rt_sql.specs.Depth as spec;
+
+use rt_token::{Sym, Token, TokenKind};
+
+/// The most open parentheses, and the most words SELECT.
+pub const NESTED: usize = 64;
+
+/// The most words NOT, and the most signs `-`, directly after one another.
+pub const REPEATED: usize = 8;
+
+pub fn is_left(kind: &TokenKind) -> bool
+    ensures { result ≡ spec.is_left kind.now }
+{
+    match kind {
+        TokenKind::Sym(Sym::Left) => true,
+        _ => false,
+    }
+}
+
+fn is_right(kind: &TokenKind) -> bool
+    ensures { result ≡ spec.is_right kind.now }
+{
+    match kind {
+        TokenKind::Sym(Sym::Right) => true,
+        _ => false,
+    }
+}
+
+fn is_minus(kind: &TokenKind) -> bool
+    ensures { result ≡ spec.is_minus kind.now }
+{
+    match kind {
+        TokenKind::Sym(Sym::Minus) => true,
+        _ => false,
+    }
+}
+
+fn is_word(kind: &TokenKind, word: &str) -> bool
+    ensures { result ≡ spec.is_word word.now kind.now }
+{
+    match kind {
+        TokenKind::Word(text) => *text.as_str() == *word,
+        _ => false,
+    }
+}
+
+fn opens_too_many(tokens: &[Token]) -> bool
+    ensures { result ≡ spec.opens_too_many 0 0 (kinds tokens.now) }
+{
+    let mut opened = 0_usize;
+    let mut closed = 0_usize;
+    for token in tokens {
+        opened += usize::from(is_left(&token.kind));
+        closed += usize::from(is_right(&token.kind));
+        if closed + NESTED < opened {
+            return true;
+        }
+    }
+    false
+}
+
+fn selects_too_many(tokens: &[Token]) -> bool
+    ensures { result ≡ spec.selects_too_many (kinds tokens.now) }
+{
+    let mut selects = 0_usize;
+    for token in tokens {
+        if is_word(&token.kind, "select") {
+            selects += 1;
+        }
+    }
+    NESTED < selects
+}
+
+fn repeats_not(tokens: &[Token]) -> bool
+    ensures { result ≡ spec.repeats (spec.is_word (codes "not")) 0 (kinds tokens.now) }
+{
+    let mut run = 0_usize;
+    for token in tokens {
+        if is_word(&token.kind, "not") {
+            run += 1;
+            if REPEATED < run {
+                return true;
+            }
+        } else {
+            run = 0;
+        }
+    }
+    false
+}
+
+fn repeats_minus(tokens: &[Token]) -> bool
+    ensures { result ≡ spec.repeats spec.is_minus 0 (kinds tokens.now) }
+{
+    let mut run = 0_usize;
+    for token in tokens {
+        if is_minus(&token.kind) {
+            run += 1;
+            if REPEATED < run {
+                return true;
+            }
+        } else {
+            run = 0;
+        }
+    }
+    false
+}
+
+/// Whether the tokens are nested too deep.
+pub fn is_deep(tokens: &[Token]) -> bool
+    ensures { result ≡ spec.is_deep (kinds tokens.now) }
+{
+    opens_too_many(tokens)
+        || (selects_too_many(tokens) || (repeats_not(tokens) || repeats_minus(tokens)))
+}

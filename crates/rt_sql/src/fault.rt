@@ -1,0 +1,26 @@
+ghost use Rattle.std.specs.Prelude.{◌≡◌};
+ghost use Rattle.rt_sql.specs.declared.fault.SqlFault.TheVariants as faults;
+
+use rt_value::{NoMemory, Txt};
+
+/// Why tokens are no query. The faults are tested in this order, each over all the tokens.
+#[derive(PartialEq, Eq, Debug, Drop)]
+pub enum SqlFault {
+    /// The first word that no query may have, or that a call would begin with, and its place.
+    Unsupported(Txt, usize),
+    /// More than 64 open parentheses or words SELECT, or more than 8 words NOT or signs `-`
+    /// directly after one another.
+    TooDeep,
+    /// The tokens are those of no query. The place is the start of a token or the end of the last
+    /// one.
+    Syntax(usize),
+    NoMemory,
+}
+
+impl From<NoMemory> for SqlFault {
+    ghost from_gives = { λ _ fault. fault ≡ faults.NoMemory };
+
+    fn from(_e: NoMemory) -> SqlFault {
+        SqlFault::NoMemory
+    }
+}

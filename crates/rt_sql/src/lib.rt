@@ -1,0 +1,19 @@
+//! Parsing a query (ISO/IEC 9075-2, query expression): from tokens to the tree that they spell.
+//!
+//! `specs/Formed.antt` says which trees are formed and which tokens a tree has, and
+//! `specs/Refusals.antt` when each fault comes.
+#![tactic(auto)]
+
+mod chains;
+mod depth;
+mod fault;
+mod looks;
+mod parser;
+mod ranges;
+mod tested;
+mod words;
+
+pub use depth::{NESTED, REPEATED};
+pub use fault::SqlFault;
+pub use parser::{one_tree, parse};
+pub use tested::{Range, Test};

@@ -1,0 +1,73 @@
+//! Looks at the terminals at the front.
+
+ghost use Rattle.std.specs.Prelude.{◌≡◌};
+ghost use Rattle.rt_grammar.specs.Terminals as terminal_spec;
+ghost use Rattle.rt_sql.specs.Reads as spec;
+
+use rt_grammar::{Fixed, Terminal, after, code, code_of, front, starts};
+use rt_tree::tail;
+
+pub fn is_op(terminals: &[Terminal]) -> bool
+    ensures { result ≡ spec.is_op terminals.now }
+{
+    code(Fixed::Equal) <= front(terminals) && front(terminals) <= code(Fixed::AtLeast)
+}
+
+pub fn is_join(terminals: &[Terminal]) -> bool
+    ensures { result ≡ spec.is_join terminals.now }
+{
+    starts(terminals, Fixed::Inner)
+        || (starts(terminals, Fixed::Join) || starts(terminals, Fixed::Cross))
+}
+
+pub fn is_union(terminals: &[Terminal]) -> bool
+    ensures { result ≡ spec.is_union terminals.now }
+{
+    starts(terminals, Fixed::Union) || starts(terminals, Fixed::Except)
+}
+
+// Whether SELECT is the first terminal after the opening parentheses.
+fn begins_chain(terminals: &[Terminal]) -> bool
+    ensures { result ≡ spec.begins_chain terminals.now }
+{
+    let mut rest = terminals;
+    'open: while let Some(next) = after(rest, Fixed::Left) {
+        rest = next;
+    }
+    starts(rest, Fixed::Select)
+}
+
+/// Whether IN stands there and a chain after it.
+pub fn is_in_chain(terminals: &[Terminal]) -> bool
+    ensures { result ≡ spec.is_in_chain terminals.now }
+{
+    starts(terminals, Fixed::In) && begins_chain(tail(terminals))
+}
+
+// What follows the parenthesis that closes the one before the terminals.
+fn skip<'t>(terminals: &'t [Terminal]) -> &'t [Terminal]
+    ensures { result.now ≡ terminal_spec.skip terminals.now 0 }
+{
+    let mut open = 0_usize;
+    let mut rest = terminals;
+    'terminals: while let [first, next @ ..] = rest {
+        let code_here = code_of(first);
+        if code_here == code(Fixed::Left) {
+            open += 1;
+        } else if code_here == code(Fixed::Right) {
+            if open == 0 {
+                return next;
+            }
+            open -= 1;
+        }
+        rest = next;
+    }
+    rest
+}
+
+/// Whether the parenthesis at the front holds a condition, and not a sum.
+pub fn is_group(terminals: &[Terminal]) -> bool
+    ensures { result ≡ spec.is_group terminals.now }
+{
+    starts(terminals, Fixed::Left) && code(Fixed::And) <= front(skip(tail(terminals)))
+}

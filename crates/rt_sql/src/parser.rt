@@ -1,0 +1,58 @@
+ghost use Rattle.std.specs.Prelude.{◌≡◌, IfSome, List, Ok, Err};
+ghost use Rattle.rt_grammar.specs.Reads.{Answers};
+ghost use Rattle.rt_sql.specs.Formed.{IsTreeOf};
+ghost use Rattle.rt_sql.specs.Reads as spec;
+ghost use Rattle.rt_sql.specs.Refusals.{IsAnswer, is_memory, refusal};
+ghost use Rattle.rt_sql.specs.Trees.{TreeRead};
+ghost use Rattle.rt_token.specs.declared.token.Token.{Token as Lexed};
+ghost use Rattle.rt_tree.specs.declared.tree.Sql.{Sql as Tree};
+ghost use Rattle.rt_value.specs.Gives.{Gives};
+
+use crate::chains::chain;
+use crate::depth::is_deep;
+use crate::fault::SqlFault;
+use crate::words::unsupported;
+use rt_grammar::{ReadFault, Terminal, end, syntax_place, terminals};
+use rt_token::Token;
+use rt_tree::Sql;
+use std::alloc::Global;
+
+#[tactic(auto, unfolding(crate::specs::Reads::read_sql))]
+fn query(alloc: Global, terminals: &[Terminal]) -> Result<Sql, ReadFault>
+    ensures { Answers result (spec.read_sql terminals.now) }
+{
+    let (chain, rest) = chain(alloc, terminals.len() + 1, terminals)?;
+    let semi = end(rest)?;
+    Ok(Sql { chain, semi })
+}
+
+fn tree(alloc: Global, tokens: &[Token]) -> Result<Sql, ReadFault>
+    ensures { TreeRead tokens.now result }
+{
+    let terminals = terminals(alloc, tokens)?;
+    query(alloc, terminals.as_slice())
+}
+
+/// Reads the tree of a query.
+pub fn parse(alloc: Global, tokens: &[Token]) -> Result<Sql, SqlFault>
+    ensures answer { IsAnswer tokens.now result }
+    ensures tree { (t : Tree) → IsTreeOf tokens.now t → Gives is_memory result (Ok t) }
+    ensures refused { IfSome (refusal tokens.now) (λ fault. Gives is_memory result (Err fault)) }
+{
+    if let Some((word, at)) = unsupported(tokens) {
+        return Err(SqlFault::Unsupported(word.copy(alloc)?, at));
+    }
+    if is_deep(tokens) {
+        return Err(SqlFault::TooDeep);
+    }
+    match tree(alloc, tokens) {
+        Ok(tree) => Ok(tree),
+        Err(ReadFault::Syntax(left)) => Err(SqlFault::Syntax(syntax_place(tokens, left))),
+        Err(ReadFault::NoMemory) => Err(SqlFault::NoMemory),
+    }
+}
+
+/// Tokens are those of at most one tree.
+pub fn one_tree()
+    ensures { (tokens : List Lexed) (s t : Tree) → IsTreeOf tokens s → IsTreeOf tokens t → s ≡ t }
+{}

@@ -1,0 +1,236 @@
+use crate::shape::shape;
+use rt_sql::{SqlFault, parse};
+use rt_token::tokens;
+use rt_tree::Sql;
+use std::alloc::{AllocError, Global};
+
+fn parsed(alloc: Global, text: &str) -> Result<Sql, SqlFault> {
+    match tokens(alloc, text.as_bytes()) {
+        Ok(tokens) => parse(alloc, tokens.as_slice()),
+        Err(_) => Err(SqlFault::NoMemory),
+    }
+}
+
+// The tree's short text, or the fault.
+fn told(alloc: Global, text: &str) -> Result<String, AllocError> {
+    match parsed(alloc, text) {
+        Ok(sql) => shape(alloc, &sql),
+        Err(SqlFault::Unsupported(word, at)) => format!(in alloc; "no {} {at}", word.as_str()),
+        Err(SqlFault::TooDeep) => format!(in alloc; "deep"),
+        Err(SqlFault::Syntax(at)) => format!(in alloc; "syntax {at}"),
+        Err(SqlFault::NoMemory) => format!(in alloc; "memory"),
+    }
+}
+
+fn is_told(alloc: Global, text: &str, wanted: &str) -> bool {
+    match told(alloc, text) {
+        Ok(told) => told.as_str() == wanted,
+        Err(_) => false,
+    }
+}
+
+// Texts of the grammar, what tree they have, and beside each one that has none.
+#[test]
+fn reads_each_rule(rt: HostRuntime) {
+    for (text, wanted, other) in [
+        ("SELECT a FROM t;", "<S a F t>;", "SELECT a FROM t;;"),
+        (
+            "SELECT x FROM a EXCEPT SELECT x FROM b UNION SELECT x FROM c",
+            "<S x F a E S x F b U S x F c>",
+            "SELECT x FROM a UNION",
+        ),
+        (
+            "SELECT a FROM t EXCEPT DISTINCT SELECT b FROM u",
+            "<S a F t Ed S b F u>",
+            "SELECT a FROM t DISTINCT EXCEPT SELECT b FROM u",
+        ),
+        (
+            "SELECT a FROM t UNION SELECT b FROM u INTERSECT DISTINCT SELECT c FROM v",
+            "<S a F t U S b F u Id S c F v>",
+            "SELECT a FROM t INTERSECT INTERSECT SELECT b FROM u",
+        ),
+        (
+            "SELECT c FROM v EXCEPT (SELECT a FROM t UNION SELECT b FROM u)",
+            "<S c F v E <S a F t U S b F u>>",
+            "(SELECT a FROM t",
+        ),
+        (
+            "SELECT DISTINCT a FROM t WHERE a = 1",
+            "<Sd a F t{a=1}>",
+            "SELECT a WHERE a = 1",
+        ),
+        ("SELECT * FROM t", "<S * F t>", "SELECT *, a FROM t"),
+        (
+            "SELECT t.*, a AS b, c d FROM t",
+            "<S t.*,a:as b,c:d F t>",
+            "SELECT a b c FROM t",
+        ),
+        (
+            "SELECT a FROM t x, u AS y",
+            "<S a F t:x,u:as y>",
+            "SELECT a FROM t,",
+        ),
+        (
+            "SELECT a FROM (SELECT b FROM u) v",
+            "<S a F <S b F u>:v>",
+            "SELECT a FROM (SELECT b FROM u)",
+        ),
+        (
+            "SELECT a FROM t JOIN u ON a = b",
+            "<S a F tJu{a=b}>",
+            "SELECT a FROM t JOIN u",
+        ),
+        (
+            "SELECT a FROM t INNER JOIN u ON a = b, v",
+            "<S a F tNu{a=b},v>",
+            "SELECT a FROM t INNER u ON a = b",
+        ),
+        (
+            "SELECT a FROM t CROSS JOIN u",
+            "<S a F tXu>",
+            "SELECT a FROM t CROSS JOIN u ON a = b",
+        ),
+        (
+            "SELECT a FROM t WHERE NOT a = 1 AND b = 2 OR c = 3",
+            "<S a F t{!a=1&b=2|c=3}>",
+            "SELECT a FROM t WHERE AND a = 1",
+        ),
+        (
+            "SELECT a FROM t WHERE a <> 1 OR a < 2 OR a <= 3 OR a > 4 OR a >= 5",
+            "<S a F t{a<>1|a<2|a<=3|a>4|a>=5}>",
+            "SELECT a FROM t WHERE a = 1 = 2",
+        ),
+        (
+            "SELECT a FROM t WHERE a IS NULL OR b IS NOT NULL",
+            "<S a F t{a?|b!?}>",
+            "SELECT a FROM t WHERE a NOT IS NULL",
+        ),
+        (
+            "SELECT a FROM t WHERE a NOT IN ((SELECT b FROM u) UNION SELECT c FROM v)",
+            "<S a F t{a!@<<S b F u> U S c F v>}>",
+            "SELECT a FROM t WHERE a IN SELECT b FROM u",
+        ),
+        (
+            "SELECT a FROM t WHERE a IN ((1), 'x', NULL)",
+            "<S a F t{a@[(1),'x',N]}>",
+            "SELECT a FROM t WHERE a IN ()",
+        ),
+        (
+            "SELECT a FROM t WHERE a NOT BETWEEN 1 AND 2 AND b = 3",
+            "<S a F t{a!~1,2&b=3}>",
+            "SELECT a FROM t WHERE a BETWEEN 1 OR 2",
+        ),
+        (
+            "SELECT a FROM t WHERE NOT NOT EXISTS (SELECT * FROM u)",
+            "<S a F t{!!#<S * F u>}>",
+            "SELECT a FROM t WHERE EXISTS t",
+        ),
+        (
+            "SELECT a FROM t WHERE (a > 1)",
+            "<S a F t{{a>1}}>",
+            "SELECT a FROM t WHERE (a)",
+        ),
+        (
+            "SELECT a FROM t WHERE (a + 1) * 2 > 3 OR ((a) = 1)",
+            "<S a F t{(a+1)*2>3|{(a)=1}}>",
+            "SELECT a FROM t WHERE (a > 1) = 2",
+        ),
+        (
+            "SELECT a + 1 - b * - - 2 FROM t",
+            "<S a+1-b*--2 F t>",
+            "SELECT a + FROM t",
+        ),
+        (
+            "SELECT t.a, 'it''s', NULL FROM t",
+            "<S t.a,'it's',N F t>",
+            "SELECT t.a.b FROM t",
+        ),
+        (
+            "SELECT \"a b\" FROM \"select\"",
+            "<S a b F select>",
+            "SELECT select FROM t",
+        ),
+    ] {
+        assert_eq!(rt; is_told(rt.alloc(), text, wanted), true, "{text}");
+        assert_eq!(rt; parsed(rt.alloc(), other).is_ok(), false, "{other}");
+    }
+}
+
+#[test]
+fn tells_faults(rt: HostRuntime) {
+    for (text, wanted) in [
+        ("", "syntax 0"),
+        ("SELECT name FROM", "syntax 16"),
+        ("SELECT a FROM t WHERE a = 1 2", "syntax 28"),
+        ("SELECT count(*) FROM reg", "no count 7"),
+        ("SELECT a FROM t UNION ALL SELECT f(a) FROM t", "no all 22"),
+        ("SELECT \"f\"(a) FROM t", "syntax 10"),
+    ] {
+        assert_eq!(rt; is_told(rt.alloc(), text, wanted), true, "{text}");
+    }
+}
+
+// `open` as often as told, the middle, and `close` as often.
+fn nested(
+    alloc: Global,
+    front: &str,
+    open: &str,
+    times: usize,
+    middle: &str,
+    close: &str,
+) -> Result<String, AllocError> {
+    let mut text = String::from_str(alloc, front)?;
+    for _ in 0..times {
+        text.push_str(open)?;
+    }
+    text.push_str(middle)?;
+    for _ in 0..times {
+        text.push_str(close)?;
+    }
+    Ok(text)
+}
+
+fn ends(alloc: Global, text: Result<String, AllocError>) -> Result<bool, SqlFault> {
+    let Ok(text) = text else {
+        return Err(SqlFault::NoMemory);
+    };
+    match parsed(alloc, text.as_str()) {
+        Ok(_) => Ok(true),
+        Err(SqlFault::NoMemory) => Err(SqlFault::NoMemory),
+        Err(fault) => Ok(fault != SqlFault::TooDeep),
+    }
+}
+
+#[test]
+fn counts_nesting(rt: HostRuntime) {
+    let alloc = rt.alloc();
+    let query = "SELECT a FROM t WHERE ";
+    let inner = "SELECT a FROM t WHERE a IN (";
+    for (front, open, times, middle, close) in [
+        (query, "(", 64, "a", ")"),
+        (query, "NOT ", 8, "a = 1", ""),
+        (query, "- ", 8, "a", " > 1"),
+        ("", inner, 63, "SELECT a FROM t", ")"),
+        ("", "(", 64, "SELECT a FROM t", ")"),
+    ] {
+        let read = ends(alloc, nested(alloc, front, open, times, middle, close));
+        assert_eq!(rt; read, Ok(true), "{open}");
+        let more = nested(alloc, front, open, times + 1, middle, close);
+        assert_eq!(rt; ends(alloc, more), Ok(false), "{open}");
+    }
+}
+
+// Four MiB of one condition.
+#[test]
+fn reads_a_long_condition(rt: HostRuntime) {
+    let alloc = rt.alloc();
+    let text = nested(
+        alloc,
+        "SELECT a FROM t WHERE a=1 ",
+        "OR a=1 ",
+        599_182,
+        "",
+        "",
+    );
+    assert_eq!(rt; ends(alloc, text), Ok(true));
+}

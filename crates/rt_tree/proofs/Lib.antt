@@ -1,0 +1,4 @@
+pub mod FlagLaws
+pub mod ItemLaws
+pub mod SpelledLemmas
+pub mod SumLaws

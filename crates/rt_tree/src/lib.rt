@@ -1,0 +1,21 @@
+//! The trees of queries (ISO/IEC 9075-2, query expression), and the readers of their names, sums and
+//! items.
+//!
+//! `tree` has one type a line of the grammar, and `specs/Spelled.antt` says which terminals a tree
+//! has. Lists that may not be empty are a first member and the others.
+#![tactic(auto)]
+
+mod flags;
+mod items;
+mod names;
+mod sums;
+mod tree;
+
+pub use flags::{flag, tail};
+pub use items::items as read_items;
+pub use names::{alias, maybe_alias};
+pub use sums::sum_at;
+pub use tree::{
+    Alias, Atom, Base, Chain, ChainLink, Cond, Conj, Factor, Item, Items, Join, Leaf, Meet,
+    MeetLink, Mul, Neg, Op, Pick, Primary, Source, Sql, Sum, SumLink,
+};

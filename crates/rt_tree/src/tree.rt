@@ -1,0 +1,203 @@
+//! The tree of a query, one type a line of the grammar (ISO/IEC 9075-2, query expression).
+
+use rt_grammar::Name;
+use rt_value::{Boxed, List, Txt};
+
+/// `"=" | "<>" | "<" | "<=" | ">" | ">="`
+#[derive(Clone, Copy, Debug, PartialEq, Eq)]
+pub enum Op {
+    Eq,
+    Ne,
+    Lt,
+    Le,
+    Gt,
+    Ge,
+}
+
+/// `[ AS ] name`
+#[derive(Drop)]
+pub struct Alias {
+    pub as_word: bool,
+    pub name: Name,
+}
+
+/// `mul { ( "+" | "-" ) mul }`
+#[cycle(sum)]
+#[derive(Drop)]
+pub struct Sum {
+    pub head: Mul,
+    pub tail: List<SumLink>,
+}
+
+/// `( "+" | "-" ) mul`
+#[cycle(sum)]
+#[derive(Drop)]
+pub struct SumLink {
+    pub minus: bool,
+    pub of: Mul,
+}
+
+/// `factor { "*" factor }`
+#[cycle(sum)]
+#[derive(Drop)]
+pub struct Mul {
+    pub head: Factor,
+    pub tail: List<Factor>,
+}
+
+/// `{ "-" } leaf`
+#[cycle(sum)]
+#[derive(Drop)]
+pub struct Factor {
+    pub minuses: usize,
+    pub of: Leaf,
+}
+
+/// `number | text | NULL | [ name "." ] name | "(" sum ")"`
+#[cycle(sum)]
+#[derive(Drop)]
+pub enum Leaf {
+    Number(i128),
+    Str(Txt),
+    Null,
+    Col(Option<Name>, Name),
+    Paren(Boxed<Sum>),
+}
+
+/// `name "." "*" | sum [ alias ]`
+#[derive(Drop)]
+pub enum Item {
+    All(Name),
+    One(Sum, Option<Alias>),
+}
+
+/// `"*" | item { "," item }`
+#[derive(Drop)]
+pub enum Items {
+    Star,
+    Some(Item, List<Item>),
+}
+
+/// `meet { ( UNION | EXCEPT ) [ DISTINCT ] meet }`
+#[cycle(chain)]
+#[derive(Drop)]
+pub struct Chain {
+    pub head: Meet,
+    pub tail: List<ChainLink>,
+}
+
+/// `( UNION | EXCEPT ) [ DISTINCT ] meet`
+#[cycle(chain)]
+#[derive(Drop)]
+pub struct ChainLink {
+    pub except: bool,
+    pub distinct: bool,
+    pub of: Meet,
+}
+
+/// `primary { INTERSECT [ DISTINCT ] primary }`
+#[cycle(chain)]
+#[derive(Drop)]
+pub struct Meet {
+    pub head: Primary,
+    pub tail: List<MeetLink>,
+}
+
+/// `INTERSECT [ DISTINCT ] primary`
+#[cycle(chain)]
+#[derive(Drop)]
+pub struct MeetLink {
+    pub distinct: bool,
+    pub of: Primary,
+}
+
+/// `pick | "(" chain ")"`
+#[cycle(chain)]
+#[derive(Drop)]
+pub enum Primary {
+    One(Boxed<Pick>),
+    Paren(Boxed<Chain>),
+}
+
+/// `SELECT [ DISTINCT ] items FROM source { "," source } [ WHERE cond ]`
+#[cycle(chain)]
+#[derive(Drop)]
+pub struct Pick {
+    pub distinct: bool,
+    pub items: Items,
+    pub head: Source,
+    pub tail: List<Source>,
+    pub cond: Option<Cond>,
+}
+
+/// `base { join }`
+#[cycle(chain)]
+#[derive(Drop)]
+pub struct Source {
+    pub head: Base,
+    pub joins: List<Join>,
+}
+
+/// `name [ alias ] | "(" chain ")" alias`
+#[cycle(chain)]
+#[derive(Drop)]
+pub enum Base {
+    Named(Name, Option<Alias>),
+    Sub(Boxed<Chain>, Alias),
+}
+
+/// `JOIN base ON cond | INNER JOIN base ON cond | CROSS JOIN base`
+#[cycle(chain)]
+#[derive(Drop)]
+pub enum Join {
+    Plain(Base, Cond),
+    Inner(Base, Cond),
+    Cross(Base),
+}
+
+/// `conj { OR conj }`
+#[cycle(chain)]
+#[derive(Drop)]
+pub struct Cond {
+    pub head: Conj,
+    pub tail: List<Conj>,
+}
+
+/// `neg { AND neg }`
+#[cycle(chain)]
+#[derive(Drop)]
+pub struct Conj {
+    pub head: Neg,
+    pub tail: List<Neg>,
+}
+
+/// `{ NOT } atom`
+#[cycle(chain)]
+#[derive(Drop)]
+pub struct Neg {
+    pub nots: usize,
+    pub atom: Atom,
+}
+
+/// A comparison, a test or a condition in parentheses. The Bool tells whether NOT stands there:
+/// `sum op sum | sum IS [ NOT ] NULL | sum [ NOT ] IN "(" chain ")"
+/// | sum [ NOT ] IN "(" sum { "," sum } ")" | sum [ NOT ] BETWEEN sum AND sum
+/// | EXISTS "(" chain ")" | "(" cond ")"`
+#[cycle(chain)]
+#[derive(Drop)]
+pub enum Atom {
+    Cmp(Sum, Op, Sum),
+    IsNull(Sum, bool),
+    InChain(Sum, bool, Boxed<Chain>),
+    InList(Sum, bool, Sum, List<Sum>),
+    Between(Sum, bool, Sum, Sum),
+    Exists(Boxed<Chain>),
+    Paren(Boxed<Cond>),
+}
+
+/// `chain [ ";" ]`
+#[derive(Drop)]
+pub struct Sql {
+    pub chain: Chain,
+    pub semi: bool,
+}
