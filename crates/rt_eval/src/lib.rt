@@ -6,8 +6,6 @@ mod kept;
 mod lists;
 mod query;
 mod rows;
-#[cfg(test)]
-mod tests;
 
 pub use answer::answers;
 pub use rows::Rows;
