@@ -56,10 +56,20 @@ fn students(alloc: Global) -> Result<List<Table>, NoMemory> {
     Ok(tables)
 }
 
+// Whether the text says the two tables of the students.
+fn says_students(alloc: Global, text: &str) -> bool {
+    match read_schema(alloc, text.as_bytes()) {
+        Ok(schema) => match students(alloc) {
+            Ok(wanted) => schema.tables() == wanted.as_slice(),
+            Err(_) => false,
+        },
+        Err(_) => false,
+    }
+}
+
 // Texts of one schema: with no more words than it takes, and with words that have no effect.
 #[test]
 fn reads_the_students(rt: HostRuntime) {
-    let alloc = rt.alloc();
     for text in [
         "CREATE TABLE student (name TEXT PRIMARY KEY, major TEXT);
 CREATE TABLE reg (name TEXT REFERENCES student, course INTEGER, dept TEXT, grade INTEGER, PRIMARY KEY (name, course));",
@@ -67,11 +77,7 @@ CREATE TABLE reg (name TEXT REFERENCES student, course INTEGER, dept TEXT, grade
 create table reg (constraint k primary key (name, course), name text constraint k references student (name),
   \"course\" bigint, dept varchar, grade int null) -- the end",
     ] {
-        let is_right = match (read_schema(alloc, text.as_bytes()), students(alloc)) {
-            (Ok(schema), Ok(wanted)) => schema.tables() == wanted.as_slice(),
-            _ => false,
-        };
-        assert_eq!(rt; is_right, true, "{text}");
+        assert_eq!(rt; says_students(rt.alloc(), text), true, "{text}");
     }
 }
 

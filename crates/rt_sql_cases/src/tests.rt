@@ -224,13 +224,8 @@ fn counts_nesting(rt: HostRuntime) {
 #[test]
 fn reads_a_long_condition(rt: HostRuntime) {
     let alloc = rt.alloc();
-    let text = nested(
-        alloc,
-        "SELECT a FROM t WHERE a=1 ",
-        "OR a=1 ",
-        599_182,
-        "",
-        "",
-    );
+    let front = "SELECT a FROM t WHERE a=1 ";
+    let more = "OR name <> 'a text of some length' ";
+    let text = nested(alloc, front, more, 119_836, "", "");
     assert_eq!(rt; ends(alloc, text), Ok(true));
 }
