@@ -224,8 +224,13 @@ fn counts_nesting(rt: HostRuntime) {
 #[test]
 fn reads_a_long_condition(rt: HostRuntime) {
     let alloc = rt.alloc();
-    let front = "SELECT a FROM t WHERE a=1 ";
-    let more = "OR name <> 'a text of some length' ";
-    let text = nested(alloc, front, more, 119_836, "", "");
+    let text = nested(
+        alloc,
+        "SELECT a FROM t WHERE a=1 ",
+        "OR a=1 ",
+        599_182,
+        "",
+        "",
+    );
     assert_eq!(rt; ends(alloc, text), Ok(true));
 }
