@@ -10,7 +10,11 @@ mod fault;
 mod looks;
 mod parser;
 mod ranges;
+#[cfg(test)]
+mod shape;
 mod tested;
+#[cfg(test)]
+mod tests;
 mod words;
 
 pub use depth::{NESTED, REPEATED};
