@@ -3,3 +3,4 @@ pub mod ReadLemmas
 pub mod SoundLemmas
 pub mod TextLaws
 pub mod TreeLemmas
+pub mod WholeLemmas

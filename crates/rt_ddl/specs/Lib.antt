@@ -5,3 +5,4 @@ pub mod Read
 pub mod Reads
 pub mod Spelled
 pub mod Trees
+pub mod Whole

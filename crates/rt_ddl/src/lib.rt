@@ -21,7 +21,7 @@ mod unknown;
 
 pub use fault::{Excess, SchemaFault};
 pub use parts::{Part, RuleText, TableText};
-pub use reader::{one_tree, read_schema};
+pub use reader::{one_tree, read_is_tree, read_schema};
 pub use tree::{
     Column, ColumnConstraint, ColumnRule, Create, Item, KindWord, Names, SchemaText, TableRule,
 };

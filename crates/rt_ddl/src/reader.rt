@@ -1,9 +1,10 @@
-ghost use Rattle.std.specs.Prelude.{◌≡◌, List};
+ghost use Rattle.std.specs.Prelude.{◌≡◌, List, Some};
 ghost use Rattle.rt_ddl.specs.Meaning.{is_memory, schema_of};
 ghost use Rattle.rt_ddl.specs.Parts as spec;
 ghost use Rattle.rt_ddl.specs.Read.{IsAnswer, TreeAnswer};
 ghost use Rattle.rt_ddl.specs.Spelled.{IsTreeOf};
 ghost use Rattle.rt_ddl.specs.Trees.{TreeRead};
+ghost use Rattle.rt_ddl.specs.Whole.{placeless, schema_read, tree_read};
 ghost use Rattle.rt_ddl.specs.declared.tree.SchemaText.{SchemaText as Tree};
 ghost use Rattle.rt_token.specs.declared.token.Token.{Token as Lexed};
 ghost use Rattle.rt_value.specs.Gives.{Gives};
@@ -59,6 +60,7 @@ fn made(alloc: Global, tree: SchemaText) -> Result<Schema, SchemaFault>
 pub fn read_schema(alloc: Global, text: &[u8]) -> Result<Schema, SchemaFault>
     ensures answer { IsAnswer text.now result }
     ensures tree { TreeAnswer text.now (Gives is_memory result) }
+    ensures read { Gives is_memory (placeless result) (schema_read text.now) }
 {
     let tokens = tokens(alloc, text)?;
     match tree(alloc, tokens.as_slice()) {
@@ -69,6 +71,11 @@ pub fn read_schema(alloc: Global, text: &[u8]) -> Result<Schema, SchemaFault>
         Err(ReadFault::NoMemory) => Err(SchemaFault::NoMemory),
     }
 }
+
+/// The tree that is read is just the one that the tokens have.
+pub fn read_is_tree()
+    ensures { (tokens : List Lexed) (t : Tree) → (IsTreeOf tokens t → tree_read tokens ≡ Some t) × (tree_read tokens ≡ Some t → IsTreeOf tokens t) }
+{}
 
 /// Tokens are those of at most one tree.
 pub fn one_tree()

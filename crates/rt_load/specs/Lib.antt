@@ -1,3 +1,4 @@
 pub mod Integer
 pub mod Loaded
 pub mod Records
+pub mod Made

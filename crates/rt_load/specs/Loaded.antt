@@ -19,7 +19,7 @@ Field = List ℕ
 
 -- the most rows that all tables together may have
 abbrev pub row_limit : ℕ
-row_limit = 16
+row_limit = 2000
 
 -- the first fault decides
 infixl 10 ◌>>=◌

@@ -15,7 +15,7 @@ use rt_value::{List, Row};
 use std::alloc::Global;
 
 /// The most rows that all tables together may have: the limit of the search by trial.
-pub const ROW_LIMIT: usize = 16;
+pub const ROW_LIMIT: usize = 2000;
 
 /// Reads the rows of a table from its file into `given`, which has none of this table yet. The
 /// first refusal decides: the header, then record by record its number of fields, the number of

@@ -1,11 +1,14 @@
 //! The rows of a table's file. Records are those of the crate `csv` (RFC 4180); a file's header
-//! names the table's columns, and each further record is a row.
+//! names the table's columns, and each further record is a row. Besides, the texts of a generated
+//! input of any size.
 #![tactic(auto)]
 
 mod cells;
 mod fault;
 mod file;
+mod generator;
 mod header;
+mod input;
 mod integer;
 mod records;
 #[cfg(test)]
@@ -13,3 +16,5 @@ mod tests;
 
 pub use fault::LoadFault;
 pub use file::{ROW_LIMIT, load};
+pub use generator::made;
+pub use input::Made;

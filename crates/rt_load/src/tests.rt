@@ -1,4 +1,4 @@
-use crate::{LoadFault, load};
+use crate::{LoadFault, load, made};
 use rt_schema::{ColKind, Column, Given, Schema, Table, is_sound};
 use rt_value::{List, Txt, Value};
 use std::alloc::{AllocError, Global};
@@ -96,6 +96,17 @@ fn the_first_fault_decides(rt: HostRuntime) -> Result<(), Fail> {
     match read(rt.alloc(), ColKind::Text, b"a,b\nx,y\xff\n") {
         Ok(_) => panic!(rt; "accepted"),
         Err(e) => assert_eq!(rt; e, LoadFault::BadText(2, 2)),
+    }
+    Ok(())
+}
+
+#[test]
+fn a_generated_file(rt: HostRuntime) -> Result<(), Fail> {
+    let texts = made(rt.alloc(), 3)?;
+    let want = "id,num,dept\n1,1,CS\n1,4,MA\n2,2,CS\n2,5,MA\n3,3,CS\n3,6,CS\n";
+    match texts.files.as_slice() {
+        [_, reg, _] => assert_eq!(rt; reg.as_slice(), want.as_bytes()),
+        _ => panic!(rt; "no three files"),
     }
     Ok(())
 }

@@ -1,13 +1,17 @@
-//! The texts that are printed of an answer: the rows that tell two queries apart, and a search
-//! that ended at its budget.
+//! The texts that are printed of an answer: the rows that tell two queries apart, a search that
+//! ended at its budget, and the summary of a search over a generated input.
 #![tactic(auto)]
 
 mod cells;
 mod kept;
 mod spent;
+mod summary;
 #[cfg(test)]
 mod tests;
+mod verdict;
 mod witness;
 
 pub use spent::spent_text;
+pub use summary::made_text;
+pub use verdict::MadeVerdict;
 pub use witness::witness_text;

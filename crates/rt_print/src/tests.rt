@@ -2,7 +2,7 @@ ghost use Rattle.std.specs.Prelude.{◌≡◌, IfOk};
 ghost use Rattle.std.specs.List.Sorted.{IsStrictlySortedBy};
 ghost use Rattle.rt_value.specs.Row.{row_cmp};
 
-use crate::{spent_text, witness_text};
+use crate::{MadeVerdict, made_text, spent_text, witness_text};
 use rt_schema::{ColKind, Column, Given, ROWS, Schema, Table, is_sound};
 use rt_value::{Bytes, Keep, List, NoMemory, Row, Txt, Value};
 use std::alloc::Global;
@@ -210,5 +210,27 @@ fn a_spent_budget_is_printed(rt: HostRuntime) -> Result<(), Fail> {
     let want = "undecided: 7 conflicts\nbest so far: 1\nstudent 1: 'Mary', 'CS'\n";
     let text = spent(rt.alloc(), Some(&keep))?;
     assert_eq!(rt; text.as_slice(), want.as_bytes());
+    Ok(())
+}
+
+#[test]
+fn summaries_of_generated_inputs(rt: HostRuntime) -> Result<(), Fail> {
+    let texts = [
+        (
+            400,
+            MadeVerdict::Size(3),
+            "made 400\nrows 2000\nwitness: 3\n",
+        ),
+        (2, MadeVerdict::Agree, "made 2\nrows 10\nagree\n"),
+        (
+            20,
+            MadeVerdict::Undecided(7),
+            "made 20\nrows 100\nundecided: 7 conflicts\n",
+        ),
+    ];
+    for (n, verdict, want) in texts {
+        let text = made_text(rt.alloc(), n, verdict)?;
+        assert_eq!(rt; text.as_slice(), want.as_bytes());
+    }
     Ok(())
 }

@@ -1,4 +1,4 @@
-ghost use Rattle.std.specs.Prelude.{◌≡◌, ◌++◌, IfOk, OnOk, length};
+ghost use Rattle.std.specs.Prelude.{◌≡◌, ◌++◌, IfOk, OnOk, length, map};
 ghost use Rattle.std.specs.Bool.{beq};
 ghost use Rattle.std.specs.List.Sorted.{IsStrictlySortedBy};
 ghost use Rattle.rt_value.specs.Row.{row_cmp};
@@ -48,11 +48,10 @@ fn put_rows(
     requires { IsStrictlySortedBy row_cmp others.now }
     ensures { OnOk result (text.new ≡ text.old ++ spec.counted title.now (spec.among shared rows.now others.now)) }
 {
-    put_count(alloc, text, title, count_among(rows, others, shared))?;
-    for row in rows {
-        if has(others, row) == shared {
-            put_row(alloc, text, row)?;
-        }
+    let found = among(alloc, rows, others, shared)?;
+    put_count(alloc, text, title, found.len())?;
+    for row in &found {
+        put_row(alloc, text, row)?;
     }
     Ok(())
 }
@@ -65,17 +64,22 @@ fn put_row(alloc: Global, text: &mut Bytes, row: &Row) -> Result<(), NoMemory>
     text.push(b'\n')
 }
 
-fn count_among(rows: &[Row], others: &[Row], shared: bool) -> usize
+fn among<'a>(
+    alloc: Global,
+    rows: &'a [Row],
+    others: &[Row],
+    shared: bool,
+) -> Result<Vec<&'a Row>, NoMemory>
     requires { IsStrictlySortedBy row_cmp others.now }
-    ensures { result ≡ length (spec.among shared rows.now others.now) }
+    ensures { IfOk result (λ found. map (λ row. row.now) found.items ≡ spec.among shared rows.entry.now others.entry.now) }
 {
-    let mut n = 0;
+    let mut found = Vec::new(alloc);
     for row in rows {
         if has(others, row) == shared {
-            n += 1;
+            found.push(row)?;
         }
     }
-    n
+    Ok(found)
 }
 
 fn has(rows: &[Row], row: &Row) -> bool

@@ -4,3 +4,4 @@ pub mod ParseLemmas
 pub mod RefusalLemmas
 pub mod StartLemmas
 pub mod TreeLemmas
+pub mod WholeLemmas

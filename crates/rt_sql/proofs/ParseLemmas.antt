@@ -38,7 +38,7 @@ refused-by tokens u e t P f =
     let none = calm-supported tokens (spelled_sql t) (sym f.1) f.0.0 (sql-calm t) in
     let x : Some u ≡ None = e ∙ none in cc x
 
-tree-of : (tokens : List Token) (t : Sql) → is_deep (kinds tokens) ≡ false → Spells tokens t → IsTreeOf tokens t
+pub tree-of : (tokens : List Token) (t : Sql) → is_deep (kinds tokens) ≡ false → Spells tokens t → IsTreeOf tokens t
 tree-of tokens t d s = ((s.0, subst (λ (ks : List TokenKind). is_deep ks ≡ false) (sym s.1) d), s.1)
 
 pub tree-gives : (tokens : List Token) (t : Sql) → is_deep (kinds tokens) ≡ false → Spells tokens t → (u : Sql) → IsTreeOf tokens u → Gives is_memory (Ok t) (Ok u)

@@ -17,10 +17,10 @@ use Rattle.rt_sql.specs.Trees.{Spells, TreeRead}
 use Rattle.rt_sql.proofs.ChainLaws.{sql-reads, sql-sound}
 
 -- the terminals of a formed tree's tokens are those that it spells
-marks-of : (tokens : List Token) (t : Sql) → Spells tokens t → marks (kinds tokens) ≡ Some (spelled_sql t)
+pub marks-of : (tokens : List Token) (t : Sql) → Spells tokens t → marks (kinds tokens) ≡ Some (spelled_sql t)
 marks-of tokens t f = subst (λ (ks : List TokenKind). marks ks ≡ Some (spelled_sql t)) f.1 (marks-reads (spelled_sql t) f.0)
 
-tree-by : (tokens : List Token) (ks : Kinds) (t : Sql) → marks (kinds tokens) ≡ Some ks → read_sql ks ≡ Some t → Spells tokens t
+pub tree-by : (tokens : List Token) (ks : Kinds) (t : Sql) → marks (kinds tokens) ≡ Some ks → read_sql ks ≡ Some t → Spells tokens t
 tree-by tokens ks t m r =
     let e = sql-sound ks t r in
     let s = marks-sound (kinds tokens) ks m in

@@ -3,3 +3,4 @@ pub mod Formed
 pub mod Reads
 pub mod Refusals
 pub mod Trees
+pub mod Whole

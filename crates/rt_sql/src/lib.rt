@@ -19,5 +19,5 @@ mod words;
 
 pub use depth::{NESTED, REPEATED};
 pub use fault::SqlFault;
-pub use parser::{one_tree, parse};
+pub use parser::{one_tree, parse, read_is_tree};
 pub use tested::{Range, Test};

@@ -1,9 +1,10 @@
-ghost use Rattle.std.specs.Prelude.{◌≡◌, IfSome, List, Ok, Err};
+ghost use Rattle.std.specs.Prelude.{◌≡◌, IfSome, List, Some, Ok, Err};
 ghost use Rattle.rt_grammar.specs.Reads.{Answers};
 ghost use Rattle.rt_sql.specs.Formed.{IsTreeOf};
 ghost use Rattle.rt_sql.specs.Reads as spec;
 ghost use Rattle.rt_sql.specs.Refusals.{IsAnswer, is_memory, refusal};
 ghost use Rattle.rt_sql.specs.Trees.{TreeRead};
+ghost use Rattle.rt_sql.specs.Whole.{placeless, sql_read, tree_read};
 ghost use Rattle.rt_token.specs.declared.token.Token.{Token as Lexed};
 ghost use Rattle.rt_tree.specs.declared.tree.Sql.{Sql as Tree};
 ghost use Rattle.rt_value.specs.Gives.{Gives};
@@ -38,6 +39,7 @@ pub fn parse(alloc: Global, tokens: &[Token]) -> Result<Sql, SqlFault>
     ensures answer { IsAnswer tokens.now result }
     ensures tree { (t : Tree) → IsTreeOf tokens.now t → Gives is_memory result (Ok t) }
     ensures refused { IfSome (refusal tokens.now) (λ fault. Gives is_memory result (Err fault)) }
+    ensures read { Gives is_memory (placeless result) (sql_read tokens.now) }
 {
     if let Some((word, at)) = unsupported(tokens) {
         return Err(SqlFault::Unsupported(word.copy(alloc)?, at));
@@ -51,6 +53,11 @@ pub fn parse(alloc: Global, tokens: &[Token]) -> Result<Sql, SqlFault>
         Err(ReadFault::NoMemory) => Err(SqlFault::NoMemory),
     }
 }
+
+/// The tree that is read is just the one that the tokens have.
+pub fn read_is_tree()
+    ensures { (tokens : List Lexed) (t : Tree) → (IsTreeOf tokens t → tree_read tokens ≡ Some t) × (tree_read tokens ≡ Some t → IsTreeOf tokens t) }
+{}
 
 /// Tokens are those of at most one tree.
 pub fn one_tree()

@@ -1,6 +1,5 @@
-mod FormLemmas
-mod SearchLemmas
+mod DecideLemmas
+mod ShapeLemmas
 mod StepLemmas
 mod TableLemmas
-mod TypedLemmas
 mod VerdictLemmas

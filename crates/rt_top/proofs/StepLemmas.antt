@@ -1,20 +1,49 @@
 -- What stops one step of the reading stops the reading.
-use Rattle.std.proofs.Common.{◌≡◌, ℕ, Bool, IsTrue, List, Result, Ok, Err, refl, arith}
-use Rattle.std.specs.Prelude.{Option}
-use Rattle.rt_io.specs.Edge.{NoneFell}
+use Rattle.std.proofs.Common.{◌≡◌, ◌∙◌, ℕ, Bool, false, IsTrue, List, Result, Ok, Err, refl, sym, ap, subst, arith, MatchBool}
+use Rattle.std.specs.Prelude.{Option, None, Some, IsOk, IsOkAnd, ◌+◌}
+use Rattle.rt_io.specs.Edge.{NoneFell, Rose}
 use Rattle.rt_value.specs.Gives.{Gives}
 use Rattle.rt_schema.specs.Given.{Rows}
+use Rattle.rt_schema.specs.declared.table.Table.{Table as TableOf}
+use Rattle.rt_algebra.specs.declared.typed.Typed.{Typed}
+use Rattle.rt_ddl.specs.Meaning.{is_memory as schema_memory}
+use Rattle.rt_ddl.specs.Whole.{schema_read, placeless as placeless_answer}
+use Rattle.rt_ddl.specs.declared.fault.Excess.{Excess}
+use Rattle.rt_ddl.specs.declared.fault.Excess.TheVariants as excess
+use Rattle.rt_ddl.specs.declared.fault.SchemaFault.{SchemaFault}
+use Rattle.rt_ddl.specs.declared.fault.SchemaFault.TheVariants as schema
 use Rattle.rt_load.specs.declared.fault.LoadFault.{LoadFault}
 use Rattle.rt_load.specs.declared.fault.LoadFault.TheVariants as load
 use Rattle.rt_load.specs.Loaded.{is_memory}
+use Rattle.rt_resolve.specs.Chains.{lowered}
+use Rattle.rt_scope.specs.Fault.{is_memory as name_memory}
+use Rattle.rt_scope.specs.declared.fault.NameFault.{NameFault}
+use Rattle.rt_scope.specs.declared.fault.NameFault.TheVariants as name
+use Rattle.rt_sql.specs.Refusals.{is_memory as sql_memory}
+use Rattle.rt_sql.specs.Whole.{sql_read, placeless as placeless_tree}
+use Rattle.rt_sql.specs.declared.fault.SqlFault.{SqlFault}
+use Rattle.rt_sql.specs.declared.fault.SqlFault.TheVariants as sql
+use Rattle.rt_token.specs.Layout.{is_memory as lex_memory}
+use Rattle.rt_token.specs.Lexed.{lexed}
+use Rattle.rt_token.specs.declared.fault.LexFault.{LexFault}
+use Rattle.rt_token.specs.declared.fault.LexFault.TheVariants as lex
+use Rattle.rt_token.specs.declared.token.Token.{Token}
+use Rattle.rt_tree.specs.declared.tree.Sql.{Sql}
 use Rattle.rt_top.specs.declared.part.Part.{Part}
+use Rattle.rt_top.specs.declared.part.Part.TheVariants as part
+use Rattle.rt_top.specs.declared.part.Part.TheVariants.{Query1, Query2}
+use Rattle.rt_words.specs.Ranges.{Command}
+use Rattle.rt_top.specs.declared.outcome.Limit.{Limit}
 use Rattle.rt_top.specs.declared.outcome.Limit.TheVariants as limit
 use Rattle.rt_top.specs.declared.outcome.Outcome.{Outcome}
 use Rattle.rt_top.specs.declared.outcome.Outcome.TheVariants as outcome
-use Rattle.rt_top.specs.declared.command.Paths.{Paths}
-use Rattle.rt_top.specs.Command.{file_name}
-use Rattle.rt_top.specs.Judged.{Holding, then_read, load_outcome}
-use Rattle.rt_top.specs.Steps.{Seen, seen, Stops}
+use Rattle.rt_top.specs.declared.source.Paths.{Paths}
+use Rattle.rt_top.specs.declared.source.Source.{Source}
+use Rattle.rt_top.specs.declared.source.Source.TheVariants.{Files}
+use Rattle.rt_top.specs.Faults.{excess_limit, lex_outcome, load_outcome, name_outcome, or_outcome, schema_outcome, sql_outcome}
+use Rattle.rt_top.specs.Judged.{Data, Holding, Reaches, data_judged, input_judged, most_bytes, query_judged, right_judged, then_read, query_of, query_of_tokens, query_of_tree, schema_of, like_left}
+use Rattle.rt_top.specs.Source.{file_name, file_of, source_of}
+use Rattle.rt_top.specs.Steps.{Failed, IsLong, IsLongFor, Refuses, Seen, seen, Stops, of_contents}
 
 pub then_ok : {T U E : Type 0} (r : Result T E) (x : T) (f : T → Result U E) (y : Result U E) → r ≡ Ok x → f x ≡ y → then_read r f ≡ y
 then_ok r x f y p q = rw p q
@@ -22,30 +51,177 @@ then_ok r x f y p q = rw p q
 pub then_err : {T U E : Type 0} (r : Result T E) (f : T → Result U E) (e : E) → r ≡ Err e → then_read r f ≡ Err e
 then_err r f e p = rw p refl
 
+-- ---- a step that reads no file
+
+pub refuses_as : {T : Type 0} (j k : Result T Outcome) (o : Outcome) → j ≡ k → Refuses j o → Refuses k o
+refuses_as {T = T} j k o same r = subst (λ (x : Result T Outcome). Refuses x o) same r
+
+pub refuses_then : {S T : Type 0} (j : Result S Outcome) (f : S → Result T Outcome) (o : Outcome) → Refuses j o → Refuses (then_read j f) o
+refuses_then j f outcome.Agree r = r
+refuses_then j f (outcome.Witness keep) r = r
+refuses_then j f outcome.Usage r = r
+refuses_then j f (outcome.Refused p fault) r = (r.0, then_err j f _ r.1)
+refuses_then j f (outcome.Limit l) r = (r.0, then_err j f _ r.1)
+refuses_then j f (outcome.Spent s) r = r
+refuses_then j f (outcome.ReadFault p) r = r
+refuses_then j f outcome.WriteFault r = r
+refuses_then j f outcome.NoMemory r = tt
+
+refuses_lex : {T : Type 0} (p : Part) (j : Result T Outcome) (fault : LexFault) → j ≡ Err (lex_outcome p fault) → Refuses j (lex_outcome p fault)
+refuses_lex p j (lex.NotUtf8 at) e = (refl, e)
+refuses_lex p j (lex.BadByte at) e = (refl, e)
+refuses_lex p j (lex.OpenText at) e = (refl, e)
+refuses_lex p j (lex.OpenComment at) e = (refl, e)
+refuses_lex p j (lex.BigNumber at) e = (refl, e)
+refuses_lex p j lex.NoMemory e = tt
+
+refuses_excess : {T : Type 0} (j : Result T Outcome) (e : Excess) → j ≡ Err (outcome.Limit (excess_limit e)) → Refuses j (outcome.Limit (excess_limit e))
+refuses_excess j excess.Tables e = (refl, e)
+refuses_excess j (excess.Columns table) e = (refl, e)
+refuses_excess j (excess.Rules table) e = (refl, e)
+
+-- a schema that is refused
+pub refuses_schema : (text : List ℕ) (fault : SchemaFault) → Gives schema_memory (placeless_answer (Err fault)) (schema_read text) → Refuses (schema_of text) (schema_outcome fault)
+refuses_schema text (schema.Lex f) g = refuses_lex part.Schema (schema_of text) f (ap (or_outcome schema_outcome) g)
+refuses_schema text (schema.Syntax at) g = (refl, ap (or_outcome schema_outcome) g)
+refuses_schema text (schema.DuplicateName name) g = (refl, ap (or_outcome schema_outcome) g)
+refuses_schema text (schema.UnknownName name) g = (refl, ap (or_outcome schema_outcome) g)
+refuses_schema text (schema.KeyTypes table) g = (refl, ap (or_outcome schema_outcome) g)
+refuses_schema text (schema.TooMany e) g = refuses_excess (schema_of text) e (ap (or_outcome schema_outcome) g)
+refuses_schema text schema.NoMemory g = tt
+
+pub schema_read_ok : (text : List ℕ) (tables : List TableOf) → Gives schema_memory (placeless_answer (Ok tables)) (schema_read text) → schema_of text ≡ Ok tables
+schema_read_ok text tables g = ap (or_outcome schema_outcome) g
+
+-- tokens that are no query
+pub refuses_sql : (p : Part) (tables : List TableOf) (tokens : List Token) (fault : SqlFault) → Gives sql_memory (placeless_tree (Err fault)) (sql_read tokens)
+    → Refuses (query_of_tokens p tables tokens) (sql_outcome p fault)
+refuses_sql p tables tokens (sql.Unsupported word at) g = (refl, then_err _ _ _ (ap (or_outcome (sql_outcome p)) g))
+refuses_sql p tables tokens sql.TooDeep g = (refl, then_err _ _ _ (ap (or_outcome (sql_outcome p)) g))
+refuses_sql p tables tokens (sql.Syntax at) g = (refl, then_err _ _ _ (ap (or_outcome (sql_outcome p)) g))
+refuses_sql p tables tokens sql.NoMemory g = tt
+
+-- a query without a meaning
+pub refuses_name : {T : Type 0} (p : Part) (j : Result T Outcome) (fault : NameFault) → (name_memory fault ≡ false → j ≡ Err (name_outcome p fault)) → Refuses j (name_outcome p fault)
+refuses_name p j (name.UnknownTable n) e = (refl, e refl)
+refuses_name p j (name.UnknownColumn n) e = (refl, e refl)
+refuses_name p j (name.Ambiguous n) e = (refl, e refl)
+refuses_name p j (name.DuplicateAlias n) e = (refl, e refl)
+refuses_name p j name.TypeMismatch e = (refl, e refl)
+refuses_name p j name.Columns e = (refl, e refl)
+refuses_name p j name.ArithWidth e = (refl, e refl)
+refuses_name p j name.NoMemory e = tt
+
+gives_err : {T : Type 0} (fault : NameFault) (d : Result T NameFault) → Gives name_memory (Err fault) d → name_memory fault ≡ false → d ≡ Err fault
+gives_err {T = T} fault d g m = subst (λ (b : Bool). MatchBool b (Unit {0}) (d ≡ Err fault)) m g
+
+pub refuses_tree : (p : Part) (tables : List TableOf) (tree : Sql) (fault : NameFault) → Gives {T = Typed} name_memory (Err fault) (lowered tree tables)
+    → Refuses (query_of_tree p tables tree) (name_outcome p fault)
+refuses_tree p tables tree fault g = refuses_name p (query_of_tree p tables tree) fault (λ m. ap (or_outcome (name_outcome p)) (gives_err fault (lowered tree tables) g m))
+
+-- a text without tokens
+pub refuses_text : (p : Part) (tables : List TableOf) (text : List ℕ) (fault : LexFault) → Gives {T = List Token} lex_memory (Err fault) (lexed text)
+    → Refuses (query_of p tables text) (lex_outcome p fault)
+refuses_text p tables text (lex.NotUtf8 at) g = (refl, then_err _ _ _ (ap (or_outcome (lex_outcome p)) g))
+refuses_text p tables text (lex.BadByte at) g = (refl, then_err _ _ _ (ap (or_outcome (lex_outcome p)) g))
+refuses_text p tables text (lex.OpenText at) g = (refl, then_err _ _ _ (ap (or_outcome (lex_outcome p)) g))
+refuses_text p tables text (lex.OpenComment at) g = (refl, then_err _ _ _ (ap (or_outcome (lex_outcome p)) g))
+refuses_text p tables text (lex.BigNumber at) g = (refl, then_err _ _ _ (ap (or_outcome (lex_outcome p)) g))
+refuses_text p tables text lex.NoMemory g = tt
+
+-- ---- steps of the reading
+
+short : (s : Seen) (source : Source) (l : Limit) → IsTrue (of_contents l) → IsLongFor s source l
+short s source (limit.TooLong p) h = cc h
+short s source limit.Tables h = tt
+short s source (limit.Columns table) h = tt
+short s source (limit.Rules table) h = tt
+short s source limit.Rows h = tt
+short s source (limit.Work work) h = tt
+
+pub stops_refused : {S T : Type 0} (s : Seen) (source : Source) (j : Result S Outcome) (k : Result T Outcome) (R : Part → Type 0) (o : Outcome)
+    → (IsTrue s.tells → (e : Outcome) → j ≡ Err e → k ≡ Err e) → Refuses j o → Stops s source k R o
+stops_refused s source j k R outcome.Agree same r = r
+stops_refused s source j k R (outcome.Witness keep) same r = r
+stops_refused s source j k R outcome.Usage same r = r
+stops_refused s source j k R (outcome.Refused p fault) same r = (r.0, λ t. same t _ r.1)
+stops_refused s source j k R (outcome.Spent spent) same r = r
+stops_refused s source j k R (outcome.Limit l) same r = (short s source l r.0, λ t. same t _ r.1)
+stops_refused s source j k R (outcome.ReadFault p) same r = absurd r
+stops_refused s source j k R outcome.WriteFault same r = r
+stops_refused s source j k R outcome.NoMemory same r = tt
+
+-- what holds of a file's name holds of the part's file
+pub failed_at : (s : Seen) (paths : Paths) (p : Part) (name : List ℕ) → file_name paths p ≡ Some name → Rose (s.before name) (s.after name) → Failed s (file_of (Files paths) p)
+failed_at s paths p name is rose = subst (Failed s) (sym is) rose
+
+pub long_at : (s : Seen) (paths : Paths) (p : Part) (name : List ℕ) → file_name paths p ≡ Some name → s.current ≡ Some name → s.taken ≡ most_bytes + 1 → IsLong s (file_of (Files paths) p)
+long_at s paths p name is current taken = subst (IsLong s) (sym is) (current, taken)
+
+long_on : (tells : Bool) (held held' : Holding) (before mid after : List ℕ → ℕ) (current : Option (List ℕ)) (taken : ℕ) (o : Option (List ℕ))
+    → IsLong (seen tells held' mid after current taken) o → IsLong (seen tells held before after current taken) o
+long_on tells held held' before mid after current taken None long = long
+long_on tells held held' before mid after current taken (Some name) long = long
+
+limit_on : (tells : Bool) (held held' : Holding) (before mid after : List ℕ → ℕ) (current : Option (List ℕ)) (taken : ℕ) (source : Source) (l : Limit)
+    → IsLongFor (seen tells held' mid after current taken) source l → IsLongFor (seen tells held before after current taken) source l
+limit_on tells held held' before mid after current taken source (limit.TooLong p) long = long_on tells held held' before mid after current taken (file_of source p) long
+limit_on tells held held' before mid after current taken source limit.Tables long = tt
+limit_on tells held held' before mid after current taken source (limit.Columns table) long = tt
+limit_on tells held held' before mid after current taken source (limit.Rules table) long = tt
+limit_on tells held held' before mid after current taken source limit.Rows long = tt
+limit_on tells held held' before mid after current taken source (limit.Work work) long = tt
+
+failed_on : (tells : Bool) (held held' : Holding) (before mid after : List ℕ → ℕ) (current : Option (List ℕ)) (taken : ℕ) (o : Option (List ℕ)) → NoneFell before mid
+    → Failed (seen tells held' mid after current taken) o → Failed (seen tells held before after current taken) o
+failed_on tells held held' before mid after current taken None grew failed = failed
+failed_on tells held held' before mid after current taken (Some name) grew failed = let less = grew name in let rose = failed in omega (arith, less, rose)
+
 -- a later step of a reading that began with smaller counts
-pub stops_on : {T U : Type 0} (tells : Bool) (held held' : Holding) (before mid after : List ℕ → ℕ) (current : Option (List ℕ)) (taken : ℕ) (paths : Paths)
+pub stops_on : {T U : Type 0} (tells : Bool) (held held' : Holding) (before mid after : List ℕ → ℕ) (current : Option (List ℕ)) (taken : ℕ) (source : Source)
     (j : Result T Outcome) (j' : Result U Outcome) (R R' : Part → Type 0) (o : Outcome) → NoneFell before mid
     → (IsTrue tells → (e : Outcome) → j ≡ Err e → j' ≡ Err e) → (IsTrue tells → (p : Part) → R p → R' p)
-    → Stops (seen tells held' mid after current taken) paths j R o → Stops (seen tells held before after current taken) paths j' R' o
-stops_on tells held held' before mid after current taken paths j j' R R' outcome.Agree grew same reach stop = stop
-stops_on tells held held' before mid after current taken paths j j' R R' (outcome.Witness keep) grew same reach stop = stop
-stops_on tells held held' before mid after current taken paths j j' R R' outcome.Usage grew same reach stop = stop
-stops_on tells held held' before mid after current taken paths j j' R R' (outcome.Refused part fault) grew same reach stop = (stop.0, λ t. same t _ (stop.1 t))
-stops_on tells held held' before mid after current taken paths j j' R R' (outcome.Limit (limit.TooLong part)) grew same reach stop =
-    (record { current = stop.0.current; taken = stop.0.taken }, λ t. same t _ (stop.1 t))
-stops_on tells held held' before mid after current taken paths j j' R R' (outcome.Limit limit.Rows) grew same reach stop = λ t. same t _ (stop t)
-stops_on tells held held' before mid after current taken paths j j' R R' (outcome.ReadFault part) grew same reach stop =
-    (let less = grew (file_name paths part) in let rose = stop.0 in omega (arith, less, rose), λ t. reach t part (stop.1 t))
-stops_on tells held held' before mid after current taken paths j j' R R' outcome.WriteFault grew same reach stop = stop
-stops_on tells held held' before mid after current taken paths j j' R R' outcome.NoMemory grew same reach stop = tt
+    → Stops (seen tells held' mid after current taken) source j R o → Stops (seen tells held before after current taken) source j' R' o
+stops_on tells held held' before mid after current taken source j j' R R' outcome.Agree grew same reach stop = stop
+stops_on tells held held' before mid after current taken source j j' R R' (outcome.Witness keep) grew same reach stop = stop
+stops_on tells held held' before mid after current taken source j j' R R' outcome.Usage grew same reach stop = stop
+stops_on tells held held' before mid after current taken source j j' R R' (outcome.Refused p fault) grew same reach stop = (stop.0, λ t. same t _ (stop.1 t))
+stops_on tells held held' before mid after current taken source j j' R R' (outcome.Spent s) grew same reach stop = stop
+stops_on tells held held' before mid after current taken source j j' R R' (outcome.Limit l) grew same reach stop =
+    (limit_on tells held held' before mid after current taken source l stop.0, λ t. same t _ (stop.1 t))
+stops_on tells held held' before mid after current taken source j j' R R' (outcome.ReadFault p) grew same reach stop =
+    (failed_on tells held held' before mid after current taken (file_of source p) grew stop.0, λ t. reach t p (stop.1 t))
+stops_on tells held held' before mid after current taken source j j' R R' outcome.WriteFault grew same reach stop = stop
+stops_on tells held held' before mid after current taken source j j' R R' outcome.NoMemory grew same reach stop = tt
 
 -- a table file that is refused
-pub stops_loaded : (s : Seen) (paths : Paths) (part : Part) (loaded : Result Rows LoadFault) (j : Result Rows Outcome) (R : Part → Type 0) (fault : LoadFault)
-    → Gives {T = Rows} is_memory (Err fault) loaded → (IsTrue s.tells → (e : LoadFault) → loaded ≡ Err e → j ≡ Err (load_outcome part e))
-    → Stops s paths j R (load_outcome part fault)
-stops_loaded s paths part loaded j R load.NoMemory gives same = tt
-stops_loaded s paths part loaded j R load.TooManyRows gives same = λ t. same t load.TooManyRows gives
-stops_loaded s paths part loaded j R load.BadHeader gives same = (refl, λ t. same t load.BadHeader gives)
-stops_loaded s paths part loaded j R (load.FieldCount n) gives same = (refl, λ t. same t (load.FieldCount n) gives)
-stops_loaded s paths part loaded j R (load.BadInteger n c) gives same = (refl, λ t. same t (load.BadInteger n c) gives)
-stops_loaded s paths part loaded j R (load.BadText n c) gives same = (refl, λ t. same t (load.BadText n c) gives)
+pub stops_loaded : (s : Seen) (source : Source) (p : Part) (loaded : Result Rows LoadFault) (j : Result Rows Outcome) (R : Part → Type 0) (fault : LoadFault)
+    → Gives {T = Rows} is_memory (Err fault) loaded → (IsTrue s.tells → (e : LoadFault) → loaded ≡ Err e → j ≡ Err (load_outcome p e))
+    → Stops s source j R (load_outcome p fault)
+stops_loaded s source p loaded j R load.NoMemory gives same = tt
+stops_loaded s source p loaded j R load.TooManyRows gives same = (tt, λ t. same t load.TooManyRows gives)
+stops_loaded s source p loaded j R load.BadHeader gives same = (refl, λ t. same t load.BadHeader gives)
+stops_loaded s source p loaded j R (load.FieldCount n) gives same = (refl, λ t. same t (load.FieldCount n) gives)
+stops_loaded s source p loaded j R (load.BadInteger n c) gives same = (refl, λ t. same t (load.BadInteger n c) gives)
+stops_loaded s source p loaded j R (load.BadText n c) gives same = (refl, λ t. same t (load.BadText n c) gives)
+
+-- the second query stops the reading of a command
+pub right_stops : (tells : Bool) (held0 held1 held2 : Holding) (before mid after : List ℕ → ℕ) (current : Option (List ℕ)) (taken : ℕ) (source : Source) (k : Command) (d : Data) (left : Typed) (o : Outcome)
+    → source ≡ source_of k → held1 ≡ held0 → held2 ≡ held0 → NoneFell before mid
+    → (IsTrue tells → data_judged source held0 ≡ Ok d) → (IsTrue tells → query_judged source held1 Query1 d.schema ≡ Ok left)
+    → Stops (seen tells held2 mid after current taken) source (right_judged source held2 d.schema left) (λ p. p ≡ Query2) o
+    → Stops (seen tells held0 before after current taken) (source_of k) (input_judged held0 k) (Reaches (source_of k) held0) o
+right_stops tells held0 held1 held2 before mid after current taken source k d left o is same1 same2 grew told query stop =
+    let first : IsTrue tells → query_judged source held0 Query1 d.schema ≡ Ok left = λ t. ap (λ (h : Holding). query_judged source h Query1 d.schema) (sym same1) ∙ query t in
+    let judged : IsTrue tells → (e : Outcome) → right_judged source held2 d.schema left ≡ Err e → input_judged held0 k ≡ Err e = λ t e err.
+    then_ok _ d _ _ (ap (λ (s : Source). data_judged s held0) (sym is) ∙ told t)
+    (then_ok _ left _ _ (ap (λ (s : Source). query_judged s held0 Query1 d.schema) (sym is) ∙ first t)
+    (then_err _ _ e (ap (λ (s : Source). right_judged s held0 d.schema left) (sym is) ∙ ap (λ (h : Holding). right_judged source h d.schema left) (sym same2) ∙ err))) in
+    let reached : IsTrue tells → (p : Part) → p ≡ Query2 → Reaches source held0 p = λ t p named. subst (Reaches source held0) (sym named) (reaches (data_judged source held0) (told t) (first t)) in
+    let stop' : Stops (seen tells held2 mid after current taken) (source_of k) (right_judged source held2 d.schema left) (λ p. p ≡ Query2) o =
+    subst (λ (s : Source). Stops (seen tells held2 mid after current taken) s (right_judged source held2 d.schema left) (λ p. p ≡ Query2) o) is stop in
+    stops_on tells held0 held2 before mid after current taken (source_of k) (right_judged source held2 d.schema left) (input_judged held0 k) (λ p. p ≡ Query2) (Reaches (source_of k) held0) o grew
+    judged (λ t p named. subst (λ (s : Source). Reaches s held0 p) is (reached t p named)) stop'
+  where
+    reaches : (r : Result Data Outcome) → r ≡ Ok d → query_judged source held0 Query1 d.schema ≡ Ok left → IsOkAnd r (λ d. IsOk (query_judged source held0 Query1 d.schema))
+    reaches r e q = rw e (rw q refl)

@@ -11,11 +11,11 @@ use Rattle.rt_schema.proofs.GivenLemmas.{places-set}
 use Rattle.rt_load.specs.declared.fault.LoadFault.{LoadFault}
 use Rattle.rt_load.specs.declared.fault.LoadFault.TheVariants.{BadHeader, FieldCount, TooManyRows}
 use Rattle.rt_load.specs.Loaded.{Field, begins_with_mark, cells, columns_at, is_header, loaded, row_at, row_limit, rows_behind_header, rows_from, ◌>>=◌}
-use Rattle.rt_top.specs.declared.command.Paths.{Paths}
+use Rattle.rt_top.specs.declared.source.Source.{Source}
 use Rattle.rt_top.specs.declared.outcome.Outcome.{Outcome}
 use Rattle.rt_top.specs.declared.part.Part.TheVariants as part
-use Rattle.rt_top.specs.Command.{file_name}
-use Rattle.rt_top.specs.Judged.{Holding, then_read, text_read, loaded_as, table_judged, tables_judged}
+use Rattle.rt_top.specs.Faults.{load_outcome, or_outcome}
+use Rattle.rt_top.specs.Judged.{Holding, then_read, text_of, table_judged, tables_judged}
 use Rattle.rt_top.proofs.StepLemmas.{then_ok}
 
 -- ---- the rows of a file
@@ -93,63 +93,62 @@ get-within [] at t h = absurd (cc)
 get-within (u ∷ us) zero t h = omega arith
 get-within (u ∷ us) (suc at) t h = omega (arith, get-within us at t h)
 
--- what a table's file gives, from its text on
-pub table_read : (paths : Paths) (held : Holding) (at : ℕ) (table : Table) (name path text : List ℕ) (before : ℕ) (columns : List Column) (r : Result Rows LoadFault)
-    → name ≡ table.name → path ≡ file_name paths (part.Table at table.name) → columns ≡ table.columns
-    → text_read (part.Table at name) (held path) ≡ Ok text → loaded columns text before ≡ r
-    → table_judged paths held at table before ≡ loaded_as (part.Table at table.name) r
-table_read paths held at table name path text before columns r n p k t l =
-    then_ok _ text _ _ (ap (λ m. text_read (part.Table at m) (held (file_name paths (part.Table at table.name)))) (sym n) ∙ ap (λ q. text_read (part.Table at name) (held q)) (sym p) ∙ t)
-    (ap (λ c. loaded_as (part.Table at table.name) (loaded c text before)) (sym k) ∙ ap (loaded_as (part.Table at table.name)) l)
+-- what the text of a table gives
+pub table_read : (source : Source) (held : Holding) (at : ℕ) (table : Table) (name text : List ℕ) (before : ℕ) (columns : List Column) (r : Result Rows LoadFault)
+    → name ≡ table.name → columns ≡ table.columns → text_of source held (part.Table at name) ≡ Ok text → loaded columns text before ≡ r
+    → table_judged source held at table before ≡ or_outcome (load_outcome (part.Table at table.name)) r
+table_read source held at table name text before columns r n k t l =
+    then_ok _ text _ _ (ap (λ m. text_of source held (part.Table at m)) (sym n) ∙ t)
+    (ap (λ c. or_outcome (load_outcome (part.Table at table.name)) (loaded c text before)) (sym k) ∙ ap (or_outcome (load_outcome (part.Table at table.name))) l)
 
 -- ---- one table after the other
 
-pub tables_judged-append : (paths : Paths) (held : Holding) (at : ℕ) (so_far : Tables) (xs ys : List Table)
-    → tables_judged paths held at so_far (xs ++ ys) ≡ then_read (tables_judged paths held at so_far xs) (λ tables. tables_judged paths held (at + length xs) tables ys)
-tables_judged-append paths held at so_far [] ys = ap (λ k. tables_judged paths held k so_far ys) (sym (add-zero at))
-tables_judged-append paths held at so_far (x ∷ xs) ys =
+pub tables_judged-append : (source : Source) (held : Holding) (at : ℕ) (so_far : Tables) (xs ys : List Table)
+    → tables_judged source held at so_far (xs ++ ys) ≡ then_read (tables_judged source held at so_far xs) (λ tables. tables_judged source held (at + length xs) tables ys)
+tables_judged-append source held at so_far [] ys = ap (λ k. tables_judged source held k so_far ys) (sym (add-zero at))
+tables_judged-append source held at so_far (x ∷ xs) ys =
     let same : (at + 1) + length xs ≡ at + length (x ∷ xs) = omega arith in
-    elim (table_judged paths held at x (places so_far)) as (λ r. then_read r (λ rows. tables_judged paths held (at + 1) (slice_set so_far at rows) (xs ++ ys))
-    ≡ then_read (then_read r (λ rows. tables_judged paths held (at + 1) (slice_set so_far at rows) xs)) (λ tables. tables_judged paths held (at + length (x ∷ xs)) tables ys)) [
-      | Ok rows ↦ subst (λ (k : ℕ). tables_judged paths held (at + 1) (slice_set so_far at rows) (xs ++ ys)
-          ≡ then_read (tables_judged paths held (at + 1) (slice_set so_far at rows) xs) (λ tables. tables_judged paths held k tables ys)) same
-          (tables_judged-append paths held (at + 1) (slice_set so_far at rows) xs ys)
+    elim (table_judged source held at x (places so_far)) as (λ r. then_read r (λ rows. tables_judged source held (at + 1) (slice_set so_far at rows) (xs ++ ys))
+    ≡ then_read (then_read r (λ rows. tables_judged source held (at + 1) (slice_set so_far at rows) xs)) (λ tables. tables_judged source held (at + length (x ∷ xs)) tables ys)) [
+      | Ok rows ↦ subst (λ (k : ℕ). tables_judged source held (at + 1) (slice_set so_far at rows) (xs ++ ys)
+          ≡ then_read (tables_judged source held (at + 1) (slice_set so_far at rows) xs) (λ tables. tables_judged source held k tables ys)) same
+          (tables_judged-append source held (at + 1) (slice_set so_far at rows) xs ys)
       | Err e ↦ refl
     ]
 
 -- after the tables before this place: this one, and then the rest
-tables_judged-from : (paths : Paths) (held : Holding) (start : Tables) (schema : List Table) (at : ℕ) (tables : Tables) (rest : List Table)
-    → at ≤ length schema → tables_judged paths held 0 start (take at schema) ≡ Ok tables
-    → tables_judged paths held 0 start (take at schema ++ rest) ≡ tables_judged paths held at tables rest
-tables_judged-from paths held start schema at tables rest within so_far =
+tables_judged-from : (source : Source) (held : Holding) (start : Tables) (schema : List Table) (at : ℕ) (tables : Tables) (rest : List Table)
+    → at ≤ length schema → tables_judged source held 0 start (take at schema) ≡ Ok tables
+    → tables_judged source held 0 start (take at schema ++ rest) ≡ tables_judged source held at tables rest
+tables_judged-from source held start schema at tables rest within so_far =
     let len : 0 + length (take at schema) ≡ at = omega (arith, length-take-le at schema within) in
-    tables_judged-append paths held 0 start (take at schema) rest
-    ∙ ap (λ r. then_read r (λ ts. tables_judged paths held (0 + length (take at schema)) ts rest)) so_far
-    ∙ ap (λ k. tables_judged paths held k tables rest) len
+    tables_judged-append source held 0 start (take at schema) rest
+    ∙ ap (λ r. then_read r (λ ts. tables_judged source held (0 + length (take at schema)) ts rest)) so_far
+    ∙ ap (λ k. tables_judged source held k tables rest) len
 
 -- one more table
-pub tables_judged-more : (paths : Paths) (held : Holding) (start : Tables) (schema : List Table) (at : ℕ) (tables : Tables) (table : Table) (rows : Rows)
-    → at < length schema → table ≡ get_or schema at table → tables_judged paths held 0 start (take at schema) ≡ Ok tables
-    → table_judged paths held at table (places tables) ≡ Ok rows
-    → tables_judged paths held 0 start (take (at + 1) schema) ≡ Ok (slice_set tables at rows)
-tables_judged-more paths held start schema at tables table rows within is so_far read =
+pub tables_judged-more : (source : Source) (held : Holding) (start : Tables) (schema : List Table) (at : ℕ) (tables : Tables) (table : Table) (rows : Rows)
+    → at < length schema → table ≡ get_or schema at table → tables_judged source held 0 start (take at schema) ≡ Ok tables
+    → table_judged source held at table (places tables) ≡ Ok rows
+    → tables_judged source held 0 start (take (at + 1) schema) ≡ Ok (slice_set tables at rows)
+tables_judged-more source held start schema at tables table rows within is so_far read =
     let upto : at ≤ length schema = omega arith in
-    ap (tables_judged paths held 0 start) (take_more schema at table within)
-    ∙ tables_judged-from paths held start schema at tables (get_or schema at table ∷ []) upto so_far
-    ∙ ap (λ x. tables_judged paths held at tables (x ∷ [])) (sym is)
+    ap (tables_judged source held 0 start) (take_more schema at table within)
+    ∙ tables_judged-from source held start schema at tables (get_or schema at table ∷ []) upto so_far
+    ∙ ap (λ x. tables_judged source held at tables (x ∷ [])) (sym is)
     ∙ ap (λ r. then_read r (λ rows. Ok (slice_set tables at rows))) read
 
 -- the table at which the reading stops
-pub tables_judged-stops : (paths : Paths) (held : Holding) (start : Tables) (schema : List Table) (at : ℕ) (tables : Tables) (table : Table) (o : Outcome)
-    → at < length schema → table ≡ get_or schema at table → tables_judged paths held 0 start (take at schema) ≡ Ok tables
-    → table_judged paths held at table (places tables) ≡ Err o → tables_judged paths held 0 start schema ≡ Err o
-tables_judged-stops paths held start schema at tables table o within is so_far stops =
+pub tables_judged-stops : (source : Source) (held : Holding) (start : Tables) (schema : List Table) (at : ℕ) (tables : Tables) (table : Table) (o : Outcome)
+    → at < length schema → table ≡ get_or schema at table → tables_judged source held 0 start (take at schema) ≡ Ok tables
+    → table_judged source held at table (places tables) ≡ Err o → tables_judged source held 0 start schema ≡ Err o
+tables_judged-stops source held start schema at tables table o within is so_far stops =
     let upto : at ≤ length schema = omega arith in
-    ap (tables_judged paths held 0 start) (sym (take-append-drop at schema))
-    ∙ tables_judged-from paths held start schema at tables (drop at schema) upto so_far
-    ∙ ap (tables_judged paths held at tables) (drop-cons schema at table within)
-    ∙ ap (λ x. tables_judged paths held at tables (x ∷ drop (suc at) schema)) (sym is)
-    ∙ ap (λ r. then_read r (λ rows. tables_judged paths held (at + 1) (slice_set tables at rows) (drop (suc at) schema))) stops
+    ap (tables_judged source held 0 start) (sym (take-append-drop at schema))
+    ∙ tables_judged-from source held start schema at tables (drop at schema) upto so_far
+    ∙ ap (tables_judged source held at tables) (drop-cons schema at table within)
+    ∙ ap (λ x. tables_judged source held at tables (x ∷ drop (suc at) schema)) (sym is)
+    ∙ ap (λ r. then_read r (λ rows. tables_judged source held (at + 1) (slice_set tables at rows) (drop (suc at) schema))) stops
 
 -- ---- tables without rows
 

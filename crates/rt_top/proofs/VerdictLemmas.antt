@@ -1,23 +1,27 @@
 -- What the rows of a call's answers follow from, and that an accepted command over files and sinks
 -- that don't fail gets a verdict.
-use Rattle.std.proofs.Common.{◌≡◌, ℕ, List, IsTrue, Result, Ok, Err, refl, sym, ap, subst, inl, inr, ◌∙◌}
-use Rattle.std.specs.Prelude.{Option, Some, None, IfOk, IsOk, IsOkAnd, IsSome, IsSomeAnd}
+use Rattle.std.proofs.Common.{◌≡◌, ℕ, List, IsTrue, Result, Ok, Err, refl, sym, ap, subst, inl, inr, ◌∙◌, arith}
+use Rattle.std.specs.Prelude.{Option, Some, None, IfOk, IsOkAnd, IsSome, IsSomeAnd, ◌<◌, ◌≤◌, ◌^◌}
+use Rattle.std.specs.Option.{ForSome}
 use Rattle.rt_io.specs.Edge.{Rose}
+use Rattle.rt_schema.specs.Given.{places}
 use Rattle.rt_schema.specs.declared.table.Table.{Table as TableOf}
-use Rattle.rt_top.specs.declared.command.Paths.{Paths}
-use Rattle.rt_top.specs.declared.outcome.Limit.TheVariants as limit
 use Rattle.rt_top.specs.declared.outcome.Outcome.{Outcome}
 use Rattle.rt_top.specs.declared.outcome.Outcome.TheVariants as outcome
+use Rattle.rt_top.specs.declared.outcome.Spent.{Spent}
 use Rattle.rt_top.specs.declared.part.Part.{Part}
-use Rattle.rt_top.specs.declared.part.Part.TheVariants.{Schema, Table, Query1, Query2}
+use Rattle.rt_top.specs.declared.part.Part.TheVariants.{Schema, Table, Query1, Query2, Queries}
 use Rattle.rt_top.specs.declared.place.Place.{Place}
 use Rattle.rt_top.specs.declared.place.Place.TheVariants as at
-use Rattle.rt_top.specs.Accepted.{Accepted}
-use Rattle.rt_top.specs.Command.{command, file_name}
-use Rattle.rt_top.specs.Judged.{Holding, files_judged, judged, paths_judged, schema_judged, HasTable, IsNamed, Reaches, TableReached}
-use Rattle.rt_top.specs.Steps.{IsLong, Stops}
+use Rattle.rt_top.specs.Accepted.{Accepted, HasOptions}
+use Rattle.rt_top.specs.declared.source.Source.{Source}
+use Rattle.rt_top.specs.Source.{file_of, source_of}
+use Rattle.rt_words.specs.Command.{command}
+use Rattle.rt_words.specs.Ranges.{Command}
+use Rattle.rt_top.specs.Judged.{Holding, command_judged, input_judged, judged, schema_judged, HasTable, IsNamed, Reaches, TableReached}
+use Rattle.rt_top.specs.Steps.{IsLongFor, Stops}
 use Rattle.rt_top.specs.Texts.{place}
-use Rattle.rt_top.specs.Answers.{Call, IsVerdict, Log, NoFileRose, NoSinkRose, ReadFaultAt, ReadFaultRow, Row, Spoke, Stop, at_place, Judges, Says, IsRead}
+use Rattle.rt_top.specs.Answers.{Call, HasRoom, IsVerdict, SpentRow, YieldsTo, Log, NoFileRose, NoSinkRose, ReadFaultAt, ReadFaultRow, Row, IfText, Said, Spoke, Stop, at_place, Judges, Says, IsRead}
 
 -- ---- from the reading of the files to the rows
 
@@ -27,31 +31,31 @@ is_some o x e = rw e refl
 pub some_and : {T : Type 0} (P : T → Type 0) (o : Option T) (x : T) → o ≡ Some x → P x → IsSomeAnd o P
 some_and {T = X} P o x e p = subst (λ (q : Option X). IsSomeAnd q P) (sym e) p
 
-pub judged-paths : (c : Call) (paths : Paths) → command c.words ≡ Some paths → judged c.words c.files.held ≡ files_judged paths c.files.held
-judged-paths c paths e = ap (paths_judged c.files.held) e
+pub judged-command : (c : Call) (k : Command) → command c.words ≡ Some k → judged c.words c.files.held ≡ input_judged c.files.held k
+judged-command c k e = ap (command_judged c.files.held) e
 
-pub stop_row : (c : Call) (paths : Paths) (o : Outcome) → command c.words ≡ Some paths
-    → Stops c.files paths (files_judged paths c.files.held) (Reaches paths c.files.held) o → Stop c o
-stop_row c paths outcome.Agree e stop = stop
-stop_row c paths (outcome.Witness keep) e stop = stop
-stop_row c paths outcome.Usage e stop = absurd stop
-stop_row c paths (outcome.Refused part fault) e stop = (is_some _ paths e, stop.0, λ t. judged-paths c paths e ∙ stop.1 t)
-stop_row c paths (outcome.Limit (limit.TooLong part)) e stop =
-    (some_and (λ paths. IsLong c.files (file_name paths part)) _ paths e stop.0, λ t. judged-paths c paths e ∙ stop.1 t)
-stop_row c paths (outcome.Limit limit.Rows) e stop = (is_some _ paths e, λ t. judged-paths c paths e ∙ stop t)
-stop_row c paths (outcome.ReadFault part) e stop = some_and (ReadFaultAt c.files part) _ paths e (record { failed = stop.0; reached = stop.1 })
-stop_row c paths outcome.WriteFault e stop = stop
-stop_row c paths outcome.NoMemory e stop = tt
+pub stop_row : (c : Call) (k : Command) (o : Outcome) → command c.words ≡ Some k
+    → Stops c.files (source_of k) (input_judged c.files.held k) (Reaches (source_of k) c.files.held) o → Stop c o
+stop_row c k outcome.Agree e stop = stop
+stop_row c k (outcome.Witness keep) e stop = stop
+stop_row c k outcome.Usage e stop = absurd stop
+stop_row c k (outcome.Refused part fault) e stop = (is_some _ k e, stop.0, λ t. judged-command c k e ∙ stop.1 t)
+stop_row c k (outcome.Spent s) e stop = stop
+stop_row c k (outcome.Limit l) e stop = (some_and (λ k. IsLongFor c.files (source_of k) l) _ k e stop.0, λ t. judged-command c k e ∙ stop.1 t)
+stop_row c k (outcome.ReadFault part) e stop = some_and (ReadFaultAt c.files part) _ k e (record { failed = stop.0; reached = stop.1 })
+stop_row c k outcome.WriteFault e stop = stop
+stop_row c k outcome.NoMemory e stop = tt
 
-pub read_row : (c : Call) (paths : Paths) (input : Accepted) → command c.words ≡ Some paths
-    → (IsTrue c.files.tells → files_judged paths c.files.held ≡ Ok input) → IsRead c input
-read_row c paths input e told = record { command = is_some _ paths e; told = λ t. judged-paths c paths e ∙ told t }
+pub read_row : (c : Call) (k : Command) (input : Accepted) → command c.words ≡ Some k → HasOptions k input
+    → (IsTrue c.files.tells → input_judged c.files.held k ≡ Ok input) → IsRead c input
+read_row c k input e has told = record { options = some_and (λ k. HasOptions k input) _ k e has; told = λ t. judged-command c k e ∙ told t }
 
 -- ---- from the verdict on an input to the rows
 
 pub verdict_row : (c : Call) (input : Accepted) (o : Outcome) (said : List ℕ) → IsRead c input → Judges input o said → Row c o
 verdict_row c input outcome.Agree said read judges = (input, read, judges.0)
 verdict_row c input (outcome.Witness keep) said read judges = (input, read, judges.0)
+verdict_row c input (outcome.Spent s) said read judges = (input, read, judges.0, judges.1)
 verdict_row c input outcome.Usage said read judges = absurd judges
 verdict_row c input (outcome.Refused part fault) said read judges = absurd judges
 verdict_row c input (outcome.Limit limit) said read judges = absurd judges
@@ -60,8 +64,9 @@ verdict_row c input outcome.WriteFault said read judges = judges
 verdict_row c input outcome.NoMemory said read judges = judges
 
 pub verdict_says : (c : Call) (input : Accepted) (o : Outcome) (said : List ℕ) → IsRead c input → Judges input o said → Says c o said
-verdict_says c input outcome.Agree said read judges = judges.1
+verdict_says c input outcome.Agree said read judges = (input, read, judges.0, judges.1)
 verdict_says c input (outcome.Witness keep) said read judges = (input, read, judges.0, judges.1)
+verdict_says c input (outcome.Spent s) said read judges = (input, read, judges.0, judges.1, judges.2)
 verdict_says c input outcome.Usage said read judges = absurd judges
 verdict_says c input (outcome.Refused part fault) said read judges = absurd judges
 verdict_says c input (outcome.Limit limit) said read judges = absurd judges
@@ -72,50 +77,113 @@ verdict_says c input outcome.NoMemory said read judges = absurd judges
 -- ---- completeness
 
 -- a part that is reached is one that the command names
-named_from_reached : (paths : Paths) (held : Holding) (part : Part) → Reaches paths held part → IsNamed paths held part
-named_from_reached paths held Schema reached = tt
-named_from_reached paths held (Table at name) reached = weaker (schema_judged paths held) reached
+named_from_reached : (source : Source) (held : Holding) (part : Part) → Reaches source held part → IsNamed source held part
+named_from_reached source held Schema reached = tt
+named_from_reached source held (Table at name) reached = weaker (schema_judged source held) reached
   where
-    weaker : (r : Result (List TableOf) Outcome) → IsOkAnd r (TableReached paths held at name) → IsOkAnd r (HasTable at name)
+    weaker : (r : Result (List TableOf) Outcome) → IsOkAnd r (TableReached source held at name) → IsOkAnd r (HasTable at name)
     weaker (Ok schema) h = h.0
     weaker (Err e) h = h
-named_from_reached paths held Query1 reached = tt
-named_from_reached paths held Query2 reached = tt
+named_from_reached source held Query1 reached = tt
+named_from_reached source held Query2 reached = tt
+named_from_reached source held Queries reached = reached
 
 -- so its file didn't fail
 no_read_fault : (c : Call) (part : Part) → ReadFaultRow c part → IsTrue c.files.tells → NoFileRose c → ⊥
 no_read_fault c part row tells calm = by_command (command c.words) refl row
   where
-    by_command : (o : Option Paths) → command c.words ≡ o → IsSomeAnd o (ReadFaultAt c.files part) → ⊥
+    by_command : (o : Option Command) → command c.words ≡ o → IsSomeAnd o (ReadFaultAt c.files part) → ⊥
     by_command None is h = h
-    by_command (Some paths) is h = calm paths is part (named_from_reached paths c.files.held part (h.reached tells)) h.failed
+    by_command (Some k) is h = calm k is part (named_from_reached (source_of k) c.files.held part (h.reached tells)) h.failed
 
 -- a refusal isn't accepted
-not_accepted : {T E : Type 0} (r : Result T E) (e : E) → r ≡ Err e → IsOk r → ⊥
-not_accepted r e is ok = cc
+not_accepted : {T E : Type 0} (r : Result T E) (e : E) (x : T) → r ≡ Err e → r ≡ Ok x → ⊥
+not_accepted r e x is ok = cc
 
 no_sink_fault : (out err : Log) (p : Place) → NoSinkRose out err → Rose (at_place p out err).before (at_place p out err).after → ⊥
 no_sink_fault out err at.Out calm rose = calm.out_rose rose
 no_sink_fault out err at.Err calm rose = calm.err_rose rose
 
-row_verdict : (c : Call) (o : Outcome) → Row c o → IsTrue c.files.tells → NoFileRose c → IsOk (judged c.words c.files.held) → IsVerdict o
-row_verdict c outcome.Agree row tells calm ok = tt
-row_verdict c (outcome.Witness keep) row tells calm ok = tt
-row_verdict c outcome.Usage row tells calm ok = not_accepted (judged c.words c.files.held) outcome.Usage (ap (paths_judged c.files.held) row) ok
-row_verdict c (outcome.Refused part fault) row tells calm ok = not_accepted _ _ (row.2 tells) ok
-row_verdict c (outcome.Limit (limit.TooLong part)) row tells calm ok = not_accepted _ _ (row.1 tells) ok
-row_verdict c (outcome.Limit limit.Rows) row tells calm ok = not_accepted _ _ (row.1 tells) ok
-row_verdict c (outcome.ReadFault part) row tells calm ok = no_read_fault c part row tells calm
-row_verdict c outcome.WriteFault row tells calm ok = row
-row_verdict c outcome.NoMemory row tells calm ok = tt
+-- a budget that no search can spend isn't spent
+no_room : (conflicts : Option ℕ) (budget most : ℕ) → conflicts ≡ Some budget → budget < most → ForSome conflicts (λ b. most ≤ b) → ⊥
+no_room None budget most is small room = cc
+no_room (Some b) budget most is small room = let same : b ≡ budget = cc in omega (arith, same, small, room)
 
-pub gets_verdict : (c : Call) (out err : Log) (o : Outcome) (said : List ℕ) (result : Outcome) → Row c o → Spoke out err o said result
-    → IsTrue c.files.tells → NoFileRose c → NoSinkRose out err → IsOk (judged c.words c.files.held) → IsVerdict result
-gets_verdict c out err o said result row spoke tells calm sinks ok = elim spoke.ends [
-  | inl h ↦ subst IsVerdict (sym h.0) (row_verdict c o row tells calm ok)
+not_given_up : (c : Call) (s : Spent) (input : Accepted) → SpentRow c s → IsTrue c.files.tells → judged c.words c.files.held ≡ Ok input → HasRoom input → ⊥
+not_given_up c s input row tells ok room =
+    let other = row.0 in
+    let same : other ≡ input = let e : Ok other ≡ Ok input = sym (row.1.told tells) ∙ ok in cc in
+    let bound : ForSome other.conflicts (λ b. 2 ^ places other.given.tables ≤ b) = subst HasRoom (sym same) room in
+    no_room other.conflicts s.budget (2 ^ places other.given.tables) row.2 row.3.small bound
+
+row_verdict : (c : Call) (o : Outcome) (input : Accepted) → Row c o → IsTrue c.files.tells → NoFileRose c → judged c.words c.files.held ≡ Ok input → HasRoom input → IsVerdict o
+row_verdict c outcome.Agree input row tells calm ok room = tt
+row_verdict c (outcome.Witness keep) input row tells calm ok room = tt
+row_verdict c outcome.Usage input row tells calm ok room = not_accepted (judged c.words c.files.held) outcome.Usage input (ap (command_judged c.files.held) row) ok
+row_verdict c (outcome.Refused part fault) input row tells calm ok room = not_accepted _ _ input (row.2 tells) ok
+row_verdict c (outcome.Spent s) input row tells calm ok room = not_given_up c s input row tells ok room
+row_verdict c (outcome.Limit l) input row tells calm ok room = not_accepted _ _ input (row.1 tells) ok
+row_verdict c (outcome.ReadFault part) input row tells calm ok room = no_read_fault c part row tells calm
+row_verdict c outcome.WriteFault input row tells calm ok room = row
+row_verdict c outcome.NoMemory input row tells calm ok room = tt
+
+pub gets_verdict : (c : Call) (out err : Log) (o : Outcome) (said : List ℕ) (result : Outcome) (input : Accepted) → Row c o → Spoke out err o said result
+    → IsTrue c.files.tells → NoFileRose c → NoSinkRose out err → judged c.words c.files.held ≡ Ok input → HasRoom input → IsVerdict result
+gets_verdict c out err o said result input row spoke tells calm sinks ok room = elim spoke.ends [
+  | inl h ↦ subst IsVerdict (sym h.0) (row_verdict c o input row tells calm ok room)
   | inr h ↦ elim h [
     | inl f ↦ absurd (no_sink_fault out err (place o) sinks f.1)
     | inr m ↦ subst IsVerdict (sym m.0) tt
+  ]
+]
+
+-- ---- refusals
+
+refused_as : {T : Type 0} (r : Result T Outcome) (refusal o : Outcome) → r ≡ Err refusal → r ≡ Err o → refusal ≡ o
+refused_as r refusal o p q = cc
+
+-- the outcome that its row allows, where a refusal stands
+row_yields : (c : Call) (o refusal : Outcome) → Row c o → IsTrue c.files.tells → judged c.words c.files.held ≡ Err refusal → YieldsTo refusal o
+row_yields c outcome.Agree refusal row tells is = not_accepted _ refusal row.0 is (row.1.told tells)
+row_yields c (outcome.Witness keep) refusal row tells is = not_accepted _ refusal row.0 is (row.1.told tells)
+row_yields c outcome.Usage refusal row tells is = refused_as (judged c.words c.files.held) refusal outcome.Usage is (ap (command_judged c.files.held) row)
+row_yields c (outcome.Refused part fault) refusal row tells is = refused_as _ refusal _ is (row.2 tells)
+row_yields c (outcome.Spent s) refusal row tells is = not_accepted _ refusal row.0 is (row.1.told tells)
+row_yields c (outcome.Limit l) refusal row tells is = refused_as _ refusal _ is (row.1 tells)
+row_yields c (outcome.ReadFault part) refusal row tells is = tt
+row_yields c outcome.WriteFault refusal row tells is = tt
+row_yields c outcome.NoMemory refusal row tells is = tt
+
+pub yields : (c : Call) (out err : Log) (o : Outcome) (said : List ℕ) (result refusal : Outcome) → Row c o → Spoke out err o said result
+    → IsTrue c.files.tells → judged c.words c.files.held ≡ Err refusal → YieldsTo refusal result
+yields c out err o said result refusal row spoke tells is = elim spoke.ends [
+  | inl h ↦ subst (YieldsTo refusal) (sym h.0) (row_yields c o refusal row tells is)
+  | inr h ↦ elim h [
+    | inl f ↦ subst (YieldsTo refusal) (sym f.0) tt
+    | inr m ↦ subst (YieldsTo refusal) (sym m.0) tt
+  ]
+]
+
+-- ---- texts
+
+if_text : (o : Outcome) (P : Type 0) → P → IfText o P
+if_text outcome.Agree P p = p
+if_text (outcome.Witness keep) P p = p
+if_text outcome.Usage P p = p
+if_text (outcome.Refused part fault) P p = p
+if_text (outcome.Spent s) P p = p
+if_text (outcome.Limit l) P p = p
+if_text (outcome.ReadFault part) P p = p
+if_text outcome.WriteFault P p = tt
+if_text outcome.NoMemory P p = tt
+
+-- what was spoken to the end was said
+pub said_of : (c : Call) (out err : Log) (o : Outcome) (said : List ℕ) (result : Outcome) → Says c o said → Spoke out err o said result → IfText result (Said c result out err)
+said_of c out err o said result says spoke = elim spoke.ends [
+  | inl h ↦ subst (λ (r : Outcome). IfText r (Said c r out err)) (sym h.0) (if_text o (Said c o out err) (record { whole = (said, says, h.1); kept = spoke.kept }))
+  | inr h ↦ elim h [
+    | inl f ↦ subst (λ (r : Outcome). IfText r (Said c r out err)) (sym f.0) tt
+    | inr m ↦ subst (λ (r : Outcome). IfText r (Said c r out err)) (sym m.0) tt
   ]
 ]
 

@@ -1,21 +1,25 @@
 -- When each outcome of a call comes, and what the call writes.
-use Rattle.std.specs.Prelude.{◌≡◌, ℕ, ◌⊎◌, Bool, IsTrue, List, ◌++◌, Option, None, Some, Ok, Err, IsSome, IsSomeAnd, ⊤}
+use Rattle.std.specs.Option.{ForSome}
+use Rattle.std.specs.Prelude.{◌≡◌, ℕ, ◌≤◌, ◌^◌, ◌⊎◌, Bool, IsTrue, List, ◌++◌, Option, None, Some, Ok, Err, IsSome, IsSomeAnd, ⊤}
 use Rattle.rt_io.specs.Edge.{Rose, AddsPrefix}
 use Rattle.rt_top.specs.declared.part.Part.{Part}
 use Rattle.rt_top.specs.declared.outcome.Fault.{Fault}
 use Rattle.rt_top.specs.declared.outcome.Limit.{Limit}
-use Rattle.rt_top.specs.declared.outcome.Limit.TheVariants as limit
 use Rattle.rt_top.specs.declared.outcome.Outcome.{Outcome}
 use Rattle.rt_top.specs.declared.outcome.Outcome.TheVariants as outcome
 use Rattle.rt_top.specs.declared.place.Place.{Place}
 use Rattle.rt_top.specs.declared.place.Place.TheVariants as at
-use Rattle.rt_top.specs.declared.command.Paths.{Paths}
-use Rattle.rt_top.specs.Accepted.{Accepted}
-use Rattle.rt_top.specs.Command.{command, file_name}
+use Rattle.rt_top.specs.declared.outcome.Spent.{Spent}
+use Rattle.rt_words.specs.Command.{command}
+use Rattle.rt_words.specs.Ranges.{Command}
+use Rattle.rt_top.specs.Accepted.{Accepted, HasOptions}
 use Rattle.rt_top.specs.Judged.{Holding, judged, Reaches, IsNamed}
-use Rattle.rt_top.specs.Smallest.{IsSmallest, Agrees}
-use Rattle.rt_top.specs.Steps.{Seen, seen, Failed, IsLong, is_refusal}
-use Rattle.rt_top.specs.Texts.{place, plain_text, witness_of}
+use Rattle.rt_top.specs.Smallest.{IsSmallest, Agrees, IsGivenUp}
+use Rattle.rt_top.specs.Source.{file_of, source_of}
+use Rattle.rt_top.specs.Faults.{is_refusal, placeless}
+use Rattle.rt_top.specs.Steps.{Seen, seen, Failed, IsLongFor}
+use Rattle.rt_schema.specs.Given.{places}
+use Rattle.rt_top.specs.Texts.{agree_of, place, refusal_text, spent_of, witness_of}
 
 -- ---- when an outcome comes
 
@@ -27,9 +31,10 @@ pub record Call : Type 0 where
 abbrev pub call : List (List ℕ) → Bool → Holding → (List ℕ → ℕ) → (List ℕ → ℕ) → Option (List ℕ) → ℕ → Call
 call words tells held before after current taken = record { words = words; files = seen tells held before after current taken }
 
--- an input that was read in the call: where the files tell their contents, the one that is judged
+-- an input that was read in the call: it has the numbers of the command, and where the files tell
+-- their contents, it is the one that is judged
 pub record IsRead (c : Call) (input : Accepted) : Type 0 where
-  pub command : IsSome (command c.words)
+  pub options : IsSomeAnd (command c.words) (λ k. HasOptions k input)
   pub told : IsTrue c.files.tells → judged c.words c.files.held ≡ Ok input
 
 abbrev pub AgreeRow : Call → Type 0
@@ -38,21 +43,25 @@ AgreeRow c = (input : Accepted) × IsRead c input × Agrees input
 abbrev pub WitnessRow : Call → List Bool → Type 0
 WitnessRow c keep = (input : Accepted) × IsRead c input × IsSmallest input keep
 
+-- the budget of conflicts of the command is spent
+abbrev pub SpentRow : Call → Spent → Type 0
+SpentRow c s = (input : Accepted) × IsRead c input × (input.conflicts ≡ Some s.budget) × IsGivenUp input s.budget s.best s.nogoods
+
 abbrev pub UsageRow : Call → Type 0
 UsageRow c = command c.words ≡ None
 
+-- the place of a syntax fault is left open
 abbrev pub RefusedRow : Call → Part → Fault → Type 0
-RefusedRow c part fault = IsSome (command c.words) × IsTrue (is_refusal fault) × (IsTrue c.files.tells → judged c.words c.files.held ≡ Err (outcome.Refused part fault))
+RefusedRow c part fault = IsSome (command c.words) × IsTrue (is_refusal fault) × (IsTrue c.files.tells → judged c.words c.files.held ≡ Err (outcome.Refused part (placeless fault)))
 
 -- a file is too long where one byte more than it may have was taken
 abbrev pub LimitRow : Call → Limit → Type 0
-LimitRow c (limit.TooLong part) = IsSomeAnd (command c.words) (λ paths. IsLong c.files (file_name paths part)) × (IsTrue c.files.tells → judged c.words c.files.held ≡ Err (outcome.Limit (limit.TooLong part)))
-LimitRow c limit.Rows = IsSome (command c.words) × (IsTrue c.files.tells → judged c.words c.files.held ≡ Err (outcome.Limit limit.Rows))
+LimitRow c limit = IsSomeAnd (command c.words) (λ k. IsLongFor c.files (source_of k) limit) × (IsTrue c.files.tells → judged c.words c.files.held ≡ Err (outcome.Limit limit))
 
 -- the file of this part failed in this call, and nothing before it is refused
-pub record ReadFaultAt (s : Seen) (part : Part) (paths : Paths) : Type 0 where
-  pub failed : Failed s (file_name paths part)
-  pub reached : IsTrue s.tells → Reaches paths s.held part
+pub record ReadFaultAt (s : Seen) (part : Part) (k : Command) : Type 0 where
+  pub failed : Failed s (file_of (source_of k) part)
+  pub reached : IsTrue s.tells → Reaches (source_of k) s.held part
 
 abbrev pub ReadFaultRow : Call → Part → Type 0
 ReadFaultRow c part = IsSomeAnd (command c.words) (ReadFaultAt c.files part)
@@ -62,6 +71,7 @@ abbrev pub Row : Call → Outcome → Type 0
 Row c outcome.Agree = AgreeRow c
 Row c (outcome.Witness keep) = WitnessRow c keep
 Row c outcome.Usage = UsageRow c
+Row c (outcome.Spent s) = SpentRow c s
 Row c (outcome.Refused part fault) = RefusedRow c part fault
 Row c (outcome.Limit limit) = LimitRow c limit
 Row c (outcome.ReadFault part) = ReadFaultRow c part
@@ -73,6 +83,7 @@ abbrev pub Stop : Call → Outcome → Type 0
 Stop c outcome.Agree = ⊥
 Stop c (outcome.Witness keep) = ⊥
 Stop c outcome.Usage = UsageRow c
+Stop c (outcome.Spent s) = ⊥
 Stop c (outcome.Refused part fault) = RefusedRow c part fault
 Stop c (outcome.Limit limit) = LimitRow c limit
 Stop c (outcome.ReadFault part) = ReadFaultRow c part
@@ -88,6 +99,10 @@ IfAgree _ P = ⊤
 abbrev pub IfWitness : Outcome → (List Bool → Type 0) → Type 0
 IfWitness (outcome.Witness keep) P = P keep
 IfWitness _ P = ⊤
+
+abbrev pub IfSpent : Outcome → (Spent → Type 0) → Type 0
+IfSpent (outcome.Spent s) P = P s
+IfSpent _ P = ⊤
 
 abbrev pub IfUsage : Outcome → Type 0 → Type 0
 IfUsage outcome.Usage P = P
@@ -117,10 +132,15 @@ IfNoMemory _ P = ⊤
 
 -- what an answer may be where a refusal stands: that refusal, or a fault
 abbrev pub YieldsTo : Outcome → Outcome → Type 0
-YieldsTo refusal outcome.NoMemory = ⊤
-YieldsTo refusal outcome.WriteFault = ⊤
+YieldsTo refusal outcome.Agree = ⊥
+YieldsTo refusal (outcome.Witness keep) = ⊥
+YieldsTo refusal outcome.Usage = refusal ≡ outcome.Usage
+YieldsTo refusal (outcome.Spent s) = ⊥
+YieldsTo refusal (outcome.Refused part fault) = refusal ≡ outcome.Refused part (placeless fault)
+YieldsTo refusal (outcome.Limit limit) = refusal ≡ outcome.Limit limit
 YieldsTo refusal (outcome.ReadFault part) = ⊤
-YieldsTo refusal o = o ≡ refusal
+YieldsTo refusal outcome.WriteFault = ⊤
+YieldsTo refusal outcome.NoMemory = ⊤
 
 -- the same where no file is read
 abbrev pub YieldsToWrite : Outcome → Outcome → Type 0
@@ -137,15 +157,26 @@ IsVerdict _ = ⊥
 
 -- no count of a file that the command names rose
 abbrev pub NoFileRose : Call → Type 0
-NoFileRose c = (paths : Paths) → command c.words ≡ Some paths → (part : Part) → IsNamed paths c.files.held part
-    → Failed c.files (file_name paths part) → ⊥
+NoFileRose c = (k : Command) → command c.words ≡ Some k → (part : Part) → IsNamed (source_of k) c.files.held part
+    → Failed c.files (file_of (source_of k) part) → ⊥
+
+-- there is no budget of conflicts, or one that no search can spend
+abbrev pub HasRoom : Accepted → Type 0
+HasRoom input = ForSome input.conflicts (λ budget. 2 ^ places input.given.tables ≤ budget)
 
 -- ---- what is written
 
--- the text of an outcome; a witness is printed with the input of which it is the smallest
+-- the work limit of the command
+abbrev pub limit_of : Option Command → ℕ
+limit_of None = 0
+limit_of (Some k) = k.work_limit
+
+-- the text of an outcome; a verdict is printed with the input of which it is one
 abbrev pub Says : Call → Outcome → List ℕ → Type 0
+Says c outcome.Agree said = (input : Accepted) × IsRead c input × Agrees input × (said ≡ agree_of input)
 Says c (outcome.Witness keep) said = (input : Accepted) × IsRead c input × IsSmallest input keep × (said ≡ witness_of input keep)
-Says c o said = said ≡ plain_text o
+Says c (outcome.Spent s) said = (input : Accepted) × IsRead c input × (input.conflicts ≡ Some s.budget) × IsGivenUp input s.budget s.best s.nogoods × (said ≡ spent_of input s)
+Says c o said = said ≡ refusal_text (limit_of (command c.words)) o
 
 -- one sink over a call: whether it tells its bytes, these, and its count, before and after
 pub record Log : Type 0 where
@@ -224,6 +255,7 @@ pub record NoSinkRose (out err : Log) : Type 0 where
 
 -- what is said of an accepted input
 abbrev pub Judges : Accepted → Outcome → List ℕ → Type 0
-Judges input outcome.Agree said = Agrees input × (said ≡ plain_text outcome.Agree)
+Judges input outcome.Agree said = Agrees input × (said ≡ agree_of input)
 Judges input (outcome.Witness keep) said = IsSmallest input keep × (said ≡ witness_of input keep)
+Judges input (outcome.Spent s) said = (input.conflicts ≡ Some s.budget) × IsGivenUp input s.budget s.best s.nogoods × (said ≡ spent_of input s)
 Judges input _ said = ⊥

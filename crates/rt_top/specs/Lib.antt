@@ -1,11 +1,8 @@
 pub mod Accepted
 pub mod Answers
-pub mod Command
-pub mod Form
+pub mod Faults
 pub mod Judged
-pub mod QueryForm
-pub mod SchemaForm
-pub mod Search
 pub mod Smallest
+pub mod Source
 pub mod Steps
 pub mod Texts

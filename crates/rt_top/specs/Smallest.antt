@@ -1,6 +1,6 @@
 -- Counterexamples, and the smallest of them (Miao, Roy and Yang, SIGMOD 2019): lawful
 -- sub-instances at which the answers of two queries differ.
-use Rattle.std.specs.Prelude.{◌≡◌, ◌≤◌, Bool, true, false, not, ◌&&◌, List, [], ◌∷◌, length}
+use Rattle.std.specs.Prelude.{◌≡◌, ℕ, ◌≤◌, ◌<◌, ◌^◌, Bool, true, false, not, ◌&&◌, List, length, Option, IfSome, IsSomeAnd}
 use Rattle.rt_value.specs.Keep.{size}
 use Rattle.rt_schema.specs.Given.{Rows, places}
 use Rattle.rt_schema.specs.Kept.{kept}
@@ -8,8 +8,10 @@ use Rattle.rt_schema.specs.Law.{lawful}
 use Rattle.rt_algebra.specs.Answer.{plain, same_rows}
 use Rattle.rt_algebra.specs.declared.typed.Typed.{Typed}
 use Rattle.rt_top.specs.Accepted.{Accepted}
-use Rattle.rt_top.specs.declared.best.Best.{Best}
-use Rattle.rt_top.specs.declared.best.Best.TheVariants.{Least, Never}
+use Rattle.rt_clause.specs.Literal.{Literal}
+use Rattle.rt_search.specs.Nogoods.{IsSpentBy}
+use Rattle.rt_search.specs.declared.best.Best.{Best}
+use Rattle.rt_search.specs.declared.best.Best.TheVariants.{Least, Never, Spent}
 
 -- a choice has one Bool a place
 abbrev pub IsChoice : Accepted → List Bool → Type 0
@@ -31,29 +33,28 @@ differ_at input keep = not (same_rows (answer_at input input.left keep) (answer_
 unfoldable pub counters : Accepted → List Bool → Bool
 counters input keep = lawful_at input keep && differ_at input keep
 
--- of two choices the one that keeps the row at the first place at which they differ comes first
-abbrev pub before : List Bool → List Bool → Bool
-before [] t = false
-before (a ∷ s) [] = false
-before (true ∷ s) (true ∷ t) = before s t
-before (true ∷ s) (false ∷ t) = true
-before (false ∷ s) (true ∷ t) = false
-before (false ∷ s) (false ∷ t) = before s t
+-- a choice at which the kept rows are a counterexample
+abbrev pub IsCounter : Accepted → List Bool → Type 0
+IsCounter input keep = IsChoice input keep × (counters input keep ≡ true)
 
--- `s` keeps no more rows than `t`, and where it keeps as many, `t` doesn't come before it
-abbrev pub IsAhead : List Bool → List Bool → Type 0
-IsAhead s t = (size s ≤ size t) × (size s ≡ size t → before t s ≡ false)
-
--- a counterexample that is ahead of every other
+-- a counterexample, and no other keeps fewer rows
 pub record IsSmallest (input : Accepted) (keep : List Bool) : Type 0 where
-  pub choice : IsChoice input keep
-  pub counter : counters input keep ≡ true
-  pub smallest : (t : List Bool) → IsChoice input t → counters input t ≡ true → IsAhead keep t
+  pub counter : IsCounter input keep
+  pub smallest : (t : List Bool) → IsCounter input t → size keep ≤ size t
 
 -- there is no counterexample
 abbrev pub Agrees : Accepted → Type 0
 Agrees input = (t : List Bool) → IsChoice input t → counters input t ≡ false
 
+-- the search was given up: the budget is below the number of choices; the best choice so far is a
+-- counterexample, where there is one; and as many clauses as the budget says are true at each better
+-- counterexample
+pub record IsGivenUp (input : Accepted) (budget : ℕ) (best : Option (List Bool)) (nogoods : List (List Literal)) : Type 0 where
+  pub small : budget < 2 ^ places input.given.tables
+  pub best_is : IfSome best (IsCounter input)
+  pub spent : IsSpentBy (places input.given.tables) (IsCounter input) best budget nogoods
+
 abbrev pub IsVerdict : Accepted → Best → Type 0
 IsVerdict input (Least keep) = IsSmallest input keep
 IsVerdict input Never = Agrees input
+IsVerdict input (Spent s) = IsSomeAnd input.conflicts (λ budget. IsGivenUp input budget s.best s.nogoods)

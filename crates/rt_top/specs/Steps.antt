@@ -1,16 +1,15 @@
 -- What stops the reading of a command's files.
-use Rattle.std.specs.Prelude.{◌≡◌, ℕ, ◌+◌, Bool, true, false, IsTrue, List, Option, Some, Result, Err, ⊤}
+use Rattle.std.specs.Prelude.{◌≡◌, ℕ, ◌+◌, Bool, true, false, IsTrue, List, Option, None, Some, Result, Err, ⊤}
 use Rattle.rt_io.specs.Edge.{Rose}
-use Rattle.rt_load.specs.declared.fault.LoadFault.TheVariants as load
 use Rattle.rt_top.specs.declared.part.Part.{Part}
-use Rattle.rt_top.specs.declared.outcome.Fault.{Fault}
-use Rattle.rt_top.specs.declared.outcome.Fault.TheVariants.{Form, Load}
+use Rattle.rt_top.specs.declared.outcome.Limit.{Limit}
 use Rattle.rt_top.specs.declared.outcome.Limit.TheVariants as limit
 use Rattle.rt_top.specs.declared.outcome.Outcome.{Outcome}
 use Rattle.rt_top.specs.declared.outcome.Outcome.TheVariants as outcome
-use Rattle.rt_top.specs.declared.command.Paths.{Paths}
-use Rattle.rt_top.specs.Command.{file_name}
+use Rattle.rt_top.specs.declared.source.Source.{Source}
+use Rattle.rt_top.specs.Faults.{is_refusal, placeless}
 use Rattle.rt_top.specs.Judged.{Holding, most_bytes}
+use Rattle.rt_top.specs.Source.{file_of}
 
 -- what is known of the files over a call: whether they tell their contents, these, the counts of
 -- faults before and after, and afterwards the current name and how many of its bytes were taken
@@ -26,30 +25,54 @@ abbrev pub seen : Bool → Holding → (List ℕ → ℕ) → (List ℕ → ℕ)
 seen tells held before after current taken = record { tells = tells; held = held; before = before; after = after; current = current; taken = taken }
 
 -- the count of this name rose
-abbrev pub Failed : Seen → List ℕ → Type 0
-Failed s name = Rose (s.before name) (s.after name)
+abbrev pub Failed : Seen → Option (List ℕ) → Type 0
+Failed s None = ⊥
+Failed s (Some name) = Rose (s.before name) (s.after name)
 
 -- one byte more than a file may have was taken of this name
-pub record IsLong (s : Seen) (name : List ℕ) : Type 0 where
-  pub current : s.current ≡ Some name
-  pub taken : s.taken ≡ most_bytes + 1
+abbrev pub IsLong : Seen → Option (List ℕ) → Type 0
+IsLong s None = ⊥
+IsLong s (Some name) = (s.current ≡ Some name) × (s.taken ≡ most_bytes + 1)
 
--- what a refusal may hold: want of memory and too many rows are outcomes of their own
-abbrev pub is_refusal : Fault → Bool
-is_refusal Form = true
-is_refusal (Load load.NoMemory) = false
-is_refusal (Load load.TooManyRows) = false
-is_refusal (Load _) = true
+-- what has to be where a limit is passed: a file that is too long was read so far
+abbrev pub IsLongFor : Seen → Source → Limit → Type 0
+IsLongFor s source (limit.TooLong part) = IsLong s (file_of source part)
+IsLongFor s source limit.Tables = ⊤
+IsLongFor s source (limit.Columns table) = ⊤
+IsLongFor s source (limit.Rules table) = ⊤
+IsLongFor s source limit.Rows = ⊤
+IsLongFor s source (limit.Work work) = ⊤
+
+-- a limit other than the length of a file
+abbrev pub of_contents : Limit → Bool
+of_contents (limit.TooLong part) = false
+of_contents limit.Tables = true
+of_contents (limit.Columns table) = true
+of_contents (limit.Rules table) = true
+of_contents limit.Rows = true
+of_contents (limit.Work work) = true
+
+-- what stops a step that reads no file: the refusal that is judged, or want of memory
+abbrev pub Refuses : {T : Type 0} → Result T Outcome → Outcome → Type 0
+Refuses judged outcome.Agree = ⊥
+Refuses judged (outcome.Witness keep) = ⊥
+Refuses judged outcome.Usage = ⊥
+Refuses judged (outcome.Refused part fault) = IsTrue (is_refusal fault) × (judged ≡ Err (outcome.Refused part (placeless fault)))
+Refuses judged (outcome.Limit limit) = IsTrue (of_contents limit) × (judged ≡ Err (outcome.Limit limit))
+Refuses judged (outcome.Spent s) = ⊥
+Refuses judged (outcome.ReadFault part) = ⊥
+Refuses judged outcome.WriteFault = ⊥
+Refuses judged outcome.NoMemory = ⊤
 
 -- a fault of reading comes only where the count of the part's file rose, and a refusal is the one
 -- that is judged; `Reached` is how far the reading came
-abbrev pub Stops : {T : Type 0} → Seen → Paths → Result T Outcome → (Part → Type 0) → Outcome → Type 0
-Stops s paths judged Reached outcome.Agree = ⊥
-Stops s paths judged Reached (outcome.Witness keep) = ⊥
-Stops s paths judged Reached outcome.Usage = ⊥
-Stops s paths judged Reached (outcome.Refused part fault) = IsTrue (is_refusal fault) × (IsTrue s.tells → judged ≡ Err (outcome.Refused part fault))
-Stops s paths judged Reached (outcome.Limit (limit.TooLong part)) = IsLong s (file_name paths part) × (IsTrue s.tells → judged ≡ Err (outcome.Limit (limit.TooLong part)))
-Stops s paths judged Reached (outcome.Limit limit.Rows) = IsTrue s.tells → judged ≡ Err (outcome.Limit limit.Rows)
-Stops s paths judged Reached (outcome.ReadFault part) = Failed s (file_name paths part) × (IsTrue s.tells → Reached part)
-Stops s paths judged Reached outcome.WriteFault = ⊥
-Stops s paths judged Reached outcome.NoMemory = ⊤
+abbrev pub Stops : {T : Type 0} → Seen → Source → Result T Outcome → (Part → Type 0) → Outcome → Type 0
+Stops s source judged Reached outcome.Agree = ⊥
+Stops s source judged Reached (outcome.Witness keep) = ⊥
+Stops s source judged Reached outcome.Usage = ⊥
+Stops s source judged Reached (outcome.Refused part fault) = IsTrue (is_refusal fault) × (IsTrue s.tells → judged ≡ Err (outcome.Refused part (placeless fault)))
+Stops s source judged Reached (outcome.Spent spent) = ⊥
+Stops s source judged Reached (outcome.Limit limit) = IsLongFor s source limit × (IsTrue s.tells → judged ≡ Err (outcome.Limit limit))
+Stops s source judged Reached (outcome.ReadFault part) = Failed s (file_of source part) × (IsTrue s.tells → Reached part)
+Stops s source judged Reached outcome.WriteFault = ⊥
+Stops s source judged Reached outcome.NoMemory = ⊤

@@ -1,16 +1,29 @@
 -- The text of each outcome, the sink that it belongs to, and the status of the program.
-use Rattle.std.specs.Prelude.{ℕ, Bool, List, [], ◌++◌, codes, decimal}
+use Rattle.std.specs.Prelude.{ℕ, Bool, List, [], ◌++◌, Option, None, Some, codes, decimal}
 use Rattle.rt_eval.specs.Distinct.{distinct}
-use Rattle.rt_print.specs.Texts.{witness_text}
+use Rattle.rt_print.specs.Summary.{made_text}
+use Rattle.rt_print.specs.Texts.{spent_text, witness_text}
+use Rattle.rt_print.specs.declared.verdict.MadeVerdict.TheVariants as made
+use Rattle.rt_value.specs.Keep.{size}
 use Rattle.rt_top.specs.Accepted.{Accepted}
 use Rattle.rt_top.specs.Smallest.{answer_at}
+use Rattle.rt_ddl.specs.declared.fault.SchemaFault.{SchemaFault}
+use Rattle.rt_ddl.specs.declared.fault.SchemaFault.TheVariants as schema
+use Rattle.rt_load.specs.declared.fault.LoadFault.{LoadFault}
 use Rattle.rt_load.specs.declared.fault.LoadFault.TheVariants as load
+use Rattle.rt_scope.specs.declared.fault.NameFault.{NameFault}
+use Rattle.rt_scope.specs.declared.fault.NameFault.TheVariants as name
+use Rattle.rt_sql.specs.declared.fault.SqlFault.{SqlFault}
+use Rattle.rt_sql.specs.declared.fault.SqlFault.TheVariants as sql
+use Rattle.rt_token.specs.declared.fault.LexFault.{LexFault}
+use Rattle.rt_token.specs.declared.fault.LexFault.TheVariants as lex
 use Rattle.rt_top.specs.declared.part.Part.{Part}
-use Rattle.rt_top.specs.declared.part.Part.TheVariants.{Schema, Table, Query1, Query2}
+use Rattle.rt_top.specs.declared.part.Part.TheVariants.{Schema, Table, Query1, Query2, Queries}
 use Rattle.rt_top.specs.declared.outcome.Fault.{Fault}
-use Rattle.rt_top.specs.declared.outcome.Fault.TheVariants.{Form, Load}
+use Rattle.rt_top.specs.declared.outcome.Fault.TheVariants as fault
 use Rattle.rt_top.specs.declared.outcome.Limit.{Limit}
-use Rattle.rt_top.specs.declared.outcome.Limit.TheVariants.{TooLong, Rows}
+use Rattle.rt_top.specs.declared.outcome.Spent.{Spent}
+use Rattle.rt_top.specs.declared.outcome.Limit.TheVariants.{TooLong, Tables, Columns, Rules, Rows, Work}
 use Rattle.rt_top.specs.declared.outcome.Outcome.{Outcome}
 use Rattle.rt_top.specs.declared.outcome.Outcome.TheVariants as outcome
 use Rattle.rt_top.specs.declared.place.Place.{Place}
@@ -21,37 +34,87 @@ part_text Schema = codes "schema"
 part_text (Table at name) = codes "table " ++ name
 part_text Query1 = codes "query 1"
 part_text Query2 = codes "query 2"
+part_text Queries = codes "queries"
+
+abbrev pub lex_text : LexFault → List ℕ
+lex_text (lex.NotUtf8 at) = codes "not UTF-8 at byte " ++ decimal at
+lex_text (lex.BadByte at) = codes "unexpected byte at " ++ decimal at
+lex_text (lex.OpenText at) = codes "text without end from byte " ++ decimal at
+lex_text (lex.OpenComment at) = codes "comment without end from byte " ++ decimal at
+lex_text (lex.BigNumber at) = codes "number past 128 bits at byte " ++ decimal at
+lex_text lex.NoMemory = []
+
+abbrev pub syntax_text : ℕ → List ℕ
+syntax_text at = codes "syntax fault near byte " ++ decimal at
+
+abbrev pub schema_text : SchemaFault → List ℕ
+schema_text (schema.Lex fault) = lex_text fault
+schema_text (schema.Syntax at) = syntax_text at
+schema_text (schema.DuplicateName name) = codes "name twice: " ++ name
+schema_text (schema.UnknownName name) = codes "unknown name: " ++ name
+schema_text (schema.KeyTypes table) = codes "foreign key of " ++ (table ++ codes " does not match")
+schema_text (schema.TooMany excess) = []
+schema_text schema.NoMemory = []
+
+abbrev pub load_text : LoadFault → List ℕ
+load_text load.BadHeader = codes "header differs from the schema"
+load_text (load.FieldCount r) = codes "record " ++ (decimal r ++ codes " has another number of fields")
+load_text load.TooManyRows = []
+load_text (load.BadInteger r c) = codes "record " ++ (decimal r ++ (codes ", column " ++ (decimal c ++ codes ": not an integer")))
+load_text (load.BadText r c) = codes "record " ++ (decimal r ++ (codes ", column " ++ (decimal c ++ codes ": not UTF-8")))
+load_text load.NoMemory = []
+
+abbrev pub sql_text : SqlFault → List ℕ
+sql_text (sql.Unsupported word at) = codes "not supported: " ++ word
+sql_text sql.TooDeep = codes "nested too deep"
+sql_text (sql.Syntax at) = syntax_text at
+sql_text sql.NoMemory = []
+
+abbrev pub name_text : NameFault → List ℕ
+name_text (name.UnknownTable n) = codes "unknown table: " ++ n
+name_text (name.UnknownColumn n) = codes "unknown column: " ++ n
+name_text (name.Ambiguous n) = codes "ambiguous column: " ++ n
+name_text (name.DuplicateAlias n) = codes "alias twice: " ++ n
+name_text name.TypeMismatch = codes "types do not match"
+name_text name.Columns = codes "numbers of columns differ"
+name_text name.ArithWidth = codes "arithmetic past 128 bits"
+name_text name.NoMemory = []
 
 abbrev pub fault_text : Fault → List ℕ
-fault_text Form = codes "not built yet"
-fault_text (Load load.BadHeader) = codes "header differs from the schema"
-fault_text (Load (load.FieldCount r)) = codes "record " ++ (decimal r ++ codes " has another number of fields")
-fault_text (Load load.TooManyRows) = []
-fault_text (Load (load.BadInteger r c)) = codes "record " ++ (decimal r ++ (codes ", column " ++ (decimal c ++ codes ": not an integer")))
-fault_text (Load (load.BadText r c)) = codes "record " ++ (decimal r ++ (codes ", column " ++ (decimal c ++ codes ": not UTF-8")))
-fault_text (Load load.NoMemory) = []
+fault_text (fault.Lex f) = lex_text f
+fault_text (fault.Schema f) = schema_text f
+fault_text (fault.Load f) = load_text f
+fault_text (fault.Sql f) = sql_text f
+fault_text (fault.Name f) = name_text f
 
-abbrev pub limit_text : Limit → List ℕ
-limit_text (TooLong part) = part_text part ++ codes " is longer than 4194304 bytes"
-limit_text Rows = codes "more than 16 rows"
+-- `most` is the work limit in force
+abbrev pub limit_text : ℕ → Limit → List ℕ
+limit_text most (TooLong part) = part_text part ++ codes " is longer than 4194304 bytes"
+limit_text most Tables = codes "more than 64 tables"
+limit_text most (Columns table) = codes "table " ++ (table ++ codes " has more than 64 columns")
+limit_text most (Rules table) = codes "table " ++ (table ++ codes " has more than 64 rules")
+limit_text most Rows = codes "more than 2000 rows"
+limit_text most (Work work) = codes "work " ++ (decimal work ++ (codes " is above " ++ decimal most))
 
--- the text of an outcome; that of a witness stands below, and a fault of writing and want of
--- memory have none
-abbrev pub plain_text : Outcome → List ℕ
-plain_text outcome.Agree = codes "agree\n"
-plain_text (outcome.Witness keep) = []
-plain_text outcome.Usage = codes "usage: ratest SCHEMA DATADIR QUERY1 QUERY2\n"
-plain_text (outcome.Refused part fault) = codes "ratest: " ++ (part_text part ++ (codes ": " ++ (fault_text fault ++ codes "\n")))
-plain_text (outcome.Limit limit) = codes "ratest: limit: " ++ (limit_text limit ++ codes "\n")
-plain_text (outcome.ReadFault part) = codes "ratest: cannot read " ++ (part_text part ++ codes "\n")
-plain_text outcome.WriteFault = []
-plain_text outcome.NoMemory = []
+-- the text of an outcome that is no verdict; a fault of writing and want of memory have none
+abbrev pub refusal_text : ℕ → Outcome → List ℕ
+refusal_text most outcome.Agree = []
+refusal_text most (outcome.Witness keep) = []
+refusal_text most outcome.Usage =
+    codes "usage: ratest SCHEMA DATADIR QUERY1 QUERY2 [--conflicts N] [--work N]\n       ratest made N [--conflicts N] [--work N]\n"
+refusal_text most (outcome.Refused part fault) = codes "ratest: " ++ (part_text part ++ (codes ": " ++ (fault_text fault ++ codes "\n")))
+refusal_text most (outcome.Spent s) = []
+refusal_text most (outcome.Limit limit) = codes "ratest: limit: " ++ (limit_text most limit ++ codes "\n")
+refusal_text most (outcome.ReadFault part) = codes "ratest: cannot read " ++ (part_text part ++ codes "\n")
+refusal_text most outcome.WriteFault = []
+refusal_text most outcome.NoMemory = []
 
 -- verdicts belong to the first sink, all other texts to the second
 abbrev pub place : Outcome → Place
 place outcome.Agree = at.Out
 place (outcome.Witness keep) = at.Out
 place outcome.Usage = at.Err
+place (outcome.Spent s) = at.Out
 place (outcome.Refused part fault) = at.Err
 place (outcome.Limit limit) = at.Err
 place (outcome.ReadFault part) = at.Err
@@ -63,12 +126,36 @@ status_of outcome.Agree = 0
 status_of (outcome.Witness keep) = 1
 status_of outcome.Usage = 2
 status_of (outcome.Refused part fault) = 3
+status_of (outcome.Spent s) = 4
 status_of (outcome.Limit limit) = 5
 status_of (outcome.ReadFault part) = 6
 status_of outcome.WriteFault = 6
 status_of outcome.NoMemory = 7
 
--- the text of a witness: the kept rows, and the answers of the two queries on them as sets
-abbrev pub witness_of : Accepted → List Bool → List ℕ
-witness_of input keep = witness_text input.schema input.given.tables keep
+-- ---- verdicts; over a generated input a summary stands in their place
+
+abbrev pub agree_text : Option ℕ → List ℕ
+agree_text None = codes "agree\n"
+agree_text (Some n) = made_text n made.Agree
+
+abbrev pub agree_of : Accepted → List ℕ
+agree_of input = agree_text input.made
+
+-- the kept rows, and the answers of the two queries on them as sets
+abbrev pub rows_text : Accepted → List Bool → List ℕ
+rows_text input keep = witness_text input.schema input.given.tables keep
     (distinct (answer_at input input.left keep)) (distinct (answer_at input input.right keep))
+
+abbrev pub size_text : Option ℕ → List Bool → List ℕ → List ℕ
+size_text None keep text = text
+size_text (Some n) keep text = made_text n (made.Size (size keep))
+
+abbrev pub witness_of : Accepted → List Bool → List ℕ
+witness_of input keep = size_text input.made keep (rows_text input keep)
+
+abbrev pub budget_text : Option ℕ → ℕ → List ℕ → List ℕ
+budget_text None budget text = text
+budget_text (Some n) budget text = made_text n (made.Undecided budget)
+
+abbrev pub spent_of : Accepted → Spent → List ℕ
+spent_of input s = budget_text input.made s.budget (spent_text input.schema input.given.tables s.budget s.best)

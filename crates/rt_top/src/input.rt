@@ -5,14 +5,17 @@ use rt_algebra::Typed;
 use rt_schema::{Given, Schema};
 use std::marker::Model;
 
-/// An accepted input: a schema, the rows given for it, and two queries over it whose columns have
-/// the same kinds.
+/// An accepted input: a schema, the rows given for it, two queries over it whose columns have the
+/// same kinds, and the numbers of the command.
 #[derive(Drop)]
 pub struct Input {
-    schema: Schema,
-    given: Given,
-    left: Typed,
-    right: Typed,
+    pub(crate) schema: Schema,
+    pub(crate) given: Given,
+    pub(crate) left: Typed,
+    pub(crate) right: Typed,
+    pub(crate) conflicts: Option<u64>,
+    pub(crate) work_limit: u64,
+    pub(crate) made: Option<u64>,
 }
 
 impl Model for Input {
@@ -24,24 +27,12 @@ impl Model for Input {
 
     ghost coded = { Prim.hlevel (codes, query.the_row.coded) };
 
-    ghost view = { λ i. record { schema = i.schema; given = i.given; left = i.left; right = i.right } };
+    ghost view = { λ i. record { schema = i.schema; given = i.given; left = i.left; right = i.right; conflicts = i.conflicts; work_limit = i.work_limit; made = i.made } };
 
-    ghost invariant = { λ i. IsAccepted (record { schema = i.schema; given = i.given; left = i.left; right = i.right }) };
+    ghost invariant = { λ i. IsAccepted (record { schema = i.schema; given = i.given; left = i.left; right = i.right; conflicts = i.conflicts; work_limit = i.work_limit; made = i.made }) };
 }
 
 impl Input {
-    pub fn new(schema: Schema, given: Given, left: Typed, right: Typed) -> Input
-        requires { IsAccepted (record { schema = schema; given = given; left = left; right = right }) }
-        ensures { result ≡ record { schema = schema; given = given; left = left; right = right } }
-    {
-        Input {
-            schema,
-            given,
-            left,
-            right,
-        }
-    }
-
     pub fn schema(&self) -> &Schema
         ensures same { result.now ≡ self.now.schema }
         ensures sound { IsAccepted self.now }
@@ -65,5 +56,26 @@ impl Input {
         ensures { result.now ≡ self.now.right }
     {
         &self.right
+    }
+
+    /// The budget of conflicts for each round of the search, if there is one.
+    pub fn conflicts(&self) -> Option<u64>
+        ensures { result ≡ self.now.conflicts }
+    {
+        self.conflicts
+    }
+
+    /// The most work that the input may be.
+    pub fn work_limit(&self) -> u64
+        ensures { result ≡ self.now.work_limit }
+    {
+        self.work_limit
+    }
+
+    /// The number of students of a generated input.
+    pub fn made(&self) -> Option<u64>
+        ensures { result ≡ self.now.made }
+    {
+        self.made
     }
 }

@@ -1,27 +1,26 @@
-//! The whole of a command: its words, its files, its verdict and its text.
+//! The whole of a command: its words, its texts, its verdict and what it says.
 #![tactic(auto)]
 
-mod best;
-mod command;
-mod form;
+mod decision;
+mod faults;
 mod input;
 mod outcome;
 mod part;
 mod place;
-mod query_form;
+mod query;
 mod read;
 mod say;
-mod schema_form;
+mod source;
 #[cfg(test)]
 mod tests;
 mod top;
-mod trial;
+mod verdict;
 
-pub use best::Best;
+pub use decision::decide;
 pub use input::Input;
-pub use outcome::{Fault, Limit, Outcome};
+pub use outcome::{Fault, Limit, Outcome, Spent};
 pub use part::Part;
 pub use read::read_input;
+pub use rt_search::{Best, SpentBest};
 pub use say::USAGE;
 pub use top::ratest;
-pub use trial::decide;

@@ -16,7 +16,7 @@ impl Outcome {
         ensures { result ≡ place self.now }
     {
         match self {
-            Outcome::Agree | Outcome::Witness(_) => Place::Out,
+            Outcome::Agree | Outcome::Witness(_) | Outcome::Spent(_) => Place::Out,
             _ => Place::Err,
         }
     }

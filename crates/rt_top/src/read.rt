@@ -1,46 +1,48 @@
-//! The reading of a command's files.
+//! The reading of a command's texts.
 ghost use Rattle.std.specs.Prelude.{◌≡◌, ◌≤◌, ◌<◌, ℕ, IsTrue, IfOk, IfErr, OnOk, Ok, Some, length, slice_get, slice_set};
-ghost use lib.Pointwise.{pointwise};
-ghost use Rattle.rt_schema.specs.Schema.{kind_eq};
-ghost use Rattle.rt_top.specs.Command.{query_part};
 ghost use Rattle.rt_io.specs.Edge.{NoneFell};
 ghost use Rattle.rt_schema.specs.Given.{IsOf, places, rows_at};
 ghost use Rattle.rt_load.specs.Loaded.{row_limit};
 ghost use Rattle.rt_algebra.specs.Typed.{IsTypedOf};
-ghost use Rattle.rt_top.specs.Command.{command, file_name};
-ghost use Rattle.rt_top.specs.Judged.{text_read, without_mark, schema_judged, load_outcome, table_judged, tables_judged, query_judged, right_judged, data_judged, files_judged, no_rows, IsTableReached, Reaches};
-ghost use Rattle.rt_top.specs.Steps.{seen, Stops};
+ghost use Rattle.rt_words.specs.Command.{command};
+ghost use Rattle.rt_top.specs.Source.{file_name, query_part, source_of};
+ghost use Rattle.rt_top.specs.Judged.{text_read, file_text, text_of, without_mark, schema_of, schema_judged, table_judged, tables_judged, query_judged, right_judged, data_judged, input_judged, no_rows, total_work, within_limit, IsTableReached, Reaches};
+ghost use Rattle.rt_top.specs.Steps.{Refuses, seen, Stops};
 ghost use Rattle.rt_top.specs.Answers.{call, IsRead, Stop};
 ghost use Rattle.rt_top.specs.declared.part.Part.TheVariants as parts;
+ghost use Rattle.rt_top.specs.declared.source.Source.TheVariants as sources;
+ghost use Rattle.rt_top.specs.Accepted.{HasOptions};
 
-use crate::command::{Paths, command};
+use crate::faults::{load_outcome, schema_outcome};
 use crate::input::Input;
-use crate::outcome::{Fault, Limit, Outcome};
+use crate::outcome::{Limit, Outcome};
 use crate::part::{Part, QueryPart};
-use crate::query_form::query_form;
-use crate::schema_form::schema_form;
-use rt_algebra::Typed;
+use crate::query::{like_left, query_of};
+use crate::source::{Paths, Source, made_part};
+use rt_algebra::{Typed, work};
+use rt_ddl::read_schema;
 use rt_io::{Files, ReadFail, read_file};
-use rt_load::{LoadFault, load};
-use rt_schema::{ColKind, Given, Schema, Table};
+use rt_load::load;
+use rt_schema::{Given, Schema, Table, capped_add, law_work};
 use rt_value::{Bytes, List, NoMemory, Txt};
+use rt_words::{WordFault, Words, read_words};
 use std::alloc::Global;
 
 /// The most bytes of a file.
 const MOST_BYTES: usize = 4_194_304;
 
-/// The text of a part's file, without a byte order mark at its start.
-fn read_text<F: Files>(
+/// The text of the file of a part, without a byte order mark at its start.
+fn named_text<F: Files>(
     alloc: Global,
     files: &mut F,
     paths: &Paths,
     part: Part,
     name: &str,
 ) -> Result<Bytes, Outcome>
-    requires { name.now ≡ file_name paths.now part }
+    requires { file_name paths.now part ≡ Some name.now }
     ensures ok { IfOk result (λ text. IsTrue F.tells → text_read part (F.held files.old name.now) ≡ Ok text) }
     ensures err { IfErr result (Stops (seen F.tells (F.held files.old) (F.faults files.old) (F.faults files.new) (F.current files.new) (F.taken files.new))
-        paths.now (text_read part (F.held files.old name.now)) (λ p. p ≡ part)) }
+        (sources.Files paths.now) (text_read part (F.held files.old name.now)) (λ p. p ≡ part)) }
     ensures held { F.held files.new ≡ F.held files.old }
     ensures rises { NoneFell (F.faults files.old) (F.faults files.new) }
 {
@@ -61,48 +63,71 @@ fn without_mark(alloc: Global, bytes: Bytes) -> Result<Bytes, NoMemory>
     }
 }
 
-/// The schema.
-fn read_schema<F: Files>(alloc: Global, files: &mut F, paths: &Paths) -> Result<Schema, Outcome>
-    ensures ok { IfOk result (λ schema. IsTrue F.tells → schema_judged paths.now (F.held files.old) ≡ Ok schema) }
+fn file_text<F: Files>(
+    alloc: Global,
+    files: &mut F,
+    paths: &Paths,
+    part: Part,
+) -> Result<Bytes, Outcome>
+    ensures ok { IfOk result (λ text. IsTrue F.tells → file_text part (F.held files.old) (file_name paths.now part) ≡ Ok text) }
     ensures err { IfErr result (Stops (seen F.tells (F.held files.old) (F.faults files.old) (F.faults files.new) (F.current files.new) (F.taken files.new))
-        paths.now (schema_judged paths.now (F.held files.old)) (λ p. p ≡ parts.Schema)) }
+        (sources.Files paths.now) (file_text part (F.held files.old) (file_name paths.now part)) (λ p. p ≡ part)) }
     ensures held { F.held files.new ≡ F.held files.old }
     ensures rises { NoneFell (F.faults files.old) (F.faults files.new) }
 {
-    let text = read_text(alloc, files, paths, Part::Schema, paths.schema.as_str())?;
-    match schema_form(alloc, text.as_slice())? {
-        Some(schema) => Ok(schema),
-        None => Err(Outcome::Refused(Part::Schema, Fault::Form)),
+    match paths.file(alloc, &part)? {
+        Some(name) => named_text(alloc, files, paths, part, name.as_str()),
+        None => Ok(List::new(alloc)),
     }
 }
 
-/// The path of a table's file.
-fn table_path(alloc: Global, paths: &Paths, at: usize, name: &Txt) -> Result<Txt, NoMemory>
-    ensures { IfOk result (λ path. path ≡ file_name paths.now (parts.Table at name.now)) }
+/// The text of a part: that of its file, or the generated one.
+fn read_text<F: Files>(
+    alloc: Global,
+    files: &mut F,
+    source: &Source,
+    part: Part,
+) -> Result<Bytes, Outcome>
+    ensures ok { IfOk result (λ text. IsTrue F.tells → text_of source.now (F.held files.old) part ≡ Ok text) }
+    ensures err { IfErr result (Stops (seen F.tells (F.held files.old) (F.faults files.old) (F.faults files.new) (F.current files.new) (F.taken files.new))
+        source.now (text_of source.now (F.held files.old) part) (λ p. p ≡ part)) }
+    ensures held { F.held files.new ≡ F.held files.old }
+    ensures rises { NoneFell (F.faults files.old) (F.faults files.new) }
 {
-    let _ = at;
-    let dir = paths.dir.as_str();
-    let name = name.as_str();
-    let path = format!(in alloc; "{dir}/{name}.csv")?;
-    Ok(Txt::from_string(path))
+    match source {
+        Source::Files(paths) => file_text(alloc, files, paths, part),
+        Source::Made(texts) => Ok(made_part(alloc, texts, &part)?),
+    }
 }
 
-/// The outcome of a table file that is refused.
-fn load_outcome(part: Part, fault: LoadFault) -> Outcome
-    ensures { result ≡ load_outcome part fault }
+/// The schema of a text.
+fn schema_of(alloc: Global, text: &[u8]) -> Result<Schema, Outcome>
+    ensures ok { IfOk result (λ schema. schema_of text.now ≡ Ok schema) }
+    ensures err { IfErr result (Refuses (schema_of text.now)) }
 {
-    match fault {
-        LoadFault::NoMemory => Outcome::NoMemory,
-        LoadFault::TooManyRows => Outcome::Limit(Limit::Rows),
-        fault => Outcome::Refused(part, Fault::Load(fault)),
+    match read_schema(alloc, text) {
+        Ok(schema) => Ok(schema),
+        Err(fault) => Err(schema_outcome(fault)),
     }
+}
+
+/// The schema.
+fn schema_file<F: Files>(alloc: Global, files: &mut F, source: &Source) -> Result<Schema, Outcome>
+    ensures ok { IfOk result (λ schema. IsTrue F.tells → schema_judged source.now (F.held files.old) ≡ Ok schema) }
+    ensures err { IfErr result (Stops (seen F.tells (F.held files.old) (F.faults files.old) (F.faults files.new) (F.current files.new) (F.taken files.new))
+        source.now (schema_judged source.now (F.held files.old)) (λ p. p ≡ parts.Schema)) }
+    ensures held { F.held files.new ≡ F.held files.old }
+    ensures rises { NoneFell (F.faults files.old) (F.faults files.new) }
+{
+    let text = read_text(alloc, files, source, Part::Schema)?;
+    schema_of(alloc, text.as_slice())
 }
 
 /// The rows of the table with this number, which come into `given`.
 fn read_table<F: Files>(
     alloc: Global,
     files: &mut F,
-    paths: &Paths,
+    source: &Source,
     schema: &Schema,
     at: usize,
     table: &Table,
@@ -112,18 +137,17 @@ fn read_table<F: Files>(
     requires of_schema { IsOf schema.now given.old }
     requires empty { length (rows_at given.old.tables at) ≡ 0 }
     requires few { places given.old.tables ≤ row_limit }
-    ensures ok { OnOk result (IsTrue F.tells → table_judged paths.now (F.held files.old) at table.now (places given.old.tables) ≡ Ok (rows_at given.new.tables at)) }
+    ensures ok { OnOk result (IsTrue F.tells → table_judged source.now (F.held files.old) at table.now (places given.old.tables) ≡ Ok (rows_at given.new.tables at)) }
     ensures tables { OnOk result (given.new.tables ≡ slice_set given.old.tables at (rows_at given.new.tables at)) }
     ensures few { OnOk result (places given.new.tables ≤ row_limit) }
     ensures kinds { given.new.kinds ≡ given.old.kinds }
     ensures err { IfErr result (Stops (seen F.tells (F.held files.old) (F.faults files.old) (F.faults files.new) (F.current files.new) (F.taken files.new))
-        paths.now (table_judged paths.now (F.held files.old) at table.now (places given.old.tables)) (λ p. p ≡ parts.Table at table.now.name)) }
+        source.now (table_judged source.now (F.held files.old) at table.now (places given.old.tables)) (λ p. p ≡ parts.Table at table.now.name)) }
     ensures held { F.held files.new ≡ F.held files.old }
     ensures rises { NoneFell (F.faults files.old) (F.faults files.new) }
 {
-    let path = table_path(alloc, paths, at, &table.name)?;
     let part = Part::Table(at, table.name.copy(alloc)?);
-    let text = read_text(alloc, files, paths, part, path.as_str())?;
+    let text = read_text(alloc, files, source, part)?;
     let part = Part::Table(at, table.name.copy(alloc)?);
     // There is a list of rows for each table: the contract of `tables` says so.
     let _tables = given.tables();
@@ -137,20 +161,20 @@ fn read_table<F: Files>(
 fn read_given<F: Files>(
     alloc: Global,
     files: &mut F,
-    paths: &Paths,
+    source: &Source,
     schema: &Schema,
 ) -> Result<Given, Outcome>
     ensures of_schema { IfOk result (λ given. IsOf schema.now given) }
     ensures few { IfOk result (λ given. places given.tables ≤ row_limit) }
-    ensures ok { IfOk result (λ given. IsTrue F.tells → tables_judged paths.now (F.held files.old) 0 (no_rows schema.now) schema.now ≡ Ok given.tables) }
+    ensures ok { IfOk result (λ given. IsTrue F.tells → tables_judged source.now (F.held files.old) 0 (no_rows schema.now) schema.now ≡ Ok given.tables) }
     ensures err { IfErr result (Stops (seen F.tells (F.held files.old) (F.faults files.old) (F.faults files.new) (F.current files.new) (F.taken files.new))
-        paths.now (tables_judged paths.now (F.held files.old) 0 (no_rows schema.now) schema.now) (IsTableReached paths.now (F.held files.old) schema.now)) }
+        source.now (tables_judged source.now (F.held files.old) 0 (no_rows schema.now) schema.now) (IsTableReached source.now (F.held files.old) schema.now)) }
     ensures held { F.held files.new ≡ F.held files.old }
     ensures rises { NoneFell (F.faults files.old) (F.faults files.new) }
 {
     let mut given = Given::new(alloc, schema)?;
     'tables: for (at, table) in schema.tables().iter().enumerate() {
-        read_table(alloc, files, paths, schema, at, table, &mut given)?;
+        read_table(alloc, files, source, schema, at, table, &mut given)?;
     }
     Ok(given)
 }
@@ -159,52 +183,39 @@ fn read_given<F: Files>(
 fn read_query<F: Files>(
     alloc: Global,
     files: &mut F,
-    paths: &Paths,
+    source: &Source,
     part: QueryPart,
     schema: &Schema,
 ) -> Result<Typed, Outcome>
     ensures typed { IfOk result (IsTypedOf schema.now) }
-    ensures ok { IfOk result (λ typed. IsTrue F.tells → query_judged paths.now (F.held files.old) (query_part part) schema.now ≡ Ok typed) }
+    ensures ok { IfOk result (λ typed. IsTrue F.tells → query_judged source.now (F.held files.old) (query_part part) schema.now ≡ Ok typed) }
     ensures err { IfErr result (Stops (seen F.tells (F.held files.old) (F.faults files.old) (F.faults files.new) (F.current files.new) (F.taken files.new))
-        paths.now (query_judged paths.now (F.held files.old) (query_part part) schema.now) (λ p. p ≡ query_part part)) }
+        source.now (query_judged source.now (F.held files.old) (query_part part) schema.now) (λ p. p ≡ query_part part)) }
     ensures held { F.held files.new ≡ F.held files.old }
     ensures rises { NoneFell (F.faults files.old) (F.faults files.new) }
 {
-    let text = read_text(alloc, files, paths, part.part(), part.path(paths))?;
-    match query_form(alloc, schema, text.as_slice())? {
-        Some(typed) => Ok(typed),
-        None => Err(Outcome::Refused(part.part(), Fault::Form)),
-    }
+    let text = read_text(alloc, files, source, part.part())?;
+    query_of(alloc, part.part(), schema, text.as_slice())
 }
 
-/// The second query, whose columns have the kinds of the first.
+/// The second query, whose columns are as the first's.
 fn read_right<F: Files>(
     alloc: Global,
     files: &mut F,
-    paths: &Paths,
+    source: &Source,
     schema: &Schema,
     left: &Typed,
 ) -> Result<Typed, Outcome>
     ensures typed { IfOk result (IsTypedOf schema.now) }
     ensures kinds { IfOk result (λ right. right.kinds ≡ left.now.kinds) }
-    ensures ok { IfOk result (λ right. IsTrue F.tells → right_judged paths.now (F.held files.old) schema.now left.now ≡ Ok right) }
+    ensures ok { IfOk result (λ right. IsTrue F.tells → right_judged source.now (F.held files.old) schema.now left.now ≡ Ok right) }
     ensures err { IfErr result (Stops (seen F.tells (F.held files.old) (F.faults files.old) (F.faults files.new) (F.current files.new) (F.taken files.new))
-        paths.now (right_judged paths.now (F.held files.old) schema.now left.now) (λ p. p ≡ parts.Query2)) }
+        source.now (right_judged source.now (F.held files.old) schema.now left.now) (λ p. p ≡ parts.Query2)) }
     ensures held { F.held files.new ≡ F.held files.old }
     ensures rises { NoneFell (F.faults files.old) (F.faults files.new) }
 {
-    let right = read_query(alloc, files, paths, QueryPart::Second, schema)?;
-    if same_kinds(right.kinds.as_slice(), left.kinds.as_slice()) {
-        Ok(right)
-    } else {
-        Err(Outcome::Refused(Part::Query2, Fault::Form))
-    }
-}
-
-fn same_kinds(a: &[ColKind], b: &[ColKind]) -> bool
-    ensures { result ≡ pointwise kind_eq a.now b.now }
-{
-    a == b
+    let right = read_query(alloc, files, source, QueryPart::Second, schema)?;
+    like_left(left, right)
 }
 
 /// A schema and the rows given for it.
@@ -214,32 +225,64 @@ struct Data {
     given: Given,
 }
 
-fn read_data<F: Files>(alloc: Global, files: &mut F, paths: &Paths) -> Result<Data, Outcome>
+fn read_data<F: Files>(alloc: Global, files: &mut F, source: &Source) -> Result<Data, Outcome>
     ensures of_schema { IfOk result (λ d. IsOf d.schema d.given) }
     ensures few { IfOk result (λ d. places d.given.tables ≤ row_limit) }
-    ensures ok { IfOk result (λ d. IsTrue F.tells → data_judged paths.now (F.held files.old) ≡ Ok (record { schema = d.schema; given = d.given })) }
+    ensures ok { IfOk result (λ d. IsTrue F.tells → data_judged source.now (F.held files.old) ≡ Ok (record { schema = d.schema; given = d.given })) }
     ensures err { IfErr result (Stops (seen F.tells (F.held files.old) (F.faults files.old) (F.faults files.new) (F.current files.new) (F.taken files.new))
-        paths.now (data_judged paths.now (F.held files.old)) (Reaches paths.now (F.held files.old))) }
+        source.now (data_judged source.now (F.held files.old)) (Reaches source.now (F.held files.old))) }
     ensures held { F.held files.new ≡ F.held files.old }
     ensures rises { NoneFell (F.faults files.old) (F.faults files.new) }
 {
-    let schema = read_schema(alloc, files, paths)?;
-    let given = read_given(alloc, files, paths, &schema)?;
+    let schema = schema_file(alloc, files, source)?;
+    let given = read_given(alloc, files, source, &schema)?;
     Ok(Data { schema, given })
 }
 
-/// What the files of a command hold.
-fn read_files<F: Files>(alloc: Global, files: &mut F, paths: &Paths) -> Result<Input, Outcome>
-    ensures ok { IfOk result (λ input. IsTrue F.tells → files_judged paths.now (F.held files.old) ≡ Ok input) }
+fn total_work(input: &Input) -> u128
+    ensures { result ≡ total_work input.now }
+{
+    let schema = input.schema();
+    let given = input.given();
+    let queries = capped_add(work(input.left(), given), work(input.right(), given));
+    capped_add(queries, law_work(schema, given))
+}
+
+/// An input whose work is within its limit.
+fn within_limit(input: Input) -> Result<Input, Outcome>
+    ensures ok { IfOk result (λ same. (same ≡ input) × (within_limit input ≡ Ok same)) }
+    ensures err { IfErr result (Refuses (within_limit input)) }
+{
+    let work = total_work(&input);
+    if work <= u128::from(input.work_limit()) {
+        Ok(input)
+    } else {
+        Err(Outcome::Limit(Limit::Work(work)))
+    }
+}
+
+/// What the texts of a command say.
+fn read_command<F: Files>(alloc: Global, words: &Words, files: &mut F) -> Result<Input, Outcome>
+    ensures options { IfOk result (HasOptions words.now) }
+    ensures ok { IfOk result (λ input. IsTrue F.tells → input_judged (F.held files.old) words.now ≡ Ok input) }
     ensures err { IfErr result (Stops (seen F.tells (F.held files.old) (F.faults files.old) (F.faults files.new) (F.current files.new) (F.taken files.new))
-        paths.now (files_judged paths.now (F.held files.old)) (Reaches paths.now (F.held files.old))) }
+        (source_of words.now) (input_judged (F.held files.old) words.now) (Reaches (source_of words.now) (F.held files.old))) }
     ensures held { F.held files.new ≡ F.held files.old }
     ensures rises { NoneFell (F.faults files.old) (F.faults files.new) }
 {
-    let Data { schema, given } = read_data(alloc, files, paths)?;
-    let left = read_query(alloc, files, paths, QueryPart::First, &schema)?;
-    let right = read_right(alloc, files, paths, &schema, &left)?;
-    Ok(Input::new(schema, given, left, right))
+    let source = Source::of(alloc, words)?;
+    let Data { schema, given } = read_data(alloc, files, &source)?;
+    let left = read_query(alloc, files, &source, QueryPart::First, &schema)?;
+    let right = read_right(alloc, files, &source, &schema, &left)?;
+    within_limit(Input {
+        schema,
+        given,
+        left,
+        right,
+        conflicts: words.conflicts,
+        work_limit: words.work_limit,
+        made: words.made,
+    })
 }
 
 /// The input of a command, or the first refusal.
@@ -251,8 +294,9 @@ pub fn read_input<F: Files>(alloc: Global, words: &[Txt], files: &mut F) -> Resu
     ensures held { F.held files.new ≡ F.held files.old }
     ensures rises { NoneFell (F.faults files.old) (F.faults files.new) }
 {
-    match command(alloc, words)? {
-        Some(paths) => read_files(alloc, files, &paths),
-        None => Err(Outcome::Usage),
+    match read_words(alloc, words) {
+        Ok(command) => read_command(alloc, &command, files),
+        Err(WordFault::Usage) => Err(Outcome::Usage),
+        Err(WordFault::NoMemory) => Err(Outcome::NoMemory),
     }
 }

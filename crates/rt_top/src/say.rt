@@ -1,16 +1,20 @@
-//! The texts of outcomes.
+//! The texts of refusals and faults.
 ghost use Rattle.std.specs.Prelude.{◌≡◌, IfOk, string_bytes};
-ghost use Rattle.rt_top.specs.declared.outcome.Fault.TheVariants.{Load};
-ghost use Rattle.rt_top.specs.Texts.{part_text, fault_text, limit_text, plain_text};
+ghost use Rattle.rt_top.specs.Texts.{part_text, fault_text, lex_text, limit_text, load_text, name_text, refusal_text, schema_text, sql_text, syntax_text};
 
 use crate::outcome::{Fault, Limit, Outcome};
 use crate::part::Part;
+use rt_ddl::SchemaFault;
 use rt_load::LoadFault;
+use rt_resolve::NameFault;
+use rt_sql::SqlFault;
+use rt_token::LexFault;
 use rt_value::{Bytes, List, NoMemory};
 use std::alloc::{AllocError, Global};
 
 /// The text for words that are no command.
-pub const USAGE: &str = "usage: ratest SCHEMA DATADIR QUERY1 QUERY2\n";
+pub const USAGE: &str =
+    "usage: ratest SCHEMA DATADIR QUERY1 QUERY2 [--conflicts N] [--work N]\n       ratest made N [--conflicts N] [--work N]\n";
 
 fn part_text(alloc: Global, part: &Part) -> Result<String, AllocError>
     ensures { IfOk result (λ s. string_bytes s ≡ part_text part.now) }
@@ -23,6 +27,7 @@ fn part_text(alloc: Global, part: &Part) -> Result<String, AllocError>
         }
         Part::Query1 => String::from_str(alloc, "query 1"),
         Part::Query2 => String::from_str(alloc, "query 2"),
+        Part::Queries => String::from_str(alloc, "queries"),
     }
 }
 
@@ -30,13 +35,57 @@ fn fault_text(alloc: Global, fault: &Fault) -> Result<String, AllocError>
     ensures { IfOk result (λ s. string_bytes s ≡ fault_text fault.now) }
 {
     match fault {
-        Fault::Form => String::from_str(alloc, "not built yet"),
+        Fault::Lex(fault) => lex_text(alloc, fault),
+        Fault::Schema(fault) => schema_text(alloc, fault),
         Fault::Load(fault) => load_text(alloc, fault),
+        Fault::Sql(fault) => sql_text(alloc, fault),
+        Fault::Name(fault) => name_text(alloc, fault),
+    }
+}
+
+fn lex_text(alloc: Global, fault: &LexFault) -> Result<String, AllocError>
+    ensures { IfOk result (λ s. string_bytes s ≡ lex_text fault.now) }
+{
+    match fault {
+        LexFault::NotUtf8(at) => format!(in alloc; "not UTF-8 at byte {at}"),
+        LexFault::BadByte(at) => format!(in alloc; "unexpected byte at {at}"),
+        LexFault::OpenText(at) => format!(in alloc; "text without end from byte {at}"),
+        LexFault::OpenComment(at) => format!(in alloc; "comment without end from byte {at}"),
+        LexFault::BigNumber(at) => format!(in alloc; "number past 128 bits at byte {at}"),
+        LexFault::NoMemory => Ok(String::new(alloc)),
+    }
+}
+
+fn syntax_text(alloc: Global, at: usize) -> Result<String, AllocError>
+    ensures { IfOk result (λ s. string_bytes s ≡ syntax_text at) }
+{
+    format!(in alloc; "syntax fault near byte {at}")
+}
+
+fn schema_text(alloc: Global, fault: &SchemaFault) -> Result<String, AllocError>
+    ensures { IfOk result (λ s. string_bytes s ≡ schema_text fault.now) }
+{
+    match fault {
+        SchemaFault::Lex(fault) => lex_text(alloc, fault),
+        SchemaFault::Syntax(at) => syntax_text(alloc, *at),
+        SchemaFault::DuplicateName(name) => {
+            let name = name.as_str();
+            format!(in alloc; "name twice: {name}")
+        }
+        SchemaFault::UnknownName(name) => {
+            let name = name.as_str();
+            format!(in alloc; "unknown name: {name}")
+        }
+        SchemaFault::KeyTypes(table) => {
+            let table = table.as_str();
+            format!(in alloc; "foreign key of {table} does not match")
+        }
+        SchemaFault::TooMany(_) | SchemaFault::NoMemory => Ok(String::new(alloc)),
     }
 }
 
 fn load_text(alloc: Global, fault: &LoadFault) -> Result<String, AllocError>
-    ensures { IfOk result (λ s. string_bytes s ≡ fault_text (Load fault.now)) }
+    ensures { IfOk result (λ s. string_bytes s ≡ load_text fault.now) }
 {
     match fault {
         LoadFault::BadHeader => String::from_str(alloc, "header differs from the schema"),
@@ -53,31 +102,82 @@ fn load_text(alloc: Global, fault: &LoadFault) -> Result<String, AllocError>
     }
 }
 
-fn limit_text(alloc: Global, limit: &Limit) -> Result<String, AllocError>
-    ensures { IfOk result (λ s. string_bytes s ≡ limit_text limit.now) }
+fn sql_text(alloc: Global, fault: &SqlFault) -> Result<String, AllocError>
+    ensures { IfOk result (λ s. string_bytes s ≡ sql_text fault.now) }
+{
+    match fault {
+        SqlFault::Unsupported(word, _) => {
+            let word = word.as_str();
+            format!(in alloc; "not supported: {word}")
+        }
+        SqlFault::TooDeep => String::from_str(alloc, "nested too deep"),
+        SqlFault::Syntax(at) => syntax_text(alloc, *at),
+        SqlFault::NoMemory => Ok(String::new(alloc)),
+    }
+}
+
+fn name_text(alloc: Global, fault: &NameFault) -> Result<String, AllocError>
+    ensures { IfOk result (λ s. string_bytes s ≡ name_text fault.now) }
+{
+    match fault {
+        NameFault::UnknownTable(name) => {
+            let name = name.as_str();
+            format!(in alloc; "unknown table: {name}")
+        }
+        NameFault::UnknownColumn(name) => {
+            let name = name.as_str();
+            format!(in alloc; "unknown column: {name}")
+        }
+        NameFault::Ambiguous(name) => {
+            let name = name.as_str();
+            format!(in alloc; "ambiguous column: {name}")
+        }
+        NameFault::DuplicateAlias(name) => {
+            let name = name.as_str();
+            format!(in alloc; "alias twice: {name}")
+        }
+        NameFault::TypeMismatch => String::from_str(alloc, "types do not match"),
+        NameFault::Columns => String::from_str(alloc, "numbers of columns differ"),
+        NameFault::ArithWidth => String::from_str(alloc, "arithmetic past 128 bits"),
+        NameFault::NoMemory => Ok(String::new(alloc)),
+    }
+}
+
+/// The text of a limit; `most` is the work limit in force.
+fn limit_text(alloc: Global, most: u64, limit: &Limit) -> Result<String, AllocError>
+    ensures { IfOk result (λ s. string_bytes s ≡ limit_text most limit.now) }
 {
     match limit {
         Limit::TooLong(part) => {
             let part = part_text(alloc, part)?;
             format!(in alloc; "{part} is longer than 4194304 bytes")
         }
-        Limit::Rows => String::from_str(alloc, "more than 16 rows"),
+        Limit::Tables => String::from_str(alloc, "more than 64 tables"),
+        Limit::Columns(table) => {
+            let table = table.as_str();
+            format!(in alloc; "table {table} has more than 64 columns")
+        }
+        Limit::Rules(table) => {
+            let table = table.as_str();
+            format!(in alloc; "table {table} has more than 64 rules")
+        }
+        Limit::Rows => String::from_str(alloc, "more than 2000 rows"),
+        Limit::Work(work) => format!(in alloc; "work {work} is above {most}"),
     }
 }
 
-/// The text of an outcome, but for that of a witness.
-pub(crate) fn plain_text(alloc: Global, outcome: &Outcome) -> Result<Bytes, NoMemory>
-    ensures { IfOk result (λ text. text ≡ plain_text outcome.now) }
+/// The text of an outcome that is no verdict; `most` is the work limit in force.
+pub(crate) fn refusal_text(alloc: Global, most: u64, outcome: &Outcome) -> Result<Bytes, NoMemory>
+    ensures { IfOk result (λ text. text ≡ refusal_text most outcome.now) }
 {
-    let text = line(alloc, outcome)?;
+    let text = line(alloc, most, outcome)?;
     List::from_slice(alloc, text.as_bytes())
 }
 
-fn line(alloc: Global, outcome: &Outcome) -> Result<String, AllocError>
-    ensures { IfOk result (λ s. string_bytes s ≡ plain_text outcome.now) }
+fn line(alloc: Global, most: u64, outcome: &Outcome) -> Result<String, AllocError>
+    ensures { IfOk result (λ s. string_bytes s ≡ refusal_text most outcome.now) }
 {
     match outcome {
-        Outcome::Agree => String::from_str(alloc, "agree\n"),
         Outcome::Usage => String::from_str(alloc, USAGE),
         Outcome::Refused(part, fault) => {
             let part = part_text(alloc, part)?;
@@ -85,13 +185,17 @@ fn line(alloc: Global, outcome: &Outcome) -> Result<String, AllocError>
             format!(in alloc; "ratest: {part}: {fault}\n")
         }
         Outcome::Limit(limit) => {
-            let limit = limit_text(alloc, limit)?;
+            let limit = limit_text(alloc, most, limit)?;
             format!(in alloc; "ratest: limit: {limit}\n")
         }
         Outcome::ReadFault(part) => {
             let part = part_text(alloc, part)?;
             format!(in alloc; "ratest: cannot read {part}\n")
         }
-        Outcome::Witness(_) | Outcome::WriteFault | Outcome::NoMemory => Ok(String::new(alloc)),
+        Outcome::Agree
+        | Outcome::Witness(_)
+        | Outcome::Spent(_)
+        | Outcome::WriteFault
+        | Outcome::NoMemory => Ok(String::new(alloc)),
     }
 }

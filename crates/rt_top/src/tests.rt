@@ -1,19 +1,22 @@
+//! What the command says, over files and sinks in memory.
 use crate::{Outcome, USAGE, ratest};
 use rt_io::{MemFiles, MemSink};
 use rt_value::{List, NoMemory, Txt};
-use std::alloc::Global;
+use std::alloc::{AllocError, Global};
 use std::test::Fail;
+
+mod refused;
+mod worked;
 
 const SCHEMA: &str = "CREATE TABLE t (a INTEGER, b INTEGER);";
 
-const TABLE: &str = "a,b\n1,10\n2,20\n3,30\n";
+const TABLE: (&str, &str) = ("d/t.csv", "a,b\n1,10\n2,20\n3,30\n");
 
 const ALL: &str = "SELECT * FROM t WHERE a > 1";
 
 const LARGE: &str = "SELECT * FROM t WHERE a > 2";
 
-const WITNESS: &str =
-    "witness: 1\nt 2: 2, 20\nonly query 1: 1\n  2, 20\nonly query 2: 0\nboth: 0\n";
+const FOUR: [&str; 4] = ["s", "d", "p", "q"];
 
 fn words(alloc: Global, words: &[&str]) -> Result<List<Txt>, NoMemory> {
     let mut list = List::new(alloc);
@@ -23,17 +26,19 @@ fn words(alloc: Global, words: &[&str]) -> Result<List<Txt>, NoMemory> {
     Ok(list)
 }
 
-/// The files of a command.
+/// The files of a command: a schema, tables by the names of their files, and two queries.
 fn files(
     alloc: Global,
     schema: &str,
-    table: &str,
+    tables: &[(&str, &str)],
     query1: &str,
     query2: &str,
 ) -> Result<MemFiles, NoMemory> {
     let mut files = MemFiles::new(alloc);
     files.hold("s", schema.as_bytes())?;
-    files.hold("d/t.csv", table.as_bytes())?;
+    for (name, rows) in tables {
+        files.hold(name, rows.as_bytes())?;
+    }
     files.hold("p", query1.as_bytes())?;
     files.hold("q", query2.as_bytes())?;
     Ok(files)
@@ -59,188 +64,130 @@ fn ends(
 }
 
 #[test]
-fn verdicts_and_refusals(rt: HostRuntime) -> Result<(), Fail> {
+fn words_and_options(rt: HostRuntime) -> Result<(), Fail> {
     let alloc = rt.alloc();
-    let many =
-        "a,b\n1,1\n2,2\n3,3\n4,4\n5,5\n6,6\n7,7\n8,8\n9,9\n10,1\n11,1\n12,1\n13,1\n14,1\n15,1\n16,1\n17,1\n";
-    let form1 = "ratest: query 1: not built yet\n";
-    let form2 = "ratest: query 2: not built yet\n";
-    let same = "SELECT * FROM t WHERE a >= 2;";
-    let table = [
-        (SCHEMA, TABLE, ALL, same, 0, "agree\n", ""),
-        (SCHEMA, TABLE, ALL, LARGE, 1, WITNESS, ""),
-        (SCHEMA, "a,b\n", ALL, LARGE, 0, "agree\n", ""),
+    let work = "ratest: limit: work 28040 is above 28039\n";
+    let table: [(&[&str], u8, &str, &str); 13] = [
+        (&[], 2, "", USAGE),
+        (&["s", "d", "p", "q", "q"], 2, "", USAGE),
+        (&["made", "0"], 2, "", USAGE),
+        (&["made", "401"], 2, "", USAGE),
+        (&["made", "20", "21"], 2, "", USAGE),
+        (&["s", "d", "p", "q", "--conflicts", "0"], 2, "", USAGE),
         (
-            SCHEMA,
-            "a,b\n2,20\n2,20\n",
-            ALL,
-            LARGE,
+            &["s", "d", "p", "-"],
+            6,
+            "",
+            "ratest: cannot read query 2\n",
+        ),
+        (&["--", "s", "d", "p", "q"], 0, "agree\n", ""),
+        (&["made", "1"], 0, "made 1\nrows 5\nagree\n", ""),
+        (&["made", "2"], 0, "made 2\nrows 10\nagree\n", ""),
+        (
+            &["made", "--conflicts=64", "3"],
             1,
-            "witness: 1\nt 1: 2, 20\nonly query 1: 1\n  2, 20\nonly query 2: 0\nboth: 0\n",
+            "made 3\nrows 15\nwitness: 3\n",
             "",
         ),
-        (
-            SCHEMA,
-            "a,b\n,5\n7,\n",
-            "select * from T",
-            "SELECT * FROM t WHERE b < 9",
-            1,
-            "witness: 1\nt 2: 7, NULL\nonly query 1: 1\n  7, NULL\nonly query 2: 0\nboth: 0\n",
-            "",
-        ),
-        (
-            "\u{feff}CREATE TABLE t (a INTEGER, b INTEGER)",
-            "\u{feff}A, b \n+2,20\n",
-            ALL,
-            LARGE,
-            1,
-            "witness: 1\nt 1: 2, 20\nonly query 1: 1\n  2, 20\nonly query 2: 0\nboth: 0\n",
-            "",
-        ),
-        (SCHEMA, TABLE, "SELECT a FROM t", LARGE, 3, "", form1),
-        (
-            SCHEMA,
-            TABLE,
-            "SELECT * FROM t -- all\n",
-            LARGE,
-            3,
-            "",
-            form1,
-        ),
-        (
-            SCHEMA,
-            TABLE,
-            "SELECT * FROM t WHERE a > 9223372036854775808",
-            LARGE,
-            3,
-            "",
-            form1,
-        ),
-        (SCHEMA, TABLE, ALL, "SELECT * FROM u", 3, "", form2),
-        (
-            SCHEMA,
-            TABLE,
-            ALL,
-            "SELECT * FROM t WHERE a > 'x'",
-            3,
-            "",
-            form2,
-        ),
-        (
-            "CREATE TABLE t (a INTEGER, A INTEGER);",
-            TABLE,
-            "SELECT a FROM t",
-            LARGE,
-            3,
-            "",
-            "ratest: schema: not built yet\n",
-        ),
-        (
-            SCHEMA,
-            "a,c\n",
-            "SELECT a FROM t",
-            LARGE,
-            3,
-            "",
-            "ratest: table t: header differs from the schema\n",
-        ),
-        (
-            SCHEMA,
-            "a,b\n1\n",
-            ALL,
-            LARGE,
-            3,
-            "",
-            "ratest: table t: record 2 has another number of fields\n",
-        ),
-        (
-            SCHEMA,
-            "a,b\n1,x\n",
-            ALL,
-            LARGE,
-            3,
-            "",
-            "ratest: table t: record 2, column 2: not an integer\n",
-        ),
-        (
-            SCHEMA,
-            many,
-            ALL,
-            LARGE,
-            5,
-            "",
-            "ratest: limit: more than 16 rows\n",
-        ),
+        (&["made", "20"], 1, "made 20\nrows 100\nwitness: 3\n", ""),
+        (&["made", "20", "--work", "28039"], 5, "", work),
     ];
-    for (schema, rows, query1, query2, status, out, err) in table {
-        let mut files = files(alloc, schema, rows, query1, query2)?;
-        files.piece(7);
-        let command = ["s", "d", "p", "q"];
+    for (command, status, out, err) in table {
+        let mut files = files(alloc, SCHEMA, &[TABLE], ALL, "SELECT * FROM t WHERE a >= 2")?;
         assert!(rt;
-            ends(alloc, &mut files, &command, status, out, err)?,
-            "{query1} {query2} {err}"
+            ends(alloc, &mut files, command, status, out, err)?,
+            "{out}{err}"
         );
     }
     Ok(())
 }
 
 #[test]
-fn words_that_are_no_command(rt: HostRuntime) -> Result<(), Fail> {
-    let alloc = rt.alloc();
-    let mut files = files(alloc, SCHEMA, TABLE, ALL, LARGE)?;
-    assert!(rt; ends(alloc, &mut files, &[], 2, "", USAGE)?);
-    assert!(rt; ends(alloc, &mut files, &["s", "d", "p"], 2, "", USAGE)?);
-    assert!(rt; ends(alloc, &mut files, &["s", "d", "p", "q", "q"], 2, "", USAGE)?);
-    assert!(rt; ends(alloc, &mut files, &["made", "d", "p", "q"], 2, "", USAGE)?);
-    assert!(rt; ends(alloc, &mut files, &["s", "d", "-p", "q"], 2, "", USAGE)?);
-    assert!(rt;
-        ends(
-            alloc,
-            &mut files,
-            &["s", "d", "p", "-"],
-            6,
-            "",
-            "ratest: cannot read query 2\n"
-        )?
-    );
-    Ok(())
-}
-
-#[test]
 fn faults_of_files_and_sinks(rt: HostRuntime) -> Result<(), Fail> {
     let alloc = rt.alloc();
-    let command = ["s", "d", "p", "q"];
-    let mut failing = files(alloc, SCHEMA, TABLE, ALL, LARGE)?;
+    let mut failing = files(alloc, SCHEMA, &[TABLE], ALL, LARGE)?;
     failing.fail_read("d/t.csv", 1)?;
     assert!(rt;
         ends(
             alloc,
             &mut failing,
-            &command,
+            &FOUR,
             6,
             "",
             "ratest: cannot read table t\n"
         )?
     );
-    let mut failing = files(alloc, SCHEMA, TABLE, ALL, LARGE)?;
+    let mut failing = files(alloc, SCHEMA, &[TABLE], ALL, LARGE)?;
     failing.fail_begin("p")?;
     assert!(rt;
         ends(
             alloc,
             &mut failing,
-            &command,
+            &FOUR,
             6,
             "",
             "ratest: cannot read query 1\n"
         )?
     );
-    let mut files = files(alloc, SCHEMA, TABLE, ALL, LARGE)?;
+    let mut files = files(alloc, SCHEMA, &[TABLE], ALL, LARGE)?;
     let (mut out, mut err) = (MemSink::new(alloc), MemSink::new(alloc));
     out.room(10);
-    let command = words(alloc, &command)?;
+    let command = words(alloc, &FOUR)?;
     let outcome = ratest(alloc, command.as_slice(), &mut files, &mut out, &mut err);
     assert!(rt; matches!(outcome, Outcome::WriteFault));
     assert_eq!(rt; out.bytes(), b"witness: 1".as_slice());
     assert_eq!(rt; err.bytes(), b"".as_slice());
+    Ok(())
+}
+
+/// A table with the rows from 1 to `last`.
+fn numbers(alloc: Global, last: u64) -> Result<String, AllocError> {
+    let mut rows = String::from_str(alloc, "a\n")?;
+    for n in 1..=last {
+        let line = format!(in alloc; "{n}\n")?;
+        rows.push_str(line.as_str())?;
+    }
+    Ok(rows)
+}
+
+#[test]
+fn large_tables(rt: HostRuntime) -> Result<(), Fail> {
+    let alloc = rt.alloc();
+    let schema = "CREATE TABLE x (a INTEGER);";
+    let (left, right) = (
+        "SELECT a FROM x WHERE a > 0",
+        "SELECT a FROM x WHERE a >= 1",
+    );
+    let rows = numbers(alloc, 2000)?;
+    let mut all = files(alloc, schema, &[("d/x.csv", rows.as_str())], left, right)?;
+    assert!(rt; ends(alloc, &mut all, &FOUR, 0, "agree\n", "")?);
+    let rows = numbers(alloc, 2001)?;
+    let mut more = files(alloc, schema, &[("d/x.csv", rows.as_str())], left, right)?;
+    let limit = "ratest: limit: more than 2000 rows\n";
+    assert!(rt; ends(alloc, &mut more, &FOUR, 5, "", limit)?);
+    Ok(())
+}
+
+#[test]
+fn limits(rt: HostRuntime) -> Result<(), Fail> {
+    let alloc = rt.alloc();
+    let schema = "CREATE TABLE t (a INTEGER);";
+    let six = "SELECT * FROM t a, t b, t c, t d, t e, t f";
+    let rows = numbers(alloc, 16)?;
+    let mut large = files(alloc, schema, &[("d/t.csv", rows.as_str())], six, six)?;
+    let work = "ratest: limit: work 413689024 is above 16000000\n";
+    assert!(rt; ends(alloc, &mut large, &FOUR, 5, "", work)?);
+    let three = "SELECT * FROM t a, t b, t c";
+    let rows = numbers(alloc, 400)?;
+    let mut large = files(alloc, schema, &[("d/t.csv", rows.as_str())], three, three)?;
+    let work = "ratest: limit: work 768642400 is above 16000000\n";
+    assert!(rt; ends(alloc, &mut large, &FOUR, 5, "", work)?);
+    let mut text = String::from_str(alloc, ";")?;
+    for _ in 0..65_536 {
+        text.push_str("                                                                ")?;
+    }
+    let mut long = files(alloc, schema, &[("d/t.csv", "a\n")], text.as_str(), three)?;
+    let limit = "ratest: limit: query 1 is longer than 4194304 bytes\n";
+    assert!(rt; ends(alloc, &mut long, &FOUR, 5, "", limit)?);
     Ok(())
 }

@@ -1,66 +1,30 @@
-ghost use Rattle.std.specs.Prelude.{◌≡◌, ℕ, ◌⊎◌, None, List, IsTrue, IfOk, Ok, Err, IsOk};
+ghost use Rattle.std.specs.Prelude.{◌≡◌, ◌⊎◌, None, IsTrue, IfOk, Ok, Err};
 ghost use Rattle.rt_io.specs.Edge.{NoneFell};
-ghost use Rattle.rt_top.specs.Command.{command};
+ghost use Rattle.rt_words.specs.Command.{command};
 ghost use Rattle.rt_top.specs.Judged.{judged};
-ghost use Rattle.rt_top.specs.Smallest.{Agrees, IsSmallest};
-ghost use Rattle.rt_top.specs.Texts.{plain_text, witness_of};
-ghost use Rattle.rt_top.specs.Answers.{call, Row, AgreeRow, WitnessRow, UsageRow, RefusedRow, LimitRow, ReadFaultRow, IfAgree, IfWitness, IfUsage, IfRefused, IfLimit, IfReadFault, IfWriteFault, IfNoMemory, IfText, YieldsTo, YieldsToWrite, IsVerdict, NoFileRose, NoSinkRose, Says, log, Ends, Spoke, Said, Begun, Broke, IsSilent, Judges};
+ghost use Rattle.rt_top.specs.Accepted.{Accepted};
+ghost use Rattle.rt_top.specs.Answers.{call, Row, AgreeRow, WitnessRow, UsageRow, RefusedRow, SpentRow, LimitRow, ReadFaultRow, HasRoom, IfAgree, IfWitness, IfUsage, IfRefused, IfSpent, IfLimit, IfReadFault, IfWriteFault, IfNoMemory, IfText, YieldsTo, YieldsToWrite, IsVerdict, NoFileRose, NoSinkRose, Says, log, Ends, Spoke, Said, Begun, Broke, IsSilent, limit_of};
 ghost use Rattle.rt_top.specs.declared.outcome.Outcome.{Outcome};
 ghost use Rattle.rt_top.specs.declared.outcome.Outcome.TheVariants as outcome;
 
-use crate::best::Best;
-use crate::input::Input;
 use crate::outcome::Outcome;
 use crate::place::Place;
 use crate::read::read_input;
-use crate::say::plain_text;
-use crate::trial::decide;
-use rt_eval::answers;
+use crate::say::refusal_text;
+use crate::verdict::{Answer, verdict};
 use rt_io::{Files, Sink, SinkFail, write_text};
-use rt_print::witness_text;
-use rt_value::{Bytes, Keep, NoMemory, Txt};
+use rt_value::{NoMemory, Txt};
+use rt_words::{WordFault, read_words};
 use std::alloc::Global;
 
-/// An outcome and its text.
-#[derive(Drop)]
-struct Answer {
-    outcome: Outcome,
-    text: Bytes,
-}
-
-/// The text of a smallest counterexample.
-fn witness_of(alloc: Global, input: &Input, keep: &Keep) -> Result<Bytes, NoMemory>
-    requires { IsSmallest input.now keep.now }
-    ensures { IfOk result (λ text. text ≡ witness_of input.now keep.now) }
+/// The work limit of the command that the words are.
+fn work_limit(alloc: Global, words: &[Txt]) -> Result<u64, NoMemory>
+    ensures { IfOk result (λ most. most ≡ limit_of (command words.now)) }
 {
-    let schema = input.schema();
-    let left = answers(alloc, input.left(), input.given(), keep)?;
-    let right = answers(alloc, input.right(), input.given(), keep)?;
-    witness_text(
-        alloc,
-        schema,
-        input.given(),
-        keep,
-        left.as_slice(),
-        right.as_slice(),
-    )
-}
-
-/// What is to be said of an accepted input.
-fn verdict(alloc: Global, input: &Input) -> Result<Answer, NoMemory>
-    ensures { IfOk result (λ a. Judges input.now a.outcome a.text) }
-{
-    match decide(alloc, input)? {
-        Best::Never => {
-            let outcome = Outcome::Agree;
-            let text = plain_text(alloc, &outcome)?;
-            Ok(Answer { outcome, text })
-        }
-        Best::Least(keep) => {
-            let text = witness_of(alloc, input, &keep)?;
-            let outcome = Outcome::Witness(keep);
-            Ok(Answer { outcome, text })
-        }
+    match read_words(alloc, words) {
+        Ok(command) => Ok(command.work_limit),
+        Err(WordFault::Usage) => Ok(0),
+        Err(WordFault::NoMemory) => Err(NoMemory),
     }
 }
 
@@ -77,7 +41,8 @@ fn prepare<F: Files>(alloc: Global, words: &[Txt], files: &mut F) -> Result<Answ
         Ok(input) => verdict(alloc, &input),
         Err(Outcome::NoMemory) => Err(NoMemory),
         Err(outcome) => {
-            let text = plain_text(alloc, &outcome)?;
+            let most = work_limit(alloc, words)?;
+            let text = refusal_text(alloc, most, &outcome)?;
             Ok(Answer { outcome, text })
         }
     }
@@ -118,7 +83,7 @@ pub fn ratest<F: Files, O: Sink, E: Sink>(
     // Only where all lawful sub-instances of the input agree.
     ensures agree { let c = call words.now F.tells (F.held files.old) (F.faults files.old) (F.faults files.new) (F.current files.new) (F.taken files.new) in
         IfAgree result (AgreeRow c) }
-    // Only where the choice is the smallest counterexample of the input.
+    // Only where the choice is a smallest counterexample of the input.
     ensures witness { let c = call words.now F.tells (F.held files.old) (F.faults files.old) (F.faults files.new) (F.current files.new) (F.taken files.new) in
         IfWitness result (WitnessRow c) }
     // Only where the words are no command, and there always.
@@ -128,6 +93,9 @@ pub fn ratest<F: Files, O: Sink, E: Sink>(
     // Only where this is the first refusal, and there always.
     ensures refused { let c = call words.now F.tells (F.held files.old) (F.faults files.old) (F.faults files.new) (F.current files.new) (F.taken files.new) in
         IfRefused result (RefusedRow c) }
+    // Only where the budget of the command is spent.
+    ensures spent { let c = call words.now F.tells (F.held files.old) (F.faults files.old) (F.faults files.new) (F.current files.new) (F.taken files.new) in
+        IfSpent result (SpentRow c) }
     ensures limit { let c = call words.now F.tells (F.held files.old) (F.faults files.old) (F.faults files.new) (F.current files.new) (F.taken files.new) in
         IfLimit result (LimitRow c) }
     ensures exact { IsTrue F.tells → (refusal : Outcome) → judged words.now (F.held files.old) ≡ Err refusal → YieldsTo refusal result }
@@ -149,11 +117,12 @@ pub fn ratest<F: Files, O: Sink, E: Sink>(
         let o = log O.tells (O.contents out.old) (O.contents out.new) (O.faults out.old) (O.faults out.new) in
         let e = log E.tells (E.contents err.old) (E.contents err.new) (E.faults err.old) (E.faults err.new) in
         IfText result (Said c result o e) }
-    // An accepted command over files and sinks that don't fail gets a verdict.
+    // An accepted command without a budget, or with one that no search can spend, gets a verdict over
+    // files and sinks that don't fail.
     ensures complete { let c = call words.now F.tells (F.held files.old) (F.faults files.old) (F.faults files.new) (F.current files.new) (F.taken files.new) in
         let o = log O.tells (O.contents out.old) (O.contents out.new) (O.faults out.old) (O.faults out.new) in
         let e = log E.tells (E.contents err.old) (E.contents err.new) (E.faults err.old) (E.faults err.new) in
-        IsTrue F.tells → NoFileRose c → NoSinkRose o e → IsOk (judged words.now (F.held files.old)) → IsVerdict result }
+        IsTrue F.tells → NoFileRose c → NoSinkRose o e → (input : Accepted) → judged words.now (F.held files.old) ≡ Ok input → HasRoom input → IsVerdict result }
     ensures held { F.held files.new ≡ F.held files.old }
     ensures rises { NoneFell (F.faults files.old) (F.faults files.new) }
 {

@@ -34,19 +34,19 @@ pub returns-in_err-read_table-clause-err : goal.returns-in_err-read_table-clause
 returns-in_err-read_table-clause-err g c =
     let held = g.F.Files.held c.args.files.now in
     let schema = c.args.schema.now in
-    let paths = c.args.paths.now in
+    let source = c.args.source.now in
     let table = c.table-item.result in
     let at = c.tables.at in
     let within : at < length schema = subst (λ (ts : List Table). at < length ts) c.tables-table-items.ensures.same c.tables-test.true in
     let is : table ≡ get_or schema at table = subst (λ (ts : List Table). table ≡ get_or ts at table) c.tables-table-items.ensures.same c.table-item.is in
     let p = err_from_is_err_and c.from_residual-in_err-read_table.result c.from_residual-in_err-read_table.ensures.1 in
     rw (p.1, p.2) (stops_on g.F.Files.tells held (g.F.Files.held c.tables.files) (g.F.Files.faults c.args.files.now) (g.F.Files.faults c.tables.files)
-    (g.F.Files.faults c.read_table.new.files) (g.F.Files.current c.read_table.new.files) (g.F.Files.taken c.read_table.new.files) paths
-    (table_judged paths (g.F.Files.held c.tables.files) at table (places c.tables.given.tables)) (tables_judged paths held 0 (no_rows schema) schema)
-    (λ q. q ≡ part.Table at table.name) (IsTableReached paths held schema) c.in_err-read_table.field-0.0 c.tables.invariant.rises
-    (λ t e stop. tables_judged-stops paths held (no_rows schema) schema at c.tables.given.tables table e within is (c.tables.invariant.told t)
-    (ap (λ h. table_judged paths h at table (places c.tables.given.tables)) (sym c.tables.invariant.held) ∙ stop))
-    (λ t q named. subst (IsTableReached paths held schema) (sym named) (
+    (g.F.Files.faults c.read_table.new.files) (g.F.Files.current c.read_table.new.files) (g.F.Files.taken c.read_table.new.files) source
+    (table_judged source (g.F.Files.held c.tables.files) at table (places c.tables.given.tables)) (tables_judged source held 0 (no_rows schema) schema)
+    (λ q. q ≡ part.Table at table.name) (IsTableReached source held schema) c.in_err-read_table.field-0.0 c.tables.invariant.rises
+    (λ t e stop. tables_judged-stops source held (no_rows schema) schema at c.tables.given.tables table e within is (c.tables.invariant.told t)
+    (ap (λ h. table_judged source h at table (places c.tables.given.tables)) (sym c.tables.invariant.held) ∙ stop))
+    (λ t q named. subst (IsTableReached source held schema) (sym named) (
       ap (option_map (λ x. x.name)) (slice_get-get_or schema at table within ∙ ap Some (sym is)),
       subst (λ (r : Result Tables Outcome). IsOk r) (sym (c.tables.invariant.told t)) refl,
     ))
@@ -56,7 +56,7 @@ pub tables-preserved : goal.tables-preserved
 tables-preserved g c =
     let held = g.F.Files.held c.args.files.now in
     let schema = c.args.schema.now in
-    let paths = c.args.paths.now in
+    let source = c.args.source.now in
     let table = c.table-item.result in
     let at = c.tables.at in
     let rows = rows_at c.read_table.new.given.tables at in
@@ -67,8 +67,8 @@ tables-preserved g c =
       empty = λ k h. ap (λ ts. length (rows_at ts k)) c.in_ok-read_table.ensures.tables
           ∙ ap (λ rs. length rs) (rows_at-set_other c.tables.given.tables at k rows (omega arith)) ∙ c.tables.invariant.empty k (omega arith);
       few = c.in_ok-read_table.ensures.few;
-      told = λ t. tables_judged-more paths held (no_rows schema) schema at c.tables.given.tables table rows within is (c.tables.invariant.told t)
-          (ap (λ h. table_judged paths h at table (places c.tables.given.tables)) (sym c.tables.invariant.held) ∙ c.in_ok-read_table.ensures.ok t)
+      told = λ t. tables_judged-more source held (no_rows schema) schema at c.tables.given.tables table rows within is (c.tables.invariant.told t)
+          (ap (λ h. table_judged source h at table (places c.tables.given.tables)) (sym c.tables.invariant.held) ∙ c.in_ok-read_table.ensures.ok t)
           ∙ ap Ok (sym c.in_ok-read_table.ensures.tables);
       held = c.in_ok-read_table.ensures.held ∙ c.tables.invariant.held;
       rises = λ name. let a = c.tables.invariant.rises name in let b = c.in_ok-read_table.ensures.rises name in omega (arith, a, b);

@@ -10,7 +10,7 @@ invariant-tables g l = record {
   of_schema : IsOf l.schema l.given;
   empty : (k : ℕ) → l.at ≤ k → length (rows_at l.given.tables k) ≡ 0;
   few : places l.given.tables ≤ row_limit;
-  told : IsTrue g.F.Files.tells → tables_judged l.paths (g.F.Files.held l.fn.files) 0 (no_rows l.schema) (take l.at l.schema) ≡ Ok l.given.tables;
+  told : IsTrue g.F.Files.tells → tables_judged l.source (g.F.Files.held l.fn.files) 0 (no_rows l.schema) (take l.at l.schema) ≡ Ok l.given.tables;
   held : g.F.Files.held l.files ≡ g.F.Files.held l.fn.files;
   rises : NoneFell (g.F.Files.faults l.fn.files) (g.F.Files.faults l.files);
 }

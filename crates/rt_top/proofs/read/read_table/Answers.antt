@@ -11,9 +11,9 @@ use Rattle.rt_top.proofs.read.read_table.Goals as goal
 
 pub returns-in-Ok-clause-ok : goal.returns-in-Ok-clause-ok
 returns-in-Ok-clause-ok g c = λ t.
-    table_read c.args.paths.now (g.F.Files.held c.args.files.now) c.args.at c.args.table.now c.in_ok-copy.field-0 c.as_str.result.now c.as_slice.result.now
+    table_read c.args.source.now (g.F.Files.held c.args.files.now) c.args.at c.args.table.now c.in_ok-copy.field-0 c.as_slice.result.now
     (places c.args.given.now.tables) (columns_at c.args.schema.now c.args.at) (Ok (rows_at c.load.new.given.tables c.args.at))
-    c.in_ok-copy.ensures (c.as_str.ensures ∙ c.in_ok-path.ensures) (columns_at-get c.args.schema.now c.args.at c.args.table.now c.requires.is_table)
+    c.in_ok-copy.ensures (columns_at-get c.args.schema.now c.args.at c.args.table.now c.requires.is_table)
     (c.in_ok-text.ensures.ok t ∙ ap Ok (sym c.as_slice.ensures)) c.in-Ok.ensures.rows
 
 pub returns-in-Ok-clause-few : goal.returns-in-Ok-clause-few
@@ -32,9 +32,9 @@ returns-clause-err g c =
     let columns = columns_at c.args.schema.now c.args.at in
     let s = seen g.F.Files.tells (g.F.Files.held c.args.files.now) (g.F.Files.faults c.args.files.now) (g.F.Files.faults c.read_text.new.files)
     (g.F.Files.current c.read_text.new.files) (g.F.Files.taken c.read_text.new.files) in
-    let judged = table_judged c.args.paths.now (g.F.Files.held c.args.files.now) c.args.at c.args.table.now before in
+    let judged = table_judged c.args.source.now (g.F.Files.held c.args.files.now) c.args.at c.args.table.now before in
     rw (c.load_outcome.ensures, c.in_ok-copy-2.ensures)
-    (stops_loaded s c.args.paths.now (part.Table c.args.at name) (loaded columns text before) judged (λ p. p ≡ part.Table c.args.at name) c.in-Err.fault c.in-Err.ensures.rows
-    (λ t e is. table_read c.args.paths.now (g.F.Files.held c.args.files.now) c.args.at c.args.table.now c.in_ok-copy.field-0 c.as_str.result.now text before columns (Err e)
-    c.in_ok-copy.ensures (c.as_str.ensures ∙ c.in_ok-path.ensures) (columns_at-get c.args.schema.now c.args.at c.args.table.now c.requires.is_table)
+    (stops_loaded s c.args.source.now (part.Table c.args.at name) (loaded columns text before) judged (λ p. p ≡ part.Table c.args.at name) c.in-Err.fault c.in-Err.ensures.rows
+    (λ t e is. table_read c.args.source.now (g.F.Files.held c.args.files.now) c.args.at c.args.table.now c.in_ok-copy.field-0 text before columns (Err e)
+    c.in_ok-copy.ensures (columns_at-get c.args.schema.now c.args.at c.args.table.now c.requires.is_table)
     (c.in_ok-text.ensures.ok t ∙ ap Ok (sym c.as_slice.ensures)) is))

@@ -1,4 +1,4 @@
-use Rattle.rt_top.specs.declared.top.Answer.{Answer}
+use Rattle.rt_top.specs.declared.verdict.Answer.{Answer}
 use Rattle.rt_top.specs.Answers.{call, Judges, Row, Says}
 use Rattle.rt_top.proofs.VerdictLemmas.{if_ok, verdict_row, verdict_says}
 use Rattle.rt_top.proofs.top.prepare.Goals as goal

@@ -1,0 +1,9 @@
+pub mod Growing
+pub mod Nodes
+pub mod Walking
+pub mod Layers
+pub mod Maps
+pub mod Merged
+pub mod SameRows
+pub mod Exact
+pub mod Joining

@@ -1,0 +1,28 @@
+use Rattle.std.proofs.Common.{◌∙◌}
+use Rattle.rt_annot.specs.Entries.{stands}
+use Rattle.rt_formula.specs.Groups.{standing}
+use Rattle.rt_annot.specs.Annotated.{entries_of, missing_test}
+use Rattle.rt_annot.proofs.Growing.{grown_trans, nodes_stay, nodes_are, any_stays, either_means}
+use Rattle.rt_annot.proofs.Nodes.{where_below, any_standing}
+use Rattle.rt_annot.proofs.Walking.{along_push, next_selected, node_below, both_over}
+use Rattle.rt_annot.proofs.sets.difference.Goals as goal
+
+pub either-requires : goal.either-requires
+either-requires c = nodes_are c.loop-noted.dag (c.get.ensures ∙ c.in_ok-groups.ensures c.noted-item.result.row)
+    (nodes_stay c.loop-noted.invariant.grown _ (where_below c.args.dag.now _ c.args.others.now c.requires.others))
+
+pub loop-noted-preserved : goal.loop-noted-preserved
+loop-noted-preserved c =
+    let d = c.args.dag.now in
+    let i = c.loop-noted.noted-index in
+    let n = c.noted-item.result in
+    let others = c.args.others.now in
+    let g = c.loop-noted.invariant.grown in
+    let t = missing_test (entries_of d others) in
+    let l = node_below d c.args.from.now i n c.loop-noted-test.true c.noted-item.is c.requires.from in
+    let found = either_means c.loop-noted.dag _ _ (stands (entries_of d others) n.row) c.in_ok-found.ensures.gate (c.get.ensures ∙ c.in_ok-groups.ensures n.row)
+    (λ s. any_stays g (standing n.row others) (where_below d _ others c.requires.others) s ∙ any_standing d s n.row others) in
+    along_push _ _ _ c.loop-noted.invariant (next_selected d c.args.from.now i n c.loop-noted-test.true c.noted-item.is t)
+    (grown_trans c.either.ensures.grown c.both.ensures.grown) c.in_ok-row.ensures
+    (both_over n.node c.in_ok-found.found.no c.in_ok-node.node (t n.row).0 (grown_trans g c.either.ensures.grown) l found.no c.in_ok-node.ensures.node)
+    c.in_ok-push.ensures.ok

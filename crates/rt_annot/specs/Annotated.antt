@@ -1,0 +1,124 @@
+-- What nodes and noted rows mean: formulas on the Keep.
+use Rattle.std.specs.Prelude.{◌≡◌, ℕ, ◌<◌, ◌+◌, Bool, false, not, List, [], ◌∷◌, ◌++◌, map, length}
+use Rattle.std.specs.List.{All as Each, list_any}
+use Rattle.rt_schema.specs.Kept.{kept}
+use Rattle.rt_value.specs.declared.value.Value.{Value}
+use Rattle.rt_value.specs.Row.{row_eq}
+use Rattle.rt_algebra.specs.Expression.{wrapped, Env, row_by}
+use Rattle.rt_algebra.specs.declared.expr.Expr.{Expr}
+use Rattle.rt_schema.specs.Given.{Rows, Tables}
+use Rattle.rt_algebra.specs.Answer.{is_yes, cell_truth, pred_by, all_of, any_of}
+use Rattle.rt_algebra.specs.declared.query.Pred.{Pred}
+use Rattle.rt_formula.specs.Shared.{Shared, IsGrown, val, bool_at}
+use Rattle.rt_formula.specs.Groups.{nodes_where}
+use Rattle.rt_annot.specs.Entries.{Formula, Test, Entry, is_no, rows_at, stands}
+use Rattle.rt_formula.specs.declared.noted.Noted.{Noted}
+use Rattle.rt_annot.specs.declared.gate.Gate.{Gate}
+
+-- a node as a formula
+abbrev pub formula : Shared → ℕ → Formula
+formula d n = λ s. val d s n
+
+-- a noted row as an entry
+abbrev pub entry_of : Shared → Noted → Entry
+entry_of d n = (n.row, λ s. val d s n.node)
+
+abbrev pub entries_of : Shared → List Noted → List Entry
+entries_of d ns = map (entry_of d) ns
+
+abbrev pub AreNodes : Shared → List ℕ → Type 0
+AreNodes d ns = Each (λ n. n < length d.entries) ns
+
+abbrev pub AreNoted : Shared → List Noted → Type 0
+AreNoted d ns = Each (λ n. n.node < length d.entries) ns
+
+-- the node means the formula
+pub record IsNode (d : Shared) (n : ℕ) (f : Formula) : Type 0 where
+  pub below : n < length d.entries
+  pub same : (s : List Bool) → val d s n ≡ f s
+
+pub record IsGate (d : Shared) (g : Gate) (t : Test) : Type 0 where
+  pub yes : IsNode d g.yes t.0
+  pub no : IsNode d g.no t.1
+
+-- the nodes mean the formulas, in order
+pub record Mean (d : Shared) (ns : List ℕ) (fs : List Formula) : Type 0 where
+  pub below : AreNodes d ns
+  pub same : map (formula d) ns ≡ fs
+
+-- the noted rows are the entries, in order
+pub record Reads (d : Shared) (ns : List Noted) (es : List Entry) : Type 0 where
+  pub below : AreNoted d ns
+  pub same : entries_of d ns ≡ es
+
+-- whether a row stands among entries, and whether it doesn't, as conditions on rows
+abbrev pub standing_test : List Entry → List Value → Test
+standing_test es r = (stands es r, λ s. false)
+
+abbrev pub missing_test : List Entry → List Value → Test
+missing_test es r = (λ s. not (stands es r s), λ s. false)
+
+-- rows in order, each where its place is kept
+abbrev pub placed : ℕ → Rows → List Entry
+placed n [] = []
+placed n (r ∷ rs) = (r, λ s. bool_at s n) ∷ placed (n + 1) rs
+
+-- where a condition is Yes, and where it is No
+abbrev pub yes_when : Pred → Tables → Env → Formula
+yes_when p given env s = is_yes (pred_by wrapped p (kept given s) env)
+
+abbrev pub no_when : Pred → Tables → Env → Formula
+no_when p given env s = is_no (pred_by wrapped p (kept given s) env)
+
+-- the same of several conditions
+abbrev pub yes_of : List Pred → Tables → Env → List Formula
+yes_of ps given env = map (λ p. yes_when p given env) ps
+
+abbrev pub no_of : List Pred → Tables → Env → List Formula
+no_of ps given env = map (λ p. no_when p given env) ps
+
+-- at every Keep the noted rows whose node is true are these rows, in order
+pub record Gives (d : Shared) (ns : List Noted) (rows : List Bool → Rows) : Type 0 where
+  pub below : AreNoted d ns
+  pub same : (s : List Bool) → rows_at s (entries_of d ns) ≡ rows s
+
+-- the rows that were chosen so far, and the entries that are still to come
+pub record Choosing (old now : Shared) (out : List Noted) (rest whole : List Entry) : Type 0 where
+  pub grown : IsGrown old now
+  pub below : AreNoted now out
+  pub same : (s : List Bool) → rows_at s (entries_of now out ++ rest) ≡ rows_at s whole
+
+-- a condition with the row as the innermost in scope
+abbrev pub test_under : Pred → Tables → Env → List Value → Test
+test_under p given env r = (yes_when p given (r ∷ env), no_when p given (r ∷ env))
+
+-- all of several conditions, and any of them
+abbrev pub test_all : List Pred → Tables → Env → Test
+test_all ps given env =
+    (λ s. is_yes (all_of (map (pred_by wrapped) ps) (kept given s) env), λ s. is_no (all_of (map (pred_by wrapped) ps) (kept given s) env))
+
+abbrev pub test_any : List Pred → Tables → Env → Test
+test_any ps given env =
+    (λ s. is_yes (any_of (map (pred_by wrapped) ps) (kept given s) env), λ s. is_no (any_of (map (pred_by wrapped) ps) (kept given s) env))
+
+abbrev pub nodes_of : List Noted → List ℕ
+nodes_of ns = map (λ n. n.node) ns
+
+abbrev pub sure : Value → List Noted → List ℕ
+sure x ns = nodes_where (λ r. is_yes (cell_truth x r)) ns
+
+abbrev pub possible : Value → List Noted → List ℕ
+possible x ns = nodes_where (λ r. not (is_no (cell_truth x r))) ns
+
+abbrev pub projected_rows : List Noted → List Expr → Env → List Noted
+projected_rows ns es env = map (λ n. record { row = row_by wrapped es (n.row ∷ env); node = n.node }) ns
+
+-- the rows that are noted so far, and the entries that are still to come
+pub record Along (old now : Shared) (out : List Noted) (rest whole : List Entry) : Type 0 where
+  pub grown : IsGrown old now
+  pub below : AreNoted now out
+  pub same : entries_of now out ++ rest ≡ whole
+
+-- whether the row is noted
+abbrev pub noted_in : List Value → List Noted → Bool
+noted_in r ns = list_any (λ n. row_eq r n.row) ns

@@ -1,0 +1,4 @@
+pub mod Ann
+pub mod Annotated
+pub mod Entries
+pub mod Joints

@@ -1,0 +1,42 @@
+ghost use Rattle.std.specs.Prelude.{◌≡◌, ◌<◌, ◌&&◌, List, Bool, not, IfOk, length};
+ghost use Rattle.rt_schema.specs.Given.{IsOf, places};
+ghost use Rattle.rt_schema.specs.Kept.{kept};
+ghost use Rattle.rt_schema.specs.Law.{lawful};
+ghost use Rattle.rt_algebra.specs.Answer.{plain, same_rows};
+ghost use Rattle.rt_algebra.specs.Typed.{IsTyped};
+ghost use Rattle.rt_formula.specs.Shared.{val, IsGrown};
+
+use crate::annotation::annotate;
+use crate::difference::differ;
+use rt_algebra::Typed;
+use rt_formula::{Dag, Node};
+use rt_rules::law;
+use rt_schema::{Given, Schema};
+use rt_value::NoMemory;
+use std::alloc::Global;
+
+/// The node that is true at just the lawful choices of the given rows at which the two queries
+/// answer differently: those that are looked for.
+pub fn goal(
+    alloc: Global,
+    dag: &mut Dag,
+    schema: &Schema,
+    given: &Given,
+    left: &Typed,
+    right: &Typed,
+) -> Result<Node, NoMemory>
+    requires rows { dag.old.rows ≡ places given.now.tables }
+    requires of_schema { IsOf schema.now given.now }
+    requires left { IsTyped given.now.kinds left.now }
+    requires right { IsTyped given.now.kinds right.now }
+    ensures grown { IsGrown dag.old dag.new }
+    ensures node { IfOk result (λ n. n < length dag.new.entries) }
+    ensures means { IfOk result (λ n. (keep : List Bool) → length keep ≡ dag.old.rows → val dag.new keep n ≡ (lawful schema.now (kept given.now.tables keep) && not (same_rows (plain left.now.query (kept given.now.tables keep)) (plain right.now.query (kept given.now.tables keep))))) }
+{
+    let lawful = law(alloc, dag, schema, given)?;
+    let first = annotate(alloc, dag, left, given)?;
+    let second = annotate(alloc, dag, right, given)?;
+    let differs = differ(alloc, dag, &first, &second)?;
+    let both = dag.all(&[lawful, differs])?;
+    Ok(both)
+}

@@ -1,0 +1,317 @@
+//! The evaluation of queries and conditions over all given rows.
+ghost use Rattle.std.specs.Prelude.{◌≡◌, ◌∷◌, ◌++◌, [], map, IfOk};
+ghost use Rattle.rt_algebra.specs.Answer.{answer_by, product_after};
+ghost use Rattle.rt_algebra.specs.Expression.{wrapped};
+ghost use Rattle.rt_schema.specs.Given.{places};
+ghost use Rattle.rt_schema.specs.Kept.{kept};
+ghost use Rattle.rt_formula.specs.Shared.{IsGrown};
+ghost use Rattle.rt_annot.specs.Entries.{selected, join_entry, paired};
+ghost use Rattle.rt_annot.specs.Annotated.{AreNodes, AreNoted, IsGate, Gives, Choosing, entries_of, yes_when, no_when, test_under, test_all, test_any};
+ghost use Rattle.rt_annot.specs.Joints.{AreJoints, Makes, joint_entry, joint_entries};
+
+use crate::gate::{Gate, Gates, all, any, constant, is_always, is_never};
+use crate::joint::{Joint, Parts, joined, meeting, unit, whole};
+use crate::member::{exists, member};
+use crate::rows::{appended, projected, table};
+use crate::sets::{common, difference};
+use rt_algebra::{Pred, Query, null_truth, one_of_truth, scope, value};
+use rt_formula::{Dag, Noted};
+use rt_value::{List, NoMemory, Row, compare};
+use std::alloc::Global;
+
+/// Where a condition is true and where it is false.
+#[cycle(annotate)]
+pub fn test(
+    alloc: Global,
+    dag: &mut Dag,
+    tables: &[List<Row>],
+    p: &Pred,
+    env: &[&Row],
+) -> Result<Gate, NoMemory>
+    requires { dag.old.rows ≡ places tables.now }
+    ensures grown { IsGrown dag.old dag.new }
+    ensures gate { IfOk result (λ g. IsGate dag.new g (yes_when p.now tables.now (map (λ r. r.now) env.now), no_when p.now tables.now (map (λ r. r.now) env.now))) }
+{
+    match p {
+        Pred::Cmp(op, a, b) => {
+            let x = value(alloc, a, env)?;
+            let y = value(alloc, b, env)?;
+            Ok(constant(dag, compare(&x, &y, *op)))
+        }
+        Pred::IsNull(e) => {
+            let x = value(alloc, e, env)?;
+            Ok(constant(dag, null_truth(&x)))
+        }
+        Pred::OneOf(e, items) => {
+            let x = value(alloc, e, env)?;
+            let truth = one_of_truth(alloc, &x, items.as_slice(), env)?;
+            Ok(constant(dag, truth))
+        }
+        Pred::And(ps) => {
+            let gate = all_hold(alloc, dag, tables, ps.as_slice(), env)?;
+            Ok(gate)
+        }
+        Pred::Or(ps) => {
+            let gate = any_holds(alloc, dag, tables, ps.as_slice(), env)?;
+            Ok(gate)
+        }
+        Pred::Not(p) => {
+            let gate = test(alloc, dag, tables, p.get(), env)?;
+            Ok(Gate {
+                yes: gate.no,
+                no: gate.yes,
+            })
+        }
+        Pred::Exists(q) => {
+            let rows = annotated(alloc, dag, tables, q.get(), env)?;
+            let gate = exists(alloc, dag, rows.as_slice())?;
+            Ok(gate)
+        }
+        Pred::Member(e, q) => {
+            let x = value(alloc, e, env)?;
+            let rows = annotated(alloc, dag, tables, q.get(), env)?;
+            let gate = member(alloc, dag, &x, rows.as_slice())?;
+            Ok(gate)
+        }
+    }
+}
+
+/// Where all of the conditions are true, and where one is false. One that is false at every choice
+/// decides at once.
+#[cycle(annotate)]
+fn all_hold(
+    alloc: Global,
+    dag: &mut Dag,
+    tables: &[List<Row>],
+    ps: &[Pred],
+    env: &[&Row],
+) -> Result<Gate, NoMemory>
+    requires { dag.old.rows ≡ places tables.now }
+    ensures grown { IsGrown dag.old dag.new }
+    ensures gate { IfOk result (λ g. IsGate dag.new g (test_all ps.now tables.now (map (λ r. r.now) env.now))) }
+{
+    let mut yes = List::new(alloc);
+    let mut no = List::new(alloc);
+    for p in ps {
+        let gate = test(alloc, dag, tables, p, env)?;
+        if is_always(dag, gate.no) {
+            return Ok(gate);
+        }
+        yes.push(gate.yes)?;
+        no.push(gate.no)?;
+    }
+    let gates = Gates { yes, no };
+    let together = all(dag, &gates)?;
+    Ok(together)
+}
+
+/// Where one of the conditions is true, and where all are false. One that is true at every choice
+/// decides at once.
+#[cycle(annotate)]
+fn any_holds(
+    alloc: Global,
+    dag: &mut Dag,
+    tables: &[List<Row>],
+    ps: &[Pred],
+    env: &[&Row],
+) -> Result<Gate, NoMemory>
+    requires { dag.old.rows ≡ places tables.now }
+    ensures grown { IsGrown dag.old dag.new }
+    ensures gate { IfOk result (λ g. IsGate dag.new g (test_any ps.now tables.now (map (λ r. r.now) env.now))) }
+{
+    let mut yes = List::new(alloc);
+    let mut no = List::new(alloc);
+    for p in ps {
+        let gate = test(alloc, dag, tables, p, env)?;
+        if is_always(dag, gate.yes) {
+            return Ok(gate);
+        }
+        yes.push(gate.yes)?;
+        no.push(gate.no)?;
+    }
+    let gates = Gates { yes, no };
+    let together = any(dag, &gates)?;
+    Ok(together)
+}
+
+/// The condition with the row as the innermost in scope.
+#[cycle(annotate)]
+fn test_row<'a>(
+    alloc: Global,
+    dag: &mut Dag,
+    tables: &[List<Row>],
+    p: &Pred,
+    row: &'a Row,
+    env: &[&'a Row],
+) -> Result<Gate, NoMemory>
+    requires { dag.old.rows ≡ places tables.now }
+    ensures grown { IsGrown dag.old dag.new }
+    ensures gate { IfOk result (λ g. IsGate dag.new g (test_under p.now tables.now (map (λ r. r.now) env.now) row.now)) }
+{
+    let inner = scope(alloc, row, env)?;
+    let gate = test(alloc, dag, tables, p, inner.as_slice())?;
+    Ok(gate)
+}
+
+/// The rows whose condition may be true, each with the node that says where it is there and the
+/// condition is true. A row gets a node only once its condition is known.
+#[cycle(annotate)]
+fn chosen(
+    alloc: Global,
+    dag: &mut Dag,
+    tables: &[List<Row>],
+    p: &Pred,
+    front: &[Joint],
+    last: &[Noted],
+    env: &[&Row],
+) -> Result<List<Noted>, NoMemory>
+    requires places { dag.old.rows ≡ places tables.now }
+    requires front { AreJoints dag.old front.now }
+    requires last { AreNoted dag.old last.now }
+    ensures grown { IsGrown dag.old dag.new }
+    ensures chosen { IfOk result (λ out. Choosing dag.old dag.new out [] (selected (paired (joint_entries dag.old front.now) (entries_of dag.old last.now)) (test_under p.now tables.now (map (λ r. r.now) env.now)))) }
+{
+    let mut out = List::new(alloc);
+    for joint in front {
+        out = chosen_after(alloc, dag, tables, p, out, joint, last, env)?;
+    }
+    Ok(out)
+}
+
+/// The list with the chosen rows at its end that begin with this one.
+#[cycle(annotate)]
+fn chosen_after(
+    alloc: Global,
+    dag: &mut Dag,
+    tables: &[List<Row>],
+    p: &Pred,
+    rows: List<Noted>,
+    joint: &Joint,
+    last: &[Noted],
+    env: &[&Row],
+) -> Result<List<Noted>, NoMemory>
+    requires places { dag.old.rows ≡ places tables.now }
+    requires rows { AreNoted dag.old rows }
+    requires joint { AreNodes dag.old joint.now.nodes }
+    requires last { AreNoted dag.old last.now }
+    ensures grown { IsGrown dag.old dag.new }
+    ensures chosen { IfOk result (λ out. Choosing dag.old dag.new out [] (entries_of dag.old rows ++ selected (join_entry (joint_entry dag.old joint.now) (entries_of dag.old last.now)) (test_under p.now tables.now (map (λ r. r.now) env.now)))) }
+{
+    let mut out = rows;
+    for noted in last {
+        let row = joint.row.join(alloc, &noted.row)?;
+        let gate = test_row(alloc, dag, tables, p, &row, &*env)?;
+        let node = meeting(alloc, dag, joint.nodes.as_slice(), noted.node, gate.yes)?;
+        if !is_never(dag, node) {
+            out.push(Noted { row, node })?;
+        }
+    }
+    Ok(out)
+}
+
+/// The rows of a product, not put together yet.
+#[cycle(annotate)]
+fn product(
+    alloc: Global,
+    dag: &mut Dag,
+    tables: &[List<Row>],
+    qs: &[Query],
+    env: &[&Row],
+) -> Result<Parts, NoMemory>
+    requires { dag.old.rows ≡ places tables.now }
+    ensures grown { IsGrown dag.old dag.new }
+    ensures makes { IfOk result (λ parts. Makes dag.new parts.front parts.last (λ s. product_after ([] ∷ []) (map (answer_by wrapped) qs.now) (kept tables.now s) (map (λ r. r.now) env.now))) }
+{
+    let mut front = unit(alloc)?;
+    let mut last = List::new(alloc);
+    let row = Row::new(alloc);
+    let node = dag.yes();
+    last.push(Noted { row, node })?;
+    for q in qs {
+        front = joined(alloc, front.as_slice(), last.as_slice())?;
+        last = annotated(alloc, dag, tables, q, env)?;
+    }
+    Ok(Parts { front, last })
+}
+
+/// The rows of a query, which in the case of a product are not put together yet.
+#[cycle(annotate)]
+fn source(
+    alloc: Global,
+    dag: &mut Dag,
+    tables: &[List<Row>],
+    q: &Query,
+    env: &[&Row],
+) -> Result<Parts, NoMemory>
+    requires { dag.old.rows ≡ places tables.now }
+    ensures grown { IsGrown dag.old dag.new }
+    ensures makes { IfOk result (λ parts. Makes dag.new parts.front parts.last (λ s. answer_by wrapped q.now (kept tables.now s) (map (λ r. r.now) env.now))) }
+{
+    match q {
+        Query::Product(qs) => {
+            let parts = product(alloc, dag, tables, qs.as_slice(), env)?;
+            Ok(parts)
+        }
+        _ => {
+            let last = annotated(alloc, dag, tables, q, env)?;
+            let front = unit(alloc)?;
+            Ok(Parts { front, last })
+        }
+    }
+}
+
+/// The rows that may come out, each with its node.
+#[cycle(annotate)]
+pub fn annotated(
+    alloc: Global,
+    dag: &mut Dag,
+    tables: &[List<Row>],
+    q: &Query,
+    env: &[&Row],
+) -> Result<List<Noted>, NoMemory>
+    requires { dag.old.rows ≡ places tables.now }
+    ensures grown { IsGrown dag.old dag.new }
+    ensures gives { IfOk result (λ out. Gives dag.new out (λ s. answer_by wrapped q.now (kept tables.now s) (map (λ r. r.now) env.now))) }
+{
+    match q {
+        Query::Table(t) => {
+            let out = table(alloc, dag, tables, *t)?;
+            Ok(out)
+        }
+        Query::Select(a, p) => {
+            let parts = source(alloc, dag, tables, a.get(), env)?;
+            let front = parts.front.as_slice();
+            let last = parts.last.as_slice();
+            let out = chosen(alloc, dag, tables, p, front, last, env)?;
+            Ok(out)
+        }
+        Query::Project(a, items) => {
+            let rows = annotated(alloc, dag, tables, a.get(), env)?;
+            let out = projected(alloc, rows.as_slice(), items.as_slice(), env)?;
+            Ok(out)
+        }
+        Query::Product(qs) => {
+            let parts = product(alloc, dag, tables, qs.as_slice(), env)?;
+            let out = whole(alloc, dag, &parts)?;
+            Ok(out)
+        }
+        Query::Union(a, b) => {
+            let first = annotated(alloc, dag, tables, a.get(), env)?;
+            let second = annotated(alloc, dag, tables, b.get(), env)?;
+            let out = appended(alloc, first, second.as_slice())?;
+            Ok(out)
+        }
+        Query::Except(a, b) => {
+            let first = annotated(alloc, dag, tables, a.get(), env)?;
+            let second = annotated(alloc, dag, tables, b.get(), env)?;
+            let out = difference(alloc, dag, first.as_slice(), second.as_slice())?;
+            Ok(out)
+        }
+        Query::Intersect(a, b) => {
+            let first = annotated(alloc, dag, tables, a.get(), env)?;
+            let second = annotated(alloc, dag, tables, b.get(), env)?;
+            let out = common(alloc, dag, first.as_slice(), second.as_slice())?;
+            Ok(out)
+        }
+    }
+}

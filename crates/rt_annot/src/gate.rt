@@ -1,0 +1,101 @@
+//! The nodes of conditions.
+ghost use Rattle.std.specs.Prelude.{◌≡◌, ◌<◌, List, Bool, true, false, not, ◌&&◌, IfOk, length};
+ghost use Rattle.std.specs.List.{list_all, list_any};
+ghost use Rattle.rt_formula.specs.Shared.{val, IsGrown};
+ghost use Rattle.rt_annot.specs.Entries.{constant};
+ghost use Rattle.rt_annot.specs.Annotated.{AreNodes, IsNode, IsGate};
+
+use rt_formula::{Dag, Node};
+use rt_value::{List, NoMemory, Truth};
+
+/// A condition: where it is true, and where it is false. It is unknown where both nodes are false.
+#[derive(Clone, Copy)]
+pub struct Gate {
+    pub yes: Node,
+    pub no: Node,
+}
+
+/// The nodes of several conditions.
+#[derive(Drop)]
+pub struct Gates {
+    pub yes: List<Node>,
+    pub no: List<Node>,
+}
+
+/// A condition that no choice of rows changes.
+pub fn constant(dag: &Dag, truth: Truth) -> Gate
+    ensures { IsGate dag.now result (constant truth) }
+{
+    match truth {
+        Truth::Yes => Gate {
+            yes: dag.yes(),
+            no: dag.no(),
+        },
+        Truth::No => Gate {
+            yes: dag.no(),
+            no: dag.yes(),
+        },
+        Truth::Unknown => Gate {
+            yes: dag.no(),
+            no: dag.no(),
+        },
+    }
+}
+
+/// Whether a node is the one that is false at every choice.
+pub fn is_never(dag: &Dag, node: Node) -> bool
+    ensures { result ≡ true → (s : List Bool) → val dag.now s node ≡ false }
+{
+    node == dag.no()
+}
+
+/// Whether a node is the one that is true at every choice.
+pub fn is_always(dag: &Dag, node: Node) -> bool
+    ensures { result ≡ true → (s : List Bool) → val dag.now s node ≡ true }
+{
+    node == dag.yes()
+}
+
+pub fn both(dag: &mut Dag, a: Node, b: Node) -> Result<Node, NoMemory>
+    requires a { a < length dag.old.entries }
+    requires b { b < length dag.old.entries }
+    ensures grown { IsGrown dag.old dag.new }
+    ensures node { IfOk result (λ n. IsNode dag.new n (λ s. val dag.old s a && val dag.old s b)) }
+{
+    dag.all(&[a, b])
+}
+
+/// True where all are true, false where one is false.
+pub fn all(dag: &mut Dag, gates: &Gates) -> Result<Gate, NoMemory>
+    requires yes { AreNodes dag.old gates.now.yes }
+    requires no { AreNodes dag.old gates.now.no }
+    ensures grown { IsGrown dag.old dag.new }
+    ensures gate { IfOk result (λ g. IsGate dag.new g (λ s. list_all (val dag.old s) gates.now.yes, λ s. list_any (val dag.old s) gates.now.no)) }
+{
+    let yes = dag.all(gates.yes.as_slice())?;
+    let no = dag.any(gates.no.as_slice())?;
+    Ok(Gate { yes, no })
+}
+
+/// True where one is true, false where all are false.
+pub fn any(dag: &mut Dag, gates: &Gates) -> Result<Gate, NoMemory>
+    requires yes { AreNodes dag.old gates.now.yes }
+    requires no { AreNodes dag.old gates.now.no }
+    ensures grown { IsGrown dag.old dag.new }
+    ensures gate { IfOk result (λ g. IsGate dag.new g (λ s. list_any (val dag.old s) gates.now.yes, λ s. list_all (val dag.old s) gates.now.no)) }
+{
+    let yes = dag.any(gates.yes.as_slice())?;
+    let no = dag.all(gates.no.as_slice())?;
+    Ok(Gate { yes, no })
+}
+
+/// True where one of the nodes is, else false.
+pub fn either(dag: &mut Dag, nodes: &[Node]) -> Result<Gate, NoMemory>
+    requires { AreNodes dag.old nodes.now }
+    ensures grown { IsGrown dag.old dag.new }
+    ensures gate { IfOk result (λ g. IsGate dag.new g (λ s. list_any (val dag.old s) nodes.now, λ s. not (list_any (val dag.old s) nodes.now))) }
+{
+    let yes = dag.any(nodes)?;
+    let no = dag.not(yes)?;
+    Ok(Gate { yes, no })
+}

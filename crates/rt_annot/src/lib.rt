@@ -1,0 +1,20 @@
+//! Annotated evaluation: one evaluation over all given rows that answers for every choice of them
+//! at once. Each row that may come out gets a node of a `Dag`, which is true at just the choices at
+//! which the row is in the answer (provenance as Boolean formulas; Miao, Roy and Yang, SIGMOD 2019).
+#![tactic(auto)]
+
+mod aim;
+mod ann;
+mod annotation;
+mod difference;
+mod evaluate;
+mod gate;
+mod joint;
+mod member;
+mod rows;
+mod sets;
+
+pub use aim::goal;
+pub use ann::Ann;
+pub use annotation::annotate;
+pub use difference::differ;

@@ -1,0 +1,72 @@
+//! EXISTS, and IN with a query.
+ghost use Rattle.std.specs.Prelude.{◌≡◌, not, IfOk};
+ghost use Rattle.rt_formula.specs.Shared.{IsGrown};
+ghost use Rattle.rt_annot.specs.Entries.{any_entry, member_test};
+ghost use Rattle.rt_annot.specs.Annotated.{AreNoted, IsGate, entries_of, nodes_of, sure, possible};
+
+use crate::gate::{Gate, either};
+use rt_algebra::cell_truth;
+use rt_formula::{Dag, Node, Noted};
+use rt_value::{List, NoMemory, Truth, Value};
+use std::alloc::Global;
+
+fn nodes_of(alloc: Global, rows: &[Noted]) -> Result<List<Node>, NoMemory>
+    ensures { IfOk result (λ out. out ≡ nodes_of rows.now) }
+{
+    let mut out = List::new(alloc);
+    for noted in rows {
+        out.push(noted.node)?;
+    }
+    Ok(out)
+}
+
+/// Whether there is a row.
+pub fn exists(alloc: Global, dag: &mut Dag, rows: &[Noted]) -> Result<Gate, NoMemory>
+    requires { AreNoted dag.old rows.now }
+    ensures grown { IsGrown dag.old dag.new }
+    ensures gate { IfOk result (λ g. IsGate dag.new g (any_entry (entries_of dag.old rows.now), λ s. not (any_entry (entries_of dag.old rows.now) s))) }
+{
+    let nodes = nodes_of(alloc, rows)?;
+    let gate = either(dag, nodes.as_slice())?;
+    Ok(gate)
+}
+
+/// The nodes of the rows to whose first value `x` compares equal.
+fn sure(alloc: Global, x: &Value, rows: &[Noted]) -> Result<List<Node>, NoMemory>
+    ensures { IfOk result (λ out. out ≡ sure x.now rows.now) }
+{
+    let mut out = List::new(alloc);
+    for noted in rows {
+        if matches!(cell_truth(x, &noted.row), Truth::Yes) {
+            out.push(noted.node)?;
+        }
+    }
+    Ok(out)
+}
+
+/// The nodes of the rows to whose first value `x` compares equal or unknown.
+fn possible(alloc: Global, x: &Value, rows: &[Noted]) -> Result<List<Node>, NoMemory>
+    ensures { IfOk result (λ out. out ≡ possible x.now rows.now) }
+{
+    let mut out = List::new(alloc);
+    for noted in rows {
+        if !matches!(cell_truth(x, &noted.row), Truth::No) {
+            out.push(noted.node)?;
+        }
+    }
+    Ok(out)
+}
+
+/// Whether `x` is among the rows.
+pub fn member(alloc: Global, dag: &mut Dag, x: &Value, rows: &[Noted]) -> Result<Gate, NoMemory>
+    requires { AreNoted dag.old rows.now }
+    ensures grown { IsGrown dag.old dag.new }
+    ensures gate { IfOk result (λ g. IsGate dag.new g (member_test x.now (entries_of dag.old rows.now))) }
+{
+    let sure = sure(alloc, x, rows)?;
+    let possible = possible(alloc, x, rows)?;
+    let yes = dag.any(sure.as_slice())?;
+    let some = dag.any(possible.as_slice())?;
+    let no = dag.not(some)?;
+    Ok(Gate { yes, no })
+}

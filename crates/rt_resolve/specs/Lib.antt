@@ -1,0 +1,5 @@
+pub mod Alone
+pub mod Chains
+pub mod Conditions
+pub mod Relations
+pub mod Shapes

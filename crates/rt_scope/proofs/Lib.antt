@@ -1,0 +1,6 @@
+pub mod Comparing
+pub mod Listing
+pub mod More
+pub mod Standing
+pub mod Steps
+pub mod Summing

@@ -1,0 +1,5 @@
+pub mod Compare
+pub mod Fault
+pub mod Lookup
+pub mod Select
+pub mod Sums

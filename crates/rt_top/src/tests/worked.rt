@@ -1,0 +1,396 @@
+//! The worked rows of accepted inputs, in memory.
+use super::{ALL, FOUR, LARGE, SCHEMA, TABLE, ends, files};
+use rt_value::NoMemory;
+use std::alloc::Global;
+use std::test::Fail;
+
+const A: &str = "CREATE TABLE student (name TEXT PRIMARY KEY, major TEXT);\n\
+    CREATE TABLE reg (name TEXT REFERENCES student, course INTEGER, dept TEXT, grade INTEGER, PRIMARY KEY (name, course));";
+
+/// The same without the foreign key.
+const LOOSE: &str = "CREATE TABLE student (name TEXT PRIMARY KEY, major TEXT);\n\
+    CREATE TABLE reg (name TEXT, course INTEGER, dept TEXT, grade INTEGER, PRIMARY KEY (name, course));";
+
+const STUDENT: (&str, &str) = ("d/student.csv", "name,major\nMary,CS\nJohn,ECON\n");
+
+const REG: (&str, &str) = (
+    "d/reg.csv",
+    "name,course,dept,grade\nMary,216,CS,100\nMary,230,CS,75\nJohn,316,CS,90\n",
+);
+
+/// The students with one course of CS.
+const ONE: &str =
+    "SELECT s.name FROM student s, reg r WHERE s.name = r.name AND r.dept = 'CS' EXCEPT SELECT s.name FROM student s, reg r1, reg r2 WHERE s.name = r1.name AND s.name = r2.name AND r1.course <> r2.course AND r1.dept = 'CS' AND r2.dept = 'CS'";
+
+/// The students with a course of CS.
+const SOME: &str = "SELECT s.name FROM student s, reg r WHERE s.name = r.name AND r.dept = 'CS'";
+
+const MARY: &str =
+    "witness: 3\nstudent 1: 'Mary', 'CS'\nreg 1: 'Mary', 216, 'CS', 100\nreg 2: 'Mary', 230, 'CS', 75\nonly query 1: 0\nonly query 2: 1\n  'Mary'\nboth: 0\n";
+
+const ABC: &str =
+    "CREATE TABLE a (x INTEGER); CREATE TABLE b (x INTEGER); CREATE TABLE c (x INTEGER)";
+
+const ONES: [(&str, &str); 3] = [
+    ("d/a.csv", "x\n1\n"),
+    ("d/b.csv", "x\n1\n"),
+    ("d/c.csv", "x\n1\n"),
+];
+
+const MEET: &str = "SELECT x FROM a INTERSECT (SELECT x FROM b UNION SELECT x FROM c)";
+
+const MEETS: &str =
+    "SELECT x FROM a INTERSECT SELECT x FROM b UNION SELECT x FROM a INTERSECT SELECT x FROM c";
+
+/// Whether each pair of queries ends with its status and writes just its text.
+fn all_end(
+    alloc: Global,
+    schema: &str,
+    tables: &[(&str, &str)],
+    cases: &[(&str, &str, u8, &str)],
+) -> Result<bool, NoMemory> {
+    let mut good = true;
+    for (query1, query2, status, out) in cases {
+        let mut files = files(alloc, schema, tables, query1, query2)?;
+        files.piece(7);
+        good = ends(alloc, &mut files, &FOUR, *status, out, "")? && good;
+    }
+    Ok(good)
+}
+
+#[test]
+fn students(rt: HostRuntime) -> Result<(), Fail> {
+    let alloc = rt.alloc();
+    assert!(rt;
+        all_end(
+            alloc,
+            A,
+            &[STUDENT, REG],
+            &[
+                (ONE, SOME, 1, MARY,),
+                (
+                    "SELECT r.name FROM reg r WHERE r.dept = 'CS'",
+                    "SELECT r.name FROM reg r WHERE r.dept = 'CS' AND r.grade > 80",
+                    1,
+                    "witness: 2\nstudent 1: 'Mary', 'CS'\nreg 2: 'Mary', 230, 'CS', 75\nonly query 1: 1\n  'Mary'\nonly query 2: 0\nboth: 0\n",
+                ),
+                (
+                    "SELECT s.name FROM student s JOIN reg r ON s.name = r.name",
+                    "SELECT s.name FROM reg r JOIN student s ON r.name = s.name",
+                    0,
+                    "agree\n",
+                ),
+                (
+                    "SELECT d.n FROM (SELECT name AS n, grade AS g FROM reg) AS d WHERE d.g BETWEEN 80 AND 95",
+                    "SELECT name FROM reg WHERE grade IN (90)",
+                    0,
+                    "agree\n",
+                ),
+                (
+                    "SELECT s.name FROM student s WHERE EXISTS (SELECT * FROM reg r WHERE r.name = s.name AND r.grade > 80)",
+                    "SELECT name FROM reg WHERE grade > 80",
+                    0,
+                    "agree\n",
+                ),
+                (
+                    "SELECT name FROM student WHERE name IN (SELECT name FROM reg WHERE name IS NULL)",
+                    "SELECT name FROM student WHERE name <> name",
+                    0,
+                    "agree\n",
+                ),
+            ],
+        )?
+    );
+    assert!(rt;
+        all_end(
+            alloc,
+            LOOSE,
+            &[STUDENT, REG],
+            &[(
+                "SELECT r.name FROM reg r WHERE r.dept = 'CS'",
+                "SELECT r.name FROM reg r WHERE r.dept = 'CS' AND r.grade > 80",
+                1,
+                "witness: 1\nreg 2: 'Mary', 230, 'CS', 75\nonly query 1: 1\n  'Mary'\nonly query 2: 0\nboth: 0\n",
+            ),],
+        )?
+    );
+    assert!(rt;
+        all_end(
+            alloc,
+            A,
+            &[
+                ("d/student.csv", "name,major\n"),
+                ("d/reg.csv", "name,course,dept,grade\n")
+            ],
+            &[(ONE, SOME, 0, "agree\n",),],
+        )?
+    );
+    Ok(())
+}
+
+#[test]
+fn rules_and_nulls(rt: HostRuntime) -> Result<(), Fail> {
+    let alloc = rt.alloc();
+    assert!(rt;
+        all_end(
+            alloc,
+            "CREATE TABLE t (a INTEGER); CREATE TABLE u (b INTEGER);",
+            &[("d/t.csv", "a\n1\n"), ("d/u.csv", "b\n\"\"\n")],
+            &[(
+                "SELECT a FROM t WHERE a NOT IN (SELECT b FROM u)",
+                "SELECT a FROM t WHERE NOT EXISTS (SELECT * FROM u WHERE b = a)",
+                1,
+                "witness: 2\nt 1: 1\nu 1: NULL\nonly query 1: 0\nonly query 2: 1\n  1\nboth: 0\n",
+            ),],
+        )?
+    );
+    assert!(rt;
+        all_end(
+            alloc,
+            "CREATE TABLE t (a INTEGER); CREATE TABLE u (b INTEGER);",
+            &[("d/t.csv", "a\n1\n"), ("d/u.csv", "b\n")],
+            &[(
+                "SELECT a FROM t WHERE a NOT IN (SELECT b FROM u)",
+                "SELECT a FROM t WHERE NOT EXISTS (SELECT * FROM u WHERE b = a)",
+                0,
+                "agree\n",
+            ),],
+        )?
+    );
+    assert!(rt;
+        all_end(
+            alloc,
+            "CREATE TABLE p (k INTEGER PRIMARY KEY, v INTEGER);",
+            &[("d/p.csv", "k,v\n1,1\n1,2\n")],
+            &[(
+                "SELECT x.k FROM p x, p y WHERE x.k = y.k AND x.v < y.v",
+                "SELECT k FROM p WHERE k <> k",
+                0,
+                "agree\n",
+            ),],
+        )?
+    );
+    assert!(rt;
+        all_end(
+            alloc,
+            "CREATE TABLE emp (id INTEGER PRIMARY KEY, boss INTEGER REFERENCES emp);",
+            &[("d/emp.csv", "id,boss\n1,2\n2,1\n")],
+            &[(
+                "SELECT id FROM emp",
+                "SELECT id FROM emp WHERE id <> id",
+                1,
+                "witness: 2\nemp 1: 1, 2\nemp 2: 2, 1\nonly query 1: 2\n  1\n  2\nonly query 2: 0\nboth: 0\n",
+            ),],
+        )?
+    );
+    assert!(rt;
+        all_end(
+            alloc,
+            "CREATE TABLE emp (id INTEGER PRIMARY KEY, boss INTEGER REFERENCES emp);",
+            &[("d/emp.csv", "id,boss\n1,\n")],
+            &[(
+                "SELECT id FROM emp",
+                "SELECT id FROM emp WHERE id <> id",
+                1,
+                "witness: 1\nemp 1: 1, NULL\nonly query 1: 1\n  1\nonly query 2: 0\nboth: 0\n",
+            ),],
+        )?
+    );
+    assert!(rt;
+        all_end(
+            alloc,
+            "CREATE TABLE n (a INTEGER NOT NULL, b INTEGER);",
+            &[("d/n.csv", "a,b\n,5\n7,\n")],
+            &[(
+                "SELECT b FROM n",
+                "SELECT b FROM n WHERE b <> b",
+                1,
+                "witness: 1\nn 2: 7, NULL\nonly query 1: 1\n  NULL\nonly query 2: 0\nboth: 0\n",
+            ),],
+        )?
+    );
+    assert!(rt;
+        all_end(
+            alloc,
+            "CREATE TABLE n (a INTEGER NOT NULL, b INTEGER);",
+            &[("d/n.csv", "a,b\n,5\n")],
+            &[(
+                "SELECT b FROM n",
+                "SELECT b FROM n WHERE b <> b",
+                0,
+                "agree\n",
+            ),],
+        )?
+    );
+    assert!(rt;
+        all_end(
+            alloc,
+            "CREATE TABLE w (a INTEGER);",
+            &[("d/w.csv", "a\n-9223372036854775808\n")],
+            &[(
+                "SELECT a*a+1 FROM w",
+                "SELECT a*a FROM w",
+                1,
+                "witness: 1\nw 1: -9223372036854775808\nonly query 1: 1\n  85070591730234615865843651857942052865\nonly query 2: 1\n  85070591730234615865843651857942052864\nboth: 0\n",
+            ),],
+        )?
+    );
+    Ok(())
+}
+
+#[test]
+fn sets_and_files(rt: HostRuntime) -> Result<(), Fail> {
+    let alloc = rt.alloc();
+    assert!(rt;
+        all_end(
+            alloc,
+            ABC,
+            &ONES,
+            &[
+                (
+                    "SELECT x FROM a EXCEPT SELECT x FROM b UNION SELECT x FROM c",
+                    "(SELECT x FROM a EXCEPT SELECT x FROM b) UNION SELECT x FROM c",
+                    0,
+                    "agree\n",
+                ),
+                (
+                    "SELECT x FROM a EXCEPT SELECT x FROM b UNION SELECT x FROM c",
+                    "SELECT x FROM a EXCEPT (SELECT x FROM b UNION SELECT x FROM c)",
+                    1,
+                    "witness: 1\nc 1: 1\nonly query 1: 1\n  1\nonly query 2: 0\nboth: 0\n",
+                ),
+                (MEET, MEETS, 0, "agree\n",),
+            ],
+        )?
+    );
+    assert!(rt;
+        all_end(
+            alloc,
+            SCHEMA,
+            &[TABLE],
+            &[
+                (ALL, "SELECT * FROM t WHERE a >= 2;", 0, "agree\n",),
+                (
+                    ALL,
+                    LARGE,
+                    1,
+                    "witness: 1\nt 2: 2, 20\nonly query 1: 1\n  2, 20\nonly query 2: 0\nboth: 0\n",
+                ),
+            ],
+        )?
+    );
+    assert!(rt;
+        all_end(
+            alloc,
+            SCHEMA,
+            &[("d/t.csv", "a,b\n")],
+            &[(ALL, LARGE, 0, "agree\n",),],
+        )?
+    );
+    assert!(rt;
+        all_end(
+            alloc,
+            "\u{feff}CREATE TABLE t (a INTEGER, b INTEGER)",
+            &[("d/t.csv", "\u{feff}A , b\n 1 ,+2\n\n3,4\n")],
+            &[(
+                "SELECT * FROM t -- all\n",
+                "SELECT * FROM t WHERE a > 1",
+                1,
+                "witness: 1\nt 1: 1, 2\nonly query 1: 1\n  1, 2\nonly query 2: 0\nboth: 0\n",
+            ),],
+        )?
+    );
+    assert!(rt;
+        all_end(
+            alloc,
+            "CREATE TABLE p (k INTEGER PRIMARY KEY, up INTEGER REFERENCES p);",
+            &[("d/p.csv", "k,up\n1,2\n2,\n")],
+            &[(
+                "SELECT * FROM p WHERE k > 0",
+                "SELECT * FROM p WHERE k > 1",
+                1,
+                "witness: 2\np 1: 1, 2\np 2: 2, NULL\nonly query 1: 1\n  1, 2\nonly query 2: 0\nboth: 1\n  2, NULL\n",
+            ),],
+        )?
+    );
+    assert!(rt;
+        all_end(
+            alloc,
+            "CREATE TABLE p (k INTEGER PRIMARY KEY, up INTEGER REFERENCES p);",
+            &[("d/p.csv", "k,up\n1,2\n")],
+            &[(
+                "SELECT * FROM p WHERE k > 0",
+                "SELECT * FROM p WHERE k > 1",
+                0,
+                "agree\n",
+            ),],
+        )?
+    );
+    assert!(rt;
+        all_end(
+            alloc,
+            "CREATE TABLE p (k INTEGER PRIMARY KEY, up INTEGER REFERENCES p);",
+            &[("d/p.csv", "k,up\n1,2\n1,\n")],
+            &[(
+                "SELECT * FROM p WHERE k > 0",
+                "SELECT * FROM p WHERE k > 1",
+                1,
+                "witness: 1\np 2: 1, NULL\nonly query 1: 1\n  1, NULL\nonly query 2: 0\nboth: 0\n",
+            ),],
+        )?
+    );
+    Ok(())
+}
+
+/// Either of two smallest witnesses may be printed.
+#[test]
+fn either_of_two(rt: HostRuntime) -> Result<(), Fail> {
+    let alloc = rt.alloc();
+    let schema = "CREATE TABLE d (a INTEGER);";
+    let (left, right) = ("SELECT a FROM d", "SELECT a FROM d WHERE a <> 5");
+    let mut files = files(alloc, schema, &[("d/d.csv", "a\n5\n5\n")], left, right)?;
+    let first = "witness: 1\nd 1: 5\nonly query 1: 1\n  5\nonly query 2: 0\nboth: 0\n";
+    let second = "witness: 1\nd 2: 5\nonly query 1: 1\n  5\nonly query 2: 0\nboth: 0\n";
+    assert!(rt;
+        ends(alloc, &mut files, &FOUR, 1, first, "")?
+            || ends(alloc, &mut files, &FOUR, 1, second, "")?
+    );
+    Ok(())
+}
+
+/// Without the foreign key either of two rows tells the queries apart.
+#[test]
+fn either_of_two_grades(rt: HostRuntime) -> Result<(), Fail> {
+    let alloc = rt.alloc();
+    let left =
+        "SELECT s.name FROM student s WHERE EXISTS (SELECT * FROM reg r WHERE r.name = s.name AND r.grade > 80)";
+    let right = "SELECT name FROM reg WHERE grade > 80";
+    let mut files = files(alloc, LOOSE, &[STUDENT, REG], left, right)?;
+    let first =
+        "witness: 1\nreg 1: 'Mary', 216, 'CS', 100\nonly query 1: 0\nonly query 2: 1\n  'Mary'\nboth: 0\n";
+    let second =
+        "witness: 1\nreg 3: 'John', 316, 'CS', 90\nonly query 1: 0\nonly query 2: 1\n  'John'\nboth: 0\n";
+    assert!(rt;
+        ends(alloc, &mut files, &FOUR, 1, first, "")?
+            || ends(alloc, &mut files, &FOUR, 1, second, "")?
+    );
+    Ok(())
+}
+
+/// The work of the first row is 663; one clause is learned where the queries meet.
+#[test]
+fn limits_of_the_command(rt: HostRuntime) -> Result<(), Fail> {
+    let alloc = rt.alloc();
+    let mut school = files(alloc, A, &[STUDENT, REG], ONE, SOME)?;
+    let within = ["s", "d", "p", "q", "--work", "663"];
+    assert!(rt; ends(alloc, &mut school, &within, 1, MARY, "")?);
+    let below = ["--work=662", "s", "d", "p", "q"];
+    let limit = "ratest: limit: work 663 is above 662\n";
+    assert!(rt; ends(alloc, &mut school, &below, 5, "", limit)?);
+    let mut sets = files(alloc, ABC, &ONES, MEET, MEETS)?;
+    let enough = ["s", "d", "p", "q", "--conflicts", "8"];
+    assert!(rt; ends(alloc, &mut sets, &enough, 0, "agree\n", "")?);
+    let one = ["s", "d", "p", "q", "--conflicts", "1"];
+    assert!(rt; ends(alloc, &mut sets, &one, 4, "undecided: 1 conflicts\n", "")?);
+    Ok(())
+}

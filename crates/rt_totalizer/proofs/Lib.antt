@@ -1,0 +1,3 @@
+pub mod CellLaws
+pub mod Rows
+pub mod Totals

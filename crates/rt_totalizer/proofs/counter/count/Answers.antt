@@ -1,0 +1,37 @@
+use Rattle.std.proofs.Common.{◌≡◌, ◌<◌, ◌+◌, ◌∙◌, ℕ, true, List, sym, ap, subst, length, arith}
+use Rattle.rt_clause.specs.Literal.{Literal}
+use Rattle.rt_clause.specs.Lists.{has}
+use Rattle.rt_clause.proofs.Literals.{has-tail}
+use Rattle.rt_totalizer.specs.Cells.{first_cells}
+use Rattle.rt_totalizer.proofs.Totals.{IsCounter, counter-none, counter-row, first-length, outputs-count}
+use Rattle.rt_totalizer.proofs.counter.count.Goals as goal
+
+pub loop-row-init : goal.loop-row-init
+loop-row-init g c =
+    let always : c.of-always.result ≡ record { var = c.next-start.result; on = true } = (let v = c.of-always.ensures.var in let o = c.of-always.ensures.on in λ i. record { var = v i; on = o i }) in
+    let P : List Literal → Type 0 = λ ls. IsCounter (g.A.Adds.lines c.args.to.now) c.next-start.result 0 ls (c.next-start.result + 1) (g.A.Adds.lines c.gate.new.to) in
+    let Q : List (List Literal) → Type 0 = λ ls. IsCounter (g.A.Adds.lines c.args.to.now) c.next-start.result 0 (first_cells c.of-always.result c.args.upto) (c.next-start.result + 1) ls in
+    record {
+      len = ap length c.in_ok-first_cells.ensures ∙ first-length c.of-always.result c.args.upto;
+      few = (let t = c.if-start-ge-MOST_VARIABLES.false in omega (arith, t));
+      counter = subst P (sym c.in_ok-first_cells.ensures) (subst Q (sym c.in_ok-gate.ensures) (counter-none (g.A.Adds.lines c.args.to.now) c.next-start.result c.args.upto c.of-always.result always));
+    }
+
+pub loop-row-preserved : goal.loop-row-preserved
+loop-row-preserved g c = record {
+  len = c.in_ok-cells.ensures.len ∙ c.loop-row.invariant.len;
+  few = c.in_ok-cells.ensures.few;
+  counter = counter-row _ c.next-start.result c.loop-row.row _ _ _ _ _ _ c.loop-row.invariant.counter c.in_ok-cells.ensures.row;
+}
+
+pub returns-clause-low : goal.returns-clause-low
+returns-clause-low g c l h =
+    let P : List Literal → Type 0 = λ ls. has ls l ≡ true in
+    let N : ℕ → Type 0 = λ n. l.var < n in
+    subst N (sym c.of.ensures.next) (c.loop-row.invariant.counter.low l (subst P (sym c.in_ok-outs.ensures.1) (has-tail c.in_ok-outs.ensures.0 l c.in_ok-outs.outs h)))
+
+pub returns-clause-counts : goal.returns-clause-counts
+returns-clause-counts g c =
+    let rows : c.loop-row.row ≡ c.args.named.now.rows = (let t = c.loop-row-test.false in let e = c.loop-row.auto.row-end in let r = c.rows-row-end.ensures.is in omega (arith, t, e, r)) in
+    let R : ℕ → Type 0 = λ n. IsCounter (g.A.Adds.lines c.args.to.now) c.next-start.result n c.loop-row.cells.list c.loop-row.cells.next (g.A.Adds.lines c.loop-row.to) in
+    outputs-count _ _ c.args.named.now.rows c.loop-row.cells.list _ _ c.in_ok-outs.ensures.0 c.in_ok-outs.outs (subst R rows c.loop-row.invariant.counter) c.in_ok-outs.ensures.1

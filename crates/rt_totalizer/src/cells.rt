@@ -1,0 +1,59 @@
+ghost use Rattle.std.specs.Prelude.{◌≡◌, ◌≤◌, ◌<◌, ◌^◌, IfOk, length};
+ghost use Rattle.rt_clause.specs.Lists.{IsBelow};
+ghost use Rattle.rt_totalizer.specs.Cells.{cell_at, IsRowOf};
+
+use crate::cell::cell;
+use rt_clause::{Adds, Lit, LitList};
+use rt_value::{List, NoMemory};
+use std::alloc::Global;
+
+pub(crate) const MOST_VARIABLES: usize = 1 << 61;
+
+/// The cells after some rows, from the one of no rows on, and the first unused variable.
+#[derive(Drop)]
+pub(crate) struct Cells {
+    pub(crate) list: LitList,
+    pub(crate) next: usize,
+}
+
+fn at(cells: &LitList, k: usize) -> Lit
+    requires { k < length cells.now }
+    ensures { result ≡ cell_at cells.now k }
+{
+    cells.as_slice()[k]
+}
+
+/// The cells with one more row. Those of more rows than there are so far stay as they were.
+pub(crate) fn with_row<A: Adds>(
+    alloc: Global,
+    row: usize,
+    old: &Cells,
+    to: &mut A,
+) -> Result<Cells, NoMemory>
+    requires row { row < old.now.next }
+    requires some { 0 < length old.now.list }
+    requires low { IsBelow old.now.next old.now.list }
+    requires few { old.now.next ≤ 2 ^ 61 }
+    ensures len { IfOk result (λ new. length new.list ≡ length old.now.list) }
+    ensures few { IfOk result (λ new. new.next ≤ 2 ^ 61) }
+    ensures row { IfOk result (λ new. IsRowOf row old.now.list old.now.next (A.lines to.old) new.list new.next (A.lines to.new)) }
+{
+    let mut list: LitList = List::new(alloc);
+    list.push(at(&old.list, 0))?;
+    let mut next = old.next;
+    for k in 1..old.list.len() {
+        let same = at(&old.list, k);
+        if k > row + 1 {
+            list.push(same)?;
+            continue;
+        }
+        if next >= MOST_VARIABLES {
+            return Err(NoMemory);
+        }
+        let out = Lit::of(next, true);
+        cell(out, same, Lit::of(row, true), at(&old.list, k - 1), to)?;
+        list.push(out)?;
+        next += 1;
+    }
+    Ok(Cells { list, next })
+}

@@ -1,0 +1,78 @@
+ghost use Rattle.std.specs.Prelude.{◌≡◌, ◌≤◌, ◌<◌, ◌∷◌, IfOk, OnErr, length};
+ghost use Rattle.rt_clause.specs.Literal.{Literal};
+ghost use Rattle.rt_clause.specs.Lists.{AreBelow, IsBelow};
+ghost use Rattle.rt_clause.specs.Gates.{Extends};
+ghost use Rattle.rt_totalizer.specs.Cells.{first_cells};
+ghost use Rattle.rt_totalizer.specs.Outputs.{CountsRows};
+
+use crate::cells::{Cells, MOST_VARIABLES, with_row};
+use rt_clause::{Adds, Lit, LitList, Named, gate};
+use rt_value::{List, NoMemory};
+use std::alloc::Global;
+
+/// The literals of a counter: the j-th, counted from 1, is true exactly where at least j rows are
+/// kept.
+#[derive(Drop)]
+pub struct Outputs {
+    pub outs: LitList,
+}
+
+// The cells before any row: at least no row is always kept, and no more than that.
+fn first_cells(alloc: Global, upto: usize, always: Lit) -> Result<LitList, NoMemory>
+    ensures { IfOk result (λ cells. cells ≡ first_cells always upto) }
+{
+    let mut cells: LitList = List::new(alloc);
+    cells.push(always)?;
+    for _ in 0..upto {
+        cells.push(always.negated())?;
+    }
+    Ok(cells)
+}
+
+// All but the first.
+fn rest(alloc: Global, cells: &LitList) -> Result<LitList, NoMemory>
+    requires { 0 < length cells.now }
+    ensures { IfOk result (λ outs. (l : Literal) × (cells.now ≡ l ∷ outs)) }
+{
+    match cells.as_slice() {
+        [] => Ok(List::new(alloc)),
+        [_, outs @ ..] => List::from_slice(alloc, outs),
+    }
+}
+
+/// Adds clauses that count the kept rows up to a bound: about one variable and four clauses for each
+/// row and number of rows. Moves the first unused variable past them. After an error some clauses
+/// may have been added.
+pub fn count<A: Adds>(
+    alloc: Global,
+    upto: usize,
+    named: &mut Named,
+    to: &mut A,
+) -> Result<Outputs, NoMemory>
+    requires upto { upto ≤ named.old.rows }
+    requires below { AreBelow named.old.next (A.lines to.old) }
+    ensures rows { named.new.rows ≡ named.old.rows }
+    ensures goal { named.new.goal ≡ named.old.goal }
+    ensures len { IfOk result (λ o. length o.outs ≡ upto) }
+    ensures low { IfOk result (λ o. IsBelow named.new.next o.outs) }
+    ensures extends { IfOk result (λ _. Extends (A.lines to.old) named.old.next (A.lines to.new) named.new.next) }
+    ensures counts { IfOk result (λ o. CountsRows named.old.rows (A.lines to.new) o.outs) }
+    ensures err { OnErr result (named.new ≡ named.old) }
+{
+    let start = named.next();
+    if start >= MOST_VARIABLES {
+        return Err(NoMemory);
+    }
+    let always = Lit::of(start, true);
+    gate(alloc, always, &[], to)?;
+    let mut cells = Cells {
+        list: first_cells(alloc, upto, always)?,
+        next: start + 1,
+    };
+    for row in 0..named.rows() {
+        cells = with_row(alloc, row, &cells, to)?;
+    }
+    let outs = rest(alloc, &cells.list)?;
+    *named = Named::of(named.rows(), cells.next, named.goal());
+    Ok(Outputs { outs })
+}

@@ -1,0 +1,16 @@
+use crate::count;
+use rt_clause::{Lit, Named};
+use rt_derive::Checker;
+use std::test::Fail;
+
+#[test]
+fn two_thousand_rows(rt: HostRuntime) -> Result<(), Fail> {
+    let mut checker = Checker::new(rt.alloc());
+    let mut named = Named::of(2_000, 2_000, Lit::of(0, true));
+    let counter = count(rt.alloc(), 400, &mut named, &mut checker)?;
+    assert_eq!(rt; counter.outs.len(), 400);
+    // The rows, one variable that is always true, and a cell for each row and number of rows but
+    // those of more rows than there are so far: 400 * 401 / 2 + 1,600 * 400.
+    assert_eq!(rt; named.next(), 722_201);
+    Ok(())
+}

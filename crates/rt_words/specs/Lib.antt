@@ -1,0 +1,4 @@
+pub mod App
+pub mod Command
+pub mod Ranges
+pub mod Reading

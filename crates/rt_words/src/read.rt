@@ -1,0 +1,123 @@
+ghost use Rattle.std.specs.Prelude.{◌≡◌, [], ◌∷◌, IfOk, IfErr, map, option_and_then};
+ghost use Rattle.rt_words.specs.Command.{Reads, command, form, of_files, of_made};
+ghost use Rattle.rt_words.specs.Ranges.{AreInRange};
+ghost use Rattle.rt_words.specs.Reading.{read};
+
+use crate::fault::WordFault;
+use crate::limits::{Limits, limits_in, number_to};
+use crate::matches::matches_of;
+use crate::words::Words;
+use rt_value::{List, NoMemory, Txt};
+use std::alloc::Global;
+
+/// The command that the words behind the program's name spell: four paths, or `made` and a
+/// number, with the options `--conflicts` and `--work` anywhere before `--`.
+pub fn read_words(alloc: Global, words: &[Txt]) -> Result<Words, WordFault>
+    ensures { Reads (command words.now) result }
+{
+    let texts = texts_of(alloc, words)?;
+    read_texts(alloc, texts.as_slice())
+}
+
+fn texts_of<'a>(alloc: Global, words: &'a [Txt]) -> Result<Vec<&'a str>, NoMemory>
+    ensures { IfOk result (λ texts. map (λ s. s.now) texts.items ≡ words.entry.now) }
+{
+    let mut texts = Vec::new(alloc);
+    for word in words {
+        texts.push(word.as_str())?;
+    }
+    Ok(texts)
+}
+
+fn read_texts(alloc: Global, words: &[&str]) -> Result<Words, WordFault>
+    ensures { Reads (command (map (λ s. s.now) words.now)) result }
+{
+    match words {
+        [] => Err(WordFault::Usage),
+        [first, rest @ ..] => {
+            if *first == "made" {
+                read_made(alloc, rest)
+            } else {
+                read_files(alloc, words)
+            }
+        }
+    }
+}
+
+// The form of four paths.
+fn read_files(alloc: Global, words: &[&str]) -> Result<Words, WordFault>
+    ensures { Reads (option_and_then (form of_files) (read (map (λ s. s.now) words.now))) result }
+{
+    let matches = matches_of(alloc, words)?;
+    let Some(limits) = limits_in(&matches) else {
+        return Err(WordFault::Usage);
+    };
+    match matches.get_raw("words") {
+        Some(plain) => files_command(alloc, plain, limits),
+        None => Err(WordFault::Usage),
+    }
+}
+
+// The form of a generated input: the words behind `made`.
+fn read_made(alloc: Global, words: &[&str]) -> Result<Words, WordFault>
+    ensures { Reads (option_and_then (form of_made) (read (map (λ s. s.now) words.now))) result }
+{
+    let matches = matches_of(alloc, words)?;
+    let Some(limits) = limits_in(&matches) else {
+        return Err(WordFault::Usage);
+    };
+    match matches.get_raw("words") {
+        Some(plain) => made_command(alloc, plain, limits),
+        None => Err(WordFault::Usage),
+    }
+}
+
+fn files_command(alloc: Global, words: &[&str], limits: Limits) -> Result<Words, WordFault>
+    requires { AreInRange limits }
+    ensures { Reads (of_files (map (λ s. s.now) words.now) limits) result }
+{
+    match words {
+        [schema, dir, query1, query2] => Ok(Words {
+            paths: four_paths(alloc, schema, dir, query1, query2)?,
+            conflicts: limits.conflicts,
+            work_limit: limits.work,
+            made: None,
+        }),
+        _ => Err(WordFault::Usage),
+    }
+}
+
+fn made_command(alloc: Global, words: &[&str], limits: Limits) -> Result<Words, WordFault>
+    requires { AreInRange limits }
+    ensures { Reads (of_made (map (λ s. s.now) words.now) limits) result }
+{
+    match words {
+        [n] => match number_to(400, n) {
+            Some(n) => Ok(Words {
+                paths: List::new(alloc),
+                conflicts: limits.conflicts,
+                work_limit: limits.work,
+                made: Some(n),
+            }),
+            None => Err(WordFault::Usage),
+        },
+        _ => Err(WordFault::Usage),
+    }
+}
+
+fn four_paths(
+    alloc: Global,
+    schema: &str,
+    dir: &str,
+    query1: &str,
+    query2: &str,
+) -> Result<List<Txt>, NoMemory>
+    ensures { IfOk result (λ paths. paths ≡ schema.now ∷ dir.now ∷ query1.now ∷ query2.now ∷ []) }
+{
+    let mut paths = List::new(alloc);
+    paths.push(Txt::of(alloc, schema)?)?;
+    paths.push(Txt::of(alloc, dir)?)?;
+    paths.push(Txt::of(alloc, query1)?)?;
+    paths.push(Txt::of(alloc, query2)?)?;
+    Ok(paths)
+}

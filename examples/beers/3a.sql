@@ -1,0 +1,2 @@
+-- Wrong: at least one.
+SELECT bar FROM serves

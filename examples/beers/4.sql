@@ -1,0 +1,4 @@
+-- Drinkers who like each beer that Joe's serves.
+SELECT name FROM drinker EXCEPT
+SELECT d.name FROM drinker d, serves s
+WHERE s.bar = 'Joe''s' AND NOT EXISTS (SELECT * FROM likes l WHERE l.drinker = d.name AND l.beer = s.beer)

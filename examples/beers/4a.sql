@@ -1,0 +1,3 @@
+-- Wrong: some beer.
+SELECT l.drinker FROM likes l, serves s
+WHERE s.bar = 'Joe''s' AND l.beer = s.beer

@@ -1,0 +1,3 @@
+-- Wrong: a beer is no cheaper than itself.
+SELECT s.bar, s.beer FROM serves s
+WHERE s.price IS NOT NULL AND NOT EXISTS (SELECT * FROM serves t WHERE t.bar = s.bar AND t.price <= s.price)
