@@ -8,10 +8,11 @@
 
 mod best;
 mod choice;
+mod counted;
 mod lower;
 mod search;
 #[cfg(test)]
 mod tests;
 
 pub use best::{Best, SpentBest};
-pub use search::smallest;
+pub use search::{Searched, smallest, smallest_counted};

@@ -5,8 +5,8 @@ ghost use Rattle.rt_search.specs.Least.{IsBest, IsGoal};
 
 use crate::best::{Best, SpentBest};
 use crate::choice::rows_of;
+use crate::counted::Counted;
 use rt_clause::{Lit, LitList, Named};
-use rt_derive::Checker;
 use rt_formula::{Dag, Node};
 use rt_solver::{Found, Solver};
 use rt_value::{Keep, NoMemory};
@@ -24,7 +24,7 @@ fn fewer(outs: &LitList, most: usize) -> Lit
 /// Goes on from a choice to ones of fewer rows, until there is none or the budget is spent.
 pub(crate) fn lower(
     alloc: Global,
-    solver: &mut Solver<Checker>,
+    solver: &mut Solver<Counted>,
     dag: &Dag,
     goal: Node,
     named: Named,

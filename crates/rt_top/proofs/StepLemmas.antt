@@ -42,7 +42,7 @@ use Rattle.rt_top.specs.declared.source.Source.{Source}
 use Rattle.rt_top.specs.declared.source.Source.TheVariants.{Files}
 use Rattle.rt_top.specs.Faults.{excess_limit, lex_outcome, load_outcome, name_outcome, or_outcome, schema_outcome, sql_outcome}
 use Rattle.rt_top.specs.Judged.{Data, Holding, Reaches, data_judged, input_judged, most_bytes, query_judged, right_judged, then_read, query_of, query_of_tokens, query_of_tree, schema_of, like_left}
-use Rattle.rt_top.specs.Source.{file_name, file_of, source_of}
+use Rattle.rt_top.specs.Source.{IsKnown, file_name, file_of, source_of}
 use Rattle.rt_top.specs.Steps.{Failed, IsLong, IsLongFor, Refuses, Seen, seen, Stops, of_contents}
 
 pub then_ok : {T U E : Type 0} (r : Result T E) (x : T) (f : T → Result U E) (y : Result U E) → r ≡ Ok x → f x ≡ y → then_read r f ≡ y
@@ -140,7 +140,7 @@ short s source limit.Rows h = tt
 short s source (limit.Work work) h = tt
 
 pub stops_refused : {S T : Type 0} (s : Seen) (source : Source) (j : Result S Outcome) (k : Result T Outcome) (R : Part → Type 0) (o : Outcome)
-    → (IsTrue s.tells → (e : Outcome) → j ≡ Err e → k ≡ Err e) → Refuses j o → Stops s source k R o
+    → (IsKnown s.tells source → (e : Outcome) → j ≡ Err e → k ≡ Err e) → Refuses j o → Stops s source k R o
 stops_refused s source j k R outcome.Agree same r = r
 stops_refused s source j k R (outcome.Witness keep) same r = r
 stops_refused s source j k R outcome.Usage same r = r
@@ -180,7 +180,7 @@ failed_on tells held held' before mid after current taken (Some name) grew faile
 -- a later step of a reading that began with smaller counts
 pub stops_on : {T U : Type 0} (tells : Bool) (held held' : Holding) (before mid after : List ℕ → ℕ) (current : Option (List ℕ)) (taken : ℕ) (source : Source)
     (j : Result T Outcome) (j' : Result U Outcome) (R R' : Part → Type 0) (o : Outcome) → NoneFell before mid
-    → (IsTrue tells → (e : Outcome) → j ≡ Err e → j' ≡ Err e) → (IsTrue tells → (p : Part) → R p → R' p)
+    → (IsKnown tells source → (e : Outcome) → j ≡ Err e → j' ≡ Err e) → (IsKnown tells source → (p : Part) → R p → R' p)
     → Stops (seen tells held' mid after current taken) source j R o → Stops (seen tells held before after current taken) source j' R' o
 stops_on tells held held' before mid after current taken source j j' R R' outcome.Agree grew same reach stop = stop
 stops_on tells held held' before mid after current taken source j j' R R' (outcome.Witness keep) grew same reach stop = stop
@@ -196,7 +196,7 @@ stops_on tells held held' before mid after current taken source j j' R R' outcom
 
 -- a table file that is refused
 pub stops_loaded : (s : Seen) (source : Source) (p : Part) (loaded : Result Rows LoadFault) (j : Result Rows Outcome) (R : Part → Type 0) (fault : LoadFault)
-    → Gives {T = Rows} is_memory (Err fault) loaded → (IsTrue s.tells → (e : LoadFault) → loaded ≡ Err e → j ≡ Err (load_outcome p e))
+    → Gives {T = Rows} is_memory (Err fault) loaded → (IsKnown s.tells source → (e : LoadFault) → loaded ≡ Err e → j ≡ Err (load_outcome p e))
     → Stops s source j R (load_outcome p fault)
 stops_loaded s source p loaded j R load.NoMemory gives same = tt
 stops_loaded s source p loaded j R load.TooManyRows gives same = (tt, λ t. same t load.TooManyRows gives)
@@ -208,20 +208,21 @@ stops_loaded s source p loaded j R (load.BadText n c) gives same = (refl, λ t. 
 -- the second query stops the reading of a command
 pub right_stops : (tells : Bool) (held0 held1 held2 : Holding) (before mid after : List ℕ → ℕ) (current : Option (List ℕ)) (taken : ℕ) (source : Source) (k : Command) (d : Data) (left : Typed) (o : Outcome)
     → source ≡ source_of k → held1 ≡ held0 → held2 ≡ held0 → NoneFell before mid
-    → (IsTrue tells → data_judged source held0 ≡ Ok d) → (IsTrue tells → query_judged source held1 Query1 d.schema ≡ Ok left)
+    → (IsKnown tells source → data_judged source held0 ≡ Ok d) → (IsKnown tells source → query_judged source held1 Query1 d.schema ≡ Ok left)
     → Stops (seen tells held2 mid after current taken) source (right_judged source held2 d.schema left) (λ p. p ≡ Query2) o
     → Stops (seen tells held0 before after current taken) (source_of k) (input_judged held0 k) (Reaches (source_of k) held0) o
 right_stops tells held0 held1 held2 before mid after current taken source k d left o is same1 same2 grew told query stop =
-    let first : IsTrue tells → query_judged source held0 Query1 d.schema ≡ Ok left = λ t. ap (λ (h : Holding). query_judged source h Query1 d.schema) (sym same1) ∙ query t in
-    let judged : IsTrue tells → (e : Outcome) → right_judged source held2 d.schema left ≡ Err e → input_judged held0 k ≡ Err e = λ t e err.
+    let known : IsKnown tells (source_of k) → IsKnown tells source = λ t. subst (IsKnown tells) (sym is) t in
+    let first : IsKnown tells source → query_judged source held0 Query1 d.schema ≡ Ok left = λ t. ap (λ (h : Holding). query_judged source h Query1 d.schema) (sym same1) ∙ query t in
+    let judged : IsKnown tells source → (e : Outcome) → right_judged source held2 d.schema left ≡ Err e → input_judged held0 k ≡ Err e = λ t e err.
     then_ok _ d _ _ (ap (λ (s : Source). data_judged s held0) (sym is) ∙ told t)
     (then_ok _ left _ _ (ap (λ (s : Source). query_judged s held0 Query1 d.schema) (sym is) ∙ first t)
     (then_err _ _ e (ap (λ (s : Source). right_judged s held0 d.schema left) (sym is) ∙ ap (λ (h : Holding). right_judged source h d.schema left) (sym same2) ∙ err))) in
-    let reached : IsTrue tells → (p : Part) → p ≡ Query2 → Reaches source held0 p = λ t p named. subst (Reaches source held0) (sym named) (reaches (data_judged source held0) (told t) (first t)) in
+    let reached : IsKnown tells source → (p : Part) → p ≡ Query2 → Reaches source held0 p = λ t p named. subst (Reaches source held0) (sym named) (reaches (data_judged source held0) (told t) (first t)) in
     let stop' : Stops (seen tells held2 mid after current taken) (source_of k) (right_judged source held2 d.schema left) (λ p. p ≡ Query2) o =
     subst (λ (s : Source). Stops (seen tells held2 mid after current taken) s (right_judged source held2 d.schema left) (λ p. p ≡ Query2) o) is stop in
     stops_on tells held0 held2 before mid after current taken (source_of k) (right_judged source held2 d.schema left) (input_judged held0 k) (λ p. p ≡ Query2) (Reaches (source_of k) held0) o grew
-    judged (λ t p named. subst (λ (s : Source). Reaches s held0 p) is (reached t p named)) stop'
+    (λ t. judged (known t)) (λ t p named. subst (λ (s : Source). Reaches s held0 p) is (reached (known t) p named)) stop'
   where
     reaches : (r : Result Data Outcome) → r ≡ Ok d → query_judged source held0 Query1 d.schema ≡ Ok left → IsOkAnd r (λ d. IsOk (query_judged source held0 Query1 d.schema))
     reaches r e q = rw e (rw q refl)

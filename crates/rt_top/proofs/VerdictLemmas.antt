@@ -1,6 +1,6 @@
 -- What the rows of a call's answers follow from, and that an accepted command over files and sinks
 -- that don't fail gets a verdict.
-use Rattle.std.proofs.Common.{◌≡◌, ℕ, List, IsTrue, Result, Ok, Err, refl, sym, ap, subst, inl, inr, ◌∙◌, arith}
+use Rattle.std.proofs.Common.{◌≡◌, ℕ, List, Result, Ok, Err, refl, sym, ap, subst, inl, inr, ◌∙◌, arith}
 use Rattle.std.specs.Prelude.{Option, Some, None, IfOk, IsOkAnd, IsSome, IsSomeAnd, ◌<◌, ◌≤◌, ◌^◌}
 use Rattle.std.specs.Option.{ForSome}
 use Rattle.rt_io.specs.Edge.{Rose}
@@ -15,13 +15,13 @@ use Rattle.rt_top.specs.declared.place.Place.{Place}
 use Rattle.rt_top.specs.declared.place.Place.TheVariants as at
 use Rattle.rt_top.specs.Accepted.{Accepted, HasOptions}
 use Rattle.rt_top.specs.declared.source.Source.{Source}
-use Rattle.rt_top.specs.Source.{file_of, source_of}
+use Rattle.rt_top.specs.Source.{IsKnown, file_of, source_of}
 use Rattle.rt_words.specs.Command.{command}
 use Rattle.rt_words.specs.Ranges.{Command}
 use Rattle.rt_top.specs.Judged.{Holding, command_judged, input_judged, judged, schema_judged, HasTable, IsNamed, Reaches, TableReached}
 use Rattle.rt_top.specs.Steps.{IsLongFor, Stops}
 use Rattle.rt_top.specs.Texts.{place}
-use Rattle.rt_top.specs.Answers.{Call, HasRoom, IsVerdict, SpentRow, YieldsTo, Log, NoFileRose, NoSinkRose, ReadFaultAt, ReadFaultRow, Row, IfText, Said, Spoke, Stop, at_place, Judges, Says, IsRead}
+use Rattle.rt_top.specs.Answers.{Call, HasRoom, IsVerdict, SpentRow, YieldsTo, Log, NoFileRose, NoSinkRose, ReadFaultAt, ReadFaultRow, Row, IfText, Said, Spoke, Stop, at_place, Judges, Says, IsRead, IsTold}
 
 -- ---- from the reading of the files to the rows
 
@@ -34,21 +34,24 @@ some_and {T = X} P o x e p = subst (λ (q : Option X). IsSomeAnd q P) (sym e) p
 pub judged-command : (c : Call) (k : Command) → command c.words ≡ Some k → judged c.words c.files.held ≡ input_judged c.files.held k
 judged-command c k e = ap (command_judged c.files.held) e
 
+known : (c : Call) (k : Command) → command c.words ≡ Some k → IsTold c → IsKnown c.files.tells (source_of k)
+known c k e told = subst (λ (o : Option Command). ForSome o (λ k. IsKnown c.files.tells (source_of k))) e told
+
 pub stop_row : (c : Call) (k : Command) (o : Outcome) → command c.words ≡ Some k
     → Stops c.files (source_of k) (input_judged c.files.held k) (Reaches (source_of k) c.files.held) o → Stop c o
 stop_row c k outcome.Agree e stop = stop
 stop_row c k (outcome.Witness keep) e stop = stop
 stop_row c k outcome.Usage e stop = absurd stop
-stop_row c k (outcome.Refused part fault) e stop = (is_some _ k e, stop.0, λ t. judged-command c k e ∙ stop.1 t)
+stop_row c k (outcome.Refused part fault) e stop = (is_some _ k e, stop.0, λ t. judged-command c k e ∙ stop.1 (known c k e t))
 stop_row c k (outcome.Spent s) e stop = stop
-stop_row c k (outcome.Limit l) e stop = (some_and (λ k. IsLongFor c.files (source_of k) l) _ k e stop.0, λ t. judged-command c k e ∙ stop.1 t)
+stop_row c k (outcome.Limit l) e stop = (some_and (λ k. IsLongFor c.files (source_of k) l) _ k e stop.0, λ t. judged-command c k e ∙ stop.1 (known c k e t))
 stop_row c k (outcome.ReadFault part) e stop = some_and (ReadFaultAt c.files part) _ k e (record { failed = stop.0; reached = stop.1 })
 stop_row c k outcome.WriteFault e stop = stop
 stop_row c k outcome.NoMemory e stop = tt
 
 pub read_row : (c : Call) (k : Command) (input : Accepted) → command c.words ≡ Some k → HasOptions k input
-    → (IsTrue c.files.tells → input_judged c.files.held k ≡ Ok input) → IsRead c input
-read_row c k input e has told = record { options = some_and (λ k. HasOptions k input) _ k e has; told = λ t. judged-command c k e ∙ told t }
+    → (IsKnown c.files.tells (source_of k) → input_judged c.files.held k ≡ Ok input) → IsRead c input
+read_row c k input e has told = record { options = some_and (λ k. HasOptions k input) _ k e has; told = λ t. judged-command c k e ∙ told (known c k e t) }
 
 -- ---- from the verdict on an input to the rows
 
@@ -89,12 +92,12 @@ named_from_reached source held Query2 reached = tt
 named_from_reached source held Queries reached = reached
 
 -- so its file didn't fail
-no_read_fault : (c : Call) (part : Part) → ReadFaultRow c part → IsTrue c.files.tells → NoFileRose c → ⊥
+no_read_fault : (c : Call) (part : Part) → ReadFaultRow c part → IsTold c → NoFileRose c → ⊥
 no_read_fault c part row tells calm = by_command (command c.words) refl row
   where
     by_command : (o : Option Command) → command c.words ≡ o → IsSomeAnd o (ReadFaultAt c.files part) → ⊥
     by_command None is h = h
-    by_command (Some k) is h = calm k is part (named_from_reached (source_of k) c.files.held part (h.reached tells)) h.failed
+    by_command (Some k) is h = calm k is part (named_from_reached (source_of k) c.files.held part (h.reached (known c k is tells))) h.failed
 
 -- a refusal isn't accepted
 not_accepted : {T E : Type 0} (r : Result T E) (e : E) (x : T) → r ≡ Err e → r ≡ Ok x → ⊥
@@ -109,14 +112,14 @@ no_room : (conflicts : Option ℕ) (budget most : ℕ) → conflicts ≡ Some bu
 no_room None budget most is small room = cc
 no_room (Some b) budget most is small room = let same : b ≡ budget = cc in omega (arith, same, small, room)
 
-not_given_up : (c : Call) (s : Spent) (input : Accepted) → SpentRow c s → IsTrue c.files.tells → judged c.words c.files.held ≡ Ok input → HasRoom input → ⊥
+not_given_up : (c : Call) (s : Spent) (input : Accepted) → SpentRow c s → IsTold c → judged c.words c.files.held ≡ Ok input → HasRoom input → ⊥
 not_given_up c s input row tells ok room =
     let other = row.0 in
     let same : other ≡ input = let e : Ok other ≡ Ok input = sym (row.1.told tells) ∙ ok in cc in
     let bound : ForSome other.conflicts (λ b. 2 ^ places other.given.tables ≤ b) = subst HasRoom (sym same) room in
     no_room other.conflicts s.budget (2 ^ places other.given.tables) row.2 row.3.small bound
 
-row_verdict : (c : Call) (o : Outcome) (input : Accepted) → Row c o → IsTrue c.files.tells → NoFileRose c → judged c.words c.files.held ≡ Ok input → HasRoom input → IsVerdict o
+row_verdict : (c : Call) (o : Outcome) (input : Accepted) → Row c o → IsTold c → NoFileRose c → judged c.words c.files.held ≡ Ok input → HasRoom input → IsVerdict o
 row_verdict c outcome.Agree input row tells calm ok room = tt
 row_verdict c (outcome.Witness keep) input row tells calm ok room = tt
 row_verdict c outcome.Usage input row tells calm ok room = not_accepted (judged c.words c.files.held) outcome.Usage input (ap (command_judged c.files.held) row) ok
@@ -128,7 +131,7 @@ row_verdict c outcome.WriteFault input row tells calm ok room = row
 row_verdict c outcome.NoMemory input row tells calm ok room = tt
 
 pub gets_verdict : (c : Call) (out err : Log) (o : Outcome) (said : List ℕ) (result : Outcome) (input : Accepted) → Row c o → Spoke out err o said result
-    → IsTrue c.files.tells → NoFileRose c → NoSinkRose out err → judged c.words c.files.held ≡ Ok input → HasRoom input → IsVerdict result
+    → IsTold c → NoFileRose c → NoSinkRose out err → judged c.words c.files.held ≡ Ok input → HasRoom input → IsVerdict result
 gets_verdict c out err o said result input row spoke tells calm sinks ok room = elim spoke.ends [
   | inl h ↦ subst IsVerdict (sym h.0) (row_verdict c o input row tells calm ok room)
   | inr h ↦ elim h [
@@ -143,7 +146,7 @@ refused_as : {T : Type 0} (r : Result T Outcome) (refusal o : Outcome) → r ≡
 refused_as r refusal o p q = cc
 
 -- the outcome that its row allows, where a refusal stands
-row_yields : (c : Call) (o refusal : Outcome) → Row c o → IsTrue c.files.tells → judged c.words c.files.held ≡ Err refusal → YieldsTo refusal o
+row_yields : (c : Call) (o refusal : Outcome) → Row c o → IsTold c → judged c.words c.files.held ≡ Err refusal → YieldsTo refusal o
 row_yields c outcome.Agree refusal row tells is = not_accepted _ refusal row.0 is (row.1.told tells)
 row_yields c (outcome.Witness keep) refusal row tells is = not_accepted _ refusal row.0 is (row.1.told tells)
 row_yields c outcome.Usage refusal row tells is = refused_as (judged c.words c.files.held) refusal outcome.Usage is (ap (command_judged c.files.held) row)
@@ -155,7 +158,7 @@ row_yields c outcome.WriteFault refusal row tells is = tt
 row_yields c outcome.NoMemory refusal row tells is = tt
 
 pub yields : (c : Call) (out err : Log) (o : Outcome) (said : List ℕ) (result refusal : Outcome) → Row c o → Spoke out err o said result
-    → IsTrue c.files.tells → judged c.words c.files.held ≡ Err refusal → YieldsTo refusal result
+    → IsTold c → judged c.words c.files.held ≡ Err refusal → YieldsTo refusal result
 yields c out err o said result refusal row spoke tells is = elim spoke.ends [
   | inl h ↦ subst (YieldsTo refusal) (sym h.0) (row_yields c o refusal row tells is)
   | inr h ↦ elim h [

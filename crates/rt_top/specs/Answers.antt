@@ -15,7 +15,7 @@ use Rattle.rt_words.specs.Ranges.{Command}
 use Rattle.rt_top.specs.Accepted.{Accepted, HasOptions}
 use Rattle.rt_top.specs.Judged.{Holding, judged, Reaches, IsNamed}
 use Rattle.rt_top.specs.Smallest.{IsSmallest, Agrees, IsGivenUp}
-use Rattle.rt_top.specs.Source.{file_of, source_of}
+use Rattle.rt_top.specs.Source.{IsKnown, file_of, source_of}
 use Rattle.rt_top.specs.Faults.{is_refusal, placeless}
 use Rattle.rt_top.specs.Steps.{Seen, seen, Failed, IsLongFor}
 use Rattle.rt_schema.specs.Given.{places}
@@ -31,11 +31,15 @@ pub record Call : Type 0 where
 abbrev pub call : List (List ℕ) → Bool → Holding → (List ℕ → ℕ) → (List ℕ → ℕ) → Option (List ℕ) → ℕ → Call
 call words tells held before after current taken = record { words = words; files = seen tells held before after current taken }
 
--- an input that was read in the call: it has the numbers of the command, and where the files tell
--- their contents, it is the one that is judged
+-- the contents of the command's source are known
+abbrev pub IsTold : Call → Type 0
+IsTold c = ForSome (command c.words) (λ k. IsKnown c.files.tells (source_of k))
+
+-- an input that was read in the call: it has the numbers of the command, and where the contents of
+-- its source are known, it is the one that is judged
 pub record IsRead (c : Call) (input : Accepted) : Type 0 where
   pub options : IsSomeAnd (command c.words) (λ k. HasOptions k input)
-  pub told : IsTrue c.files.tells → judged c.words c.files.held ≡ Ok input
+  pub told : IsTold c → judged c.words c.files.held ≡ Ok input
 
 abbrev pub AgreeRow : Call → Type 0
 AgreeRow c = (input : Accepted) × IsRead c input × Agrees input
@@ -52,16 +56,16 @@ UsageRow c = command c.words ≡ None
 
 -- the place of a syntax fault is left open
 abbrev pub RefusedRow : Call → Part → Fault → Type 0
-RefusedRow c part fault = IsSome (command c.words) × IsTrue (is_refusal fault) × (IsTrue c.files.tells → judged c.words c.files.held ≡ Err (outcome.Refused part (placeless fault)))
+RefusedRow c part fault = IsSome (command c.words) × IsTrue (is_refusal fault) × (IsTold c → judged c.words c.files.held ≡ Err (outcome.Refused part (placeless fault)))
 
 -- a file is too long where one byte more than it may have was taken
 abbrev pub LimitRow : Call → Limit → Type 0
-LimitRow c limit = IsSomeAnd (command c.words) (λ k. IsLongFor c.files (source_of k) limit) × (IsTrue c.files.tells → judged c.words c.files.held ≡ Err (outcome.Limit limit))
+LimitRow c limit = IsSomeAnd (command c.words) (λ k. IsLongFor c.files (source_of k) limit) × (IsTold c → judged c.words c.files.held ≡ Err (outcome.Limit limit))
 
 -- the file of this part failed in this call, and nothing before it is refused
 pub record ReadFaultAt (s : Seen) (part : Part) (k : Command) : Type 0 where
   pub failed : Failed s (file_of (source_of k) part)
-  pub reached : IsTrue s.tells → Reaches (source_of k) s.held part
+  pub reached : IsKnown s.tells (source_of k) → Reaches (source_of k) s.held part
 
 abbrev pub ReadFaultRow : Call → Part → Type 0
 ReadFaultRow c part = IsSomeAnd (command c.words) (ReadFaultAt c.files part)

@@ -1,5 +1,5 @@
 -- Where the texts of a command stand: in the files that it names, or in a generated input.
-use Rattle.std.specs.Prelude.{ℕ, List, [], ◌∷◌, ◌++◌, Option, None, Some, codes, slice_index_or}
+use Rattle.std.specs.Prelude.{ℕ, Bool, IsTrue, ⊤, List, [], ◌∷◌, ◌++◌, Option, None, Some, codes, slice_index_or}
 use Rattle.rt_load.specs.Made.{made}
 use Rattle.rt_load.specs.declared.input.Made.{Made as Texts}
 use Rattle.rt_words.specs.Ranges.{Command}
@@ -41,6 +41,11 @@ file_name paths Queries = None
 abbrev pub file_of : Source → Part → Option Text
 file_of (Files paths) part = file_name paths part
 file_of (Made texts) part = None
+
+-- the contents of a source are known: they are generated, or its files tell theirs
+abbrev pub IsKnown : Bool → Source → Type 0
+IsKnown tells (Files paths) = IsTrue tells
+IsKnown tells (Made texts) = ⊤
 
 -- the generated text of a part
 abbrev pub made_part : Texts → Part → Text

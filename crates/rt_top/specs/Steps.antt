@@ -9,7 +9,7 @@ use Rattle.rt_top.specs.declared.outcome.Outcome.TheVariants as outcome
 use Rattle.rt_top.specs.declared.source.Source.{Source}
 use Rattle.rt_top.specs.Faults.{is_refusal, placeless}
 use Rattle.rt_top.specs.Judged.{Holding, most_bytes}
-use Rattle.rt_top.specs.Source.{file_of}
+use Rattle.rt_top.specs.Source.{IsKnown, file_of}
 
 -- what is known of the files over a call: whether they tell their contents, these, the counts of
 -- faults before and after, and afterwards the current name and how many of its bytes were taken
@@ -70,9 +70,9 @@ abbrev pub Stops : {T : Type 0} → Seen → Source → Result T Outcome → (Pa
 Stops s source judged Reached outcome.Agree = ⊥
 Stops s source judged Reached (outcome.Witness keep) = ⊥
 Stops s source judged Reached outcome.Usage = ⊥
-Stops s source judged Reached (outcome.Refused part fault) = IsTrue (is_refusal fault) × (IsTrue s.tells → judged ≡ Err (outcome.Refused part (placeless fault)))
+Stops s source judged Reached (outcome.Refused part fault) = IsTrue (is_refusal fault) × (IsKnown s.tells source → judged ≡ Err (outcome.Refused part (placeless fault)))
 Stops s source judged Reached (outcome.Spent spent) = ⊥
-Stops s source judged Reached (outcome.Limit limit) = IsLongFor s source limit × (IsTrue s.tells → judged ≡ Err (outcome.Limit limit))
-Stops s source judged Reached (outcome.ReadFault part) = Failed s (file_of source part) × (IsTrue s.tells → Reached part)
+Stops s source judged Reached (outcome.Limit limit) = IsLongFor s source limit × (IsKnown s.tells source → judged ≡ Err (outcome.Limit limit))
+Stops s source judged Reached (outcome.ReadFault part) = Failed s (file_of source part) × (IsKnown s.tells source → Reached part)
 Stops s source judged Reached outcome.WriteFault = ⊥
 Stops s source judged Reached outcome.NoMemory = ⊤

@@ -5,7 +5,7 @@ ghost use Rattle.rt_schema.specs.Given.{IsOf, places, rows_at};
 ghost use Rattle.rt_load.specs.Loaded.{row_limit};
 ghost use Rattle.rt_algebra.specs.Typed.{IsTypedOf};
 ghost use Rattle.rt_words.specs.Command.{command};
-ghost use Rattle.rt_top.specs.Source.{file_name, query_part, source_of};
+ghost use Rattle.rt_top.specs.Source.{IsKnown, file_name, query_part, source_of};
 ghost use Rattle.rt_top.specs.Judged.{text_read, file_text, text_of, without_mark, schema_of, schema_judged, table_judged, tables_judged, query_judged, right_judged, data_judged, input_judged, no_rows, total_work, within_limit, IsTableReached, Reaches};
 ghost use Rattle.rt_top.specs.Steps.{Refuses, seen, Stops};
 ghost use Rattle.rt_top.specs.Answers.{call, IsRead, Stop};
@@ -88,7 +88,7 @@ fn read_text<F: Files>(
     source: &Source,
     part: Part,
 ) -> Result<Bytes, Outcome>
-    ensures ok { IfOk result (λ text. IsTrue F.tells → text_of source.now (F.held files.old) part ≡ Ok text) }
+    ensures ok { IfOk result (λ text. IsKnown F.tells source.now → text_of source.now (F.held files.old) part ≡ Ok text) }
     ensures err { IfErr result (Stops (seen F.tells (F.held files.old) (F.faults files.old) (F.faults files.new) (F.current files.new) (F.taken files.new))
         source.now (text_of source.now (F.held files.old) part) (λ p. p ≡ part)) }
     ensures held { F.held files.new ≡ F.held files.old }
@@ -113,7 +113,7 @@ fn schema_of(alloc: Global, text: &[u8]) -> Result<Schema, Outcome>
 
 /// The schema.
 fn schema_file<F: Files>(alloc: Global, files: &mut F, source: &Source) -> Result<Schema, Outcome>
-    ensures ok { IfOk result (λ schema. IsTrue F.tells → schema_judged source.now (F.held files.old) ≡ Ok schema) }
+    ensures ok { IfOk result (λ schema. IsKnown F.tells source.now → schema_judged source.now (F.held files.old) ≡ Ok schema) }
     ensures err { IfErr result (Stops (seen F.tells (F.held files.old) (F.faults files.old) (F.faults files.new) (F.current files.new) (F.taken files.new))
         source.now (schema_judged source.now (F.held files.old)) (λ p. p ≡ parts.Schema)) }
     ensures held { F.held files.new ≡ F.held files.old }
@@ -137,7 +137,7 @@ fn read_table<F: Files>(
     requires of_schema { IsOf schema.now given.old }
     requires empty { length (rows_at given.old.tables at) ≡ 0 }
     requires few { places given.old.tables ≤ row_limit }
-    ensures ok { OnOk result (IsTrue F.tells → table_judged source.now (F.held files.old) at table.now (places given.old.tables) ≡ Ok (rows_at given.new.tables at)) }
+    ensures ok { OnOk result (IsKnown F.tells source.now → table_judged source.now (F.held files.old) at table.now (places given.old.tables) ≡ Ok (rows_at given.new.tables at)) }
     ensures tables { OnOk result (given.new.tables ≡ slice_set given.old.tables at (rows_at given.new.tables at)) }
     ensures few { OnOk result (places given.new.tables ≤ row_limit) }
     ensures kinds { given.new.kinds ≡ given.old.kinds }
@@ -166,7 +166,7 @@ fn read_given<F: Files>(
 ) -> Result<Given, Outcome>
     ensures of_schema { IfOk result (λ given. IsOf schema.now given) }
     ensures few { IfOk result (λ given. places given.tables ≤ row_limit) }
-    ensures ok { IfOk result (λ given. IsTrue F.tells → tables_judged source.now (F.held files.old) 0 (no_rows schema.now) schema.now ≡ Ok given.tables) }
+    ensures ok { IfOk result (λ given. IsKnown F.tells source.now → tables_judged source.now (F.held files.old) 0 (no_rows schema.now) schema.now ≡ Ok given.tables) }
     ensures err { IfErr result (Stops (seen F.tells (F.held files.old) (F.faults files.old) (F.faults files.new) (F.current files.new) (F.taken files.new))
         source.now (tables_judged source.now (F.held files.old) 0 (no_rows schema.now) schema.now) (IsTableReached source.now (F.held files.old) schema.now)) }
     ensures held { F.held files.new ≡ F.held files.old }
@@ -188,7 +188,7 @@ fn read_query<F: Files>(
     schema: &Schema,
 ) -> Result<Typed, Outcome>
     ensures typed { IfOk result (IsTypedOf schema.now) }
-    ensures ok { IfOk result (λ typed. IsTrue F.tells → query_judged source.now (F.held files.old) (query_part part) schema.now ≡ Ok typed) }
+    ensures ok { IfOk result (λ typed. IsKnown F.tells source.now → query_judged source.now (F.held files.old) (query_part part) schema.now ≡ Ok typed) }
     ensures err { IfErr result (Stops (seen F.tells (F.held files.old) (F.faults files.old) (F.faults files.new) (F.current files.new) (F.taken files.new))
         source.now (query_judged source.now (F.held files.old) (query_part part) schema.now) (λ p. p ≡ query_part part)) }
     ensures held { F.held files.new ≡ F.held files.old }
@@ -208,7 +208,7 @@ fn read_right<F: Files>(
 ) -> Result<Typed, Outcome>
     ensures typed { IfOk result (IsTypedOf schema.now) }
     ensures kinds { IfOk result (λ right. right.kinds ≡ left.now.kinds) }
-    ensures ok { IfOk result (λ right. IsTrue F.tells → right_judged source.now (F.held files.old) schema.now left.now ≡ Ok right) }
+    ensures ok { IfOk result (λ right. IsKnown F.tells source.now → right_judged source.now (F.held files.old) schema.now left.now ≡ Ok right) }
     ensures err { IfErr result (Stops (seen F.tells (F.held files.old) (F.faults files.old) (F.faults files.new) (F.current files.new) (F.taken files.new))
         source.now (right_judged source.now (F.held files.old) schema.now left.now) (λ p. p ≡ parts.Query2)) }
     ensures held { F.held files.new ≡ F.held files.old }
@@ -228,7 +228,7 @@ struct Data {
 fn read_data<F: Files>(alloc: Global, files: &mut F, source: &Source) -> Result<Data, Outcome>
     ensures of_schema { IfOk result (λ d. IsOf d.schema d.given) }
     ensures few { IfOk result (λ d. places d.given.tables ≤ row_limit) }
-    ensures ok { IfOk result (λ d. IsTrue F.tells → data_judged source.now (F.held files.old) ≡ Ok (record { schema = d.schema; given = d.given })) }
+    ensures ok { IfOk result (λ d. IsKnown F.tells source.now → data_judged source.now (F.held files.old) ≡ Ok (record { schema = d.schema; given = d.given })) }
     ensures err { IfErr result (Stops (seen F.tells (F.held files.old) (F.faults files.old) (F.faults files.new) (F.current files.new) (F.taken files.new))
         source.now (data_judged source.now (F.held files.old)) (Reaches source.now (F.held files.old))) }
     ensures held { F.held files.new ≡ F.held files.old }
@@ -264,7 +264,7 @@ fn within_limit(input: Input) -> Result<Input, Outcome>
 /// What the texts of a command say.
 fn read_command<F: Files>(alloc: Global, words: &Words, files: &mut F) -> Result<Input, Outcome>
     ensures options { IfOk result (HasOptions words.now) }
-    ensures ok { IfOk result (λ input. IsTrue F.tells → input_judged (F.held files.old) words.now ≡ Ok input) }
+    ensures ok { IfOk result (λ input. IsKnown F.tells (source_of words.now) → input_judged (F.held files.old) words.now ≡ Ok input) }
     ensures err { IfErr result (Stops (seen F.tells (F.held files.old) (F.faults files.old) (F.faults files.new) (F.current files.new) (F.taken files.new))
         (source_of words.now) (input_judged (F.held files.old) words.now) (Reaches (source_of words.now) (F.held files.old))) }
     ensures held { F.held files.new ≡ F.held files.old }

@@ -1,9 +1,9 @@
-ghost use Rattle.std.specs.Prelude.{◌≡◌, ◌⊎◌, None, IsTrue, IfOk, Ok, Err};
+ghost use Rattle.std.specs.Prelude.{◌≡◌, ◌⊎◌, None, IfOk, Ok, Err};
 ghost use Rattle.rt_io.specs.Edge.{NoneFell};
 ghost use Rattle.rt_words.specs.Command.{command};
 ghost use Rattle.rt_top.specs.Judged.{judged};
 ghost use Rattle.rt_top.specs.Accepted.{Accepted};
-ghost use Rattle.rt_top.specs.Answers.{call, Row, AgreeRow, WitnessRow, UsageRow, RefusedRow, SpentRow, LimitRow, ReadFaultRow, HasRoom, IfAgree, IfWitness, IfUsage, IfRefused, IfSpent, IfLimit, IfReadFault, IfWriteFault, IfNoMemory, IfText, YieldsTo, YieldsToWrite, IsVerdict, NoFileRose, NoSinkRose, Says, log, Ends, Spoke, Said, Begun, Broke, IsSilent, limit_of};
+ghost use Rattle.rt_top.specs.Answers.{call, IsTold, Row, AgreeRow, WitnessRow, UsageRow, RefusedRow, SpentRow, LimitRow, ReadFaultRow, HasRoom, IfAgree, IfWitness, IfUsage, IfRefused, IfSpent, IfLimit, IfReadFault, IfWriteFault, IfNoMemory, IfText, YieldsTo, YieldsToWrite, IsVerdict, NoFileRose, NoSinkRose, Says, log, Ends, Spoke, Said, Begun, Broke, IsSilent, limit_of};
 ghost use Rattle.rt_top.specs.declared.outcome.Outcome.{Outcome};
 ghost use Rattle.rt_top.specs.declared.outcome.Outcome.TheVariants as outcome;
 
@@ -98,7 +98,8 @@ pub fn ratest<F: Files, O: Sink, E: Sink>(
         IfSpent result (SpentRow c) }
     ensures limit { let c = call words.now F.tells (F.held files.old) (F.faults files.old) (F.faults files.new) (F.current files.new) (F.taken files.new) in
         IfLimit result (LimitRow c) }
-    ensures exact { IsTrue F.tells → (refusal : Outcome) → judged words.now (F.held files.old) ≡ Err refusal → YieldsTo refusal result }
+    ensures exact { let c = call words.now F.tells (F.held files.old) (F.faults files.old) (F.faults files.new) (F.current files.new) (F.taken files.new) in
+        IsTold c → (refusal : Outcome) → judged words.now (F.held files.old) ≡ Err refusal → YieldsTo refusal result }
     // Only where the count of that part's file rose in this call.
     ensures read_fault { let c = call words.now F.tells (F.held files.old) (F.faults files.old) (F.faults files.new) (F.current files.new) (F.taken files.new) in
         IfReadFault result (ReadFaultRow c) }
@@ -122,7 +123,7 @@ pub fn ratest<F: Files, O: Sink, E: Sink>(
     ensures complete { let c = call words.now F.tells (F.held files.old) (F.faults files.old) (F.faults files.new) (F.current files.new) (F.taken files.new) in
         let o = log O.tells (O.contents out.old) (O.contents out.new) (O.faults out.old) (O.faults out.new) in
         let e = log E.tells (E.contents err.old) (E.contents err.new) (E.faults err.old) (E.faults err.new) in
-        IsTrue F.tells → NoFileRose c → NoSinkRose o e → (input : Accepted) → judged words.now (F.held files.old) ≡ Ok input → HasRoom input → IsVerdict result }
+        IsTold c → NoFileRose c → NoSinkRose o e → (input : Accepted) → judged words.now (F.held files.old) ≡ Ok input → HasRoom input → IsVerdict result }
     ensures held { F.held files.new ≡ F.held files.old }
     ensures rises { NoneFell (F.faults files.old) (F.faults files.new) }
 {

@@ -39,16 +39,16 @@ lower-requires-clause-best c =
     model-goal c.args.dag.now c.args.goal _ None c.in_ok-named.named.next _ c.rows-rows.result c.in-Model.model c.in_ok-best-in-Model.best c.rows-rows.ensures (model-long c.clausify.new.to.0.lines None c.rows-rows.result c.in-Model.model m.each) c.in_ok-best-in-Model.ensures
     (aimed-on c.args.dag.now c.args.goal _ _ _ _ None c.in_ok-named.named.next c.rows-rows.result c.rows-rows.ensures a tt c.in_ok-model.ensures.searched) m
 
-pub returns-in-Refuted : goal.returns-in-Refuted
-returns-in-Refuted c =
+pub returns-else-not-refutes : goal.returns-else-not-refutes
+returns-else-not-refutes c =
     let k = c.in_ok-named.ensures in
     let a = clausified c.args.dag.now c.args.goal _ c.in_ok-named.named.next k.wide k.below k.complete k.sound k.determined in
     let C : Checker → Type 0 = λ x. IsRefuted x.lines None in
     refuted-never c.args.dag.now c.args.goal _ c.in_ok-named.named.next (aimed-on c.args.dag.now c.args.goal _ _ _ _ None c.in_ok-named.named.next c.rows-rows.result c.rows-rows.ensures a tt c.in_ok-model.ensures.searched)
     (subst C c.lines.ensures (c.refutes.ensures.0 c.if-not-refutes.false))
 
-pub returns : goal.returns
-returns c =
+pub returns-in-Spent : goal.returns-in-Spent
+returns-in-Spent c =
     let k = c.in_ok-named.ensures in
     let a = clausified c.args.dag.now c.args.goal _ c.in_ok-named.named.next k.wide k.below k.complete k.sound k.determined in
     let F : Found → Type 0 = λ f. IsFound c.clausify.new.to.0.lines c.solve.new.self.0.lines None (variables c.clausify.new.to.0.lines None c.rows-rows.result) c.args.budget f in
