@@ -5,6 +5,7 @@
 #![tactic(auto)]
 
 mod chains;
+mod conditions;
 mod depth;
 mod fault;
 mod looks;
@@ -12,6 +13,7 @@ mod parser;
 mod ranges;
 #[cfg(test)]
 mod shape;
+mod sources;
 mod tested;
 #[cfg(test)]
 mod tests;

@@ -1,0 +1,202 @@
+//! Conditions, with at most `depth` parentheses in one another.
+
+ghost use Rattle.std.specs.Prelude.{◌≡◌};
+ghost use Rattle.rt_grammar.specs.Readers.{list_of};
+ghost use Rattle.rt_grammar.specs.Reads.{Reads};
+ghost use Rattle.rt_sql.specs.Reads as spec;
+
+use crate::chains::chain;
+use crate::looks::{is_group, is_in_chain, is_op};
+use crate::ranges::{between, compared, in_list, is_null};
+use crate::tested::{Range, Test, atom_of};
+use rt_grammar::{Fixed, ReadFault, Terminal, after, counted, expect, starts};
+use rt_tree::{Atom, Cond, Conj, Neg, flag, sum_at};
+use rt_value::{Boxed, List};
+use std::alloc::Global;
+
+#[tactic(auto, unfolding(crate::specs::Reads::read_range))]
+#[cycle(chain_reader)]
+fn range<'t>(
+    alloc: Global,
+    depth: usize,
+    terminals: &'t [Terminal],
+) -> Result<(Range, &'t [Terminal]), ReadFault>
+    ensures { Reads result (spec.read_range (spec.level depth) terminals.now) }
+{
+    if !is_in_chain(terminals) {
+        return if starts(terminals, Fixed::In) {
+            in_list(alloc, terminals)
+        } else {
+            between(alloc, terminals)
+        };
+    }
+    let rest = expect(terminals, Fixed::In)?;
+    let rest = expect(rest, Fixed::Left)?;
+    let (inner, rest) = chain(alloc, depth, rest)?;
+    let rest = expect(rest, Fixed::Right)?;
+    Ok((Range::OfChain(Boxed::new(alloc, inner)?), rest))
+}
+
+#[tactic(auto, unfolding(crate::specs::Reads::read_test))]
+#[cycle(chain_reader)]
+fn test<'t>(
+    alloc: Global,
+    depth: usize,
+    terminals: &'t [Terminal],
+) -> Result<(Test, &'t [Terminal]), ReadFault>
+    ensures { Reads result (spec.read_test (spec.level depth) terminals.now) }
+{
+    if is_op(terminals) {
+        return compared(alloc, terminals);
+    }
+    if starts(terminals, Fixed::Is) {
+        return is_null(terminals);
+    }
+    let (not, rest) = flag(terminals, Fixed::Not);
+    let (range, rest) = range(alloc, depth, rest)?;
+    Ok((Test::Ranged(not, range), rest))
+}
+
+#[cycle(chain_reader)]
+fn exists<'t>(
+    alloc: Global,
+    depth: usize,
+    terminals: &'t [Terminal],
+) -> Result<(Atom, &'t [Terminal]), ReadFault>
+    ensures { Reads result (spec.read_exists (spec.level depth) terminals.now) }
+{
+    let rest = expect(terminals, Fixed::Exists)?;
+    let rest = expect(rest, Fixed::Left)?;
+    let (inner, rest) = chain(alloc, depth, rest)?;
+    let rest = expect(rest, Fixed::Right)?;
+    Ok((Atom::Exists(Boxed::new(alloc, inner)?), rest))
+}
+
+// A condition in parentheses.
+#[cycle(chain_reader)]
+fn group<'t>(
+    alloc: Global,
+    depth: usize,
+    terminals: &'t [Terminal],
+) -> Result<(Atom, &'t [Terminal]), ReadFault>
+    ensures { Reads result (spec.read_group (spec.level depth) terminals.now) }
+{
+    let rest = expect(terminals, Fixed::Left)?;
+    let (inner, rest) = inner_cond(alloc, depth, rest)?;
+    let rest = expect(rest, Fixed::Right)?;
+    Ok((Atom::Paren(Boxed::new(alloc, inner)?), rest))
+}
+
+#[tactic(auto, unfolding(crate::specs::Reads::read_atom))]
+#[cycle(chain_reader)]
+fn atom<'t>(
+    alloc: Global,
+    depth: usize,
+    terminals: &'t [Terminal],
+) -> Result<(Atom, &'t [Terminal]), ReadFault>
+    ensures { Reads result (spec.read_atom (spec.level depth) terminals.now) }
+{
+    if starts(terminals, Fixed::Exists) {
+        return exists(alloc, depth, terminals);
+    }
+    if is_group(terminals) {
+        return group(alloc, depth, terminals);
+    }
+    let (left, rest) = sum_at(alloc, terminals)?;
+    let (test, rest) = test(alloc, depth, rest)?;
+    Ok((atom_of(left, test), rest))
+}
+
+#[tactic(auto, unfolding(crate::specs::Reads::read_neg))]
+#[cycle(chain_reader)]
+fn neg<'t>(
+    alloc: Global,
+    depth: usize,
+    terminals: &'t [Terminal],
+) -> Result<(Neg, &'t [Terminal]), ReadFault>
+    ensures { Reads result (spec.read_neg (spec.level depth) terminals.now) }
+{
+    let (nots, rest) = counted(terminals, Fixed::Not);
+    let (atom, rest) = atom(alloc, depth, rest)?;
+    Ok((Neg { nots, atom }, rest))
+}
+
+#[cycle(chain_reader)]
+fn more_negs<'t>(
+    alloc: Global,
+    depth: usize,
+    terminals: &'t [Terminal],
+) -> Result<(List<Neg>, &'t [Terminal]), ReadFault>
+    ensures { Reads result (list_of (spec.neg_step (spec.level depth)) terminals.now) }
+{
+    let mut items = List::new(alloc);
+    let mut rest = terminals;
+    'items: while let Some(next) = after(rest, Fixed::And) {
+        let (item, more) = neg(alloc, depth, next)?;
+        items.push(item)?;
+        rest = more;
+    }
+    Ok((items, rest))
+}
+
+#[tactic(auto, unfolding(crate::specs::Reads::read_conj))]
+#[cycle(chain_reader)]
+fn conj<'t>(
+    alloc: Global,
+    depth: usize,
+    terminals: &'t [Terminal],
+) -> Result<(Conj, &'t [Terminal]), ReadFault>
+    ensures { Reads result (spec.read_conj (spec.level depth) terminals.now) }
+{
+    let (head, rest) = neg(alloc, depth, terminals)?;
+    let (tail, rest) = more_negs(alloc, depth, rest)?;
+    Ok((Conj { head, tail }, rest))
+}
+
+#[cycle(chain_reader)]
+fn more_conjs<'t>(
+    alloc: Global,
+    depth: usize,
+    terminals: &'t [Terminal],
+) -> Result<(List<Conj>, &'t [Terminal]), ReadFault>
+    ensures { Reads result (list_of (spec.conj_step (spec.level depth)) terminals.now) }
+{
+    let mut items = List::new(alloc);
+    let mut rest = terminals;
+    'items: while let Some(next) = after(rest, Fixed::Or) {
+        let (item, more) = conj(alloc, depth, next)?;
+        items.push(item)?;
+        rest = more;
+    }
+    Ok((items, rest))
+}
+
+#[tactic(auto, unfolding(crate::specs::Reads::read_cond))]
+#[cycle(chain_reader)]
+pub fn cond<'t>(
+    alloc: Global,
+    depth: usize,
+    terminals: &'t [Terminal],
+) -> Result<(Cond, &'t [Terminal]), ReadFault>
+    ensures { Reads result (spec.read_cond (spec.level depth) terminals.now) }
+{
+    let (head, rest) = conj(alloc, depth, terminals)?;
+    let (tail, rest) = more_conjs(alloc, depth, rest)?;
+    Ok((Cond { head, tail }, rest))
+}
+
+// The condition between parentheses.
+#[tactic(auto, unfolding(crate::specs::Reads::level))]
+#[cycle(chain_reader)]
+fn inner_cond<'t>(
+    alloc: Global,
+    depth: usize,
+    terminals: &'t [Terminal],
+) -> Result<(Cond, &'t [Terminal]), ReadFault>
+    ensures { Reads result ((spec.level depth).cond terminals.now) }
+{
+    if depth == 0 {
+        return Err(ReadFault::Syntax(terminals.len()));
+    }
+    cond(alloc, depth - 1, terminals)
+}
