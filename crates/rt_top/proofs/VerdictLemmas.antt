@@ -35,7 +35,7 @@ pub judged-command : (c : Call) (k : Command) → command c.words ≡ Some k →
 judged-command c k e = ap (command_judged c.files.held) e
 
 known : (c : Call) (k : Command) → command c.words ≡ Some k → IsTold c → IsKnown c.files.tells (source_of k)
-known c k e told = subst (λ (o : Option Command). ForSome o (λ k. IsKnown c.files.tells (source_of k))) e told
+known c k e told = told k e
 
 pub stop_row : (c : Call) (k : Command) (o : Outcome) → command c.words ≡ Some k
     → Stops c.files (source_of k) (input_judged c.files.held k) (Reaches (source_of k) c.files.held) o → Stop c o
