@@ -7,3 +7,4 @@ pub mod Merged
 pub mod SameRows
 pub mod Exact
 pub mod Joining
+pub mod Staying

@@ -2,3 +2,4 @@ pub mod Ann
 pub mod Annotated
 pub mod Entries
 pub mod Joints
+pub mod Stays

@@ -6,12 +6,14 @@
 mod aim;
 mod ann;
 mod annotation;
+mod closed;
 mod difference;
 mod evaluate;
 mod gate;
 mod joint;
 mod member;
 mod rows;
+mod same;
 mod sets;
 
 pub use aim::goal;
