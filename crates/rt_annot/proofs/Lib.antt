@@ -8,3 +8,4 @@ pub mod SameRows
 pub mod Exact
 pub mod Joining
 pub mod Staying
+pub mod Telling

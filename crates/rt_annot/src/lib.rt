@@ -11,6 +11,7 @@ mod difference;
 mod evaluate;
 mod gate;
 mod joint;
+mod known;
 mod member;
 mod rows;
 mod same;
