@@ -10,6 +10,7 @@ mod closed;
 mod difference;
 mod evaluate;
 mod gate;
+mod gather;
 mod joint;
 mod known;
 mod member;
