@@ -2,14 +2,12 @@
 use Rattle.std.proofs.Common.{◌≡◌, ℕ, zero, suc, ◌+◌, ◌<◌, Bool, List, [], ◌∷◌, ◌++◌, length, map, take, get_or, Bor, refl, sym, subst, ap, arith, ◌∙◌}
 use mathlib.Core.Path.{fun_ext}
 use Rattle.std.proofs.lemmas.List.{length-map, map-append, take_more}
-use Rattle.std.specs.List.{list_any}
-use Rattle.rt_value.specs.declared.value.Value.{Value}
 use Rattle.rt_schema.specs.Given.{Rows, Tables}
 use Rattle.rt_schema.specs.Kept.{kept}
 use Rattle.rt_algebra.specs.Answer.{answer_by}
 use Rattle.rt_algebra.specs.Expression.{wrapped, Env}
 use Rattle.rt_algebra.specs.declared.query.Query.{Query}
-use Rattle.rt_formula.specs.Shared.{Shared, IsGrown, val}
+use Rattle.rt_formula.specs.Shared.{Shared, IsGrown}
 use Rattle.rt_formula.specs.Groups.{group_at}
 use Rattle.rt_annot.specs.declared.known.Found.{Found}
 use Rattle.rt_annot.specs.Stays.{StaysQuery}
@@ -39,9 +37,6 @@ known_stay g a = record {
   one_each = a.one_each;
   each = λ k q f l. record { stays = (a.each k q f l).stays; tells = tells_stay g (a.each k q f l).tells };
 }
-
-pub known_none : (d : Shared) (given : Tables) → AreKnown d given [] []
-known_none d given = record { one_each = refl; each = λ k q f l. absurd (omega arith) }
 
 later : {d : Shared} {given : Tables} {q : Query} {f : Found} {qs : List Query} {fs : List Found} → AreKnown d given (q ∷ qs) (f ∷ fs) → AreKnown d given qs fs
 later a = record { one_each = (let e = a.one_each in omega arith); each = λ k q f l. a.each (suc k) q f (omega arith) }

@@ -1,31 +1,30 @@
 -- A query stays the same where its parts do, layer by layer.
-use Rattle.std.proofs.Common.{◌≡◌, ℕ, suc, ◌+◌, ◌<◌, not, List, [], ◌∷◌, ◌++◌, length, map, take, ◌≤◌, get_or, refl, sym, subst, ap, ap₂, arith, ◌∙◌, pos}
+use Rattle.std.proofs.Common.{◌≡◌, ℕ, suc, ◌+◌, ◌<◌, List, [], ◌∷◌, ◌++◌, length, map, take, ◌≤◌, get_or, refl, sym, subst, ap, ap₂, arith, ◌∙◌, pos}
 use mathlib.Core.Path.{fun_ext}
-use Rattle.std.proofs.lemmas.List.{get_or_append_left, take_all}
+use Rattle.std.proofs.lemmas.List.{take_all}
 use Rattle.std.proofs.lemmas.List.Elements.{All-more}
 use Rattle.std.specs.List.{All as Each, filter}
-use Rattle.rt_value.specs.declared.value.Op.{Op}
 use Rattle.rt_value.specs.declared.value.Op.TheVariants.{Eq}
 use Rattle.rt_value.specs.declared.value.Value.{Value}
 use Rattle.rt_value.specs.declared.value.Value.TheVariants as x
 use Rattle.rt_value.specs.declared.truth.Truth.{Truth}
-use Rattle.rt_value.specs.Truth.{truth_not, truth_and, truth_or}
+use Rattle.rt_value.specs.Truth.{truth_and, truth_or}
 use Rattle.rt_value.specs.Value.{value_truth}
 use Rattle.rt_schema.specs.Given.{Tables, Rows}
-use Rattle.rt_algebra.specs.Answer.{answer_by, pred_by, is_yes, null_truth, some_truth, member_truth, one_of_truth, has_row, pairs, product_after, all_of, any_of}
-use Rattle.rt_algebra.specs.Expression.{wrapped, Env, row_by, value_by, term_by, expr_step, term_step, cell_of, sum_from, mul_from, add_value, mul_value, neg_value}
+use Rattle.rt_algebra.specs.Answer.{answer_by, pred_by, is_yes, one_of_truth, pairs, product_after, all_of, any_of}
+use Rattle.rt_algebra.specs.Expression.{wrapped, Env, row_by, value_by, term_by, expr_step, term_step, sum_from, mul_from, add_value, mul_value}
 use Rattle.rt_algebra.specs.declared.expr.Expr.{Expr}
 use Rattle.rt_algebra.specs.declared.expr.Term.{Term}
 use Rattle.rt_algebra.specs.declared.expr.Expr.TheVariants as u
-use Rattle.rt_algebra.specs.declared.expr.Expr.TheOpen.{Expr-F, Term-F, Col, Int, Text, Null, Sum, Mul}
-use Rattle.rt_algebra.specs.declared.expr.Expr.TheViews.{roll-Expr, roll-Term}
-use Rattle.rt_algebra.specs.declared.expr.Expr.TheFolds.{fold-roll-Expr, fold-roll-Term, map-Expr, map-Term}
+use Rattle.rt_algebra.specs.declared.expr.Expr.TheOpen.{Expr-F, Sum, Mul}
+use Rattle.rt_algebra.specs.declared.expr.Expr.TheViews.{roll-Expr}
+use Rattle.rt_algebra.specs.declared.expr.Expr.TheFolds.{fold-roll-Expr, map-Expr}
 use Rattle.rt_algebra.specs.declared.query.Pred.{Pred}
 use Rattle.rt_algebra.specs.declared.query.Query.{Query}
 use Rattle.rt_algebra.specs.declared.query.Query.TheVariants as v
 use Rattle.rt_algebra.specs.declared.query.Pred.TheVariants as w
 use Rattle.rt_annot.specs.Stays.{StaysValue, StaysTerm, StaysPred, StaysQuery}
-use Rattle.rt_annot.proofs.Layers.{at_table, at_select, at_project, at_product, at_union, at_except, at_intersect, at_cmp, at_is_null, at_one_of, at_and, at_or, at_not, at_exists, at_member}
+use Rattle.rt_annot.proofs.Layers.{at_select, at_project, at_product, at_one_of, at_and, at_or}
 
 -- what holds of each so far, and of the next
 pub each_more : {X : Type 0} (P : X → Type 0) (xs : List X) (i : ℕ) (y : X) → i < length xs → y ≡ get_or xs i y → Each P (take i xs) → P y → Each P (take (i + 1) xs)
@@ -41,9 +40,6 @@ each_at {X} P e h = let Q : List X → Type 0 = Each P in subst Q e h
 module _ (env : Env) where
   of_value : (y : Expr-F Expr Term) → value_by wrapped (roll-Expr y) env ≡ expr_step wrapped (map-Expr Expr Term (Env → Value) (Env → Value) (value_by wrapped) (term_by wrapped) y) env
   of_value y = ap (λ f. f env) (fold-roll-Expr (Env → Value) (Env → Value) (expr_step wrapped) (term_step wrapped) y)
-
-  at_col : {e : Expr} (up at : ℕ) → e ≡ u.Col up at → value_by wrapped e env ≡ cell_of env up at
-  at_col up at h = ap (λ y. value_by wrapped y env) (h ∙ sym (u.rolls-Col up at)) ∙ of_value (Col up at)
 
   at_sum : {e : Expr} (ts : List Term) → e ≡ u.Sum ts → value_by wrapped e env ≡ sum_from wrapped (x.Int (pos 0)) (map (term_by wrapped) ts) env
   at_sum ts h = ap (λ y. value_by wrapped y env) (h ∙ sym (u.rolls-Sum ts)) ∙ of_value (Sum ts)
@@ -86,9 +82,6 @@ module _ (n : ℕ) (front env : Env) (l : length front ≡ n) where
 
 module _ (n : ℕ) where
   -- expressions
-  pub stays_col : {e : Expr} (up at : ℕ) → e ≡ u.Col up at → up < n → StaysValue n e
-  stays_col up at h g front env l = at_col (front ++ env) up at h ∙ ap (λ (r : List Value). get_or r at x.Null) (get_or_append_left front env [] up (let k = l in omega arith)) ∙ sym (at_col front up at h)
-
   pub stays_sum : {e : Expr} (ts : List Term) → e ≡ u.Sum ts → Each (StaysTerm n) ts → StaysValue n e
   stays_sum ts h g front env l = at_sum (front ++ env) ts h ∙ sum_stays n front env l ts (x.Int (pos 0)) g ∙ sym (at_sum front ts h)
 
@@ -96,12 +89,6 @@ module _ (n : ℕ) where
   stays_mul es h g front env l = at_mul (front ++ env) es h ∙ mul_stays n front env l es (x.Int (pos 1)) g ∙ sym (at_mul front es h)
 
   -- conditions
-  pub stays_cmp : {p : Pred} (op : Op) (a b : Expr) → p ≡ w.Cmp op a b → StaysValue n a → StaysValue n b → StaysPred n p
-  stays_cmp op a b h f g db front env l = at_cmp db (front ++ env) op a b h ∙ ap₂ (value_truth op) (f front env l) (g front env l) ∙ sym (at_cmp db front op a b h)
-
-  pub stays_is_null : {p : Pred} (a : Expr) → p ≡ w.IsNull a → StaysValue n a → StaysPred n p
-  stays_is_null a h f db front env l = at_is_null db (front ++ env) a h ∙ ap null_truth (f front env l) ∙ sym (at_is_null db front a h)
-
   pub stays_one_of : {p : Pred} (a : Expr) (es : List Expr) → p ≡ w.OneOf a es → StaysValue n a → Each (StaysValue n) es → StaysPred n p
   stays_one_of a es h f g db front env l = at_one_of db (front ++ env) a es h ∙ ap (λ y. one_of_truth wrapped y es (front ++ env)) (f front env l)
       ∙ one_of_stays n front env l es (value_by wrapped a front) g ∙ sym (at_one_of db front a es h)
@@ -112,19 +99,7 @@ module _ (n : ℕ) where
   pub stays_or : {p : Pred} (ps : List Pred) → p ≡ w.Or ps → Each (StaysPred n) ps → StaysPred n p
   stays_or ps h g db front env l = at_or db (front ++ env) ps h ∙ any_stay n front env l db ps g ∙ sym (at_or db front ps h)
 
-  pub stays_not : {p : Pred} (a : Pred) → p ≡ w.Not a → StaysPred n a → StaysPred n p
-  stays_not a h f db front env l = at_not db (front ++ env) a h ∙ ap truth_not (f db front env l) ∙ sym (at_not db front a h)
-
-  pub stays_exists : {p : Pred} (q : Query) → p ≡ w.Exists q → StaysQuery n q → StaysPred n p
-  stays_exists q h f db front env l = at_exists db (front ++ env) q h ∙ ap some_truth (f db front env l) ∙ sym (at_exists db front q h)
-
-  pub stays_member : {p : Pred} (a : Expr) (q : Query) → p ≡ w.Member a q → StaysValue n a → StaysQuery n q → StaysPred n p
-  stays_member a q h f g db front env l = at_member db (front ++ env) a q h ∙ ap₂ member_truth (f front env l) (g db front env l) ∙ sym (at_member db front a q h)
-
   -- queries
-  pub stays_table : {q : Query} (t : ℕ) → q ≡ v.Table t → StaysQuery n q
-  stays_table t h db front env l = at_table db (front ++ env) t h ∙ sym (at_table db front t h)
-
   pub stays_select : {q : Query} (a : Query) (p : Pred) → q ≡ v.Select a p → StaysQuery n a → StaysPred (n + 1) p → StaysQuery n q
   stays_select a p h f g db front env l = at_select db (front ++ env) a p h
       ∙ ap₂ filter (fun_ext (λ r. ap is_yes (g db (r ∷ front) env (let k = l in omega arith)))) (f db front env l) ∙ sym (at_select db front a p h)
@@ -135,17 +110,6 @@ module _ (n : ℕ) where
 
   pub stays_product : {q : Query} (qs : List Query) → q ≡ v.Product qs → Each (StaysQuery n) qs → StaysQuery n q
   stays_product qs h g db front env l = at_product db (front ++ env) qs h ∙ product_stays n front env l db qs ([] ∷ []) g ∙ sym (at_product db front qs h)
-
-  pub stays_union : {q : Query} (a b : Query) → q ≡ v.Union a b → StaysQuery n a → StaysQuery n b → StaysQuery n q
-  stays_union a b h f g db front env l = at_union db (front ++ env) a b h ∙ ap₂ ◌++◌ (f db front env l) (g db front env l) ∙ sym (at_union db front a b h)
-
-  pub stays_except : {q : Query} (a b : Query) → q ≡ v.Except a b → StaysQuery n a → StaysQuery n b → StaysQuery n q
-  stays_except a b h f g db front env l = at_except db (front ++ env) a b h
-      ∙ ap₂ (λ (xs ys : Rows). filter (λ r. not (has_row ys r)) xs) (f db front env l) (g db front env l) ∙ sym (at_except db front a b h)
-
-  pub stays_intersect : {q : Query} (a b : Query) → q ≡ v.Intersect a b → StaysQuery n a → StaysQuery n b → StaysQuery n q
-  stays_intersect a b h f g db front env l = at_intersect db (front ++ env) a b h
-      ∙ ap₂ (λ (xs ys : Rows). filter (has_row ys) xs) (f db front env l) (g db front env l) ∙ sym (at_intersect db front a b h)
 
   pub query_at : {a b : Query} → a ≡ b → StaysQuery n a → StaysQuery n b
   query_at e h = let P : Query → Type 0 = StaysQuery n in subst P e h

@@ -1,4 +1,3 @@
-use Rattle.std.proofs.Common.{◌∙◌}
 use Rattle.rt_annot.proofs.Growing.{grown_trans}
 use Rattle.rt_annot.proofs.Knowing.{known_next}
 use Rattle.rt_annot.proofs.Layers.{gives_same}

@@ -12,7 +12,7 @@ use Rattle.rt_algebra.specs.declared.query.Query.{Query}
 use Rattle.rt_schema.specs.Kept.{kept}
 use Rattle.rt_annot.specs.declared.joint.Joint.{Joint}
 use Rattle.rt_annot.specs.Entries.{Entry, rows_at, selected, join_entry, paired}
-use Rattle.rt_annot.specs.Annotated.{IsGate, IsNode, Gives, entries_of, test_under, yes_when, yes_of, no_of}
+use Rattle.rt_annot.specs.Annotated.{IsGate, IsNode, entries_of, test_under, yes_when, yes_of, no_of}
 use Rattle.rt_annot.specs.Joints.{AreJoints, joint_entry, joint_entries, pair_joints}
 use Rattle.rt_annot.proofs.Exact.{table_exact, pair_exact}
 use Rattle.rt_annot.specs.declared.known.Found.{Found}

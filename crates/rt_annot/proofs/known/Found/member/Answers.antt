@@ -1,4 +1,4 @@
-use Rattle.std.proofs.Common.{◌≡◌, ◌∙◌, ◌∷◌, [], ◌||◌, List, Bool, sym, ap, ap₂}
+use Rattle.std.proofs.Common.{◌∙◌, ◌∷◌, [], ◌||◌, sym, ap, ap₂}
 use Rattle.rt_value.specs.declared.value.Value.TheVariants.{Null}
 use Rattle.rt_formula.specs.Shared.{val}
 use Rattle.rt_formula.specs.Groups.{group_at}
