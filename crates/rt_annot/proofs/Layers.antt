@@ -27,6 +27,7 @@ use Rattle.rt_annot.proofs.Exact.{yes_and, no_and, yes_or, no_or, append_exact, 
 use Rattle.rt_formula.specs.declared.noted.Noted.{Noted}
 use Rattle.rt_annot.specs.declared.gate.Gate.{Gate}
 use Rattle.rt_annot.specs.Annotated.{formula, entry_of, entries_of, AreNodes, IsNode, IsGate, Mean, Reads, Gives, Choosing, yes_of, no_of, yes_when, no_when, test_all, test_any, standing_test, missing_test, projected_rows}
+use Rattle.rt_annot.specs.Known.{exists_test, among_test}
 use Rattle.rt_annot.proofs.Growing.{grown_trans, node_as, noted_stay, entries_stay}
 use Rattle.rt_annot.proofs.Walking.{noted_push, entry_is, projected_same, projected_below}
 use mathlib.Core.Path.{fun_ext}
@@ -270,15 +271,22 @@ choosing_at {old} {x} {y} {a} {b} {rest} {whole} p q m =
     subst P (sym p) (subst Q (sym q) m)
 
 module _ (given : Tables) (env : Env) where
-  pub exists_gate : {d e : Shared} {g : Gate} {ns : List Noted} (p : Pred) (q : Query) → p ≡ w.Exists q → Gives d ns (λ s. answer_by wrapped q (kept given s) env)
-      → IsGate e g (any_entry (entries_of d ns), λ s. not (any_entry (entries_of d ns) s)) → IsGate e g (yes_when p given env, no_when p given env)
-  exists_gate {d} {e} {g} {ns} p q h rows i =
-      let yes : (s : List Bool) → any_entry (entries_of d ns) s ≡ is_yes (some_truth (answer_by wrapped q (kept given s) env)) = λ s. any_exact s (entries_of d ns) ∙ ap (λ r. is_yes (some_truth r)) (rows.same s) in
-      outcome given env p (λ s. some_truth (answer_by wrapped q (kept given s) env)) (λ s. at_exists (kept given s) env q h) yes (λ s. ap not (yes s) ∙ not_any s (answer_by wrapped q (kept given s) env)) i
+  pub exists_gate : {d : Shared} {g : Gate} (p : Pred) (q : Query) → p ≡ w.Exists q → IsGate d g (exists_test (λ s. answer_by wrapped q (kept given s) env))
+      → IsGate d g (yes_when p given env, no_when p given env)
+  exists_gate p q h i = outcome given env p (λ s. some_truth (answer_by wrapped q (kept given s) env)) (λ s. at_exists (kept given s) env q h) (λ s. refl) (λ s. refl) i
 
-  pub member_gate : {d e : Shared} {g : Gate} {ns : List Noted} (p : Pred) (a : Expr) (q : Query) → p ≡ w.Member a q → (x : Value) → x ≡ value_by wrapped a env → Gives d ns (λ s. answer_by wrapped q (kept given s) env)
-      → IsGate e g (member_test x (entries_of d ns)) → IsGate e g (yes_when p given env, no_when p given env)
-  member_gate {d} {e} {g} {ns} p a q h x k rows i =
-      outcome given env p (λ s. member_truth (value_by wrapped a env) (answer_by wrapped q (kept given s) env)) (λ s. at_member (kept given s) env a q h)
-      (λ s. member_yes s x (entries_of d ns) ∙ ap₂ (λ (y : Value) (r : Rows). is_yes (member_truth y r)) k (rows.same s))
-      (λ s. member_no s x (entries_of d ns) ∙ ap₂ (λ (y : Value) (r : Rows). is_no (member_truth y r)) k (rows.same s)) i
+  pub member_gate : {d : Shared} {g : Gate} (p : Pred) (a : Expr) (q : Query) → p ≡ w.Member a q → (x : Value) → x ≡ value_by wrapped a env
+      → IsGate d g (among_test x (λ s. answer_by wrapped q (kept given s) env)) → IsGate d g (yes_when p given env, no_when p given env)
+  member_gate p a q h x k i = outcome given env p (λ s. member_truth (value_by wrapped a env) (answer_by wrapped q (kept given s) env)) (λ s. at_member (kept given s) env a q h)
+      (λ s. ap (λ y. is_yes (member_truth y (answer_by wrapped q (kept given s) env))) k) (λ s. ap (λ y. is_no (member_truth y (answer_by wrapped q (kept given s) env))) k) i
+
+-- annotated rows of a query that has some, and of one that has a value among them
+pub exists_of : {d e : Shared} {g : Gate} {ns : List Noted} {answer : List Bool → Rows} → Gives d ns answer → IsGate e g (any_entry (entries_of d ns), λ s. not (any_entry (entries_of d ns) s)) → IsGate e g (exists_test answer)
+exists_of {d} {e} {g} {ns} {answer} rows i =
+    let yes : (s : List Bool) → any_entry (entries_of d ns) s ≡ is_yes (some_truth (answer s)) = λ s. any_exact s (entries_of d ns) ∙ ap (λ r. is_yes (some_truth r)) (rows.same s) in
+    gate_as (exists_test answer) yes (λ s. ap not (yes s) ∙ not_any s (answer s)) i
+
+pub member_of : {d e : Shared} {g : Gate} {ns : List Noted} {answer : List Bool → Rows} (x : Value) → Gives d ns answer → IsGate e g (member_test x (entries_of d ns)) → IsGate e g (among_test x answer)
+member_of {d} {e} {g} {ns} {answer} x rows i = gate_as (among_test x answer)
+    (λ s. member_yes s x (entries_of d ns) ∙ ap (λ r. is_yes (member_truth x r)) (rows.same s))
+    (λ s. member_no s x (entries_of d ns) ∙ ap (λ r. is_no (member_truth x r)) (rows.same s)) i

@@ -7,3 +7,6 @@ pub mod Merged
 pub mod SameRows
 pub mod Exact
 pub mod Joining
+pub mod Knowing
+pub mod Staying
+pub mod Telling

@@ -7,16 +7,18 @@ ghost use Rattle.rt_schema.specs.Kept.{kept};
 ghost use Rattle.rt_formula.specs.Shared.{IsGrown};
 ghost use Rattle.rt_annot.specs.Entries.{selected, join_entry, paired};
 ghost use Rattle.rt_annot.specs.Annotated.{AreNodes, AreNoted, IsGate, Gives, Choosing, entries_of, yes_when, no_when, test_under, test_all, test_any};
+ghost use Rattle.rt_annot.specs.Known.{AreKnown, exists_test, among_test};
 ghost use Rattle.rt_annot.specs.Joints.{AreJoints, Makes, joint_entry, joint_entries};
 
 use crate::gate::{Gate, Gates, all, any, constant, is_always, is_never};
 use crate::joint::{Joint, Parts, joined, meeting, unit, whole};
+use crate::known::{Found, find};
 use crate::member::{exists, member};
 use crate::rows::{appended, projected, table};
 use crate::sets::{common, difference};
 use rt_algebra::{Pred, Query, null_truth, one_of_truth, scope, value};
 use rt_formula::{Dag, Noted};
-use rt_value::{List, NoMemory, Row, compare};
+use rt_value::{List, NoMemory, Row, Value, compare};
 use std::alloc::Global;
 
 /// Where a condition is true and where it is false.
@@ -25,10 +27,13 @@ pub fn test(
     alloc: Global,
     dag: &mut Dag,
     tables: &[List<Row>],
+    queries: &[&Query],
+    founds: &[Found],
     p: &Pred,
     env: &[&Row],
 ) -> Result<Gate, NoMemory>
-    requires { dag.old.rows ≡ places tables.now }
+    requires places { dag.old.rows ≡ places tables.now }
+    requires known { AreKnown dag.old tables.now (map (λ q. q.now) queries.now) founds.now }
     ensures grown { IsGrown dag.old dag.new }
     ensures gate { IfOk result (λ g. IsGate dag.new g (yes_when p.now tables.now (map (λ r. r.now) env.now), no_when p.now tables.now (map (λ r. r.now) env.now))) }
 {
@@ -48,29 +53,83 @@ pub fn test(
             Ok(constant(dag, truth))
         }
         Pred::And(ps) => {
-            let gate = all_hold(alloc, dag, tables, ps.as_slice(), env)?;
+            let gate = all_hold(alloc, dag, tables, queries, founds, ps.as_slice(), env)?;
             Ok(gate)
         }
         Pred::Or(ps) => {
-            let gate = any_holds(alloc, dag, tables, ps.as_slice(), env)?;
+            let gate = any_holds(alloc, dag, tables, queries, founds, ps.as_slice(), env)?;
             Ok(gate)
         }
         Pred::Not(p) => {
-            let gate = test(alloc, dag, tables, p.get(), env)?;
+            let gate = test(alloc, dag, tables, queries, founds, p.get(), env)?;
             Ok(Gate {
                 yes: gate.no,
                 no: gate.yes,
             })
         }
         Pred::Exists(q) => {
-            let rows = annotated(alloc, dag, tables, q.get(), env)?;
-            let gate = exists(alloc, dag, rows.as_slice())?;
+            let gate = has_rows(alloc, dag, tables, queries, founds, q.get(), env)?;
             Ok(gate)
         }
         Pred::Member(e, q) => {
             let x = value(alloc, e, env)?;
-            let rows = annotated(alloc, dag, tables, q.get(), env)?;
-            let gate = member(alloc, dag, &x, rows.as_slice())?;
+            let gate = has_value(alloc, dag, tables, queries, founds, &x, q.get(), env)?;
+            Ok(gate)
+        }
+    }
+}
+
+/// Where the query has a row.
+#[cycle(annotate)]
+fn has_rows(
+    alloc: Global,
+    dag: &mut Dag,
+    tables: &[List<Row>],
+    queries: &[&Query],
+    founds: &[Found],
+    q: &Query,
+    env: &[&Row],
+) -> Result<Gate, NoMemory>
+    requires places { dag.old.rows ≡ places tables.now }
+    requires known { AreKnown dag.old tables.now (map (λ q. q.now) queries.now) founds.now }
+    ensures grown { IsGrown dag.old dag.new }
+    ensures gate { IfOk result (λ g. IsGate dag.new g (exists_test (λ s. answer_by wrapped q.now (kept tables.now s) (map (λ r. r.now) env.now)))) }
+{
+    match find(queries, q) {
+        Some(at) => Ok(founds[at].some),
+        None => {
+            let rows = annotated(alloc, dag, tables, queries, founds, q, env)?;
+            let gate = exists(alloc, dag, rows.as_slice())?;
+            Ok(gate)
+        }
+    }
+}
+
+/// Where `x` is among the rows of the query.
+#[cycle(annotate)]
+fn has_value(
+    alloc: Global,
+    dag: &mut Dag,
+    tables: &[List<Row>],
+    queries: &[&Query],
+    founds: &[Found],
+    x: &Value,
+    q: &Query,
+    env: &[&Row],
+) -> Result<Gate, NoMemory>
+    requires places { dag.old.rows ≡ places tables.now }
+    requires known { AreKnown dag.old tables.now (map (λ q. q.now) queries.now) founds.now }
+    ensures grown { IsGrown dag.old dag.new }
+    ensures gate { IfOk result (λ g. IsGate dag.new g (among_test x.now (λ s. answer_by wrapped q.now (kept tables.now s) (map (λ r. r.now) env.now)))) }
+{
+    match find(queries, q) {
+        Some(at) => {
+            let gate = founds[at].member(alloc, dag, x)?;
+            Ok(gate)
+        }
+        None => {
+            let rows = annotated(alloc, dag, tables, queries, founds, q, env)?;
+            let gate = member(alloc, dag, x, rows.as_slice())?;
             Ok(gate)
         }
     }
@@ -83,17 +142,20 @@ fn all_hold(
     alloc: Global,
     dag: &mut Dag,
     tables: &[List<Row>],
+    queries: &[&Query],
+    founds: &[Found],
     ps: &[Pred],
     env: &[&Row],
 ) -> Result<Gate, NoMemory>
-    requires { dag.old.rows ≡ places tables.now }
+    requires places { dag.old.rows ≡ places tables.now }
+    requires known { AreKnown dag.old tables.now (map (λ q. q.now) queries.now) founds.now }
     ensures grown { IsGrown dag.old dag.new }
     ensures gate { IfOk result (λ g. IsGate dag.new g (test_all ps.now tables.now (map (λ r. r.now) env.now))) }
 {
     let mut yes = List::new(alloc);
     let mut no = List::new(alloc);
     for p in ps {
-        let gate = test(alloc, dag, tables, p, env)?;
+        let gate = test(alloc, dag, tables, queries, founds, p, env)?;
         if is_always(dag, gate.no) {
             return Ok(gate);
         }
@@ -112,17 +174,20 @@ fn any_holds(
     alloc: Global,
     dag: &mut Dag,
     tables: &[List<Row>],
+    queries: &[&Query],
+    founds: &[Found],
     ps: &[Pred],
     env: &[&Row],
 ) -> Result<Gate, NoMemory>
-    requires { dag.old.rows ≡ places tables.now }
+    requires places { dag.old.rows ≡ places tables.now }
+    requires known { AreKnown dag.old tables.now (map (λ q. q.now) queries.now) founds.now }
     ensures grown { IsGrown dag.old dag.new }
     ensures gate { IfOk result (λ g. IsGate dag.new g (test_any ps.now tables.now (map (λ r. r.now) env.now))) }
 {
     let mut yes = List::new(alloc);
     let mut no = List::new(alloc);
     for p in ps {
-        let gate = test(alloc, dag, tables, p, env)?;
+        let gate = test(alloc, dag, tables, queries, founds, p, env)?;
         if is_always(dag, gate.yes) {
             return Ok(gate);
         }
@@ -140,16 +205,19 @@ fn test_row<'a>(
     alloc: Global,
     dag: &mut Dag,
     tables: &[List<Row>],
+    queries: &[&Query],
+    founds: &[Found],
     p: &Pred,
     row: &'a Row,
     env: &[&'a Row],
 ) -> Result<Gate, NoMemory>
-    requires { dag.old.rows ≡ places tables.now }
+    requires places { dag.old.rows ≡ places tables.now }
+    requires known { AreKnown dag.old tables.now (map (λ q. q.now) queries.now) founds.now }
     ensures grown { IsGrown dag.old dag.new }
     ensures gate { IfOk result (λ g. IsGate dag.new g (test_under p.now tables.now (map (λ r. r.now) env.now) row.now)) }
 {
     let inner = scope(alloc, row, env)?;
-    let gate = test(alloc, dag, tables, p, inner.as_slice())?;
+    let gate = test(alloc, dag, tables, queries, founds, p, inner.as_slice())?;
     Ok(gate)
 }
 
@@ -160,12 +228,15 @@ fn chosen(
     alloc: Global,
     dag: &mut Dag,
     tables: &[List<Row>],
+    queries: &[&Query],
+    founds: &[Found],
     p: &Pred,
     front: &[Joint],
     last: &[Noted],
     env: &[&Row],
 ) -> Result<List<Noted>, NoMemory>
     requires places { dag.old.rows ≡ places tables.now }
+    requires known { AreKnown dag.old tables.now (map (λ q. q.now) queries.now) founds.now }
     requires front { AreJoints dag.old front.now }
     requires last { AreNoted dag.old last.now }
     ensures grown { IsGrown dag.old dag.new }
@@ -173,7 +244,9 @@ fn chosen(
 {
     let mut out = List::new(alloc);
     for joint in front {
-        out = chosen_after(alloc, dag, tables, p, out, joint, last, env)?;
+        out = chosen_after(
+            alloc, dag, tables, queries, founds, p, out, joint, last, env,
+        )?;
     }
     Ok(out)
 }
@@ -184,6 +257,8 @@ fn chosen_after(
     alloc: Global,
     dag: &mut Dag,
     tables: &[List<Row>],
+    queries: &[&Query],
+    founds: &[Found],
     p: &Pred,
     rows: List<Noted>,
     joint: &Joint,
@@ -191,6 +266,7 @@ fn chosen_after(
     env: &[&Row],
 ) -> Result<List<Noted>, NoMemory>
     requires places { dag.old.rows ≡ places tables.now }
+    requires known { AreKnown dag.old tables.now (map (λ q. q.now) queries.now) founds.now }
     requires rows { AreNoted dag.old rows }
     requires joint { AreNodes dag.old joint.now.nodes }
     requires last { AreNoted dag.old last.now }
@@ -200,7 +276,7 @@ fn chosen_after(
     let mut out = rows;
     for noted in last {
         let row = joint.row.join(alloc, &noted.row)?;
-        let gate = test_row(alloc, dag, tables, p, &row, &*env)?;
+        let gate = test_row(alloc, dag, tables, queries, founds, p, &row, &*env)?;
         let node = meeting(alloc, dag, joint.nodes.as_slice(), noted.node, gate.yes)?;
         if !is_never(dag, node) {
             out.push(Noted { row, node })?;
@@ -215,10 +291,13 @@ fn product(
     alloc: Global,
     dag: &mut Dag,
     tables: &[List<Row>],
+    queries: &[&Query],
+    founds: &[Found],
     qs: &[Query],
     env: &[&Row],
 ) -> Result<Parts, NoMemory>
-    requires { dag.old.rows ≡ places tables.now }
+    requires places { dag.old.rows ≡ places tables.now }
+    requires known { AreKnown dag.old tables.now (map (λ q. q.now) queries.now) founds.now }
     ensures grown { IsGrown dag.old dag.new }
     ensures makes { IfOk result (λ parts. Makes dag.new parts.front parts.last (λ s. product_after ([] ∷ []) (map (answer_by wrapped) qs.now) (kept tables.now s) (map (λ r. r.now) env.now))) }
 {
@@ -229,7 +308,7 @@ fn product(
     last.push(Noted { row, node })?;
     for q in qs {
         front = joined(alloc, front.as_slice(), last.as_slice())?;
-        last = annotated(alloc, dag, tables, q, env)?;
+        last = annotated(alloc, dag, tables, queries, founds, q, env)?;
     }
     Ok(Parts { front, last })
 }
@@ -240,20 +319,24 @@ fn source(
     alloc: Global,
     dag: &mut Dag,
     tables: &[List<Row>],
+    queries: &[&Query],
+    founds: &[Found],
     q: &Query,
     env: &[&Row],
 ) -> Result<Parts, NoMemory>
-    requires { dag.old.rows ≡ places tables.now }
+    requires places { dag.old.rows ≡ places tables.now }
+    requires known { AreKnown dag.old tables.now (map (λ q. q.now) queries.now) founds.now }
     ensures grown { IsGrown dag.old dag.new }
+    ensures known { AreKnown dag.new tables.now (map (λ q. q.now) queries.now) founds.now }
     ensures makes { IfOk result (λ parts. Makes dag.new parts.front parts.last (λ s. answer_by wrapped q.now (kept tables.now s) (map (λ r. r.now) env.now))) }
 {
     match q {
         Query::Product(qs) => {
-            let parts = product(alloc, dag, tables, qs.as_slice(), env)?;
+            let parts = product(alloc, dag, tables, queries, founds, qs.as_slice(), env)?;
             Ok(parts)
         }
         _ => {
-            let last = annotated(alloc, dag, tables, q, env)?;
+            let last = annotated(alloc, dag, tables, queries, founds, q, env)?;
             let front = unit(alloc)?;
             Ok(Parts { front, last })
         }
@@ -266,10 +349,34 @@ pub fn annotated(
     alloc: Global,
     dag: &mut Dag,
     tables: &[List<Row>],
+    queries: &[&Query],
+    founds: &[Found],
     q: &Query,
     env: &[&Row],
 ) -> Result<List<Noted>, NoMemory>
-    requires { dag.old.rows ≡ places tables.now }
+    requires places { dag.old.rows ≡ places tables.now }
+    requires known { AreKnown dag.old tables.now (map (λ q. q.now) queries.now) founds.now }
+    ensures grown { IsGrown dag.old dag.new }
+    ensures known { AreKnown dag.new tables.now (map (λ q. q.now) queries.now) founds.now }
+    ensures gives { IfOk result (λ out. Gives dag.new out (λ s. answer_by wrapped q.now (kept tables.now s) (map (λ r. r.now) env.now))) }
+{
+    let rows = layer(alloc, dag, tables, queries, founds, q, env)?;
+    Ok(rows)
+}
+
+/// The outermost layer of the query, over the rows of its members.
+#[cycle(annotate)]
+fn layer(
+    alloc: Global,
+    dag: &mut Dag,
+    tables: &[List<Row>],
+    queries: &[&Query],
+    founds: &[Found],
+    q: &Query,
+    env: &[&Row],
+) -> Result<List<Noted>, NoMemory>
+    requires places { dag.old.rows ≡ places tables.now }
+    requires known { AreKnown dag.old tables.now (map (λ q. q.now) queries.now) founds.now }
     ensures grown { IsGrown dag.old dag.new }
     ensures gives { IfOk result (λ out. Gives dag.new out (λ s. answer_by wrapped q.now (kept tables.now s) (map (λ r. r.now) env.now))) }
 {
@@ -279,37 +386,37 @@ pub fn annotated(
             Ok(out)
         }
         Query::Select(a, p) => {
-            let parts = source(alloc, dag, tables, a.get(), env)?;
+            let parts = source(alloc, dag, tables, queries, founds, a.get(), env)?;
             let front = parts.front.as_slice();
             let last = parts.last.as_slice();
-            let out = chosen(alloc, dag, tables, p, front, last, env)?;
+            let out = chosen(alloc, dag, tables, queries, founds, p, front, last, env)?;
             Ok(out)
         }
         Query::Project(a, items) => {
-            let rows = annotated(alloc, dag, tables, a.get(), env)?;
+            let rows = annotated(alloc, dag, tables, queries, founds, a.get(), env)?;
             let out = projected(alloc, rows.as_slice(), items.as_slice(), env)?;
             Ok(out)
         }
         Query::Product(qs) => {
-            let parts = product(alloc, dag, tables, qs.as_slice(), env)?;
+            let parts = product(alloc, dag, tables, queries, founds, qs.as_slice(), env)?;
             let out = whole(alloc, dag, &parts)?;
             Ok(out)
         }
         Query::Union(a, b) => {
-            let first = annotated(alloc, dag, tables, a.get(), env)?;
-            let second = annotated(alloc, dag, tables, b.get(), env)?;
+            let first = annotated(alloc, dag, tables, queries, founds, a.get(), env)?;
+            let second = annotated(alloc, dag, tables, queries, founds, b.get(), env)?;
             let out = appended(alloc, first, second.as_slice())?;
             Ok(out)
         }
         Query::Except(a, b) => {
-            let first = annotated(alloc, dag, tables, a.get(), env)?;
-            let second = annotated(alloc, dag, tables, b.get(), env)?;
+            let first = annotated(alloc, dag, tables, queries, founds, a.get(), env)?;
+            let second = annotated(alloc, dag, tables, queries, founds, b.get(), env)?;
             let out = difference(alloc, dag, first.as_slice(), second.as_slice())?;
             Ok(out)
         }
         Query::Intersect(a, b) => {
-            let first = annotated(alloc, dag, tables, a.get(), env)?;
-            let second = annotated(alloc, dag, tables, b.get(), env)?;
+            let first = annotated(alloc, dag, tables, queries, founds, a.get(), env)?;
+            let second = annotated(alloc, dag, tables, queries, founds, b.get(), env)?;
             let out = common(alloc, dag, first.as_slice(), second.as_slice())?;
             Ok(out)
         }

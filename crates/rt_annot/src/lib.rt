@@ -6,12 +6,16 @@
 mod aim;
 mod ann;
 mod annotation;
+mod closed;
 mod difference;
 mod evaluate;
 mod gate;
+mod gather;
 mod joint;
+mod known;
 mod member;
 mod rows;
+mod same;
 mod sets;
 
 pub use aim::goal;

@@ -12,12 +12,15 @@ use Rattle.rt_algebra.specs.declared.query.Query.{Query}
 use Rattle.rt_schema.specs.Kept.{kept}
 use Rattle.rt_annot.specs.declared.joint.Joint.{Joint}
 use Rattle.rt_annot.specs.Entries.{Entry, rows_at, selected, join_entry, paired}
-use Rattle.rt_annot.specs.Annotated.{IsGate, IsNode, Gives, entries_of, test_under, yes_when, yes_of, no_of}
+use Rattle.rt_annot.specs.Annotated.{IsGate, IsNode, entries_of, test_under, yes_when, yes_of, no_of}
 use Rattle.rt_annot.specs.Joints.{AreJoints, joint_entry, joint_entries, pair_joints}
 use Rattle.rt_annot.proofs.Exact.{table_exact, pair_exact}
+use Rattle.rt_annot.specs.declared.known.Found.{Found}
+use Rattle.rt_annot.specs.Known.{AreKnown, exists_test}
+use Rattle.rt_annot.proofs.Knowing.{known_stay, known_at}
 use Rattle.rt_annot.proofs.Growing.{grown_trans, all_stays, entries_stay, mean_stays, node_as}
 use Rattle.rt_annot.proofs.Walking.{next_is, next_joined, node_below, table_entries}
-use Rattle.rt_annot.proofs.Layers.{at_table, at_select, at_project, at_product, at_union, at_except, at_intersect, gate_at, mean_push, mean_as, yes_more, no_more, all_gate, any_gate, all_stops, any_stops, and_gate, or_gate, exists_gate, member_gate, gives_as, gives_same, gives_stay, gives_of, gives_append, gives_projected, missing_rows, standing_rows, choose, leave_out, choosing_at}
+use Rattle.rt_annot.proofs.Layers.{at_table, at_select, at_project, at_product, at_union, at_except, at_intersect, gate_at, mean_push, mean_as, yes_more, no_more, all_gate, any_gate, all_stops, any_stops, and_gate, or_gate, exists_gate, member_gate, exists_of, member_of, gives_as, gives_same, gives_stay, gives_of, gives_append, gives_projected, missing_rows, standing_rows, choose, leave_out, choosing_at}
 use Rattle.rt_annot.proofs.Joining.{joint_below, joints_stay, joint_stays, joint_entries_stay, pair_same, pair_below, next_joints, selected_append, choosing_more, choosing_as, choosing_rows, makes_same, makes_single}
 use Rattle.rt_annot.proofs.evaluate.+annotate.Goals as goal
 use Rattle.rt_annot.proofs.evaluate.+annotate.Goals.{chosen_after-then-not-is_never+in_ok-push, chosen_after-else-not-is_never}
@@ -25,16 +28,16 @@ use Rattle.rt_annot.proofs.evaluate.+annotate.Goals.{chosen_after-then-not-is_ne
 abbrev scope_of : List (Bor (List Value)) → Env
 scope_of rows = map (λ r. r.now) rows
 
-pub annotated-returns-in_ok-out-in-Table-clause-gives : goal.annotated-returns-in_ok-out-in-Table-clause-gives
-annotated-returns-in_ok-out-in-Table-clause-gives t c =
+pub layer-returns-in_ok-out-in-Table-clause-gives : goal.layer-returns-in_ok-out-in-Table-clause-gives
+layer-returns-in_ok-out-in-Table-clause-gives t c =
     let g = c.args.tables.now in
     let e = scope_of c.args.env.now in
     gives_as (λ s. answer_by wrapped c.args.q.now (kept g s) e)
     (λ s. ap (rows_at s) (table_entries g c.in-Table.t) ∙ table_exact s g (λ u. u) c.in-Table.t ∙ sym (at_table (kept g s) e c.in-Table.t c.in-Table.is))
     (gives_of _ c.in_ok-out-in-Table.ensures.reads)
 
-pub annotated-returns-in_ok-out-in-Project-clause-gives : goal.annotated-returns-in_ok-out-in-Project-clause-gives
-annotated-returns-in_ok-out-in-Project-clause-gives t c =
+pub layer-returns-in_ok-out-in-Project-clause-gives : goal.layer-returns-in_ok-out-in-Project-clause-gives
+layer-returns-in_ok-out-in-Project-clause-gives t c =
     let g = c.args.tables.now in
     let e = scope_of c.args.env.now in
     let a = c.in-Project.a in
@@ -43,8 +46,8 @@ annotated-returns-in_ok-out-in-Project-clause-gives t c =
     (λ s. ap (λ es. map (λ r. row_by wrapped es (r ∷ e)) (answer_by wrapped a (kept g s) e)) c.as_slice-in-Project.ensures ∙ sym (at_project (kept g s) e a c.in-Project.items c.in-Project.is))
     (gives_same c.in_ok-out-in-Project.ensures (gives_projected c.as_slice-in-Project.result.now e rows))
 
-pub annotated-returns-in_ok-out-in-Union-clause-gives : goal.annotated-returns-in_ok-out-in-Union-clause-gives
-annotated-returns-in_ok-out-in-Union-clause-gives t c =
+pub layer-returns-in_ok-out-in-Union-clause-gives : goal.layer-returns-in_ok-out-in-Union-clause-gives
+layer-returns-in_ok-out-in-Union-clause-gives t c =
     let g = c.args.tables.now in
     let e = scope_of c.args.env.now in
     let a = c.in-Union.a in
@@ -53,8 +56,8 @@ annotated-returns-in_ok-out-in-Union-clause-gives t c =
     let second = gives_same c.as_slice-in-Union.ensures (gives_as (λ s. answer_by wrapped b (kept g s) e) (λ s. ap (λ q. answer_by wrapped q (kept g s) e) c.get-in-Union-2.ensures) c.in_ok-second-in-Union.ensures.gives) in
     gives_as (λ s. answer_by wrapped c.args.q.now (kept g s) e) (λ s. sym (at_union (kept g s) e a b c.in-Union.is)) (gives_same c.in_ok-out-in-Union.ensures (gives_append first second))
 
-pub annotated-returns-in_ok-out-in-Except-clause-gives : goal.annotated-returns-in_ok-out-in-Except-clause-gives
-annotated-returns-in_ok-out-in-Except-clause-gives t c =
+pub layer-returns-in_ok-out-in-Except-clause-gives : goal.layer-returns-in_ok-out-in-Except-clause-gives
+layer-returns-in_ok-out-in-Except-clause-gives t c =
     let g = c.args.tables.now in
     let e = scope_of c.args.env.now in
     let a = c.in-Except.a in
@@ -65,8 +68,8 @@ annotated-returns-in_ok-out-in-Except-clause-gives t c =
     (λ s. missing_rows s (entries_of c.annotated-in-Except-2.new.dag c.as_slice-in-Except.result.now) (entries_of c.annotated-in-Except-2.new.dag c.as_slice-in-Except-2.result.now) ∙ ap₂ (λ (xs ys : Rows). filter (λ r. not (has_row ys r)) xs) (first.same s) (second.same s) ∙ sym (at_except (kept g s) e a b c.in-Except.is))
     (gives_of _ c.in_ok-out-in-Except.ensures.reads)
 
-pub annotated-returns-in_ok-out-in-Intersect-clause-gives : goal.annotated-returns-in_ok-out-in-Intersect-clause-gives
-annotated-returns-in_ok-out-in-Intersect-clause-gives t c =
+pub layer-returns-in_ok-out-in-Intersect-clause-gives : goal.layer-returns-in_ok-out-in-Intersect-clause-gives
+layer-returns-in_ok-out-in-Intersect-clause-gives t c =
     let g = c.args.tables.now in
     let e = scope_of c.args.env.now in
     let a = c.in-Intersect.a in
@@ -77,8 +80,8 @@ annotated-returns-in_ok-out-in-Intersect-clause-gives t c =
     (λ s. standing_rows s (entries_of c.annotated-in-Intersect-2.new.dag c.as_slice-in-Intersect.result.now) (entries_of c.annotated-in-Intersect-2.new.dag c.as_slice-in-Intersect-2.result.now) ∙ ap₂ (λ (xs ys : Rows). filter (has_row ys) xs) (first.same s) (second.same s) ∙ sym (at_intersect (kept g s) e a b c.in-Intersect.is))
     (gives_of _ c.in_ok-out-in-Intersect.ensures.reads)
 
-pub annotated-returns-in_ok-out-in-Select-clause-gives : goal.annotated-returns-in_ok-out-in-Select-clause-gives
-annotated-returns-in_ok-out-in-Select-clause-gives t c =
+pub layer-returns-in_ok-out-in-Select-clause-gives : goal.layer-returns-in_ok-out-in-Select-clause-gives
+layer-returns-in_ok-out-in-Select-clause-gives t c =
     let g = c.args.tables.now in
     let e = scope_of c.args.env.now in
     let a = c.in-Select.a in
@@ -88,8 +91,8 @@ annotated-returns-in_ok-out-in-Select-clause-gives t c =
     (λ s. ap (λ x. filter (λ r. yes_when p g (r ∷ e) s) (answer_by wrapped x (kept g s) e)) c.get.ensures ∙ sym (at_select (kept g s) e a p c.in-Select.is))
     (choosing_rows p g e c.in_ok-out-in-Select.ensures.chosen refl parts)
 
-pub annotated-returns-in_ok-out-in-Product-clause-gives : goal.annotated-returns-in_ok-out-in-Product-clause-gives
-annotated-returns-in_ok-out-in-Product-clause-gives t c =
+pub layer-returns-in_ok-out-in-Product-clause-gives : goal.layer-returns-in_ok-out-in-Product-clause-gives
+layer-returns-in_ok-out-in-Product-clause-gives t c =
     let g = c.args.tables.now in
     let e = scope_of c.args.env.now in
     let qs = c.in-Product.qs in
@@ -101,6 +104,7 @@ annotated-returns-in_ok-out-in-Product-clause-gives t c =
 pub source-returns-in_ok-front-in_default : goal.source-returns-in_ok-front-in_default
 source-returns-in_ok-front-in_default t c = record {
   grown = c.annotated.ensures.grown;
+  known = c.annotated.ensures.known;
   makes = makes_single c.in_ok-front-in_default.ensures c.in_ok-last-in_default.ensures.gives;
 }
 
@@ -116,6 +120,7 @@ all_hold-loop-p-preserved t c =
     let v = c.loop-p.invariant in
     record {
       grown = grown_trans v.grown c.test.ensures.grown;
+      known = known_stay c.test.ensures.grown v.known;
       yes = mean_as (yes_more g e c.args.ps.now i c.p-item.result c.loop-p-test.true c.p-item.is) (mean_push (mean_stays c.test.ensures.grown v.yes) c.in_ok-gate.ensures.gate.yes c.in_ok-push.ensures.ok);
       no = mean_as (no_more g e c.args.ps.now i c.p-item.result c.loop-p-test.true c.p-item.is) (mean_push (mean_stays c.test.ensures.grown v.no) c.in_ok-gate.ensures.gate.no c.in_ok-push-2.ensures.ok);
     }
@@ -140,6 +145,7 @@ any_holds-loop-p-preserved t c =
     let v = c.loop-p.invariant in
     record {
       grown = grown_trans v.grown c.test.ensures.grown;
+      known = known_stay c.test.ensures.grown v.known;
       yes = mean_as (yes_more g e c.args.ps.now i c.p-item.result c.loop-p-test.true c.p-item.is) (mean_push (mean_stays c.test.ensures.grown v.yes) c.in_ok-gate.ensures.gate.yes c.in_ok-push.ensures.ok);
       no = mean_as (no_more g e c.args.ps.now i c.p-item.result c.loop-p-test.true c.p-item.is) (mean_push (mean_stays c.test.ensures.grown v.no) c.in_ok-gate.ensures.gate.no c.in_ok-push-2.ensures.ok);
     }
@@ -159,14 +165,17 @@ chosen-loop-joint-preserved t c =
     let last = c.args.last.now in
     let i = c.loop-joint.joint-index in
     let j = c.joint-item.result in
-    let v = c.loop-joint.invariant in
+    let v = c.loop-joint.invariant.choosing in
     let u = test_under c.args.p.now c.args.tables.now (scope_of c.args.env.now) in
     let b = joint_below d front i j c.loop-joint-test.true c.joint-item.is c.requires.front in
     let here = join_entry (joint_entry d j) (entries_of d last) in
     let there = paired (joint_entries d (drop (i + 1) front)) (entries_of d last) in
-    choosing_more (selected here u) v
-    (ap (λ es. selected es u) (next_joints d front i j (entries_of d last) c.loop-joint-test.true c.joint-item.is) ∙ selected_append here there u)
-    (choosing_as (ap₂ (λ (x : Entry) (es : List Entry). entries_of c.loop-joint.dag c.loop-joint.out ++ selected (join_entry x es) u) (joint_stays v.grown j b) (entries_stay v.grown last c.requires.last)) c.in_ok-out.ensures.chosen)
+    record {
+      choosing = choosing_more (selected here u) v
+          (ap (λ es. selected es u) (next_joints d front i j (entries_of d last) c.loop-joint-test.true c.joint-item.is) ∙ selected_append here there u)
+          (choosing_as (ap₂ (λ (x : Entry) (es : List Entry). entries_of c.loop-joint.dag c.loop-joint.out ++ selected (join_entry x es) u) (joint_stays v.grown j b) (entries_stay v.grown last c.requires.last)) c.in_ok-out.ensures.chosen);
+      known = known_stay c.chosen_after.ensures.grown c.loop-joint.invariant.known;
+    }
 
 pub chosen_after-loop-noted-preserved : goal.chosen_after-loop-noted-preserved
 chosen_after-loop-noted-preserved t c =
@@ -174,7 +183,7 @@ chosen_after-loop-noted-preserved t c =
     let j = c.args.joint.now in
     let i = c.loop-noted.noted-index in
     let n = c.noted-item.result in
-    let v = c.loop-noted.invariant in
+    let v = c.loop-noted.invariant.choosing in
     let u = test_under c.args.p.now c.args.tables.now (scope_of c.args.env.now) in
     let r = j.row ++ n.row in
     let f = λ (s : List Bool). (list_all (val d s) j.nodes && val d s n.node) && (u r).0 s in
@@ -186,9 +195,10 @@ chosen_after-loop-noted-preserved t c =
     node_as f (λ s. ap₂ ◌&&◌ (ap₂ ◌&&◌ (ap (list_all (val tested s)) c.as_slice.ensures ∙ all_stays grown j.nodes c.requires.joint s) (val-grown d tested grown s n.node l)) (gate.yes.same s)) c.in_ok-node.ensures.node in
     let next = ap (λ es. selected es u) (next_joined d c.args.last.now i n c.loop-noted-test.true c.noted-item.is (joint_entry d j)) in
     let more = grown_trans c.test_row.ensures.grown c.meeting.ensures.grown in
+    let known : AreKnown c.meeting.new.dag c.args.tables.now (map (λ q. q.now) c.args.queries.now) c.args.founds.now = known_stay more c.loop-noted.invariant.known in
     elim c.if-not-is_never.branch [
-      | chosen_after-then-not-is_never+in_ok-push w ↦ choosing_at refl w.out-is (choose r f v next more _ c.in_ok-row.ensures node w.in_ok-push.ensures.ok)
-      | chosen_after-else-not-is_never w ↦ choosing_at refl w.out-is (leave_out r f v next more (λ s. sym (node.same s) ∙ c.is_never.ensures w.if-not-is_never.false s))
+      | chosen_after-then-not-is_never+in_ok-push w ↦ record { choosing = choosing_at refl w.out-is (choose r f v next more _ c.in_ok-row.ensures node w.in_ok-push.ensures.ok); known = known }
+      | chosen_after-else-not-is_never w ↦ record { choosing = choosing_at refl w.out-is (leave_out r f v next more (λ s. sym (node.same s) ∙ c.is_never.ensures w.if-not-is_never.false s)); known = known }
     ]
 
 pub product-loop-q-preserved : goal.product-loop-q-preserved
@@ -208,6 +218,7 @@ product-loop-q-preserved t c =
     let P : List Joint → Type 0 = AreJoints next in
     record {
       grown = grown_trans v.grown c.annotated.ensures.grown;
+      known = c.annotated.ensures.known;
       front = subst P (sym made) (joints_stay c.annotated.ensures.grown (pair_joints front last) below);
       last = c.in_ok-last.ensures.gives.below;
       same = λ s. ap₂ (λ (xs ys : Rows). product_after (pairs xs ys) more (kept g s) e)
@@ -227,18 +238,46 @@ test-returns-in_ok-gate-in-Or-clause-gate t c =
 
 pub test-returns-in_ok-gate-in-Exists-clause-gate : goal.test-returns-in_ok-gate-in-Exists-clause-gate
 test-returns-in_ok-gate-in-Exists-clause-gate t c =
-    let g = c.args.tables.now in
-    let e = scope_of c.args.env.now in
-    let q = c.in-Exists.q in
-    let rows : Gives c.annotated.new.dag c.as_slice-in-Exists.result.now (λ s. answer_by wrapped q (kept g s) e) =
-    gives_same c.as_slice-in-Exists.ensures (gives_as (λ s. answer_by wrapped q (kept g s) e) (λ s. ap (λ x. answer_by wrapped x (kept g s) e) c.get-in-Exists.ensures) c.in_ok-rows-in-Exists.ensures.gives) in
-    exists_gate g e c.args.p.now q c.in-Exists.is rows c.in_ok-gate-in-Exists.ensures.gate
+    exists_gate c.args.tables.now (scope_of c.args.env.now) c.args.p.now c.get-in-Exists.result.now (c.in-Exists.is ∙ ap w.Exists (sym c.get-in-Exists.ensures)) c.in_ok-gate-in-Exists.ensures.gate
 
 pub test-returns-in_ok-gate-in-Member-clause-gate : goal.test-returns-in_ok-gate-in-Member-clause-gate
 test-returns-in_ok-gate-in-Member-clause-gate t c =
+    member_gate c.args.tables.now (scope_of c.args.env.now) c.args.p.now c.in-Member.e c.get-in-Member.result.now (c.in-Member.is ∙ ap (w.Member c.in-Member.e) (sym c.get-in-Member.ensures))
+    c.in_ok-x-in-Member.x c.in_ok-x-in-Member.ensures c.in_ok-gate-in-Member.ensures.gate
+
+pub has_rows-returns-in-Some-clause-gate : goal.has_rows-returns-in-Some-clause-gate
+has_rows-returns-in-Some-clause-gate t c =
     let g = c.args.tables.now in
     let e = scope_of c.args.env.now in
-    let q = c.in-Member.q in
-    let rows : Gives c.annotated-in-Member.new.dag c.as_slice-in-Member.result.now (λ s. answer_by wrapped q (kept g s) e) =
-    gives_same c.as_slice-in-Member.ensures (gives_as (λ s. answer_by wrapped q (kept g s) e) (λ s. ap (λ x. answer_by wrapped x (kept g s) e) c.get-in-Member.ensures) c.in_ok-rows-in-Member.ensures.gives) in
-    member_gate g e c.args.p.now c.in-Member.e q c.in-Member.is c.in_ok-x-in-Member.x c.in_ok-x-in-Member.ensures rows c.in_ok-gate-in-Member.ensures.gate
+    let f = c.index-founds-at.result in
+    let P : Found → Type 0 = λ x. IsGate c.args.dag.now x.some (exists_test (λ s. answer_by wrapped c.args.q.now (kept g s) e)) in
+    subst P c.index-founds-at.is (known_at c.args.queries.now c.args.q.now f c.in-Some.at e c.requires.known c.in-Some.ensures.within c.in-Some.ensures.same c.index-founds-at.is).exists
+
+pub has_rows-returns-in_ok-gate-in-None-clause-gate : goal.has_rows-returns-in_ok-gate-in-None-clause-gate
+has_rows-returns-in_ok-gate-in-None-clause-gate t c = exists_of (gives_same c.as_slice.ensures c.in_ok-rows-in-None.ensures.gives) c.in_ok-gate-in-None.ensures.gate
+
+pub has_value-member-requires : goal.has_value-member-requires
+has_value-member-requires t c =
+    (known_at c.args.queries.now c.args.q.now c.index-founds-at.result c.in-Some.at [] c.requires.known c.in-Some.ensures.within c.in-Some.ensures.same c.index-founds-at.is).over
+
+pub has_value-returns-in_ok-gate-in-Some-clause-gate : goal.has_value-returns-in_ok-gate-in-Some-clause-gate
+has_value-returns-in_ok-gate-in-Some-clause-gate t c =
+    let g = c.args.tables.now in
+    let e = scope_of c.args.env.now in
+    c.in_ok-gate-in-Some.ensures.gate (λ s. answer_by wrapped c.args.q.now (kept g s) e)
+    (known_at c.args.queries.now c.args.q.now c.index-founds-at.result c.in-Some.at e c.requires.known c.in-Some.ensures.within c.in-Some.ensures.same c.index-founds-at.is)
+
+pub has_value-returns-in_ok-gate-in-None-clause-gate : goal.has_value-returns-in_ok-gate-in-None-clause-gate
+has_value-returns-in_ok-gate-in-None-clause-gate t c = member_of c.args.x.now (gives_same c.as_slice.ensures c.in_ok-rows-in-None.ensures.gives) c.in_ok-gate-in-None.ensures.gate
+
+pub annotated-returns-in_err-rows-clause-known : goal.annotated-returns-in_err-rows-clause-known
+annotated-returns-in_err-rows-clause-known t c = known_stay c.layer.ensures.grown c.requires.known
+
+pub annotated-returns-clause-known : goal.annotated-returns-clause-known
+annotated-returns-clause-known t c = known_stay c.layer.ensures.grown c.requires.known
+
+pub source-returns-in_err-parts-in-Product-clause-known : goal.source-returns-in_err-parts-in-Product-clause-known
+source-returns-in_err-parts-in-Product-clause-known t c = known_stay c.product.ensures.grown c.requires.known
+
+pub source-returns-in_ok-parts-in-Product-clause-known : goal.source-returns-in_ok-parts-in-Product-clause-known
+source-returns-in_ok-parts-in-Product-clause-known t c = known_stay c.product.ensures.grown c.requires.known

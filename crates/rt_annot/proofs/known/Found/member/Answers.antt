@@ -1,0 +1,37 @@
+use Rattle.std.proofs.Common.{◌∙◌, ◌∷◌, [], ◌||◌, sym, ap, ap₂}
+use Rattle.rt_value.specs.declared.value.Value.TheVariants.{Null}
+use Rattle.rt_formula.specs.Shared.{val}
+use Rattle.rt_formula.specs.Groups.{group_at}
+use Rattle.rt_annot.specs.Annotated.{IsNode}
+use Rattle.rt_annot.specs.Known.{among_test, has_first}
+use Rattle.rt_annot.proofs.Growing.{grown_refl, grown_trans, node_stays, any_over, not_over, node_as}
+use Rattle.rt_annot.proofs.Telling.{null_yes, null_no, among_yes, among_no, or_false}
+use Rattle.rt_annot.proofs.known.Found.member.Goals as goal
+
+pub returns-then-is_null-clause-gate : goal.returns-then-is_null-clause-gate
+returns-then-is_null-clause-gate c answer tells =
+    let x = c.args.x.now in
+    let h = sym c.is_null.ensures ∙ c.if-is_null.true in
+    record {
+      yes = record { below = c.no-yes.ensures.node; same = λ s. c.no-yes.ensures.means s ∙ null_yes x (answer s) h };
+      no = node_as (among_test x answer).1 (λ s. null_no x (answer s) h) tells.exists.no;
+    }
+
+pub returns-clause-gate : goal.returns-clause-gate
+returns-clause-gate c answer tells =
+    let d = c.args.dag.now in
+    let x = c.args.x.now in
+    let h = sym c.is_null.ensures ∙ c.if-is_null.false in
+    let f = c.args.self.now in
+    let group = c.get.ensures ∙ ap (group_at f.groups) c.in_ok-row.ensures in
+    let yes : IsNode c.any.new.self c.in_ok-yes.yes (λ s. has_first x (answer s)) =
+    node_as (λ s. has_first x (answer s)) (tells.firsts x) (any_over (grown_refl d) c.in_ok-yes.yes c.get.result.now (group_at f.groups (x ∷ [])) (c.requires.group x) group c.in_ok-yes.ensures.node c.in_ok-yes.ensures.means) in
+    let null : IsNode c.any.new.self f.null (λ s. has_first Null (answer s)) = node_stays c.any.ensures.grown tells.null in
+    let some : IsNode c.any-2.new.self c.in_ok-some.some (λ s. has_first x (answer s) || has_first Null (answer s)) = record {
+      below = c.in_ok-some.ensures.node;
+      same = λ s. c.in_ok-some.ensures.means s ∙ ap₂ ◌||◌ (yes.same s) (or_false (val c.any.new.self s f.null) ∙ null.same s);
+    } in
+    record {
+      yes = node_stays (grown_trans c.any-2.ensures.grown c.not.ensures.grown) (node_as (among_test x answer).0 (λ s. among_yes x h (answer s)) yes);
+      no = node_as (among_test x answer).1 (λ s. among_no x h (answer s)) (not_over c.in_ok-some.some c.in_ok-no.no some c.in_ok-no.ensures.node c.in_ok-no.ensures.means);
+    }

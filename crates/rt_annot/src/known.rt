@@ -1,0 +1,111 @@
+//! The subqueries that name no row outside of them: what their rows come to is found once.
+ghost use Rattle.std.specs.Prelude.{◌≡◌, ◌∷◌, [], ◌<◌, map, length, slice_index_or, IfOk, IfSome, List, Bool};
+ghost use Rattle.rt_value.specs.declared.value.Value.{Value};
+ghost use Rattle.rt_value.specs.Value.{value_eq};
+ghost use Rattle.rt_schema.specs.Given.{Rows};
+ghost use Rattle.rt_algebra.specs.Answer.{is_yes, null_truth};
+ghost use Rattle.rt_formula.specs.Shared.{IsGrown};
+ghost use Rattle.rt_formula.specs.Groups.{group_at, nodes_where};
+ghost use Rattle.rt_annot.specs.Entries.{rows_at};
+ghost use Rattle.rt_annot.specs.Annotated.{AreNoted, IsGate, entries_of};
+ghost use Rattle.rt_annot.specs.Known.{first_of, among_test, IsOver, Tells};
+
+use crate::gate::Gate;
+use crate::member::exists;
+use crate::same::same_query;
+use rt_algebra::Query;
+use rt_formula::{Dag, Groups, Node, Noted};
+use rt_value::{NoMemory, Row, Value};
+use std::alloc::Global;
+
+/// What the annotated rows of a query come to: whether there is one, whether the first value of
+/// one is NULL, and the nodes of the rows by their first value.
+#[derive(Drop)]
+pub struct Found {
+    pub some: Gate,
+    pub null: Node,
+    pub groups: Groups,
+}
+
+/// The place of a query among those that are known.
+pub fn find(queries: &[&Query], query: &Query) -> Option<usize>
+    ensures within { IfSome result (λ at. at < length queries.now) }
+    ensures same { IfSome result (λ at. slice_index_or (map (λ q. q.now) queries.now) at query.now ≡ query.now) }
+{
+    for (at, known) in queries.iter().enumerate() {
+        if same_query(known, query) {
+            return Some(at);
+        }
+    }
+    None
+}
+
+fn is_null(value: &Value) -> bool
+    ensures { result ≡ is_yes (null_truth value.now) }
+{
+    matches!(value, Value::Null)
+}
+
+fn single(alloc: Global, value: &Value) -> Result<Row, NoMemory>
+    ensures { IfOk result (λ r. r ≡ value.now ∷ []) }
+{
+    let mut row = Row::new(alloc);
+    row.push(value.copy(alloc)?)?;
+    Ok(row)
+}
+
+/// The first value of a row alone, NULL where it has none.
+fn first(alloc: Global, row: &Row) -> Result<Row, NoMemory>
+    ensures { IfOk result (λ r. r ≡ first_of row.now ∷ []) }
+{
+    match row.as_slice().first() {
+        None => single(alloc, &Value::Null),
+        Some(value) => single(alloc, value),
+    }
+}
+
+/// The nodes of the rows by their first value.
+fn by_first(alloc: Global, rows: &[Noted]) -> Result<Groups, NoMemory>
+    ensures { IfOk result (λ g. (x : Value) → group_at g (x ∷ []) ≡ nodes_where (λ r. value_eq x (first_of r)) rows.now) }
+{
+    let mut groups = Groups::new(alloc);
+    for noted in rows {
+        let row = first(alloc, &noted.row)?;
+        let node = noted.node;
+        groups.put(&Noted { row, node })?;
+    }
+    Ok(groups)
+}
+
+impl Found {
+    /// What these rows come to.
+    pub fn of(alloc: Global, dag: &mut Dag, rows: &[Noted]) -> Result<Found, NoMemory>
+        requires { AreNoted dag.old rows.now }
+        ensures grown { IsGrown dag.old dag.new }
+        ensures tells { IfOk result (λ f. Tells dag.new f (λ s. rows_at s (entries_of dag.old rows.now))) }
+    {
+        let some = exists(alloc, dag, rows)?;
+        let groups = by_first(alloc, rows)?;
+        let nothing = single(alloc, &Value::Null)?;
+        let null = dag.any(groups.get(&nothing))?;
+        Ok(Found { some, null, groups })
+    }
+
+    /// Whether `x` is among the rows.
+    pub fn member(&self, alloc: Global, dag: &mut Dag, x: &Value) -> Result<Gate, NoMemory>
+        requires { IsOver dag.old self.now }
+        ensures grown { IsGrown dag.old dag.new }
+        ensures gate { IfOk result (λ g. (answer : List Bool → Rows) → Tells dag.old self.now answer → IsGate dag.new g (among_test x.now answer)) }
+    {
+        if is_null(x) {
+            let yes = dag.no();
+            let no = self.some.no;
+            return Ok(Gate { yes, no });
+        }
+        let row = single(alloc, x)?;
+        let yes = dag.any(self.groups.get(&row))?;
+        let some = dag.any(&[yes, self.null])?;
+        let no = dag.not(some)?;
+        Ok(Gate { yes, no })
+    }
+}
