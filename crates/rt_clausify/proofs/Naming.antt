@@ -176,13 +176,16 @@ goal-complete d marks n k w h u b keep l v =
           (each-cons (IsTrueAt bools) (name_at w.names k ∷ []) [] (ap (λ x. x || false) t) (each-none (IsTrueAt bools))),
     )
 
+-- a model makes the literal of the goal's line true
+pub goal-literal : (lines : List (List Literal)) (l : Literal) (bools : List Bool) → IsModel (goal_line lines l) bools → lit_true bools l ≡ true
+goal-literal lines l bools m = alone (lit_true bools l) (each-head (IsTrueAt bools) (l ∷ []) [] (each-back (IsTrueAt bools) lines ((l ∷ []) ∷ []) m)) where
+  alone : (x : Bool) → (x || false) ≡ true → x ≡ true
+  alone true h = refl
+  alone false h = cc
+
 pub goal-sound : (d : Shared) (marks : List Bool) (n k : ℕ) (w : Written) → IsNaming d marks n w → is_marked marks k ≡ true → k < n → (keep bools : List Bool) → AgreeBelow d.rows keep bools → IsModel (goal_line w.lines (name_at w.names k)) bools → val d keep k ≡ true
 goal-sound d marks n k w h u b keep bools a m =
-    let unit = each-head (IsTrueAt bools) (name_at w.names k ∷ []) [] (each-back (IsTrueAt bools) w.lines ((name_at w.names k ∷ []) ∷ []) m) in
-    sym (h.means keep bools a (model-older w.lines ((name_at w.names k ∷ []) ∷ []) bools m) k b u) ∙ alone (lit_true bools (name_at w.names k)) unit where
-      alone : (x : Bool) → (x || false) ≡ true → x ≡ true
-      alone true h = refl
-      alone false h = cc
+    sym (h.means keep bools a (model-older w.lines ((name_at w.names k ∷ []) ∷ []) bools m) k b u) ∙ goal-literal w.lines (name_at w.names k) bools m
 
 pub goal-determined : (d : Shared) (marks : List Bool) (n k : ℕ) (w : Written) → IsNaming d marks n w → Determined (goal_line w.lines (name_at w.names k)) d.rows w.next
 goal-determined d marks n k w h set c g = h.over.determined d.rows (λ s x y. y) set (closed-front w.lines ((name_at w.names k ∷ []) ∷ []) set c) g

@@ -1,7 +1,7 @@
 ghost use Rattle.std.specs.Prelude.{◌≡◌, ℕ, ◌+◌, ◌≤◌, ◌<◌, ◌^◌, List as Seq, [], ◌∷◌, ◌++◌, Bool, true, false, map, length, IfOk};
 ghost use Rattle.std.specs.List.{All as Each};
 ghost use Rattle.rt_clause.specs.Lists.{AreBelow, Determined};
-ghost use Rattle.rt_clause.specs.Models.{IsModel};
+ghost use Rattle.rt_clause.specs.Models.{IsModel, lit_true};
 ghost use Rattle.rt_clause.specs.Gates.{gate, AgreeBelow, Extends};
 ghost use Rattle.rt_formula.specs.Shared.{Fits, val};
 ghost use Rattle.rt_clausify.specs.Under.{AreUnder};
@@ -139,6 +139,7 @@ fn write_marked<A: Adds>(
         → (bools : Seq Bool) × (length bools ≡ named.next) × AgreeBelow dag.now.rows keep bools × IsModel (A.lines to.new) bools) }
     ensures sound { IfOk result (λ named. (keep : Seq Bool) (bools : Seq Bool) → AgreeBelow dag.now.rows keep bools → IsModel (A.lines to.new) bools → val dag.now keep goal ≡ true) }
     ensures determined { IfOk result (λ named. Determined (A.lines to.new) dag.now.rows named.next) }
+    ensures literal { IfOk result (λ named. (bools : Seq Bool) → IsModel (A.lines to.new) bools → lit_true bools named.goal ≡ true) }
 {
     let _marked = marks.len();
     let mut names: List<Lit> = List::new(alloc);
@@ -173,6 +174,7 @@ pub fn clausify<A: Adds>(
         → (bools : Seq Bool) × (length bools ≡ named.next) × AgreeBelow dag.now.rows keep bools × IsModel (A.lines to.new) bools) }
     ensures sound { IfOk result (λ named. (keep : Seq Bool) (bools : Seq Bool) → AgreeBelow dag.now.rows keep bools → IsModel (A.lines to.new) bools → val dag.now keep goal ≡ true) }
     ensures determined { IfOk result (λ named. Determined (A.lines to.new) dag.now.rows named.next) }
+    ensures literal { IfOk result (λ named. (bools : Seq Bool) → IsModel (A.lines to.new) bools → lit_true bools named.goal ≡ true) }
 {
     let marks = under(alloc, dag, goal)?;
     write_marked(alloc, dag, goal, &marks, to)

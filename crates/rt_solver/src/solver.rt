@@ -158,6 +158,7 @@ impl<L: Lines + Drop> Solver<L> {
         ensures unspent { IfOk result (λ found. IsUnspent (L.lines self.old.0) (L.lines self.new.0) budget found) }
         ensures failed { IsTrue (has_failed self.old) → IsErr result }
         ensures fails { OnErr result (IsTrue (has_failed self.new)) }
+        ensures works { OnOk result (has_failed self.new ≡ false) }
     {
         if self.failed {
             return Err(NoMemory);
@@ -198,6 +199,7 @@ impl<L: Lines + Drop> Adds for Solver<L> {
         ensures err_derived { OnErr result (L.derived self.new.0 ≡ L.derived self.old.0) }
         ensures failed { IsTrue (has_failed self.old) → IsErr result }
         ensures fails { OnErr result (IsTrue (has_failed self.new)) }
+        ensures works { OnOk result (has_failed self.new ≡ false) }
     {
         if self.failed {
             return Err(NoMemory);

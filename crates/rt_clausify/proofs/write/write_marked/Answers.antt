@@ -1,10 +1,10 @@
-use Rattle.std.proofs.Common.{◌≡◌, ◌<◌, ◌+◌, ◌∷◌, [], ◌++◌, ℕ, List, Bool, ◌∙◌, sym, ap, subst, length, arith}
+use Rattle.std.proofs.Common.{◌≡◌, true, ◌<◌, ◌+◌, ◌∷◌, [], ◌++◌, ℕ, List, Bool, ◌∙◌, sym, ap, subst, length, arith}
 use Rattle.rt_clause.specs.Literal.{Literal}
 use Rattle.rt_clause.specs.Lists.{AreBelow, Determined}
-use Rattle.rt_clause.specs.Models.{IsModel}
+use Rattle.rt_clause.specs.Models.{IsModel, lit_true}
 use Rattle.rt_clause.specs.Gates.{AgreeBelow}
 use Rattle.rt_clausify.specs.Written.{Written, name_at}
-use Rattle.rt_clausify.proofs.Naming.{IsNaming, naming-step, goal_line, goal-below, goal-complete, goal-sound, goal-determined}
+use Rattle.rt_clausify.proofs.Naming.{IsNaming, naming-step, goal_line, goal-below, goal-complete, goal-sound, goal-determined, goal-literal}
 use Rattle.rt_clausify.proofs.write.write_marked.Goals as goal
 
 pub loop-i-preserved : goal.loop-i-preserved
@@ -44,3 +44,10 @@ returns-clause-determined g c =
     let P : List (List Literal) → Type 0 = λ ls. Determined ls c.args.dag.now.rows c.of.result.next in
     let Q : ℕ → Type 0 = λ n. Determined (goal_line (g.A.Adds.lines c.loop-i.to) (name_at c.loop-i.names c.args.goal)) c.args.dag.now.rows n in
     subst P (sym e) (subst Q (sym c.of.ensures.next) (goal-determined c.args.dag.now c.args.marks.now c.loop-i.i c.args.goal _ c.loop-i.invariant))
+
+pub returns-clause-literal : goal.returns-clause-literal
+returns-clause-literal g c bools m =
+    let e : g.A.Adds.lines c.add.new.self ≡ goal_line (g.A.Adds.lines c.loop-i.to) (name_at c.loop-i.names c.args.goal) = c.in_ok-add.ensures.lines ∙ ap (λ x. g.A.Adds.lines c.loop-i.to ++ x ∷ []) (c.as_slice.ensures ∙ ap (λ x. x ∷ []) (c.name-lit.ensures ∙ ap (name_at c.loop-i.names) c.number.ensures)) in
+    let P : List (List Literal) → Type 0 = λ ls. IsModel ls bools in
+    let Q : Literal → Type 0 = λ l. lit_true bools l ≡ true in
+    subst Q (sym (c.of.ensures.goal ∙ c.name-lit.ensures ∙ ap (name_at c.loop-i.names) c.number.ensures)) (goal-literal (g.A.Adds.lines c.loop-i.to) (name_at c.loop-i.names c.args.goal) bools (subst P e m))
