@@ -5,6 +5,10 @@ use rt_value::{List, NoMemory, Txt};
 use std::alloc::{AllocError, Global};
 use std::test::Fail;
 
+mod annotated;
+mod choices;
+mod compared;
+mod nodes;
 mod refused;
 mod worked;
 

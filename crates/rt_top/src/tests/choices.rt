@@ -1,0 +1,27 @@
+//! Choices of rows, and the inputs that they are of.
+ghost use Rattle.std.specs.Prelude.{◌≡◌, IfOk, length};
+
+use super::{FOUR, words};
+use crate::{Input, Outcome, read_input};
+use rt_io::MemFiles;
+use rt_value::{Keep, NoMemory};
+use std::alloc::Global;
+
+/// The choice of a number's binary digits, the lowest for the first place.
+pub(super) fn choice(alloc: Global, places: usize, number: usize) -> Result<Keep, NoMemory>
+    ensures { IfOk result (λ keep. length keep ≡ places) }
+{
+    let mut keep = Keep::all(alloc, places, false)?;
+    let mut digits = number;
+    for place in 0..places {
+        keep.set(place, digits % 2 == 1);
+        digits /= 2;
+    }
+    Ok(keep)
+}
+
+/// The input of four files.
+pub(super) fn input(alloc: Global, files: &mut MemFiles) -> Result<Input, Outcome> {
+    let command = words(alloc, &FOUR)?;
+    read_input(alloc, command.as_slice(), files)
+}

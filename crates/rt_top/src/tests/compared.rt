@@ -1,0 +1,260 @@
+//! The search beside a trial of every choice of rows.
+ghost use Rattle.std.specs.Prelude.{◌≡◌, length};
+ghost use Rattle.rt_schema.specs.Given.{places};
+
+use super::choices::{choice, input};
+use super::files;
+use crate::{Best, Input, decide};
+use rt_eval::answers;
+use rt_io::MemFiles;
+use rt_schema::lawful;
+use rt_value::{Keep, NoMemory};
+use std::alloc::{AllocError, Global};
+use std::test::Fail;
+
+/// Tables without rules.
+const FREE: &str = "CREATE TABLE u (b INTEGER, c INTEGER); CREATE TABLE t (a INTEGER, b INTEGER)";
+
+/// The same with a key, NOT NULL and a foreign key.
+const RULED: &str =
+    "CREATE TABLE u (b INTEGER PRIMARY KEY, c INTEGER); CREATE TABLE t (a INTEGER NOT NULL, b INTEGER REFERENCES u)";
+
+/// What a field of a seeded table may be.
+const FIELDS: [&str; 6] = ["", "-1", "0", "1", "2", "3"];
+
+/// The step of a linear congruential generator.
+fn step(state: u64) -> u64 {
+    state
+        .wrapping_mul(6_364_136_223_846_793_005)
+        .wrapping_add(1_442_695_040_888_963_407)
+}
+
+fn field(state: u64) -> &'static str {
+    FIELDS[((state >> 33) % 6) as usize]
+}
+
+/// The text of a table of two columns with so many rows.
+fn table(alloc: Global, header: &str, rows: u64, seed: u64) -> Result<String, AllocError> {
+    let mut text = String::from_str(alloc, header)?;
+    let mut state = seed;
+    for _ in 0..rows {
+        let first = step(state);
+        state = step(first);
+        let (left, right) = (field(first), field(state));
+        let line = format!(in alloc; "{left},{right}\n")?;
+        text.push_str(line.as_str())?;
+    }
+    Ok(text)
+}
+
+/// The files of two queries over seeded tables: from one to five rows of `u`, and two to five of
+/// `t`.
+fn seeded(
+    alloc: Global,
+    seed: u64,
+    schema: &str,
+    query1: &str,
+    query2: &str,
+) -> Result<MemFiles, NoMemory> {
+    let first = table(alloc, "b,c\n", 1 + seed % 5, step(seed))?;
+    let second = table(alloc, "a,b\n", 2 + seed % 4, step(step(seed)))?;
+    files(
+        alloc,
+        schema,
+        &[("d/u.csv", first.as_str()), ("d/t.csv", second.as_str())],
+        query1,
+        query2,
+    )
+}
+
+/// Whether the two queries answer differently on the kept rows.
+fn differ(alloc: Global, input: &Input, keep: &Keep) -> Result<bool, NoMemory>
+    requires { places input.now.given.tables ≡ length keep.now }
+{
+    let _schema = input.schema();
+    let left = answers(alloc, input.left(), input.given(), keep)?;
+    let right = answers(alloc, input.right(), input.given(), keep)?;
+    Ok(!left.same(&right))
+}
+
+/// Whether the kept rows are a counterexample.
+fn counters(alloc: Global, input: &Input, keep: &Keep) -> Result<bool, NoMemory>
+    requires { places input.now.given.tables ≡ length keep.now }
+{
+    Ok(lawful(input.schema(), input.given(), keep) && differ(alloc, input, keep)?)
+}
+
+/// Whether a choice of so many rows would be the smallest so far.
+fn is_smaller(size: usize, smallest: Option<usize>) -> bool {
+    match smallest {
+        Some(other) => size < other,
+        None => true,
+    }
+}
+
+/// The number of choices of so many rows, of ten at most.
+fn choices(places: usize) -> usize {
+    1 << places.min(10)
+}
+
+/// The size of a smallest counterexample, by a trial of every choice of at most ten rows.
+fn tried(alloc: Global, input: &Input) -> Result<Option<usize>, NoMemory> {
+    let places = input.given().total();
+    let mut smallest = None;
+    for number in 0..choices(places) {
+        let keep = choice(alloc, places, number)?;
+        let size = keep.size();
+        if is_smaller(size, smallest) && counters(alloc, input, &keep)? {
+            smallest = Some(size);
+        }
+    }
+    Ok(smallest)
+}
+
+/// Whether the search finds a counterexample of this size, or none where there is none.
+fn finds(alloc: Global, input: &Input, smallest: Option<usize>) -> Result<bool, NoMemory> {
+    match decide(alloc, input)? {
+        Best::Least(keep) => Ok(counters(alloc, input, &keep)? && smallest == Some(keep.size())),
+        Best::Never => Ok(smallest.is_none()),
+        Best::Spent(_) => Ok(false),
+    }
+}
+
+/// Whether the search finds what the trial finds, over at most ten rows.
+fn agrees(alloc: Global, input: &Input) -> Result<bool, NoMemory> {
+    let smallest = tried(alloc, input)?;
+    Ok(input.given().total() <= 10 && finds(alloc, input, smallest)?)
+}
+
+fn read_and_agree(alloc: Global, files: &mut MemFiles) -> Result<bool, NoMemory> {
+    match input(alloc, files) {
+        Ok(input) => agrees(alloc, &input),
+        Err(_) => Ok(false),
+    }
+}
+
+/// Whether search and trial agree on ten seeded inputs.
+fn seeds_agree(
+    alloc: Global,
+    first: u64,
+    schema: &str,
+    query1: &str,
+    query2: &str,
+) -> Result<bool, NoMemory> {
+    let mut good = true;
+    for seed in 0..10 {
+        let mut files = seeded(alloc, first.wrapping_add(seed), schema, query1, query2)?;
+        good = read_and_agree(alloc, &mut files)? && good;
+    }
+    Ok(good)
+}
+
+/// Whether they agree at each pair of queries.
+fn all_agree(alloc: Global, schema: &str, pairs: &[(&str, &str)]) -> Result<bool, NoMemory> {
+    let mut good = true;
+    let mut first: u64 = 0;
+    for (query1, query2) in pairs {
+        good = seeds_agree(alloc, first, schema, query1, query2)? && good;
+        first = first.wrapping_add(10);
+    }
+    Ok(good)
+}
+
+#[test]
+fn search_and_trial_agree(rt: HostRuntime) -> Result<(), Fail> {
+    let alloc = rt.alloc();
+    assert!(rt;
+        all_agree(
+            alloc,
+            FREE,
+            &[
+                (
+                    "SELECT a FROM t WHERE a < 2",
+                    "SELECT a FROM t WHERE a <= 2",
+                ),
+                (
+                    "SELECT b FROM t WHERE a IS NULL OR a > 0",
+                    "SELECT b FROM t WHERE NOT a <= 0",
+                ),
+                (
+                    "SELECT a FROM t WHERE b BETWEEN 0 AND 2",
+                    "SELECT a FROM t WHERE b NOT IN (-1, 3)",
+                ),
+                (
+                    "SELECT t.a, u.c FROM t, u WHERE t.b = u.b",
+                    "SELECT t.a, u.c FROM t JOIN u ON t.b = u.b AND NOT u.c = t.a",
+                ),
+                (
+                    "SELECT a FROM t WHERE b NOT IN (SELECT b FROM u)",
+                    "SELECT a FROM t WHERE NOT EXISTS (SELECT * FROM u WHERE u.b = t.b)",
+                ),
+                (
+                    "SELECT b FROM t EXCEPT SELECT b FROM u",
+                    "SELECT b FROM t WHERE b NOT IN (SELECT b FROM u)",
+                ),
+                (
+                    "SELECT a FROM t EXCEPT SELECT x.a FROM t x, t y WHERE x.a = y.a AND x.b <> y.b",
+                    "SELECT a FROM t",
+                ),
+                (
+                    "SELECT x.a FROM t x, u WHERE x.b = u.b AND NOT EXISTS (SELECT * FROM u v WHERE NOT EXISTS (SELECT * FROM t y WHERE y.a = x.a AND y.b = v.b))",
+                    "SELECT a FROM t WHERE b IN (SELECT b FROM u)",
+                ),
+                (
+                    "SELECT d.x FROM (SELECT a + 1 AS x FROM t WHERE b > 0) AS d WHERE d.x < 3",
+                    "SELECT -(-1 - a) FROM t WHERE b > 0 AND a < 2",
+                ),
+                (
+                    "SELECT a FROM t EXCEPT SELECT b FROM u UNION SELECT c FROM u",
+                    "SELECT a FROM t EXCEPT (SELECT b FROM u UNION SELECT c FROM u)",
+                ),
+            ],
+        )?
+    );
+    assert!(rt;
+        all_agree(
+            alloc,
+            RULED,
+            &[
+                ("SELECT a * 2 - b FROM t", "SELECT a + a - b * b FROM t",),
+                (
+                    "SELECT t.a FROM t JOIN u ON t.b = u.b",
+                    "SELECT a FROM t WHERE b IS NOT NULL",
+                ),
+                (
+                    "SELECT a FROM t WHERE EXISTS (SELECT * FROM u WHERE u.c > t.a)",
+                    "SELECT a FROM t WHERE EXISTS (SELECT * FROM u WHERE u.c > 0)",
+                ),
+                (
+                    "SELECT b FROM t UNION SELECT b FROM u",
+                    "SELECT b FROM u UNION SELECT a FROM t",
+                ),
+                (
+                    "SELECT b FROM t INTERSECT SELECT b FROM u",
+                    "SELECT t.b FROM t, u WHERE t.b = u.b",
+                ),
+                (
+                    "SELECT a FROM t WHERE a IN (SELECT c FROM u WHERE u.b = t.b)",
+                    "SELECT a FROM t WHERE a IN (SELECT c FROM u)",
+                ),
+                (
+                    "SELECT a FROM t WHERE a NOT IN (SELECT c FROM u WHERE u.b >= t.b)",
+                    "SELECT a FROM t WHERE NOT EXISTS (SELECT * FROM u WHERE u.c = t.a AND u.b > t.b)",
+                ),
+                (
+                    "SELECT a FROM t EXCEPT SELECT x.a FROM t x, t y WHERE x.a < y.a",
+                    "SELECT a FROM t x WHERE NOT EXISTS (SELECT * FROM t y WHERE NOT y.a <= x.a)",
+                ),
+                (
+                    "SELECT a FROM t WHERE a IN (1, 2, b)",
+                    "SELECT a FROM t WHERE NOT (a <> 1 AND a <> 2) OR a <= b",
+                ),
+                (
+                    "SELECT u.b FROM u WHERE NOT EXISTS (SELECT * FROM t WHERE t.b = u.b)",
+                    "SELECT b FROM u EXCEPT SELECT b FROM t WHERE a NOT BETWEEN 0 AND 1",
+                ),
+            ],
+        )?
+    );
+    Ok(())
+}
