@@ -7,6 +7,7 @@ mod aim;
 mod ann;
 mod annotation;
 mod closed;
+mod conditions;
 mod difference;
 mod evaluate;
 mod gate;

@@ -22,22 +22,22 @@ use Rattle.rt_annot.proofs.Growing.{grown_trans, all_stays, entries_stay, mean_s
 use Rattle.rt_annot.proofs.Walking.{next_is, next_joined, node_below, table_entries}
 use Rattle.rt_annot.proofs.Layers.{at_table, at_select, at_project, at_product, at_union, at_except, at_intersect, gate_at, mean_push, mean_as, yes_more, no_more, all_gate, any_gate, all_stops, any_stops, and_gate, or_gate, exists_gate, member_gate, exists_of, member_of, gives_as, gives_same, gives_stay, gives_of, gives_append, gives_projected, missing_rows, standing_rows, choose, leave_out, choosing_at}
 use Rattle.rt_annot.proofs.Joining.{joint_below, joints_stay, joint_stays, joint_entries_stay, pair_same, pair_below, next_joints, selected_append, choosing_more, choosing_as, choosing_rows, makes_same, makes_single}
-use Rattle.rt_annot.proofs.evaluate.+annotate.Goals as goal
-use Rattle.rt_annot.proofs.evaluate.+annotate.Goals.{chosen_after-then-not-is_never+in_ok-push, chosen_after-else-not-is_never}
+use Rattle.rt_annot.proofs.+annotate.Goals as goal
+use Rattle.rt_annot.proofs.+annotate.Goals.{evaluate::chosen_after-then-not-is_never+in_ok-push, evaluate::chosen_after-else-not-is_never}
 
 abbrev scope_of : List (Bor (List Value)) → Env
 scope_of rows = map (λ r. r.now) rows
 
-pub layer-returns-in_ok-out-in-Table-clause-gives : goal.layer-returns-in_ok-out-in-Table-clause-gives
-layer-returns-in_ok-out-in-Table-clause-gives t c =
+pub evaluate::layer-returns-in_ok-out-in-Table-clause-gives : goal.evaluate::layer-returns-in_ok-out-in-Table-clause-gives
+evaluate::layer-returns-in_ok-out-in-Table-clause-gives t c =
     let g = c.args.tables.now in
     let e = scope_of c.args.env.now in
     gives_as (λ s. answer_by wrapped c.args.q.now (kept g s) e)
     (λ s. ap (rows_at s) (table_entries g c.in-Table.t) ∙ table_exact s g (λ u. u) c.in-Table.t ∙ sym (at_table (kept g s) e c.in-Table.t c.in-Table.is))
     (gives_of _ c.in_ok-out-in-Table.ensures.reads)
 
-pub layer-returns-in_ok-out-in-Project-clause-gives : goal.layer-returns-in_ok-out-in-Project-clause-gives
-layer-returns-in_ok-out-in-Project-clause-gives t c =
+pub evaluate::layer-returns-in_ok-out-in-Project-clause-gives : goal.evaluate::layer-returns-in_ok-out-in-Project-clause-gives
+evaluate::layer-returns-in_ok-out-in-Project-clause-gives t c =
     let g = c.args.tables.now in
     let e = scope_of c.args.env.now in
     let a = c.in-Project.a in
@@ -46,8 +46,8 @@ layer-returns-in_ok-out-in-Project-clause-gives t c =
     (λ s. ap (λ es. map (λ r. row_by wrapped es (r ∷ e)) (answer_by wrapped a (kept g s) e)) c.as_slice-in-Project.ensures ∙ sym (at_project (kept g s) e a c.in-Project.items c.in-Project.is))
     (gives_same c.in_ok-out-in-Project.ensures (gives_projected c.as_slice-in-Project.result.now e rows))
 
-pub layer-returns-in_ok-out-in-Union-clause-gives : goal.layer-returns-in_ok-out-in-Union-clause-gives
-layer-returns-in_ok-out-in-Union-clause-gives t c =
+pub evaluate::layer-returns-in_ok-out-in-Union-clause-gives : goal.evaluate::layer-returns-in_ok-out-in-Union-clause-gives
+evaluate::layer-returns-in_ok-out-in-Union-clause-gives t c =
     let g = c.args.tables.now in
     let e = scope_of c.args.env.now in
     let a = c.in-Union.a in
@@ -56,8 +56,8 @@ layer-returns-in_ok-out-in-Union-clause-gives t c =
     let second = gives_same c.as_slice-in-Union.ensures (gives_as (λ s. answer_by wrapped b (kept g s) e) (λ s. ap (λ q. answer_by wrapped q (kept g s) e) c.get-in-Union-2.ensures) c.in_ok-second-in-Union.ensures.gives) in
     gives_as (λ s. answer_by wrapped c.args.q.now (kept g s) e) (λ s. sym (at_union (kept g s) e a b c.in-Union.is)) (gives_same c.in_ok-out-in-Union.ensures (gives_append first second))
 
-pub layer-returns-in_ok-out-in-Except-clause-gives : goal.layer-returns-in_ok-out-in-Except-clause-gives
-layer-returns-in_ok-out-in-Except-clause-gives t c =
+pub evaluate::layer-returns-in_ok-out-in-Except-clause-gives : goal.evaluate::layer-returns-in_ok-out-in-Except-clause-gives
+evaluate::layer-returns-in_ok-out-in-Except-clause-gives t c =
     let g = c.args.tables.now in
     let e = scope_of c.args.env.now in
     let a = c.in-Except.a in
@@ -68,8 +68,8 @@ layer-returns-in_ok-out-in-Except-clause-gives t c =
     (λ s. missing_rows s (entries_of c.annotated-in-Except-2.new.dag c.as_slice-in-Except.result.now) (entries_of c.annotated-in-Except-2.new.dag c.as_slice-in-Except-2.result.now) ∙ ap₂ (λ (xs ys : Rows). filter (λ r. not (has_row ys r)) xs) (first.same s) (second.same s) ∙ sym (at_except (kept g s) e a b c.in-Except.is))
     (gives_of _ c.in_ok-out-in-Except.ensures.reads)
 
-pub layer-returns-in_ok-out-in-Intersect-clause-gives : goal.layer-returns-in_ok-out-in-Intersect-clause-gives
-layer-returns-in_ok-out-in-Intersect-clause-gives t c =
+pub evaluate::layer-returns-in_ok-out-in-Intersect-clause-gives : goal.evaluate::layer-returns-in_ok-out-in-Intersect-clause-gives
+evaluate::layer-returns-in_ok-out-in-Intersect-clause-gives t c =
     let g = c.args.tables.now in
     let e = scope_of c.args.env.now in
     let a = c.in-Intersect.a in
@@ -80,8 +80,8 @@ layer-returns-in_ok-out-in-Intersect-clause-gives t c =
     (λ s. standing_rows s (entries_of c.annotated-in-Intersect-2.new.dag c.as_slice-in-Intersect.result.now) (entries_of c.annotated-in-Intersect-2.new.dag c.as_slice-in-Intersect-2.result.now) ∙ ap₂ (λ (xs ys : Rows). filter (has_row ys) xs) (first.same s) (second.same s) ∙ sym (at_intersect (kept g s) e a b c.in-Intersect.is))
     (gives_of _ c.in_ok-out-in-Intersect.ensures.reads)
 
-pub layer-returns-in_ok-out-in-Select-clause-gives : goal.layer-returns-in_ok-out-in-Select-clause-gives
-layer-returns-in_ok-out-in-Select-clause-gives t c =
+pub evaluate::layer-returns-in_ok-out-in-Select-clause-gives : goal.evaluate::layer-returns-in_ok-out-in-Select-clause-gives
+evaluate::layer-returns-in_ok-out-in-Select-clause-gives t c =
     let g = c.args.tables.now in
     let e = scope_of c.args.env.now in
     let a = c.in-Select.a in
@@ -91,8 +91,8 @@ layer-returns-in_ok-out-in-Select-clause-gives t c =
     (λ s. ap (λ x. filter (λ r. yes_when p g (r ∷ e) s) (answer_by wrapped x (kept g s) e)) c.get.ensures ∙ sym (at_select (kept g s) e a p c.in-Select.is))
     (choosing_rows p g e c.in_ok-out-in-Select.ensures.chosen refl parts)
 
-pub layer-returns-in_ok-out-in-Product-clause-gives : goal.layer-returns-in_ok-out-in-Product-clause-gives
-layer-returns-in_ok-out-in-Product-clause-gives t c =
+pub evaluate::layer-returns-in_ok-out-in-Product-clause-gives : goal.evaluate::layer-returns-in_ok-out-in-Product-clause-gives
+evaluate::layer-returns-in_ok-out-in-Product-clause-gives t c =
     let g = c.args.tables.now in
     let e = scope_of c.args.env.now in
     let qs = c.in-Product.qs in
@@ -101,19 +101,19 @@ layer-returns-in_ok-out-in-Product-clause-gives t c =
     (λ s. pair_exact s (joint_entries c.product.new.dag c.in_ok-parts-in-Product.parts.front) (entries_of c.product.new.dag c.in_ok-parts-in-Product.parts.last) ∙ parts.same s ∙ ap (λ xs. product_after ([] ∷ []) (map (answer_by wrapped) xs) (kept g s) e) c.as_slice-in-Product.ensures ∙ sym (at_product (kept g s) e qs c.in-Product.is))
     (gives_of _ c.in_ok-out-in-Product.ensures.reads)
 
-pub source-returns-in_ok-front-in_default : goal.source-returns-in_ok-front-in_default
-source-returns-in_ok-front-in_default t c = record {
+pub evaluate::source-returns-in_ok-front-in_default : goal.evaluate::source-returns-in_ok-front-in_default
+evaluate::source-returns-in_ok-front-in_default t c = record {
   grown = c.annotated.ensures.grown;
   known = c.annotated.ensures.known;
   makes = makes_single c.in_ok-front-in_default.ensures c.in_ok-last-in_default.ensures.gives;
 }
 
-pub all_hold-returns-then-is_always-clause-gate : goal.all_hold-returns-then-is_always-clause-gate
-all_hold-returns-then-is_always-clause-gate t c =
+pub conditions::all_hold-returns-then-is_always-clause-gate : goal.conditions::all_hold-returns-then-is_always-clause-gate
+conditions::all_hold-returns-then-is_always-clause-gate t c =
     all_stops c.args.tables.now (scope_of c.args.env.now) c.args.ps.now c.loop-p.p-index c.p-item.result c.loop-p-test.true c.p-item.is c.in_ok-gate.ensures.gate (c.is_always.ensures c.if-is_always.true)
 
-pub all_hold-loop-p-preserved : goal.all_hold-loop-p-preserved
-all_hold-loop-p-preserved t c =
+pub conditions::all_hold-loop-p-preserved : goal.conditions::all_hold-loop-p-preserved
+conditions::all_hold-loop-p-preserved t c =
     let g = c.args.tables.now in
     let e = scope_of c.args.env.now in
     let i = c.loop-p.p-index in
@@ -125,20 +125,20 @@ all_hold-loop-p-preserved t c =
       no = mean_as (no_more g e c.args.ps.now i c.p-item.result c.loop-p-test.true c.p-item.is) (mean_push (mean_stays c.test.ensures.grown v.no) c.in_ok-gate.ensures.gate.no c.in_ok-push-2.ensures.ok);
     }
 
-pub all_hold-returns-clause-gate : goal.all_hold-returns-clause-gate
-all_hold-returns-clause-gate t c =
+pub conditions::all_hold-returns-clause-gate : goal.conditions::all_hold-returns-clause-gate
+conditions::all_hold-returns-clause-gate t c =
     let g = c.args.tables.now in
     let e = scope_of c.args.env.now in
     let ps = c.args.ps.now in
     let all = take_all c.loop-p.p-index ps c.loop-p-test.false in
     all_gate g e c.loop-p.dag ps (mean_as (ap (λ xs. yes_of xs g e) (sym all)) c.loop-p.invariant.yes) (mean_as (ap (λ xs. no_of xs g e) (sym all)) c.loop-p.invariant.no) c.in_ok-together.ensures.gate
 
-pub any_holds-returns-then-is_always-clause-gate : goal.any_holds-returns-then-is_always-clause-gate
-any_holds-returns-then-is_always-clause-gate t c =
+pub conditions::any_holds-returns-then-is_always-clause-gate : goal.conditions::any_holds-returns-then-is_always-clause-gate
+conditions::any_holds-returns-then-is_always-clause-gate t c =
     any_stops c.args.tables.now (scope_of c.args.env.now) c.args.ps.now c.loop-p.p-index c.p-item.result c.loop-p-test.true c.p-item.is c.in_ok-gate.ensures.gate (c.is_always.ensures c.if-is_always.true)
 
-pub any_holds-loop-p-preserved : goal.any_holds-loop-p-preserved
-any_holds-loop-p-preserved t c =
+pub conditions::any_holds-loop-p-preserved : goal.conditions::any_holds-loop-p-preserved
+conditions::any_holds-loop-p-preserved t c =
     let g = c.args.tables.now in
     let e = scope_of c.args.env.now in
     let i = c.loop-p.p-index in
@@ -150,16 +150,16 @@ any_holds-loop-p-preserved t c =
       no = mean_as (no_more g e c.args.ps.now i c.p-item.result c.loop-p-test.true c.p-item.is) (mean_push (mean_stays c.test.ensures.grown v.no) c.in_ok-gate.ensures.gate.no c.in_ok-push-2.ensures.ok);
     }
 
-pub any_holds-returns-clause-gate : goal.any_holds-returns-clause-gate
-any_holds-returns-clause-gate t c =
+pub conditions::any_holds-returns-clause-gate : goal.conditions::any_holds-returns-clause-gate
+conditions::any_holds-returns-clause-gate t c =
     let g = c.args.tables.now in
     let e = scope_of c.args.env.now in
     let ps = c.args.ps.now in
     let all = take_all c.loop-p.p-index ps c.loop-p-test.false in
     any_gate g e c.loop-p.dag ps (mean_as (ap (λ xs. yes_of xs g e) (sym all)) c.loop-p.invariant.yes) (mean_as (ap (λ xs. no_of xs g e) (sym all)) c.loop-p.invariant.no) c.in_ok-together.ensures.gate
 
-pub chosen-loop-joint-preserved : goal.chosen-loop-joint-preserved
-chosen-loop-joint-preserved t c =
+pub evaluate::chosen-loop-joint-preserved : goal.evaluate::chosen-loop-joint-preserved
+evaluate::chosen-loop-joint-preserved t c =
     let d = c.args.dag.now in
     let front = c.args.front.now in
     let last = c.args.last.now in
@@ -177,8 +177,8 @@ chosen-loop-joint-preserved t c =
       known = known_stay c.chosen_after.ensures.grown c.loop-joint.invariant.known;
     }
 
-pub chosen_after-loop-noted-preserved : goal.chosen_after-loop-noted-preserved
-chosen_after-loop-noted-preserved t c =
+pub evaluate::chosen_after-loop-noted-preserved : goal.evaluate::chosen_after-loop-noted-preserved
+evaluate::chosen_after-loop-noted-preserved t c =
     let d = c.args.dag.now in
     let j = c.args.joint.now in
     let i = c.loop-noted.noted-index in
@@ -197,12 +197,12 @@ chosen_after-loop-noted-preserved t c =
     let more = grown_trans c.test_row.ensures.grown c.meeting.ensures.grown in
     let known : AreKnown c.meeting.new.dag c.args.tables.now (map (λ q. q.now) c.args.queries.now) c.args.founds.now = known_stay more c.loop-noted.invariant.known in
     elim c.if-not-is_never.branch [
-      | chosen_after-then-not-is_never+in_ok-push w ↦ record { choosing = choosing_at refl w.out-is (choose r f v next more _ c.in_ok-row.ensures node w.in_ok-push.ensures.ok); known = known }
-      | chosen_after-else-not-is_never w ↦ record { choosing = choosing_at refl w.out-is (leave_out r f v next more (λ s. sym (node.same s) ∙ c.is_never.ensures w.if-not-is_never.false s)); known = known }
+      | evaluate::chosen_after-then-not-is_never+in_ok-push w ↦ record { choosing = choosing_at refl w.out-is (choose r f v next more _ c.in_ok-row.ensures node w.in_ok-push.ensures.ok); known = known }
+      | evaluate::chosen_after-else-not-is_never w ↦ record { choosing = choosing_at refl w.out-is (leave_out r f v next more (λ s. sym (node.same s) ∙ c.is_never.ensures w.if-not-is_never.false s)); known = known }
     ]
 
-pub product-loop-q-preserved : goal.product-loop-q-preserved
-product-loop-q-preserved t c =
+pub evaluate::product-loop-q-preserved : goal.evaluate::product-loop-q-preserved
+evaluate::product-loop-q-preserved t c =
     let g = c.args.tables.now in
     let e = scope_of c.args.env.now in
     let i = c.loop-q.q-index in
@@ -228,56 +228,56 @@ product-loop-q-preserved t c =
           ∙ v.same s;
     }
 
-pub test-returns-in_ok-gate-in-And-clause-gate : goal.test-returns-in_ok-gate-in-And-clause-gate
-test-returns-in_ok-gate-in-And-clause-gate t c =
+pub conditions::test-returns-in_ok-gate-in-And-clause-gate : goal.conditions::test-returns-in_ok-gate-in-And-clause-gate
+conditions::test-returns-in_ok-gate-in-And-clause-gate t c =
     and_gate c.args.tables.now (scope_of c.args.env.now) c.args.p.now c.as_slice-in-And.result.now (c.in-And.is ∙ ap w.And (sym c.as_slice-in-And.ensures)) c.in_ok-gate-in-And.ensures.gate
 
-pub test-returns-in_ok-gate-in-Or-clause-gate : goal.test-returns-in_ok-gate-in-Or-clause-gate
-test-returns-in_ok-gate-in-Or-clause-gate t c =
+pub conditions::test-returns-in_ok-gate-in-Or-clause-gate : goal.conditions::test-returns-in_ok-gate-in-Or-clause-gate
+conditions::test-returns-in_ok-gate-in-Or-clause-gate t c =
     or_gate c.args.tables.now (scope_of c.args.env.now) c.args.p.now c.as_slice-in-Or.result.now (c.in-Or.is ∙ ap w.Or (sym c.as_slice-in-Or.ensures)) c.in_ok-gate-in-Or.ensures.gate
 
-pub test-returns-in_ok-gate-in-Exists-clause-gate : goal.test-returns-in_ok-gate-in-Exists-clause-gate
-test-returns-in_ok-gate-in-Exists-clause-gate t c =
+pub conditions::test-returns-in_ok-gate-in-Exists-clause-gate : goal.conditions::test-returns-in_ok-gate-in-Exists-clause-gate
+conditions::test-returns-in_ok-gate-in-Exists-clause-gate t c =
     exists_gate c.args.tables.now (scope_of c.args.env.now) c.args.p.now c.get-in-Exists.result.now (c.in-Exists.is ∙ ap w.Exists (sym c.get-in-Exists.ensures)) c.in_ok-gate-in-Exists.ensures.gate
 
-pub test-returns-in_ok-gate-in-Member-clause-gate : goal.test-returns-in_ok-gate-in-Member-clause-gate
-test-returns-in_ok-gate-in-Member-clause-gate t c =
+pub conditions::test-returns-in_ok-gate-in-Member-clause-gate : goal.conditions::test-returns-in_ok-gate-in-Member-clause-gate
+conditions::test-returns-in_ok-gate-in-Member-clause-gate t c =
     member_gate c.args.tables.now (scope_of c.args.env.now) c.args.p.now c.in-Member.e c.get-in-Member.result.now (c.in-Member.is ∙ ap (w.Member c.in-Member.e) (sym c.get-in-Member.ensures))
     c.in_ok-x-in-Member.x c.in_ok-x-in-Member.ensures c.in_ok-gate-in-Member.ensures.gate
 
-pub has_rows-returns-in-Some-clause-gate : goal.has_rows-returns-in-Some-clause-gate
-has_rows-returns-in-Some-clause-gate t c =
+pub conditions::has_rows-returns-in-Some-clause-gate : goal.conditions::has_rows-returns-in-Some-clause-gate
+conditions::has_rows-returns-in-Some-clause-gate t c =
     let g = c.args.tables.now in
     let e = scope_of c.args.env.now in
     let f = c.index-founds-at.result in
     let P : Found → Type 0 = λ x. IsGate c.args.dag.now x.some (exists_test (λ s. answer_by wrapped c.args.q.now (kept g s) e)) in
     subst P c.index-founds-at.is (known_at c.args.queries.now c.args.q.now f c.in-Some.at e c.requires.known c.in-Some.ensures.within c.in-Some.ensures.same c.index-founds-at.is).exists
 
-pub has_rows-returns-in_ok-gate-in-None-clause-gate : goal.has_rows-returns-in_ok-gate-in-None-clause-gate
-has_rows-returns-in_ok-gate-in-None-clause-gate t c = exists_of (gives_same c.as_slice.ensures c.in_ok-rows-in-None.ensures.gives) c.in_ok-gate-in-None.ensures.gate
+pub conditions::has_rows-returns-in_ok-gate-in-None-clause-gate : goal.conditions::has_rows-returns-in_ok-gate-in-None-clause-gate
+conditions::has_rows-returns-in_ok-gate-in-None-clause-gate t c = exists_of (gives_same c.as_slice.ensures c.in_ok-rows-in-None.ensures.gives) c.in_ok-gate-in-None.ensures.gate
 
-pub has_value-member-requires : goal.has_value-member-requires
-has_value-member-requires t c =
+pub conditions::has_value-member-requires : goal.conditions::has_value-member-requires
+conditions::has_value-member-requires t c =
     (known_at c.args.queries.now c.args.q.now c.index-founds-at.result c.in-Some.at [] c.requires.known c.in-Some.ensures.within c.in-Some.ensures.same c.index-founds-at.is).over
 
-pub has_value-returns-in_ok-gate-in-Some-clause-gate : goal.has_value-returns-in_ok-gate-in-Some-clause-gate
-has_value-returns-in_ok-gate-in-Some-clause-gate t c =
+pub conditions::has_value-returns-in_ok-gate-in-Some-clause-gate : goal.conditions::has_value-returns-in_ok-gate-in-Some-clause-gate
+conditions::has_value-returns-in_ok-gate-in-Some-clause-gate t c =
     let g = c.args.tables.now in
     let e = scope_of c.args.env.now in
     c.in_ok-gate-in-Some.ensures.gate (λ s. answer_by wrapped c.args.q.now (kept g s) e)
     (known_at c.args.queries.now c.args.q.now c.index-founds-at.result c.in-Some.at e c.requires.known c.in-Some.ensures.within c.in-Some.ensures.same c.index-founds-at.is)
 
-pub has_value-returns-in_ok-gate-in-None-clause-gate : goal.has_value-returns-in_ok-gate-in-None-clause-gate
-has_value-returns-in_ok-gate-in-None-clause-gate t c = member_of c.args.x.now (gives_same c.as_slice.ensures c.in_ok-rows-in-None.ensures.gives) c.in_ok-gate-in-None.ensures.gate
+pub conditions::has_value-returns-in_ok-gate-in-None-clause-gate : goal.conditions::has_value-returns-in_ok-gate-in-None-clause-gate
+conditions::has_value-returns-in_ok-gate-in-None-clause-gate t c = member_of c.args.x.now (gives_same c.as_slice.ensures c.in_ok-rows-in-None.ensures.gives) c.in_ok-gate-in-None.ensures.gate
 
-pub annotated-returns-in_err-rows-clause-known : goal.annotated-returns-in_err-rows-clause-known
-annotated-returns-in_err-rows-clause-known t c = known_stay c.layer.ensures.grown c.requires.known
+pub evaluate::annotated-returns-in_err-rows-clause-known : goal.evaluate::annotated-returns-in_err-rows-clause-known
+evaluate::annotated-returns-in_err-rows-clause-known t c = known_stay c.layer.ensures.grown c.requires.known
 
-pub annotated-returns-clause-known : goal.annotated-returns-clause-known
-annotated-returns-clause-known t c = known_stay c.layer.ensures.grown c.requires.known
+pub evaluate::annotated-returns-clause-known : goal.evaluate::annotated-returns-clause-known
+evaluate::annotated-returns-clause-known t c = known_stay c.layer.ensures.grown c.requires.known
 
-pub source-returns-in_err-parts-in-Product-clause-known : goal.source-returns-in_err-parts-in-Product-clause-known
-source-returns-in_err-parts-in-Product-clause-known t c = known_stay c.product.ensures.grown c.requires.known
+pub evaluate::source-returns-in_err-parts-in-Product-clause-known : goal.evaluate::source-returns-in_err-parts-in-Product-clause-known
+evaluate::source-returns-in_err-parts-in-Product-clause-known t c = known_stay c.product.ensures.grown c.requires.known
 
-pub source-returns-in_ok-parts-in-Product-clause-known : goal.source-returns-in_ok-parts-in-Product-clause-known
-source-returns-in_ok-parts-in-Product-clause-known t c = known_stay c.product.ensures.grown c.requires.known
+pub evaluate::source-returns-in_ok-parts-in-Product-clause-known : goal.evaluate::source-returns-in_ok-parts-in-Product-clause-known
+evaluate::source-returns-in_ok-parts-in-Product-clause-known t c = known_stay c.product.ensures.grown c.requires.known

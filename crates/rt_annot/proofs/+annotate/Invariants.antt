@@ -7,42 +7,42 @@ use Rattle.rt_annot.specs.Entries.{rows_at, selected, join_entry, paired}
 use Rattle.rt_annot.specs.Annotated.{Choosing, AreNoted, Mean, entries_of, test_under, yes_of, no_of}
 use Rattle.rt_annot.specs.Known.{AreKnown}
 use Rattle.rt_annot.specs.Joints.{AreJoints, joint_entry, joint_entries}
-use Rattle.rt_annot.proofs.evaluate.+annotate.Given as goal
+use Rattle.rt_annot.proofs.+annotate.Given as goal
 
-abbrev pub invariant-all_hold-loop-p : goal.invariant-all_hold-loop-p
-invariant-all_hold-loop-p l = record {
+abbrev pub invariant-conditions::all_hold-loop-p : goal.invariant-conditions::all_hold-loop-p
+invariant-conditions::all_hold-loop-p l = record {
   grown : IsGrown l.fn.dag l.dag;
   known : AreKnown l.dag l.tables (map (λ q. q.now) l.queries) l.founds;
   yes : Mean l.dag l.yes (yes_of (take l.p-index l.ps) l.tables (map (λ r. r.now) l.env));
   no : Mean l.dag l.no (no_of (take l.p-index l.ps) l.tables (map (λ r. r.now) l.env));
 }
 
-abbrev pub invariant-any_holds-loop-p : goal.invariant-any_holds-loop-p
-invariant-any_holds-loop-p l = record {
+abbrev pub invariant-conditions::any_holds-loop-p : goal.invariant-conditions::any_holds-loop-p
+invariant-conditions::any_holds-loop-p l = record {
   grown : IsGrown l.fn.dag l.dag;
   known : AreKnown l.dag l.tables (map (λ q. q.now) l.queries) l.founds;
   yes : Mean l.dag l.yes (yes_of (take l.p-index l.ps) l.tables (map (λ r. r.now) l.env));
   no : Mean l.dag l.no (no_of (take l.p-index l.ps) l.tables (map (λ r. r.now) l.env));
 }
 
-abbrev pub invariant-chosen-loop-joint : goal.invariant-chosen-loop-joint
-invariant-chosen-loop-joint l = record {
+abbrev pub invariant-evaluate::chosen-loop-joint : goal.invariant-evaluate::chosen-loop-joint
+invariant-evaluate::chosen-loop-joint l = record {
   choosing : Choosing l.fn.dag l.dag l.out
       (selected (paired (joint_entries l.fn.dag (drop l.joint-index l.front)) (entries_of l.fn.dag l.last)) (test_under l.p l.tables (map (λ r. r.now) l.env)))
       (selected (paired (joint_entries l.fn.dag l.front) (entries_of l.fn.dag l.last)) (test_under l.p l.tables (map (λ r. r.now) l.env)));
   known : AreKnown l.dag l.tables (map (λ q. q.now) l.queries) l.founds;
 }
 
-abbrev pub invariant-chosen_after-loop-noted : goal.invariant-chosen_after-loop-noted
-invariant-chosen_after-loop-noted l = record {
+abbrev pub invariant-evaluate::chosen_after-loop-noted : goal.invariant-evaluate::chosen_after-loop-noted
+invariant-evaluate::chosen_after-loop-noted l = record {
   choosing : Choosing l.fn.dag l.dag l.out
       (selected (join_entry (joint_entry l.fn.dag l.joint) (entries_of l.fn.dag (drop l.noted-index l.last))) (test_under l.p l.tables (map (λ r. r.now) l.env)))
       (entries_of l.fn.dag l.fn.rows ++ selected (join_entry (joint_entry l.fn.dag l.joint) (entries_of l.fn.dag l.last)) (test_under l.p l.tables (map (λ r. r.now) l.env)));
   known : AreKnown l.dag l.tables (map (λ q. q.now) l.queries) l.founds;
 }
 
-abbrev pub invariant-product-loop-q : goal.invariant-product-loop-q
-invariant-product-loop-q l = record {
+abbrev pub invariant-evaluate::product-loop-q : goal.invariant-evaluate::product-loop-q
+invariant-evaluate::product-loop-q l = record {
   grown : IsGrown l.fn.dag l.dag;
   known : AreKnown l.dag l.tables (map (λ q. q.now) l.queries) l.founds;
   front : AreJoints l.dag l.front;

@@ -1,0 +1,218 @@
+//! The evaluation of conditions over all given rows.
+ghost use Rattle.std.specs.Prelude.{◌≡◌, map, IfOk};
+ghost use Rattle.rt_algebra.specs.Answer.{answer_by};
+ghost use Rattle.rt_algebra.specs.Expression.{wrapped};
+ghost use Rattle.rt_schema.specs.Given.{places};
+ghost use Rattle.rt_schema.specs.Kept.{kept};
+ghost use Rattle.rt_formula.specs.Shared.{IsGrown};
+ghost use Rattle.rt_annot.specs.Annotated.{IsGate, yes_when, no_when, test_under, test_all, test_any};
+ghost use Rattle.rt_annot.specs.Known.{AreKnown, exists_test, among_test};
+
+use crate::evaluate::annotated;
+use crate::gate::{Gate, Gates, all, any, constant, is_always};
+use crate::known::{Found, find};
+use crate::member::{exists, member};
+use rt_algebra::{Pred, Query, null_truth, one_of_truth, scope, value};
+use rt_formula::Dag;
+use rt_value::{List, NoMemory, Row, Value, compare};
+use std::alloc::Global;
+
+/// Where a condition is true and where it is false.
+#[cycle(annotate)]
+pub fn test(
+    alloc: Global,
+    dag: &mut Dag,
+    tables: &[List<Row>],
+    queries: &[&Query],
+    founds: &[Found],
+    p: &Pred,
+    env: &[&Row],
+) -> Result<Gate, NoMemory>
+    requires places { dag.old.rows ≡ places tables.now }
+    requires known { AreKnown dag.old tables.now (map (λ q. q.now) queries.now) founds.now }
+    ensures grown { IsGrown dag.old dag.new }
+    ensures gate { IfOk result (λ g. IsGate dag.new g (yes_when p.now tables.now (map (λ r. r.now) env.now), no_when p.now tables.now (map (λ r. r.now) env.now))) }
+{
+    match p {
+        Pred::Cmp(op, a, b) => {
+            let x = value(alloc, a, env)?;
+            let y = value(alloc, b, env)?;
+            Ok(constant(dag, compare(&x, &y, *op)))
+        }
+        Pred::IsNull(e) => {
+            let x = value(alloc, e, env)?;
+            Ok(constant(dag, null_truth(&x)))
+        }
+        Pred::OneOf(e, items) => {
+            let x = value(alloc, e, env)?;
+            let truth = one_of_truth(alloc, &x, items.as_slice(), env)?;
+            Ok(constant(dag, truth))
+        }
+        Pred::And(ps) => {
+            let gate = all_hold(alloc, dag, tables, queries, founds, ps.as_slice(), env)?;
+            Ok(gate)
+        }
+        Pred::Or(ps) => {
+            let gate = any_holds(alloc, dag, tables, queries, founds, ps.as_slice(), env)?;
+            Ok(gate)
+        }
+        Pred::Not(p) => {
+            let gate = test(alloc, dag, tables, queries, founds, p.get(), env)?;
+            Ok(Gate {
+                yes: gate.no,
+                no: gate.yes,
+            })
+        }
+        Pred::Exists(q) => {
+            let gate = has_rows(alloc, dag, tables, queries, founds, q.get(), env)?;
+            Ok(gate)
+        }
+        Pred::Member(e, q) => {
+            let x = value(alloc, e, env)?;
+            let gate = has_value(alloc, dag, tables, queries, founds, &x, q.get(), env)?;
+            Ok(gate)
+        }
+    }
+}
+
+/// Where the query has a row.
+#[cycle(annotate)]
+fn has_rows(
+    alloc: Global,
+    dag: &mut Dag,
+    tables: &[List<Row>],
+    queries: &[&Query],
+    founds: &[Found],
+    q: &Query,
+    env: &[&Row],
+) -> Result<Gate, NoMemory>
+    requires places { dag.old.rows ≡ places tables.now }
+    requires known { AreKnown dag.old tables.now (map (λ q. q.now) queries.now) founds.now }
+    ensures grown { IsGrown dag.old dag.new }
+    ensures gate { IfOk result (λ g. IsGate dag.new g (exists_test (λ s. answer_by wrapped q.now (kept tables.now s) (map (λ r. r.now) env.now)))) }
+{
+    match find(queries, q) {
+        Some(at) => Ok(founds[at].some),
+        None => {
+            let rows = annotated(alloc, dag, tables, queries, founds, q, env)?;
+            let gate = exists(alloc, dag, rows.as_slice())?;
+            Ok(gate)
+        }
+    }
+}
+
+/// Where `x` is among the rows of the query.
+#[cycle(annotate)]
+fn has_value(
+    alloc: Global,
+    dag: &mut Dag,
+    tables: &[List<Row>],
+    queries: &[&Query],
+    founds: &[Found],
+    x: &Value,
+    q: &Query,
+    env: &[&Row],
+) -> Result<Gate, NoMemory>
+    requires places { dag.old.rows ≡ places tables.now }
+    requires known { AreKnown dag.old tables.now (map (λ q. q.now) queries.now) founds.now }
+    ensures grown { IsGrown dag.old dag.new }
+    ensures gate { IfOk result (λ g. IsGate dag.new g (among_test x.now (λ s. answer_by wrapped q.now (kept tables.now s) (map (λ r. r.now) env.now)))) }
+{
+    match find(queries, q) {
+        Some(at) => {
+            let gate = founds[at].member(alloc, dag, x)?;
+            Ok(gate)
+        }
+        None => {
+            let rows = annotated(alloc, dag, tables, queries, founds, q, env)?;
+            let gate = member(alloc, dag, x, rows.as_slice())?;
+            Ok(gate)
+        }
+    }
+}
+
+/// Where all of the conditions are true, and where one is false. One that is false at every choice
+/// decides at once.
+#[cycle(annotate)]
+fn all_hold(
+    alloc: Global,
+    dag: &mut Dag,
+    tables: &[List<Row>],
+    queries: &[&Query],
+    founds: &[Found],
+    ps: &[Pred],
+    env: &[&Row],
+) -> Result<Gate, NoMemory>
+    requires places { dag.old.rows ≡ places tables.now }
+    requires known { AreKnown dag.old tables.now (map (λ q. q.now) queries.now) founds.now }
+    ensures grown { IsGrown dag.old dag.new }
+    ensures gate { IfOk result (λ g. IsGate dag.new g (test_all ps.now tables.now (map (λ r. r.now) env.now))) }
+{
+    let mut yes = List::new(alloc);
+    let mut no = List::new(alloc);
+    for p in ps {
+        let gate = test(alloc, dag, tables, queries, founds, p, env)?;
+        if is_always(dag, gate.no) {
+            return Ok(gate);
+        }
+        yes.push(gate.yes)?;
+        no.push(gate.no)?;
+    }
+    let gates = Gates { yes, no };
+    let together = all(dag, &gates)?;
+    Ok(together)
+}
+
+/// Where one of the conditions is true, and where all are false. One that is true at every choice
+/// decides at once.
+#[cycle(annotate)]
+fn any_holds(
+    alloc: Global,
+    dag: &mut Dag,
+    tables: &[List<Row>],
+    queries: &[&Query],
+    founds: &[Found],
+    ps: &[Pred],
+    env: &[&Row],
+) -> Result<Gate, NoMemory>
+    requires places { dag.old.rows ≡ places tables.now }
+    requires known { AreKnown dag.old tables.now (map (λ q. q.now) queries.now) founds.now }
+    ensures grown { IsGrown dag.old dag.new }
+    ensures gate { IfOk result (λ g. IsGate dag.new g (test_any ps.now tables.now (map (λ r. r.now) env.now))) }
+{
+    let mut yes = List::new(alloc);
+    let mut no = List::new(alloc);
+    for p in ps {
+        let gate = test(alloc, dag, tables, queries, founds, p, env)?;
+        if is_always(dag, gate.yes) {
+            return Ok(gate);
+        }
+        yes.push(gate.yes)?;
+        no.push(gate.no)?;
+    }
+    let gates = Gates { yes, no };
+    let together = any(dag, &gates)?;
+    Ok(together)
+}
+
+/// The condition with the row as the innermost in scope.
+#[cycle(annotate)]
+pub fn test_row<'a>(
+    alloc: Global,
+    dag: &mut Dag,
+    tables: &[List<Row>],
+    queries: &[&Query],
+    founds: &[Found],
+    p: &Pred,
+    row: &'a Row,
+    env: &[&'a Row],
+) -> Result<Gate, NoMemory>
+    requires places { dag.old.rows ≡ places tables.now }
+    requires known { AreKnown dag.old tables.now (map (λ q. q.now) queries.now) founds.now }
+    ensures grown { IsGrown dag.old dag.new }
+    ensures gate { IfOk result (λ g. IsGate dag.new g (test_under p.now tables.now (map (λ r. r.now) env.now) row.now)) }
+{
+    let inner = scope(alloc, row, env)?;
+    let gate = test(alloc, dag, tables, queries, founds, p, inner.as_slice())?;
+    Ok(gate)
+}
