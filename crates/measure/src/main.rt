@@ -1,36 +1,18 @@
-//! Measures the search on an input: how many nodes the formula of its counterexamples has, into how
-//! many clauses it is written, and how many conflicts the search has. Its words are those of
-//! `ratest`, and so is the status where an input is refused.
+//! Measures a search: how many nodes the formula of the counterexamples has, into how many clauses
+//! it is written, and how many conflicts the search has. A line comes as soon as its part is done, so
+//! that a reader of the lines can take the times. The words are those of `ratest`, and so is the
+//! status where an input is refused.
 #![tactic(auto)]
 
 use rt_annot::goal;
 use rt_formula::Dag;
-use rt_io::{RealFiles, RealSink, write_text};
-use rt_search::{Searched, smallest_counted};
+use rt_io::{RealFiles, RealSink, Sink, write_text};
+use rt_search::smallest_counted;
 use rt_top::{Input, Outcome, read_input};
-use rt_value::{List, NoMemory, Txt};
+use rt_value::{List, Txt};
 use std::alloc::Global;
 use std::env;
 use std::process::ExitCode;
-
-/// The nodes of the formula, and the search on it.
-#[derive(Drop)]
-struct Effort {
-    nodes: usize,
-    search: Searched,
-}
-
-fn effort_of(alloc: Global, input: &Input) -> Result<Effort, NoMemory> {
-    let schema = input.schema();
-    let given = input.given();
-    let mut dag = Dag::new(alloc, given.total())?;
-    let goal = goal(alloc, &mut dag, schema, given, input.left(), input.right())?;
-    let search = smallest_counted(alloc, &dag, goal, input.conflicts())?;
-    Ok(Effort {
-        nodes: dag.len(),
-        search,
-    })
-}
 
 fn words(rt: &HostRuntime) -> Option<List<Txt>> {
     let mut words = List::new(rt.alloc());
@@ -40,19 +22,36 @@ fn words(rt: &HostRuntime) -> Option<List<Txt>> {
     Some(words)
 }
 
-fn report(alloc: Global, effort: &Effort) -> Result<String, NoMemory> {
-    let nodes = effort.nodes;
-    let clauses = effort.search.clauses;
-    let conflicts = effort.search.conflicts;
-    let text = format!(in alloc; "nodes {nodes}, clauses {clauses}, conflicts {conflicts}\n")?;
-    Ok(text)
+fn say<S: Sink>(alloc: Global, out: &mut S, name: &str, number: u64) -> Result<(), Outcome> {
+    let Ok(line) = format!(in alloc; "{name} {number}\n") else {
+        return Err(Outcome::NoMemory);
+    };
+    match write_text(out, line.as_bytes()) {
+        Ok(()) => Ok(()),
+        Err(_) => Err(Outcome::WriteFault),
+    }
 }
 
-/// The report on the input that the words name.
-fn measured(alloc: Global, words: &[Txt], files: &mut RealFiles) -> Result<String, Outcome> {
+/// Searches as the program does, and says how large each part is.
+fn measure<S: Sink>(alloc: Global, input: &Input, out: &mut S) -> Result<(), Outcome> {
+    let schema = input.schema();
+    let given = input.given();
+    let mut dag = Dag::new(alloc, given.total())?;
+    let goal = goal(alloc, &mut dag, schema, given, input.left(), input.right())?;
+    say(alloc, out, "nodes", dag.len() as u64)?;
+    let search = smallest_counted(alloc, &dag, goal, input.conflicts())?;
+    say(alloc, out, "clauses", search.clauses)?;
+    say(alloc, out, "conflicts", search.conflicts)
+}
+
+fn read_and_measure<S: Sink>(
+    alloc: Global,
+    words: &[Txt],
+    files: &mut RealFiles,
+    out: &mut S,
+) -> Result<(), Outcome> {
     let input = read_input(alloc, words, files)?;
-    let effort = effort_of(alloc, &input)?;
-    Ok(report(alloc, &effort)?)
+    measure(alloc, &input, out)
 }
 
 fn main(rt: HostRuntime) -> ExitCode {
@@ -62,11 +61,8 @@ fn main(rt: HostRuntime) -> ExitCode {
     };
     let alloc = rt.alloc();
     let mut files = RealFiles::new(rt);
-    match measured(alloc, words.as_slice(), &mut files) {
-        Ok(text) => {
-            let _ = write_text(&mut out, text.as_bytes());
-            ExitCode::from(0)
-        }
+    match read_and_measure(alloc, words.as_slice(), &mut files, &mut out) {
+        Ok(()) => ExitCode::from(0),
         Err(outcome) => ExitCode::from(outcome.status()),
     }
 }
