@@ -1,4 +1,5 @@
 mod DecideLemmas
+mod PlaceLemmas
 mod ShapeLemmas
 mod StepLemmas
 mod TableLemmas

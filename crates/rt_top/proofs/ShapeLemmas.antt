@@ -1,5 +1,5 @@
 -- When the second query has the columns of the first.
-use Rattle.std.proofs.Common.{◌≡◌, ◌∙◌, sym, ap, Bool, true, false, List, length, Result, Ok, Err, refl}
+use Rattle.std.proofs.Common.{◌≡◌, ap, Bool, true, false, List, length, Ok, Err, refl}
 use Rattle.std.specs.Prelude.{◌==◌}
 use Rattle.std.specs.Bool.{Decides}
 use Rattle.std.proofs.lemmas.Bool.Decides.{Decides-eqb}

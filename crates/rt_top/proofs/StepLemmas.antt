@@ -1,6 +1,6 @@
 -- What stops one step of the reading stops the reading.
 use Rattle.std.proofs.Common.{◌≡◌, ◌∙◌, ℕ, Bool, false, IsTrue, List, Result, Ok, Err, refl, sym, ap, subst, arith, MatchBool}
-use Rattle.std.specs.Prelude.{Option, None, Some, IsOk, IsOkAnd, ◌+◌}
+use Rattle.std.specs.Prelude.{Option, None, Some, IfErr, IsOk, IsOkAnd, ◌+◌}
 use Rattle.rt_io.specs.Edge.{NoneFell, Rose}
 use Rattle.rt_value.specs.Gives.{Gives}
 use Rattle.rt_schema.specs.Given.{Rows}
@@ -41,7 +41,7 @@ use Rattle.rt_top.specs.declared.source.Paths.{Paths}
 use Rattle.rt_top.specs.declared.source.Source.{Source}
 use Rattle.rt_top.specs.declared.source.Source.TheVariants.{Files}
 use Rattle.rt_top.specs.Faults.{excess_limit, lex_outcome, load_outcome, name_outcome, or_outcome, schema_outcome, sql_outcome}
-use Rattle.rt_top.specs.Judged.{Data, Holding, Reaches, data_judged, input_judged, most_bytes, query_judged, right_judged, then_read, query_of, query_of_tokens, query_of_tree, schema_of, like_left}
+use Rattle.rt_top.specs.Judged.{Data, Holding, Reaches, data_judged, input_judged, most_bytes, query_judged, right_judged, then_read, query_of, query_of_tokens, query_of_tree, schema_of, text_of}
 use Rattle.rt_top.specs.Source.{IsKnown, file_name, file_of, source_of}
 use Rattle.rt_top.specs.Steps.{Failed, IsLong, IsLongFor, Refuses, Seen, seen, Stops, of_contents}
 
@@ -204,6 +204,16 @@ stops_loaded s source p loaded j R load.BadHeader gives same = (refl, λ t. same
 stops_loaded s source p loaded j R (load.FieldCount n) gives same = (refl, λ t. same t (load.FieldCount n) gives)
 stops_loaded s source p loaded j R (load.BadInteger n c) gives same = (refl, λ t. same t (load.BadInteger n c) gives)
 stops_loaded s source p loaded j R (load.BadText n c) gives same = (refl, λ t. same t (load.BadText n c) gives)
+
+-- a query's text that makes no query
+pub query_stops : (s : Seen) (source : Source) (p q r : Part) (schema : List TableOf) (text other : List ℕ) (result : Result Typed Outcome)
+    → q ≡ p → r ≡ p → other ≡ text → (IsKnown s.tells source → text_of source s.held q ≡ Ok text) → IfErr result (Refuses (query_of r schema other))
+    → IfErr result (Stops s source (query_judged source s.held p schema) (λ x. x ≡ p))
+query_stops s source p q r schema text other (Ok typed) first second same known refuses = tt
+query_stops s source p q r schema text other (Err o) first second same known refuses =
+    stops_refused s source (query_of r schema other) (query_judged source s.held p schema) (λ x. x ≡ p) o
+    (λ k e is. then_ok (text_of source s.held p) text (query_of p schema) (Err e) (ap (text_of source s.held) (sym first) ∙ known k)
+    (ap (λ (x : Part). query_of x schema text) (sym second) ∙ ap (query_of r schema) (sym same) ∙ is)) refuses
 
 -- the second query stops the reading of a command
 pub right_stops : (tells : Bool) (held0 held1 held2 : Holding) (before mid after : List ℕ → ℕ) (current : Option (List ℕ)) (taken : ℕ) (source : Source) (k : Command) (d : Data) (left : Typed) (o : Outcome)

@@ -15,13 +15,13 @@ use Rattle.rt_top.specs.declared.place.Place.{Place}
 use Rattle.rt_top.specs.declared.place.Place.TheVariants as at
 use Rattle.rt_top.specs.Accepted.{Accepted, HasOptions}
 use Rattle.rt_top.specs.declared.source.Source.{Source}
-use Rattle.rt_top.specs.Source.{IsKnown, file_of, source_of}
+use Rattle.rt_top.specs.Source.{IsKnown, source_of}
 use Rattle.rt_words.specs.Command.{command}
 use Rattle.rt_words.specs.Ranges.{Command}
 use Rattle.rt_top.specs.Judged.{Holding, command_judged, input_judged, judged, schema_judged, HasTable, IsNamed, Reaches, TableReached}
 use Rattle.rt_top.specs.Steps.{IsLongFor, Stops}
 use Rattle.rt_top.specs.Texts.{place}
-use Rattle.rt_top.specs.Answers.{Call, HasRoom, IsVerdict, SpentRow, YieldsTo, Log, NoFileRose, NoSinkRose, ReadFaultAt, ReadFaultRow, Row, IfText, Said, Spoke, Stop, at_place, Judges, Says, IsRead, IsTold}
+use Rattle.rt_top.specs.Answers.{Call, HasRoom, IsVerdict, SpentRow, YieldsTo, Log, NoFileRose, NoSinkRose, ReadFaultAt, ReadFaultRow, Row, IfText, Said, Spoke, Stop, at_place, Judges, PlacedRow, Says, IsRead, IsTold}
 
 -- ---- from the reading of the files to the rows
 
@@ -164,6 +164,30 @@ yields c out err o said result refusal row spoke tells is = elim spoke.ends [
   | inr h ↦ elim h [
     | inl f ↦ subst (YieldsTo refusal) (sym f.0) tt
     | inr m ↦ subst (YieldsTo refusal) (sym m.0) tt
+  ]
+]
+
+-- ---- the place of a syntax fault
+
+-- a verdict has none
+pub placed_verdict : (c : Call) (input : Accepted) (o : Outcome) (said : List ℕ) → Judges input o said → PlacedRow c o
+placed_verdict c input outcome.Agree said judges k is known = tt
+placed_verdict c input (outcome.Witness keep) said judges k is known = tt
+placed_verdict c input (outcome.Spent s) said judges k is known = tt
+placed_verdict c input outcome.Usage said judges k is known = tt
+placed_verdict c input (outcome.Refused part fault) said judges k is known = absurd judges
+placed_verdict c input (outcome.Limit limit) said judges k is known = tt
+placed_verdict c input (outcome.ReadFault part) said judges k is known = tt
+placed_verdict c input outcome.WriteFault said judges k is known = tt
+placed_verdict c input outcome.NoMemory said judges k is known = tt
+
+-- nor has a fault of the sink
+pub placed_spoke : (c : Call) (out err : Log) (o : Outcome) (said : List ℕ) (result : Outcome) → Spoke out err o said result → PlacedRow c o → PlacedRow c result
+placed_spoke c out err o said result spoke placed = elim spoke.ends [
+  | inl h ↦ subst (PlacedRow c) (sym h.0) placed
+  | inr h ↦ elim h [
+    | inl f ↦ subst (PlacedRow c) (sym f.0) (λ k is known. tt)
+    | inr m ↦ subst (PlacedRow c) (sym m.0) (λ k is known. tt)
   ]
 ]
 

@@ -13,7 +13,8 @@ use Rattle.rt_top.specs.declared.outcome.Spent.{Spent}
 use Rattle.rt_words.specs.Command.{command}
 use Rattle.rt_words.specs.Ranges.{Command}
 use Rattle.rt_top.specs.Accepted.{Accepted, HasOptions}
-use Rattle.rt_top.specs.Judged.{Holding, judged, Reaches, IsNamed}
+use Rattle.rt_top.specs.Judged.{Holding, judged, Reaches, IsNamed, text_of}
+use Rattle.rt_top.specs.Placed.{Placed}
 use Rattle.rt_top.specs.Smallest.{IsSmallest, Agrees, IsGivenUp}
 use Rattle.rt_top.specs.Source.{IsKnown, file_of, source_of}
 use Rattle.rt_top.specs.Faults.{is_refusal, placeless}
@@ -69,6 +70,10 @@ pub record ReadFaultAt (s : Seen) (part : Part) (k : Command) : Type 0 where
 
 abbrev pub ReadFaultRow : Call → Part → Type 0
 ReadFaultRow c part = IsSomeAnd (command c.words) (ReadFaultAt c.files part)
+
+-- where the contents of the source are known, a syntax fault stands in the text of its part
+abbrev pub PlacedRow : Call → Outcome → Type 0
+PlacedRow c o = ForSome (command c.words) (λ k. IsKnown c.files.tells (source_of k) → Placed (text_of (source_of k) c.files.held) o)
 
 -- an outcome that its own row allows, what it says of growth left aside
 abbrev pub Row : Call → Outcome → Type 0

@@ -1,6 +1,6 @@
 -- The faults of each text as outcomes: want of memory and limits are outcomes of their own, and each
 -- other fault is a refusal of its part.
-use Rattle.std.specs.Prelude.{ℕ, Bool, true, false, Result, Ok, Err}
+use Rattle.std.specs.Prelude.{Bool, true, false, Result, Ok, Err}
 use Rattle.rt_token.specs.declared.fault.LexFault.{LexFault}
 use Rattle.rt_token.specs.declared.fault.LexFault.TheVariants as lex
 use Rattle.rt_ddl.specs.declared.fault.Excess.{Excess}

@@ -1,10 +1,9 @@
 -- The input of a command, or the first refusal in the order of its parts: the words, the schema, the
 -- tables in schema order, query 1, query 2, the two queries beside each other, the work; and of each
 -- file first its length and then its contents.
-use Rattle.std.specs.Prelude.{◌≡◌, ℕ, ◌+◌, ◌==◌, ◌&&◌, nat_le, nat_lt, Bool, List, [], ◌∷◌, length, take, replicate, Option, None, Some, Result, Ok, Err, IsOk, IsOkAnd, slice_get, slice_set, if◌then◌else◌}
+use Rattle.std.specs.Prelude.{◌≡◌, ℕ, ◌+◌, ◌==◌, ◌&&◌, nat_le, nat_lt, List, [], ◌∷◌, length, take, replicate, Option, None, Some, Result, Ok, Err, IsOk, IsOkAnd, slice_get, slice_set, if◌then◌else◌}
 use Rattle.std.specs.Option.{option_map}
 use lib.Pointwise.{pointwise}
-use Rattle.rt_schema.specs.declared.table.ColKind.{ColKind}
 use Rattle.rt_schema.specs.declared.table.Table.{Table as TableOf}
 use Rattle.rt_schema.specs.Capped.{capped}
 use Rattle.rt_schema.specs.LawWork.{law_work}
@@ -29,7 +28,6 @@ use Rattle.rt_top.specs.declared.outcome.Fault.TheVariants.{Name}
 use Rattle.rt_top.specs.declared.outcome.Limit.TheVariants as limit
 use Rattle.rt_top.specs.declared.outcome.Outcome.{Outcome}
 use Rattle.rt_top.specs.declared.outcome.Outcome.TheVariants as outcome
-use Rattle.rt_top.specs.declared.source.Paths.{Paths}
 use Rattle.rt_top.specs.declared.source.Source.{Source}
 use Rattle.rt_top.specs.declared.source.Source.TheVariants.{Files, Made}
 use Rattle.rt_top.specs.Accepted.{Accepted}

@@ -2,6 +2,9 @@
 ghost use Rattle.std.specs.Prelude.{◌≡◌, IfOk, IfErr, Ok};
 ghost use Rattle.rt_algebra.specs.Typed.{IsTypedOf};
 ghost use Rattle.rt_top.specs.Judged.{like_left, query_of, query_of_tokens, query_of_tree};
+ghost use Rattle.rt_token.specs.Lexed.{lexed};
+ghost use Rattle.rt_top.specs.Placed.{IsPlaceless, PlacedIn};
+ghost use Rattle.rt_top.specs.Source.{Text};
 ghost use Rattle.rt_top.specs.Steps.{Refuses};
 
 use crate::faults::{lex_outcome, name_outcome, sql_outcome};
@@ -20,6 +23,7 @@ fn query_of_tree(alloc: Global, part: Part, schema: &Schema, tree: &Sql) -> Resu
     ensures typed { IfOk result (IsTypedOf schema.now) }
     ensures ok { IfOk result (λ typed. query_of_tree part schema.now tree.now ≡ Ok typed) }
     ensures err { IfErr result (Refuses (query_of_tree part schema.now tree.now)) }
+    ensures place { IfErr result (λ o. (text : Text) → PlacedIn part text o) }
 {
     match resolve(alloc, tree, schema) {
         Ok(typed) => Ok(typed),
@@ -37,6 +41,7 @@ fn query_of_tokens(
     ensures typed { IfOk result (IsTypedOf schema.now) }
     ensures ok { IfOk result (λ typed. query_of_tokens part schema.now tokens.now ≡ Ok typed) }
     ensures err { IfErr result (Refuses (query_of_tokens part schema.now tokens.now)) }
+    ensures place { IfErr result (λ o. (text : Text) → lexed text ≡ Ok tokens.now → PlacedIn part text o) }
 {
     match parse(alloc, tokens) {
         Ok(tree) => query_of_tree(alloc, part, schema, &tree),
@@ -54,6 +59,7 @@ pub(crate) fn query_of(
     ensures typed { IfOk result (IsTypedOf schema.now) }
     ensures ok { IfOk result (λ typed. query_of part schema.now text.now ≡ Ok typed) }
     ensures err { IfErr result (Refuses (query_of part schema.now text.now)) }
+    ensures place { IfErr result (PlacedIn part text.now) }
 {
     match tokens(alloc, text) {
         Ok(tokens) => query_of_tokens(alloc, part, schema, tokens.as_slice()),
@@ -66,6 +72,7 @@ pub(crate) fn like_left(left: &Typed, right: Typed) -> Result<Typed, Outcome>
     ensures kinds { IfOk result (λ typed. typed.kinds ≡ left.now.kinds) }
     ensures ok { IfOk result (λ typed. (typed ≡ right) × (like_left left.now right ≡ Ok typed)) }
     ensures err { IfErr result (Refuses (like_left left.now right)) }
+    ensures place { IfErr result IsPlaceless }
 {
     match shapes(left, &right) {
         Ok(()) => Ok(right),

@@ -7,8 +7,9 @@ ghost use Rattle.rt_algebra.specs.Typed.{IsTypedOf};
 ghost use Rattle.rt_words.specs.Command.{command};
 ghost use Rattle.rt_top.specs.Source.{IsKnown, file_name, query_part, source_of};
 ghost use Rattle.rt_top.specs.Judged.{text_read, file_text, text_of, without_mark, schema_of, schema_judged, table_judged, tables_judged, query_judged, right_judged, data_judged, input_judged, no_rows, total_work, within_limit, IsTableReached, Reaches};
+ghost use Rattle.rt_top.specs.Placed.{IsPlaceless, Placed, PlacedIn};
 ghost use Rattle.rt_top.specs.Steps.{Refuses, seen, Stops};
-ghost use Rattle.rt_top.specs.Answers.{call, IsRead, Stop};
+ghost use Rattle.rt_top.specs.Answers.{call, IsRead, PlacedRow, Stop};
 ghost use Rattle.rt_top.specs.declared.part.Part.TheVariants as parts;
 ghost use Rattle.rt_top.specs.declared.source.Source.TheVariants as sources;
 ghost use Rattle.rt_top.specs.Accepted.{HasOptions};
@@ -43,6 +44,7 @@ fn named_text<F: Files>(
     ensures ok { IfOk result (λ text. IsTrue F.tells → text_read part (F.held files.old name.now) ≡ Ok text) }
     ensures err { IfErr result (Stops (seen F.tells (F.held files.old) (F.faults files.old) (F.faults files.new) (F.current files.new) (F.taken files.new))
         (sources.Files paths.now) (text_read part (F.held files.old name.now)) (λ p. p ≡ part)) }
+    ensures place { IfErr result IsPlaceless }
     ensures held { F.held files.new ≡ F.held files.old }
     ensures rises { NoneFell (F.faults files.old) (F.faults files.new) }
 {
@@ -72,6 +74,7 @@ fn file_text<F: Files>(
     ensures ok { IfOk result (λ text. IsTrue F.tells → file_text part (F.held files.old) (file_name paths.now part) ≡ Ok text) }
     ensures err { IfErr result (Stops (seen F.tells (F.held files.old) (F.faults files.old) (F.faults files.new) (F.current files.new) (F.taken files.new))
         (sources.Files paths.now) (file_text part (F.held files.old) (file_name paths.now part)) (λ p. p ≡ part)) }
+    ensures place { IfErr result IsPlaceless }
     ensures held { F.held files.new ≡ F.held files.old }
     ensures rises { NoneFell (F.faults files.old) (F.faults files.new) }
 {
@@ -91,6 +94,7 @@ fn read_text<F: Files>(
     ensures ok { IfOk result (λ text. IsKnown F.tells source.now → text_of source.now (F.held files.old) part ≡ Ok text) }
     ensures err { IfErr result (Stops (seen F.tells (F.held files.old) (F.faults files.old) (F.faults files.new) (F.current files.new) (F.taken files.new))
         source.now (text_of source.now (F.held files.old) part) (λ p. p ≡ part)) }
+    ensures place { IfErr result IsPlaceless }
     ensures held { F.held files.new ≡ F.held files.old }
     ensures rises { NoneFell (F.faults files.old) (F.faults files.new) }
 {
@@ -104,6 +108,7 @@ fn read_text<F: Files>(
 fn schema_of(alloc: Global, text: &[u8]) -> Result<Schema, Outcome>
     ensures ok { IfOk result (λ schema. schema_of text.now ≡ Ok schema) }
     ensures err { IfErr result (Refuses (schema_of text.now)) }
+    ensures place { IfErr result (PlacedIn parts.Schema text.now) }
 {
     match read_schema(alloc, text) {
         Ok(schema) => Ok(schema),
@@ -116,6 +121,7 @@ fn schema_file<F: Files>(alloc: Global, files: &mut F, source: &Source) -> Resul
     ensures ok { IfOk result (λ schema. IsKnown F.tells source.now → schema_judged source.now (F.held files.old) ≡ Ok schema) }
     ensures err { IfErr result (Stops (seen F.tells (F.held files.old) (F.faults files.old) (F.faults files.new) (F.current files.new) (F.taken files.new))
         source.now (schema_judged source.now (F.held files.old)) (λ p. p ≡ parts.Schema)) }
+    ensures place { IfErr result (λ o. IsKnown F.tells source.now → Placed (text_of source.now (F.held files.old)) o) }
     ensures held { F.held files.new ≡ F.held files.old }
     ensures rises { NoneFell (F.faults files.old) (F.faults files.new) }
 {
@@ -143,6 +149,7 @@ fn read_table<F: Files>(
     ensures kinds { given.new.kinds ≡ given.old.kinds }
     ensures err { IfErr result (Stops (seen F.tells (F.held files.old) (F.faults files.old) (F.faults files.new) (F.current files.new) (F.taken files.new))
         source.now (table_judged source.now (F.held files.old) at table.now (places given.old.tables)) (λ p. p ≡ parts.Table at table.now.name)) }
+    ensures place { IfErr result (λ o. IsKnown F.tells source.now → Placed (text_of source.now (F.held files.old)) o) }
     ensures held { F.held files.new ≡ F.held files.old }
     ensures rises { NoneFell (F.faults files.old) (F.faults files.new) }
 {
@@ -169,6 +176,7 @@ fn read_given<F: Files>(
     ensures ok { IfOk result (λ given. IsKnown F.tells source.now → tables_judged source.now (F.held files.old) 0 (no_rows schema.now) schema.now ≡ Ok given.tables) }
     ensures err { IfErr result (Stops (seen F.tells (F.held files.old) (F.faults files.old) (F.faults files.new) (F.current files.new) (F.taken files.new))
         source.now (tables_judged source.now (F.held files.old) 0 (no_rows schema.now) schema.now) (IsTableReached source.now (F.held files.old) schema.now)) }
+    ensures place { IfErr result (λ o. IsKnown F.tells source.now → Placed (text_of source.now (F.held files.old)) o) }
     ensures held { F.held files.new ≡ F.held files.old }
     ensures rises { NoneFell (F.faults files.old) (F.faults files.new) }
 {
@@ -191,6 +199,7 @@ fn read_query<F: Files>(
     ensures ok { IfOk result (λ typed. IsKnown F.tells source.now → query_judged source.now (F.held files.old) (query_part part) schema.now ≡ Ok typed) }
     ensures err { IfErr result (Stops (seen F.tells (F.held files.old) (F.faults files.old) (F.faults files.new) (F.current files.new) (F.taken files.new))
         source.now (query_judged source.now (F.held files.old) (query_part part) schema.now) (λ p. p ≡ query_part part)) }
+    ensures place { IfErr result (λ o. IsKnown F.tells source.now → Placed (text_of source.now (F.held files.old)) o) }
     ensures held { F.held files.new ≡ F.held files.old }
     ensures rises { NoneFell (F.faults files.old) (F.faults files.new) }
 {
@@ -211,6 +220,7 @@ fn read_right<F: Files>(
     ensures ok { IfOk result (λ right. IsKnown F.tells source.now → right_judged source.now (F.held files.old) schema.now left.now ≡ Ok right) }
     ensures err { IfErr result (Stops (seen F.tells (F.held files.old) (F.faults files.old) (F.faults files.new) (F.current files.new) (F.taken files.new))
         source.now (right_judged source.now (F.held files.old) schema.now left.now) (λ p. p ≡ parts.Query2)) }
+    ensures place { IfErr result (λ o. IsKnown F.tells source.now → Placed (text_of source.now (F.held files.old)) o) }
     ensures held { F.held files.new ≡ F.held files.old }
     ensures rises { NoneFell (F.faults files.old) (F.faults files.new) }
 {
@@ -231,6 +241,7 @@ fn read_data<F: Files>(alloc: Global, files: &mut F, source: &Source) -> Result<
     ensures ok { IfOk result (λ d. IsKnown F.tells source.now → data_judged source.now (F.held files.old) ≡ Ok (record { schema = d.schema; given = d.given })) }
     ensures err { IfErr result (Stops (seen F.tells (F.held files.old) (F.faults files.old) (F.faults files.new) (F.current files.new) (F.taken files.new))
         source.now (data_judged source.now (F.held files.old)) (Reaches source.now (F.held files.old))) }
+    ensures place { IfErr result (λ o. IsKnown F.tells source.now → Placed (text_of source.now (F.held files.old)) o) }
     ensures held { F.held files.new ≡ F.held files.old }
     ensures rises { NoneFell (F.faults files.old) (F.faults files.new) }
 {
@@ -252,6 +263,7 @@ fn total_work(input: &Input) -> u128
 fn within_limit(input: Input) -> Result<Input, Outcome>
     ensures ok { IfOk result (λ same. (same ≡ input) × (within_limit input ≡ Ok same)) }
     ensures err { IfErr result (Refuses (within_limit input)) }
+    ensures place { IfErr result IsPlaceless }
 {
     let work = total_work(&input);
     if work <= u128::from(input.work_limit()) {
@@ -267,6 +279,7 @@ fn read_command<F: Files>(alloc: Global, words: &Words, files: &mut F) -> Result
     ensures ok { IfOk result (λ input. IsKnown F.tells (source_of words.now) → input_judged (F.held files.old) words.now ≡ Ok input) }
     ensures err { IfErr result (Stops (seen F.tells (F.held files.old) (F.faults files.old) (F.faults files.new) (F.current files.new) (F.taken files.new))
         (source_of words.now) (input_judged (F.held files.old) words.now) (Reaches (source_of words.now) (F.held files.old))) }
+    ensures place { IfErr result (λ o. IsKnown F.tells (source_of words.now) → Placed (text_of (source_of words.now) (F.held files.old)) o) }
     ensures held { F.held files.new ≡ F.held files.old }
     ensures rises { NoneFell (F.faults files.old) (F.faults files.new) }
 {
@@ -291,6 +304,8 @@ pub fn read_input<F: Files>(alloc: Global, words: &[Txt], files: &mut F) -> Resu
         IfOk result (IsRead c) }
     ensures err { let c = call words.now F.tells (F.held files.old) (F.faults files.old) (F.faults files.new) (F.current files.new) (F.taken files.new) in
         IfErr result (Stop c) }
+    ensures place { let c = call words.now F.tells (F.held files.old) (F.faults files.old) (F.faults files.new) (F.current files.new) (F.taken files.new) in
+        IfErr result (PlacedRow c) }
     ensures held { F.held files.new ≡ F.held files.old }
     ensures rises { NoneFell (F.faults files.old) (F.faults files.new) }
 {

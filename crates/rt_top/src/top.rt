@@ -3,7 +3,7 @@ ghost use Rattle.rt_io.specs.Edge.{NoneFell};
 ghost use Rattle.rt_words.specs.Command.{command};
 ghost use Rattle.rt_top.specs.Judged.{judged};
 ghost use Rattle.rt_top.specs.Accepted.{Accepted};
-ghost use Rattle.rt_top.specs.Answers.{call, IsTold, Row, AgreeRow, WitnessRow, UsageRow, RefusedRow, SpentRow, LimitRow, ReadFaultRow, HasRoom, IfAgree, IfWitness, IfUsage, IfRefused, IfSpent, IfLimit, IfReadFault, IfWriteFault, IfNoMemory, IfText, YieldsTo, YieldsToWrite, IsVerdict, NoFileRose, NoSinkRose, Says, log, Ends, Spoke, Said, Begun, Broke, IsSilent, limit_of};
+ghost use Rattle.rt_top.specs.Answers.{call, IsTold, PlacedRow, Row, AgreeRow, WitnessRow, UsageRow, RefusedRow, SpentRow, LimitRow, ReadFaultRow, HasRoom, IfAgree, IfWitness, IfUsage, IfRefused, IfSpent, IfLimit, IfReadFault, IfWriteFault, IfNoMemory, IfText, YieldsTo, YieldsToWrite, IsVerdict, NoFileRose, NoSinkRose, Says, log, Ends, Spoke, Said, Begun, Broke, IsSilent, limit_of};
 ghost use Rattle.rt_top.specs.declared.outcome.Outcome.{Outcome};
 ghost use Rattle.rt_top.specs.declared.outcome.Outcome.TheVariants as outcome;
 
@@ -34,6 +34,8 @@ fn prepare<F: Files>(alloc: Global, words: &[Txt], files: &mut F) -> Result<Answ
         IfOk result (λ a. Row c a.outcome) }
     ensures says { let c = call words.now F.tells (F.held files.old) (F.faults files.old) (F.faults files.new) (F.current files.new) (F.taken files.new) in
         IfOk result (λ a. Says c a.outcome a.text) }
+    ensures place { let c = call words.now F.tells (F.held files.old) (F.faults files.old) (F.faults files.new) (F.current files.new) (F.taken files.new) in
+        IfOk result (λ a. PlacedRow c a.outcome) }
     ensures held { F.held files.new ≡ F.held files.old }
     ensures rises { NoneFell (F.faults files.old) (F.faults files.new) }
 {
@@ -93,6 +95,9 @@ pub fn ratest<F: Files, O: Sink, E: Sink>(
     // Only where this is the first refusal, and there always.
     ensures refused { let c = call words.now F.tells (F.held files.old) (F.faults files.old) (F.faults files.new) (F.current files.new) (F.taken files.new) in
         IfRefused result (RefusedRow c) }
+    // A syntax fault stands at a token of its text, or at the end of the last one.
+    ensures place { let c = call words.now F.tells (F.held files.old) (F.faults files.old) (F.faults files.new) (F.current files.new) (F.taken files.new) in
+        PlacedRow c result }
     // Only where the budget of the command is spent.
     ensures spent { let c = call words.now F.tells (F.held files.old) (F.faults files.old) (F.faults files.new) (F.current files.new) (F.taken files.new) in
         IfSpent result (SpentRow c) }

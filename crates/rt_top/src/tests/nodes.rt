@@ -6,6 +6,7 @@ ghost use Rattle.rt_schema.specs.Given.{places};
 use super::annotated::{annotated, holds};
 use super::choices::{choice, input};
 use super::files;
+use super::worked::{ABC, ONE, ONES, REG, SCHOOL, STUDENT};
 use crate::Input;
 use rt_annot::{annotate, differ};
 use rt_formula::{Dag, Node};
@@ -13,30 +14,6 @@ use rt_io::MemFiles;
 use rt_value::{NoMemory, Row, Txt, Value};
 use std::alloc::Global;
 use std::test::Fail;
-
-const SCHOOL: &str = "CREATE TABLE student (name TEXT PRIMARY KEY, major TEXT);\n\
-    CREATE TABLE reg (name TEXT REFERENCES student, course INTEGER, dept TEXT, grade INTEGER, PRIMARY KEY (name, course));";
-
-const STUDENTS: [(&str, &str); 2] = [
-    ("d/student.csv", "name,major\nMary,CS\nJohn,ECON\n"),
-    (
-        "d/reg.csv",
-        "name,course,dept,grade\nMary,216,CS,100\nMary,230,CS,75\nJohn,316,CS,90\n",
-    ),
-];
-
-/// The students with just one course of CS.
-const ONE: &str =
-    "SELECT s.name FROM student s, reg r WHERE s.name = r.name AND r.dept = 'CS' EXCEPT SELECT s.name FROM student s, reg r1, reg r2 WHERE s.name = r1.name AND s.name = r2.name AND r1.course <> r2.course AND r1.dept = 'CS' AND r2.dept = 'CS'";
-
-const SETS: &str =
-    "CREATE TABLE a (x INTEGER); CREATE TABLE b (x INTEGER); CREATE TABLE c (x INTEGER)";
-
-const ONES: [(&str, &str); 3] = [
-    ("d/a.csv", "x\n1\n"),
-    ("d/b.csv", "x\n1\n"),
-    ("d/c.csv", "x\n1\n"),
-];
 
 const PAIR: &str = "CREATE TABLE t (a INTEGER); CREATE TABLE u (b INTEGER);";
 
@@ -133,7 +110,7 @@ fn differs(
 #[test]
 fn nodes_of_worked_rows(rt: HostRuntime) -> Result<(), Fail> {
     let alloc = rt.alloc();
-    let mut school = files(alloc, SCHOOL, &STUDENTS, ONE, ONE)?;
+    let mut school = files(alloc, SCHOOL, &[STUDENT, REG], ONE, ONE)?;
     let mary = Value::Text(Txt::of(alloc, "Mary")?);
     let at = [
         (0b00101, true),
@@ -171,7 +148,7 @@ fn nodes_of_worked_rows(rt: HostRuntime) -> Result<(), Fail> {
     assert!(rt; gives(alloc, &mut fives, Value::Int(5), &at)?);
     let mut sets = files(
         alloc,
-        SETS,
+        ABC,
         &ONES,
         "SELECT x FROM a EXCEPT SELECT x FROM b UNION SELECT x FROM c",
         "SELECT x FROM a EXCEPT (SELECT x FROM b UNION SELECT x FROM c)",

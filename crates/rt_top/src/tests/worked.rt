@@ -4,22 +4,22 @@ use rt_value::NoMemory;
 use std::alloc::Global;
 use std::test::Fail;
 
-const A: &str = "CREATE TABLE student (name TEXT PRIMARY KEY, major TEXT);\n\
+pub(super) const SCHOOL: &str = "CREATE TABLE student (name TEXT PRIMARY KEY, major TEXT);\n\
     CREATE TABLE reg (name TEXT REFERENCES student, course INTEGER, dept TEXT, grade INTEGER, PRIMARY KEY (name, course));";
 
 /// The same without the foreign key.
 const LOOSE: &str = "CREATE TABLE student (name TEXT PRIMARY KEY, major TEXT);\n\
     CREATE TABLE reg (name TEXT, course INTEGER, dept TEXT, grade INTEGER, PRIMARY KEY (name, course));";
 
-const STUDENT: (&str, &str) = ("d/student.csv", "name,major\nMary,CS\nJohn,ECON\n");
+pub(super) const STUDENT: (&str, &str) = ("d/student.csv", "name,major\nMary,CS\nJohn,ECON\n");
 
-const REG: (&str, &str) = (
+pub(super) const REG: (&str, &str) = (
     "d/reg.csv",
     "name,course,dept,grade\nMary,216,CS,100\nMary,230,CS,75\nJohn,316,CS,90\n",
 );
 
 /// The students with one course of CS.
-const ONE: &str =
+pub(super) const ONE: &str =
     "SELECT s.name FROM student s, reg r WHERE s.name = r.name AND r.dept = 'CS' EXCEPT SELECT s.name FROM student s, reg r1, reg r2 WHERE s.name = r1.name AND s.name = r2.name AND r1.course <> r2.course AND r1.dept = 'CS' AND r2.dept = 'CS'";
 
 /// The students with a course of CS.
@@ -28,10 +28,10 @@ const SOME: &str = "SELECT s.name FROM student s, reg r WHERE s.name = r.name AN
 const MARY: &str =
     "witness: 3\nstudent 1: 'Mary', 'CS'\nreg 1: 'Mary', 216, 'CS', 100\nreg 2: 'Mary', 230, 'CS', 75\nonly query 1: 0\nonly query 2: 1\n  'Mary'\nboth: 0\n";
 
-const ABC: &str =
+pub(super) const ABC: &str =
     "CREATE TABLE a (x INTEGER); CREATE TABLE b (x INTEGER); CREATE TABLE c (x INTEGER)";
 
-const ONES: [(&str, &str); 3] = [
+pub(super) const ONES: [(&str, &str); 3] = [
     ("d/a.csv", "x\n1\n"),
     ("d/b.csv", "x\n1\n"),
     ("d/c.csv", "x\n1\n"),
@@ -64,7 +64,7 @@ fn students(rt: HostRuntime) -> Result<(), Fail> {
     assert!(rt;
         all_end(
             alloc,
-            A,
+            SCHOOL,
             &[STUDENT, REG],
             &[
                 (ONE, SOME, 1, MARY,),
@@ -117,7 +117,7 @@ fn students(rt: HostRuntime) -> Result<(), Fail> {
     assert!(rt;
         all_end(
             alloc,
-            A,
+            SCHOOL,
             &[
                 ("d/student.csv", "name,major\n"),
                 ("d/reg.csv", "name,course,dept,grade\n")
@@ -381,7 +381,7 @@ fn either_of_two_grades(rt: HostRuntime) -> Result<(), Fail> {
 #[test]
 fn limits_of_the_command(rt: HostRuntime) -> Result<(), Fail> {
     let alloc = rt.alloc();
-    let mut school = files(alloc, A, &[STUDENT, REG], ONE, SOME)?;
+    let mut school = files(alloc, SCHOOL, &[STUDENT, REG], ONE, SOME)?;
     let within = ["s", "d", "p", "q", "--work", "663"];
     assert!(rt; ends(alloc, &mut school, &within, 1, MARY, "")?);
     let below = ["--work=662", "s", "d", "p", "q"];

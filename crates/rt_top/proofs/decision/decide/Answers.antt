@@ -1,4 +1,3 @@
-use Rattle.std.proofs.Common.{sym}
 use Rattle.rt_top.proofs.DecideLemmas.{verdict_of}
 use Rattle.rt_top.proofs.decision.decide.Goals as goal
 
