@@ -10,8 +10,6 @@ mod expr;
 mod laws;
 mod predicate;
 mod query;
-#[cfg(test)]
-mod tests;
 mod typed;
 
 pub use cost::work;

@@ -11,8 +11,6 @@ mod gates;
 mod lines;
 mod lit;
 mod named;
-#[cfg(test)]
-mod tests;
 
 pub use clauses::Clauses;
 pub use gates::gate;

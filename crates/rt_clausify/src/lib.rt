@@ -5,8 +5,6 @@
 //! there, and the row variables determine all others.
 #![tactic(auto)]
 
-#[cfg(test)]
-mod tests;
 mod under;
 mod write;
 

@@ -12,8 +12,6 @@ mod limits;
 mod parts;
 mod reader;
 mod tables;
-#[cfg(test)]
-mod tests;
 mod texts;
 mod tree;
 mod twice;

@@ -6,7 +6,5 @@
 
 mod checker;
 mod held;
-#[cfg(test)]
-mod tests;
 
 pub use checker::Checker;

@@ -12,8 +12,6 @@ mod groups;
 pub mod laws;
 mod node_set;
 mod noted;
-#[cfg(test)]
-mod tests;
 mod values;
 
 pub use dag::Dag;

@@ -13,8 +13,6 @@ mod marks;
 mod place;
 mod reads;
 mod terminal;
-#[cfg(test)]
-mod tests;
 mod words;
 
 pub use fault::ReadFault;

@@ -14,7 +14,7 @@ use rt_schema::{Column, Given, Schema};
 use rt_value::{List, Row};
 use std::alloc::Global;
 
-/// The most rows that all tables together may have: the limit of the search by trial.
+/// The most rows that all tables together may have.
 pub const ROW_LIMIT: usize = 2000;
 
 /// Reads the rows of a table from its file into `given`, which has none of this table yet. The

@@ -11,8 +11,6 @@ mod header;
 mod input;
 mod integer;
 mod records;
-#[cfg(test)]
-mod tests;
 
 pub use fault::LoadFault;
 pub use file::{ROW_LIMIT, load};

@@ -6,8 +6,6 @@ mod cells;
 mod kept;
 mod spent;
 mod summary;
-#[cfg(test)]
-mod tests;
 mod verdict;
 mod witness;
 

@@ -9,7 +9,5 @@ mod cells;
 mod clauses;
 mod index;
 mod tables;
-#[cfg(test)]
-mod tests;
 
 pub use tables::law;

@@ -11,8 +11,6 @@ mod law;
 mod pairs;
 mod schema;
 mod table;
-#[cfg(test)]
-mod tests;
 
 pub use capped::{capped_add, capped_mul};
 pub use cells::{agree, has_null, null_at};

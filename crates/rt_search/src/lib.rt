@@ -11,8 +11,6 @@ mod choice;
 mod counted;
 mod lower;
 mod search;
-#[cfg(test)]
-mod tests;
 
 pub use best::{Best, SpentBest};
 pub use search::{Searched, smallest, smallest_counted};

@@ -16,8 +16,6 @@ mod marks;
 mod search;
 mod solver;
 mod store;
-#[cfg(test)]
-mod tests;
 mod trail;
 
 pub use solver::{Found, Solver};

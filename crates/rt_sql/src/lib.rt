@@ -11,12 +11,8 @@ mod fault;
 mod looks;
 mod parser;
 mod ranges;
-#[cfg(test)]
-mod shape;
 mod sources;
 mod tested;
-#[cfg(test)]
-mod tests;
 mod words;
 
 pub use depth::{NESTED, REPEATED};

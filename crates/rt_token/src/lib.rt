@@ -10,8 +10,6 @@ mod lexer;
 mod reserved;
 mod span;
 mod sym;
-#[cfg(test)]
-mod tests;
 mod token;
 
 pub use fault::LexFault;

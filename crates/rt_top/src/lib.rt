@@ -11,8 +11,6 @@ mod query;
 mod read;
 mod say;
 mod source;
-#[cfg(test)]
-mod tests;
 mod top;
 mod verdict;
 

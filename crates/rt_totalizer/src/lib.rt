@@ -9,7 +9,5 @@
 mod cell;
 mod cells;
 mod counter;
-#[cfg(test)]
-mod tests;
 
 pub use counter::{Outputs, count};

@@ -11,8 +11,6 @@ mod list;
 mod no_memory;
 mod numeral;
 mod row;
-#[cfg(test)]
-mod tests;
 mod truth;
 mod txt;
 mod value;

@@ -6,8 +6,6 @@ mod fault;
 mod limits;
 mod matches;
 mod read;
-#[cfg(test)]
-mod tests;
 mod words;
 
 pub use fault::WordFault;

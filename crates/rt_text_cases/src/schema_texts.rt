@@ -1,5 +1,4 @@
-use crate::fault::{Excess, SchemaFault};
-use crate::reader::read_schema;
+use rt_ddl::{Excess, SchemaFault, read_schema};
 use rt_schema::{ColKind, Column, Foreign, Rule, Schema, Table};
 use rt_value::{List, NoMemory, Txt};
 use std::alloc::Global;

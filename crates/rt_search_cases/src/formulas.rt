@@ -1,4 +1,4 @@
-use crate::{Dag, Node};
+use rt_formula::{Dag, Node};
 use rt_value::Keep;
 use std::alloc::Global;
 use std::process::Abort;

@@ -1,6 +1,6 @@
 //! What the command says, over files and sinks in memory.
-use crate::{Outcome, USAGE, ratest};
 use rt_io::{MemFiles, MemSink};
+use rt_top::{Outcome, USAGE, ratest};
 use rt_value::{List, NoMemory, Txt};
 use std::alloc::{AllocError, Global};
 use std::test::Fail;

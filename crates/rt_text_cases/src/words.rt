@@ -1,5 +1,5 @@
-use crate::{WordFault, Words, read_words};
 use rt_value::{List, Txt};
+use rt_words::{WordFault, Words, read_words};
 use std::alloc::{AllocError, Global};
 use std::test::Fail;
 

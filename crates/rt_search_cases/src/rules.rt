@@ -1,8 +1,8 @@
 ghost use Rattle.std.specs.Prelude.{◌≡◌, ◌<◌, length};
 ghost use Rattle.rt_schema.specs.Given.{IsOf};
 
-use crate::law;
 use rt_formula::{Dag, Node};
+use rt_rules::law;
 use rt_schema::{ColKind, Column, Foreign, Given, ROWS, Rule, Schema, Table, is_sound};
 use rt_value::{Keep, List, NoMemory, Row, Txt, Value};
 use std::alloc::Global;

@@ -1,4 +1,4 @@
-use crate::{Expr, Pred, Query, Typed, work};
+use rt_algebra::{Expr, Pred, Query, Typed, work};
 use rt_schema::{ColKind, Column, Given, ROWS, Schema, Table, is_sound};
 use rt_value::{Boxed, List, NoMemory, Op, Row, Txt, Value};
 use std::alloc::Global;

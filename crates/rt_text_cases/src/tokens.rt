@@ -1,4 +1,4 @@
-use crate::{LexFault, Sym, Token, TokenKind, is_reserved, tokens};
+use rt_token::{LexFault, Sym, Token, TokenKind, is_reserved, tokens};
 use rt_value::{List, Txt};
 use std::test::Fail;
 

@@ -1,4 +1,4 @@
-use crate::{Boxed, Keep, List, Op, Row, Truth, Txt, Value, compare};
+use rt_value::{Boxed, Keep, List, Op, Row, Truth, Txt, Value, compare};
 use std::cmp::Ordering;
 use std::test::Fail;
 

@@ -1,4 +1,4 @@
-use crate::clausify;
+use rt_clausify::clausify;
 use rt_derive::Checker;
 use rt_formula::Dag;
 use std::test::Fail;

@@ -4,11 +4,11 @@ ghost use Rattle.rt_schema.specs.Given.{places};
 
 use super::choices::{choice, input};
 use super::files;
-use crate::Input;
 use rt_annot::{Ann, annotate};
 use rt_eval::{Rows, answers};
 use rt_formula::{Dag, Node, Noted};
 use rt_io::MemFiles;
+use rt_top::Input;
 use rt_value::{Keep, List, NoMemory, Row, Value};
 use std::alloc::Global;
 use std::test::Fail;

@@ -1,6 +1,5 @@
-use crate::fault::SqlFault;
-use crate::parser::parse;
 use crate::shape::shape;
+use rt_sql::{SqlFault, parse};
 use rt_token::tokens;
 use rt_tree::Sql;
 use std::alloc::{AllocError, Global};

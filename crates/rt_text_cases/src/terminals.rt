@@ -1,9 +1,4 @@
-use crate::fault::ReadFault;
-use crate::fixed::Fixed;
-use crate::marks::terminals;
-use crate::place::syntax_place;
-use crate::reads::name;
-use crate::terminal::Terminal;
+use rt_grammar::{Fixed, ReadFault, Terminal, name, syntax_place, terminals};
 use rt_token::{Token, tokens};
 use rt_value::List;
 use std::alloc::Global;

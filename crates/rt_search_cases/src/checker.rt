@@ -1,7 +1,7 @@
 ghost use Rattle.std.specs.Prelude.{◌≡◌, IfOk, length};
 
-use crate::Checker;
 use rt_clause::{Adds, Lines, Lit};
+use rt_derive::Checker;
 use rt_value::NoMemory;
 use std::alloc::Global;
 use std::test::Fail;

@@ -1,8 +1,8 @@
 ghost use Rattle.std.specs.Prelude.{◌<◌};
 
-use crate::{Found, Solver};
 use rt_clause::{Adds, Lit};
 use rt_derive::Checker;
+use rt_solver::{Found, Solver};
 use std::alloc::Global;
 use std::test::Fail;
 

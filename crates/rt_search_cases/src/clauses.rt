@@ -1,4 +1,4 @@
-use crate::{Clauses, Lit};
+use rt_clause::{Clauses, Lit};
 use std::test::Fail;
 
 #[test]

@@ -1,7 +1,7 @@
 ghost use Rattle.std.specs.Prelude.{◌≡◌};
 ghost use Rattle.rt_schema.specs.Given.{IsOf};
 
-use crate::{
+use rt_schema::{
     ColKind, Column, Foreign, Given, ROWS, Rule, Schema, Table, is_sound, law_work, lawful,
 };
 use rt_value::{Keep, List, NoMemory, Row, Txt, Value};

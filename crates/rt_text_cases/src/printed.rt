@@ -2,7 +2,7 @@ ghost use Rattle.std.specs.Prelude.{◌≡◌, IfOk};
 ghost use Rattle.std.specs.List.Sorted.{IsStrictlySortedBy};
 ghost use Rattle.rt_value.specs.Row.{row_cmp};
 
-use crate::{MadeVerdict, made_text, spent_text, witness_text};
+use rt_print::{MadeVerdict, made_text, spent_text, witness_text};
 use rt_schema::{ColKind, Column, Given, ROWS, Schema, Table, is_sound};
 use rt_value::{Bytes, Keep, List, NoMemory, Row, Txt, Value};
 use std::alloc::Global;

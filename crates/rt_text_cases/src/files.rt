@@ -1,4 +1,4 @@
-use crate::{
+use rt_io::{
     BeginFail, Files, MemFiles, MemSink, ReadFail, RealFiles, RealSink, Sink, SinkFail, SureFiles,
     SureSink, read_file, write_text,
 };

@@ -1,4 +1,4 @@
-use crate::{LoadFault, load, made};
+use rt_load::{LoadFault, load, made};
 use rt_schema::{ColKind, Column, Given, Schema, Table, is_sound};
 use rt_value::{List, Txt, Value};
 use std::alloc::{AllocError, Global};

@@ -1,9 +1,9 @@
 ghost use Rattle.std.specs.Prelude.{◌<◌, length};
 
-use crate::{Best, smallest};
 use rt_clause::{Adds, Lit, Named};
 use rt_derive::Checker;
 use rt_formula::{Dag, Node};
+use rt_search::{Best, smallest};
 use rt_solver::{Found, Solver};
 use rt_totalizer::count;
 use std::alloc::Global;

@@ -1,6 +1,6 @@
-use crate::count;
 use rt_clause::{Lit, Named};
 use rt_derive::Checker;
+use rt_totalizer::count;
 use std::test::Fail;
 
 #[test]

@@ -1,0 +1,22 @@
+//! The tests of the search: clauses and their checker, formulas and the law, formulas as clauses,
+//! the solver, the counter, and the least choice of rows.
+//!
+//! They stand in a crate of their own, since a crate with tests is proved twice.
+#![tactic(auto)]
+
+#[cfg(test)]
+mod checker;
+#[cfg(test)]
+mod clauses;
+#[cfg(test)]
+mod counter;
+#[cfg(test)]
+mod encoded;
+#[cfg(test)]
+mod formulas;
+#[cfg(test)]
+mod rules;
+#[cfg(test)]
+mod search;
+#[cfg(test)]
+mod solver;
