@@ -20,6 +20,17 @@ fn real_files_and_sinks(rt: HostRuntime) -> Result<(), Fail> {
     Ok(())
 }
 
+// A writer that takes no more bytes answers so, and raises no error of its own.
+#[test]
+fn a_full_writer_is_a_fault(rt: HostRuntime) -> Result<(), Fail> {
+    let mut room = [0u8; 4];
+    let mut sink = RealSink::new(room.as_mut_slice());
+    assert_eq!(rt; write_text(&mut sink, b"12345"), Err(SinkFail::Failed));
+    drop(sink);
+    assert_eq!(rt; room.as_slice(), b"1234".as_slice());
+    Ok(())
+}
+
 #[test]
 fn no_answer_changes_with_the_pieces(rt: HostRuntime) -> Result<(), Fail> {
     let alloc = rt.alloc();

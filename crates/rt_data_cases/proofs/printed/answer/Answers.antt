@@ -1,5 +1,5 @@
 use Rattle.std.specs.List.Sorted.{IsStrictlySortedBy}
-use Rattle.rt_print.proofs.tests.answer.Goals as goal
+use Rattle.rt_data_cases.proofs.printed.answer.Goals as goal
 
 pub returns-then-is_empty : goal.returns-then-is_empty
 unfolding IsStrictlySortedBy

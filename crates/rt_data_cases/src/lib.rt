@@ -1,0 +1,13 @@
+//! The tests of schemas and rows: the law, table files, work, and what is printed.
+//!
+//! They stand in a crate of their own, since a crate with tests is proved twice.
+#![tactic(auto)]
+
+#[cfg(test)]
+mod printed;
+#[cfg(test)]
+mod schemas;
+#[cfg(test)]
+mod table_files;
+#[cfg(test)]
+mod work;
