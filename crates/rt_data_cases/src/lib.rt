@@ -1,12 +1,14 @@
-//! The tests of schemas and rows: the law, table files, work, and what is printed.
+//! The tests of schemas and rows: the law and its formula, table files, work, and what is printed.
 //!
 //! They stand in a crate of their own, since a crate with tests is proved twice.
 #![tactic(auto)]
 
 #[cfg(test)]
-mod printed;
+mod data;
 #[cfg(test)]
-mod schemas;
+mod law;
+#[cfg(test)]
+mod printed;
 #[cfg(test)]
 mod table_files;
 #[cfg(test)]

@@ -2,39 +2,16 @@ ghost use Rattle.std.specs.Prelude.{◌≡◌, IfOk};
 ghost use Rattle.std.specs.List.Sorted.{IsStrictlySortedBy};
 ghost use Rattle.rt_value.specs.Row.{row_cmp};
 
+use crate::data::{Data, choice, data};
 use rt_print::{MadeVerdict, made_text, spent_text, witness_text};
-use rt_schema::{ColKind, Column, Given, ROWS, Schema, Table, is_sound};
 use rt_value::{Bytes, Keep, List, NoMemory, Row, Txt, Value};
 use std::alloc::Global;
 use std::test::Fail;
 
-/// A table whose columns are of the kinds that are written as i for INTEGER and t for TEXT.
-fn table(alloc: Global, name: &str, kinds: &str) -> Result<Table, NoMemory> {
-    let mut columns = List::new(alloc);
-    for kind in kinds.as_bytes() {
-        let name = Txt::of(alloc, "c")?;
-        let kind = if *kind == b'i' {
-            ColKind::Whole
-        } else {
-            ColKind::Text
-        };
-        columns.push(Column { name, kind })?;
-    }
-    Ok(Table {
-        name: Txt::of(alloc, name)?,
-        columns,
-        rules: List::new(alloc),
-    })
-}
+const STUDENTS: &str =
+    "CREATE TABLE student (name TEXT, major TEXT);\nCREATE TABLE reg (name TEXT, num INTEGER, dept TEXT, grade INTEGER);";
 
-fn schema(alloc: Global, first: Table, second: Table) -> Result<Schema, NoMemory> {
-    let tables = List::from_vec(vec![in alloc; first, second]?);
-    if is_sound(tables.as_slice()) {
-        Ok(Schema::new(tables))
-    } else {
-        Err(NoMemory)
-    }
-}
+const TWO: &str = "CREATE TABLE t (a INTEGER);\nCREATE TABLE u (a INTEGER);";
 
 /// A row whose cells are NULL, whole numbers or texts, as they are written.
 fn row(alloc: Global, cells: &[&str]) -> Result<Row, NoMemory> {
@@ -62,50 +39,17 @@ fn answer(alloc: Global, cells: &[&str]) -> Result<List<Row>, NoMemory>
     Ok(rows)
 }
 
-fn fill(alloc: Global, given: &mut Given, table: usize, rows: &[&[&str]]) -> Result<(), NoMemory>
-    ensures { given.new.kinds ≡ given.old.kinds }
-{
-    let mut list = List::new(alloc);
-    for cells in rows {
-        list.push(row(alloc, *cells)?)?;
-    }
-    let fits = table < given.tables().len()
-        && given.rows(table) == 0
-        && given.suits(table, list.as_slice())
-        && list.len() <= ROWS - given.total();
-    if !fits {
-        return Err(NoMemory);
-    }
-    given.fill(table, list);
-    Ok(())
-}
-
-/// The choice whose Bools are written as 1 and 0.
-fn keep(alloc: Global, places: &str) -> Result<Keep, NoMemory> {
-    let mut keep = Keep::all(alloc, 0, false)?;
-    for place in places.as_bytes() {
-        keep.push(*place == b'1')?;
-    }
-    Ok(keep)
-}
-
-// The text for two tables `t` and `u`, of these kinds and rows.
+// The text for the rows of a choice, and for answers of one row or none.
 fn witness(
     alloc: Global,
-    t_kinds: &str,
-    u_kinds: &str,
-    t_rows: &[&[&str]],
-    u_rows: &[&[&str]],
+    schema: &str,
+    files: &[&str],
     places: &str,
     left: &[&str],
     right: &[&str],
 ) -> Result<Bytes, NoMemory> {
-    let first = table(alloc, "t", t_kinds)?;
-    let schema = schema(alloc, first, table(alloc, "u", u_kinds)?)?;
-    let mut given = Given::new(alloc, &schema)?;
-    fill(alloc, &mut given, 0, t_rows)?;
-    fill(alloc, &mut given, 1, u_rows)?;
-    let keep = keep(alloc, places)?;
+    let Data { schema, given } = data(alloc, schema, files)?;
+    let keep = choice(alloc, places)?;
     if keep.len() != given.total() {
         return Err(NoMemory);
     }
@@ -121,12 +65,10 @@ fn witness(
     )
 }
 
-// The text for a table `student` with two rows.
+// The text for two students, of whom these are the best so far.
 fn spent(alloc: Global, best: Option<&Keep>) -> Result<Bytes, NoMemory> {
-    let first = table(alloc, "student", "tt")?;
-    let schema = schema(alloc, first, table(alloc, "reg", "titi")?)?;
-    let mut given = Given::new(alloc, &schema)?;
-    fill(alloc, &mut given, 0, &[&["Mary", "CS"], &["John", "ECON"]])?;
+    let files = ["name,major\nMary,CS\nJohn,ECON\n"];
+    let Data { schema, given } = data(alloc, STUDENTS, &files)?;
     match best {
         None => spent_text(alloc, &schema, &given, 7, None),
         Some(keep) => {
@@ -140,41 +82,21 @@ fn spent(alloc: Global, best: Option<&Keep>) -> Result<Bytes, NoMemory> {
 
 #[test]
 fn rows_of_one_query_alone(rt: HostRuntime) -> Result<(), Fail> {
-    let students: &[&[&str]] = &[&["Mary", "CS"], &["John", "ECON"]];
-    let registrations: &[&[&str]] = &[
-        &["Mary", "216", "CS", "100"],
-        &["Mary", "230", "CS", "75"],
-        &["John", "316", "CS", "90"],
+    let files = [
+        "name,major\nMary,CS\nJohn,ECON\n",
+        "name,num,dept,grade\nMary,216,CS,100\nMary,230,CS,75\nJohn,316,CS,90\n",
     ];
-    let right = ["Mary"];
-    let text = witness(
-        rt.alloc(),
-        "tt",
-        "titi",
-        students,
-        registrations,
-        "10110",
-        &[],
-        &right,
-    )?;
+    let text = witness(rt.alloc(), STUDENTS, &files, "10110", &[], &["Mary"])?;
     let want =
-        "witness: 3\nt 1: 'Mary', 'CS'\nu 1: 'Mary', 216, 'CS', 100\nu 2: 'Mary', 230, 'CS', 75\nonly query 1: 0\nonly query 2: 1\n  'Mary'\nboth: 0\n";
+        "witness: 3\nstudent 1: 'Mary', 'CS'\nreg 1: 'Mary', 216, 'CS', 100\nreg 2: 'Mary', 230, 'CS', 75\nonly query 1: 0\nonly query 2: 1\n  'Mary'\nboth: 0\n";
     assert_eq!(rt; text.as_slice(), want.as_bytes());
     Ok(())
 }
 
 #[test]
 fn null(rt: HostRuntime) -> Result<(), Fail> {
-    let text = witness(
-        rt.alloc(),
-        "i",
-        "i",
-        &[&["1"]],
-        &[&["NULL"]],
-        "11",
-        &[],
-        &["1"],
-    )?;
+    let files = ["a\n1\n", "a\n\"\"\n"];
+    let text = witness(rt.alloc(), TWO, &files, "11", &[], &["1"])?;
     let want = "witness: 2\nt 1: 1\nu 1: NULL\nonly query 1: 0\nonly query 2: 1\n  1\nboth: 0\n";
     assert_eq!(rt; text.as_slice(), want.as_bytes());
     Ok(())
@@ -182,10 +104,10 @@ fn null(rt: HostRuntime) -> Result<(), Fail> {
 
 #[test]
 fn numbers_past_64_bits(rt: HostRuntime) -> Result<(), Fail> {
-    let least: &[&[&str]] = &[&["-9223372036854775808"]];
+    let files = ["a\n-9223372036854775808\n"];
     let left = ["85070591730234615865843651857942052865"];
     let right = ["85070591730234615865843651857942052864"];
-    let text = witness(rt.alloc(), "i", "i", least, &[], "1", &left, &right)?;
+    let text = witness(rt.alloc(), TWO, &files, "1", &left, &right)?;
     let want =
         "witness: 1\nt 1: -9223372036854775808\nonly query 1: 1\n  85070591730234615865843651857942052865\nonly query 2: 1\n  85070591730234615865843651857942052864\nboth: 0\n";
     assert_eq!(rt; text.as_slice(), want.as_bytes());
@@ -195,7 +117,7 @@ fn numbers_past_64_bits(rt: HostRuntime) -> Result<(), Fail> {
 #[test]
 fn quotes_are_doubled(rt: HostRuntime) -> Result<(), Fail> {
     let names = ["O'Hara", "NULL"];
-    let text = witness(rt.alloc(), "i", "i", &[&["5"]], &[], "0", &names, &names)?;
+    let text = witness(rt.alloc(), TWO, &["a\n5\n"], "0", &names, &names)?;
     let want = "witness: 0\nonly query 1: 0\nonly query 2: 0\nboth: 1\n  'O''Hara', NULL\n";
     assert_eq!(rt; text.as_slice(), want.as_bytes());
     Ok(())
@@ -206,7 +128,7 @@ fn a_spent_budget_is_printed(rt: HostRuntime) -> Result<(), Fail> {
     let first = "undecided: 7 conflicts\n";
     let text = spent(rt.alloc(), None)?;
     assert_eq!(rt; text.as_slice(), first.as_bytes());
-    let keep = keep(rt.alloc(), "10")?;
+    let keep = choice(rt.alloc(), "10")?;
     let want = "undecided: 7 conflicts\nbest so far: 1\nstudent 1: 'Mary', 'CS'\n";
     let text = spent(rt.alloc(), Some(&keep))?;
     assert_eq!(rt; text.as_slice(), want.as_bytes());

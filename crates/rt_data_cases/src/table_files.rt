@@ -1,27 +1,23 @@
+use rt_ddl::read_schema;
 use rt_load::{LoadFault, load, made};
-use rt_schema::{ColKind, Column, Given, Schema, Table, is_sound};
-use rt_value::{List, Txt, Value};
+use rt_schema::Given;
+use rt_value::Value;
 use std::alloc::{AllocError, Global};
 use std::test::Fail;
 
-// The rows of a file for a table with the columns `a` and `b` of one kind.
-fn read(alloc: Global, kind: ColKind, file: &[u8]) -> Result<Given, LoadFault> {
-    let mut columns = List::new(alloc);
-    for name in ["a", "b"] {
-        let name = Txt::of(alloc, name)?;
-        columns.push(Column { name, kind })?;
-    }
-    let mut tables = List::new(alloc);
-    tables.push(Table {
-        name: Txt::of(alloc, "t")?,
-        columns,
-        rules: List::new(alloc),
-    })?;
-    if !is_sound(tables.as_slice()) {
-        return Err(LoadFault::BadHeader);
-    }
-    let schema = Schema::new(tables);
+const TEXTS: &str = "CREATE TABLE t (a TEXT, b TEXT);";
+
+const WHOLES: &str = "CREATE TABLE t (a INTEGER, b INTEGER);";
+
+// The rows of a file for the one table of a schema.
+fn read(alloc: Global, schema: &str, file: &[u8]) -> Result<Given, LoadFault> {
+    let Ok(schema) = read_schema(alloc, schema.as_bytes()) else {
+        return Err(LoadFault::NoMemory);
+    };
     let mut given = Given::new(alloc, &schema)?;
+    if schema.tables().is_empty() || !given.table(0).is_empty() {
+        return Err(LoadFault::NoMemory);
+    }
     load(alloc, &schema, 0, file, &mut given)?;
     Ok(given)
 }
@@ -57,13 +53,13 @@ fn records_are_those_of_rfc_4180(rt: HostRuntime) -> Result<(), Fail> {
         ("a,b\n x ,\n\"\",y", ";| x |NULL;|NULL|y"),
     ];
     for (file, want) in texts {
-        match read(rt.alloc(), ColKind::Text, file.as_bytes()) {
+        match read(rt.alloc(), TEXTS, file.as_bytes()) {
             Ok(given) => assert_eq!(rt; shown(rt.alloc(), &given)?.as_str(), want),
             Err(e) => panic!(rt; "{e:?}"),
         }
     }
     let file = b"A , b\n 1 ,+2\n\n3,4\n-9223372036854775808,\n";
-    let Ok(given) = read(rt.alloc(), ColKind::Whole, file) else {
+    let Ok(given) = read(rt.alloc(), WHOLES, file) else {
         panic!(rt; "refused");
     };
     assert_eq!(rt;
@@ -84,12 +80,12 @@ fn the_first_fault_decides(rt: HostRuntime) -> Result<(), Fail> {
         ("a,b\n9223372036854775808,x\n", LoadFault::BadInteger(2, 1)),
     ];
     for (file, want) in faults {
-        match read(rt.alloc(), ColKind::Whole, file.as_bytes()) {
+        match read(rt.alloc(), WHOLES, file.as_bytes()) {
             Ok(_) => panic!(rt; "accepted"),
             Err(e) => assert_eq!(rt; e, want),
         }
     }
-    match read(rt.alloc(), ColKind::Text, b"a,b\nx,y\xff\n") {
+    match read(rt.alloc(), TEXTS, b"a,b\nx,y\xff\n") {
         Ok(_) => panic!(rt; "accepted"),
         Err(e) => assert_eq!(rt; e, LoadFault::BadText(2, 2)),
     }
@@ -105,7 +101,7 @@ fn row_2001_is_one_too_many(rt: HostRuntime) -> Result<(), Fail> {
         file.push_str("1,1\n")?;
     }
     file.push_str("1\n")?;
-    match read(rt.alloc(), ColKind::Whole, file.as_str().as_bytes()) {
+    match read(rt.alloc(), WHOLES, file.as_str().as_bytes()) {
         Ok(_) => panic!(rt; "accepted"),
         Err(e) => assert_eq!(rt; e, LoadFault::TooManyRows),
     }

@@ -1,8 +1,18 @@
+use crate::data::data;
 use rt_algebra::{Expr, Pred, Query, Typed, work};
-use rt_schema::{ColKind, Column, Given, ROWS, Schema, Table, is_sound};
-use rt_value::{Boxed, List, NoMemory, Op, Row, Txt, Value};
+use rt_schema::ColKind;
+use rt_value::{Boxed, List, NoMemory, Op};
 use std::alloc::Global;
 use std::test::Fail;
+
+const SCHEMA: &str =
+    "CREATE TABLE student (name TEXT, major TEXT);\nCREATE TABLE reg (name TEXT, num INTEGER, dept TEXT, grade INTEGER);";
+
+/// Two students, and three registrations.
+const FILES: [&str; 2] = [
+    "name,major\nMary,CS\nJohn,ECON\n",
+    "name,num,dept,grade\nMary,216,CS,100\nMary,230,CS,75\nJohn,316,CS,90\n",
+];
 
 /// The first column of a product of tables, under as many comparisons of two columns.
 fn picked(alloc: Global, tables: &[usize], comparisons: usize) -> Result<Query, NoMemory> {
@@ -30,59 +40,6 @@ fn typed(alloc: Global, query: Query) -> Result<Typed, NoMemory> {
     })
 }
 
-/// A table of texts with a number of columns, and of rows that hold NULL alone.
-fn table(alloc: Global, width: usize) -> Result<Table, NoMemory> {
-    let mut columns = List::new(alloc);
-    for _ in 0..width {
-        columns.push(Column {
-            name: Txt::of(alloc, "c")?,
-            kind: ColKind::Text,
-        })?;
-    }
-    Ok(Table {
-        name: Txt::of(alloc, "t")?,
-        columns,
-        rules: List::new(alloc),
-    })
-}
-
-fn rows(alloc: Global, count: usize, width: usize) -> Result<List<Row>, NoMemory> {
-    let mut rows = List::new(alloc);
-    for _ in 0..count {
-        let mut row = Row::new(alloc);
-        for _ in 0..width {
-            row.push(Value::Null)?;
-        }
-        rows.push(row)?;
-    }
-    Ok(rows)
-}
-
-/// Whether the rows could be moved in.
-fn fill(given: &mut Given, table: usize, rows: List<Row>) -> bool {
-    let fits = table < given.tables().len()
-        && given.rows(table) == 0
-        && given.suits(table, rows.as_slice())
-        && rows.len() <= ROWS - given.total();
-    if fits {
-        given.fill(table, rows);
-    }
-    fits
-}
-
-/// Two tables of two and four columns, with two and three rows.
-fn students(alloc: Global) -> Result<Option<Given>, NoMemory> {
-    let tables = List::from_vec(vec![in alloc; table(alloc, 2)?, table(alloc, 4)?]?);
-    if !is_sound(tables.as_slice()) {
-        return Ok(None);
-    }
-    let schema = Schema::new(tables);
-    let mut given = Given::new(alloc, &schema)?;
-    let first = fill(&mut given, 0, rows(alloc, 2, 2)?);
-    let second = fill(&mut given, 1, rows(alloc, 3, 4)?);
-    Ok(if first && second { Some(given) } else { None })
-}
-
 /// The names of one query and not of the other.
 fn difference(alloc: Global, a: Query, b: Query) -> Result<Query, NoMemory> {
     let a = Boxed::new(alloc, a)?;
@@ -90,22 +47,20 @@ fn difference(alloc: Global, a: Query, b: Query) -> Result<Query, NoMemory> {
     Ok(Query::Except(a, b))
 }
 
-fn work_on(alloc: Global, query: Query) -> Result<Option<u128>, NoMemory> {
+fn work_on(alloc: Global, query: Query) -> Result<u128, NoMemory> {
     let query = typed(alloc, query)?;
-    match students(alloc)? {
-        None => Ok(None),
-        Some(given) => Ok(Some(work(&query, &given))),
-    }
+    let data = data(alloc, SCHEMA, &FILES)?;
+    Ok(work(&query, &data.given))
 }
 
 #[test]
 fn work_of_students_with_courses(rt: HostRuntime) -> Result<(), Fail> {
     let alloc = rt.alloc();
     let one_or_more = picked(alloc, &[0, 1], 2)?;
-    assert_eq!(rt; work_on(alloc, one_or_more)?, Some(88));
+    assert_eq!(rt; work_on(alloc, one_or_more)?, 88);
     let one_or_more = picked(alloc, &[0, 1], 2)?;
     let two_or_more = picked(alloc, &[0, 1, 1], 5)?;
     let exactly_one = difference(alloc, one_or_more, two_or_more)?;
-    assert_eq!(rt; work_on(alloc, exactly_one)?, Some(572));
+    assert_eq!(rt; work_on(alloc, exactly_one)?, 572);
     Ok(())
 }

@@ -1,5 +1,5 @@
-//! The tests of the search: clauses and their checker, formulas as clauses, the solver, the counter,
-//! and the least choice of rows.
+//! The tests of the search: formulas, clauses and their checker, formulas as clauses, the solver,
+//! the counter, and the least choice of rows.
 //!
 //! They stand in a crate of their own, since a crate with tests is proved twice.
 #![tactic(auto)]
@@ -12,6 +12,8 @@ mod clauses;
 mod counter;
 #[cfg(test)]
 mod encoded;
+#[cfg(test)]
+mod formulas;
 #[cfg(test)]
 mod search;
 #[cfg(test)]

@@ -1,0 +1,44 @@
+//! A schema and its rows, as texts give them.
+ghost use Rattle.std.specs.Prelude.{IfOk};
+ghost use Rattle.rt_schema.specs.Given.{IsOf};
+
+use rt_ddl::read_schema;
+use rt_load::load;
+use rt_schema::{Given, Schema};
+use rt_value::{Keep, NoMemory};
+use std::alloc::Global;
+
+#[derive(Drop)]
+pub(crate) struct Data {
+    pub(crate) schema: Schema,
+    pub(crate) given: Given,
+}
+
+/// The schema of a text, with the rows of a file for each of its first tables. A text that is
+/// refused ends as want of memory, which no test expects.
+pub(crate) fn data(alloc: Global, schema: &str, files: &[&str]) -> Result<Data, NoMemory>
+    ensures { IfOk result (λ d. IsOf d.schema d.given) }
+{
+    let Ok(schema) = read_schema(alloc, schema.as_bytes()) else {
+        return Err(NoMemory);
+    };
+    let mut given = Given::new(alloc, &schema)?;
+    'files: for (at, file) in files.iter().enumerate() {
+        if at >= schema.tables().len() || !given.table(at).is_empty() {
+            return Err(NoMemory);
+        }
+        if load(alloc, &schema, at, file.as_bytes(), &mut given).is_err() {
+            return Err(NoMemory);
+        }
+    }
+    Ok(Data { schema, given })
+}
+
+/// The choice whose places are written as 1 and 0.
+pub(crate) fn choice(alloc: Global, places: &str) -> Result<Keep, NoMemory> {
+    let mut keep = Keep::all(alloc, 0, false)?;
+    for place in places.as_bytes() {
+        keep.push(*place == b'1')?;
+    }
+    Ok(keep)
+}

@@ -1,0 +1,114 @@
+//! The law of rows, by itself and as a formula.
+ghost use Rattle.rt_schema.specs.Given.{IsOf};
+
+use crate::data::{Data, choice, data};
+use rt_formula::Dag;
+use rt_rules::law;
+use rt_schema::{law_work, lawful};
+use rt_value::NoMemory;
+use std::alloc::{AllocError, Global};
+use std::test::Fail;
+
+/// Whether the kept rows are lawful.
+fn is_lawful(alloc: Global, data: &Data, places: &str) -> Result<bool, NoMemory>
+    requires { IsOf data.now.schema data.now.given }
+{
+    let keep = choice(alloc, places)?;
+    if keep.len() != data.given.total() {
+        return Err(NoMemory);
+    }
+    Ok(lawful(&data.schema, &data.given, &keep))
+}
+
+/// Whether the formula of the law is true at the kept rows.
+fn is_true(alloc: Global, data: &Data, places: &str) -> Result<bool, NoMemory>
+    requires { IsOf data.now.schema data.now.given }
+{
+    let mut dag = Dag::new(alloc, data.given.total())?;
+    let node = law(alloc, &mut dag, &data.schema, &data.given)?;
+    let keep = choice(alloc, places)?;
+    if keep.len() != dag.rows() || node.number() >= dag.len() {
+        return Err(NoMemory);
+    }
+    dag.value(node, &keep)
+}
+
+#[test]
+fn two_rows_at_each_choice(rt: HostRuntime) -> Result<(), Fail> {
+    let alloc = rt.alloc();
+    let cases = [
+        (
+            "CREATE TABLE t (a INTEGER PRIMARY KEY, b INTEGER REFERENCES t (a));",
+            "a,b\n1,2\n2,1\n",
+            [true, false, false, true],
+        ),
+        (
+            "CREATE TABLE t (a INTEGER PRIMARY KEY, b INTEGER);",
+            "a,b\n1,1\n1,2\n",
+            [true, true, true, false],
+        ),
+        (
+            "CREATE TABLE t (a INTEGER UNIQUE, b INTEGER);",
+            "a,b\n,1\n,1\n",
+            [true, true, true, true],
+        ),
+        (
+            "CREATE TABLE t (a INTEGER NOT NULL, b INTEGER);",
+            "a,b\n,5\n7,\n",
+            [true, false, true, false],
+        ),
+    ];
+    for (schema, file, wanted) in cases {
+        let data = data(alloc, schema, &[file])?;
+        for (places, want) in ["00", "10", "01", "11"].iter().zip(wanted) {
+            assert_eq!(rt;
+                is_lawful(alloc, &data, *places)?,
+                want,
+                "{schema} {places}"
+            );
+            assert_eq!(rt; is_true(alloc, &data, *places)?, want, "{schema} {places}");
+        }
+    }
+    Ok(())
+}
+
+#[test]
+fn pairs_of_students_and_registrations(rt: HostRuntime) -> Result<(), Fail> {
+    let schema =
+        "CREATE TABLE student (name TEXT PRIMARY KEY);\nCREATE TABLE reg (name TEXT REFERENCES student (name), num INTEGER, PRIMARY KEY (name, num));";
+    let files = [
+        "name\nMary\nJohn\n",
+        "name,num\nMary,216\nMary,230\nJohn,316\n",
+    ];
+    let data = data(rt.alloc(), schema, &files)?;
+    assert_eq!(rt; law_work(&data.schema, &data.given), 3);
+    Ok(())
+}
+
+/// A file of 2,000 rows, of which each refers to the next and the last to the first.
+fn ring(alloc: Global) -> Result<String, AllocError> {
+    let mut file = String::new(alloc);
+    file.push_str("a,b\n")?;
+    for n in 0..2_000_usize {
+        let next = (n + 1) % 2_000;
+        let line = format!(in alloc; "{n},{next}\n")?;
+        file.push_str(line.as_str())?;
+    }
+    Ok(file)
+}
+
+#[test]
+fn two_thousand_rows(rt: HostRuntime) -> Result<(), Fail> {
+    let alloc = rt.alloc();
+    let schema = "CREATE TABLE t (a INTEGER PRIMARY KEY, b INTEGER REFERENCES t (a));";
+    let file = ring(alloc)?;
+    let data = data(alloc, schema, &[file.as_str()])?;
+    let mut places = String::new(alloc);
+    for _ in 0..2_000 {
+        places.push_str("1")?;
+    }
+    assert!(rt; is_true(alloc, &data, places.as_str())?);
+    let one_less = format!(in alloc; "0{}", places.as_str().split_at(1).1)?;
+    assert!(rt; !is_true(alloc, &data, one_less.as_str())?);
+    Ok(())
+}
