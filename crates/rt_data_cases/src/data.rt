@@ -16,7 +16,7 @@ pub(crate) struct Data {
 
 /// The schema of a text, with the rows of a file for each of its first tables. A text that is
 /// refused ends as want of memory, which no test expects.
-pub(crate) fn data(alloc: Global, schema: &str, files: &[&str]) -> Result<Data, NoMemory>
+pub(crate) fn read_data(alloc: Global, schema: &str, files: &[&str]) -> Result<Data, NoMemory>
     ensures { IfOk result (λ d. IsOf d.schema d.given) }
 {
     let Ok(schema) = read_schema(alloc, schema.as_bytes()) else {

@@ -1,7 +1,7 @@
 //! The law of rows, by itself and as a formula.
 ghost use Rattle.rt_schema.specs.Given.{IsOf};
 
-use crate::data::{Data, choice, data};
+use crate::data::{Data, choice, read_data};
 use rt_formula::Dag;
 use rt_rules::law;
 use rt_schema::{law_work, lawful};
@@ -10,22 +10,22 @@ use std::alloc::{AllocError, Global};
 use std::test::Fail;
 
 /// Whether the kept rows are lawful.
-fn is_lawful(alloc: Global, data: &Data, places: &str) -> Result<bool, NoMemory>
-    requires { IsOf data.now.schema data.now.given }
+fn is_lawful(alloc: Global, tables: &Data, places: &str) -> Result<bool, NoMemory>
+    requires { IsOf tables.now.schema tables.now.given }
 {
     let keep = choice(alloc, places)?;
-    if keep.len() != data.given.total() {
+    if keep.len() != tables.given.total() {
         return Err(NoMemory);
     }
-    Ok(lawful(&data.schema, &data.given, &keep))
+    Ok(lawful(&tables.schema, &tables.given, &keep))
 }
 
 /// Whether the formula of the law is true at the kept rows.
-fn is_true(alloc: Global, data: &Data, places: &str) -> Result<bool, NoMemory>
-    requires { IsOf data.now.schema data.now.given }
+fn is_true(alloc: Global, tables: &Data, places: &str) -> Result<bool, NoMemory>
+    requires { IsOf tables.now.schema tables.now.given }
 {
-    let mut dag = Dag::new(alloc, data.given.total())?;
-    let node = law(alloc, &mut dag, &data.schema, &data.given)?;
+    let mut dag = Dag::new(alloc, tables.given.total())?;
+    let node = law(alloc, &mut dag, &tables.schema, &tables.given)?;
     let keep = choice(alloc, places)?;
     if keep.len() != dag.rows() || node.number() >= dag.len() {
         return Err(NoMemory);
@@ -59,14 +59,18 @@ fn two_rows_at_each_choice(rt: HostRuntime) -> Result<(), Fail> {
         ),
     ];
     for (schema, file, wanted) in cases {
-        let data = data(alloc, schema, &[file])?;
+        let tables = read_data(alloc, schema, &[file])?;
         for (places, want) in ["00", "10", "01", "11"].iter().zip(wanted) {
             assert_eq!(rt;
-                is_lawful(alloc, &data, *places)?,
+                is_lawful(alloc, &tables, *places)?,
                 want,
                 "{schema} {places}"
             );
-            assert_eq!(rt; is_true(alloc, &data, *places)?, want, "{schema} {places}");
+            assert_eq!(rt;
+                is_true(alloc, &tables, *places)?,
+                want,
+                "{schema} {places}"
+            );
         }
     }
     Ok(())
@@ -80,8 +84,8 @@ fn pairs_of_students_and_registrations(rt: HostRuntime) -> Result<(), Fail> {
         "name\nMary\nJohn\n",
         "name,num\nMary,216\nMary,230\nJohn,316\n",
     ];
-    let data = data(rt.alloc(), schema, &files)?;
-    assert_eq!(rt; law_work(&data.schema, &data.given), 3);
+    let tables = read_data(rt.alloc(), schema, &files)?;
+    assert_eq!(rt; law_work(&tables.schema, &tables.given), 3);
     Ok(())
 }
 
@@ -102,13 +106,13 @@ fn two_thousand_rows(rt: HostRuntime) -> Result<(), Fail> {
     let alloc = rt.alloc();
     let schema = "CREATE TABLE t (a INTEGER PRIMARY KEY, b INTEGER REFERENCES t (a));";
     let file = ring(alloc)?;
-    let data = data(alloc, schema, &[file.as_str()])?;
+    let tables = read_data(alloc, schema, &[file.as_str()])?;
     let mut places = String::new(alloc);
     for _ in 0..2_000 {
         places.push_str("1")?;
     }
-    assert!(rt; is_true(alloc, &data, places.as_str())?);
+    assert!(rt; is_true(alloc, &tables, places.as_str())?);
     let one_less = format!(in alloc; "0{}", places.as_str().split_at(1).1)?;
-    assert!(rt; !is_true(alloc, &data, one_less.as_str())?);
+    assert!(rt; !is_true(alloc, &tables, one_less.as_str())?);
     Ok(())
 }

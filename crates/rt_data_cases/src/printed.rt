@@ -2,7 +2,7 @@ ghost use Rattle.std.specs.Prelude.{◌≡◌, IfOk};
 ghost use Rattle.std.specs.List.Sorted.{IsStrictlySortedBy};
 ghost use Rattle.rt_value.specs.Row.{row_cmp};
 
-use crate::data::{Data, choice, data};
+use crate::data::{Data, choice, read_data};
 use rt_print::{MadeVerdict, made_text, spent_text, witness_text};
 use rt_value::{Bytes, Keep, List, NoMemory, Row, Txt, Value};
 use std::alloc::Global;
@@ -48,7 +48,7 @@ fn witness(
     left: &[&str],
     right: &[&str],
 ) -> Result<Bytes, NoMemory> {
-    let Data { schema, given } = data(alloc, schema, files)?;
+    let Data { schema, given } = read_data(alloc, schema, files)?;
     let keep = choice(alloc, places)?;
     if keep.len() != given.total() {
         return Err(NoMemory);
@@ -68,7 +68,7 @@ fn witness(
 // The text for two students, of whom these are the best so far.
 fn spent(alloc: Global, best: Option<&Keep>) -> Result<Bytes, NoMemory> {
     let files = ["name,major\nMary,CS\nJohn,ECON\n"];
-    let Data { schema, given } = data(alloc, STUDENTS, &files)?;
+    let Data { schema, given } = read_data(alloc, STUDENTS, &files)?;
     match best {
         None => spent_text(alloc, &schema, &given, 7, None),
         Some(keep) => {

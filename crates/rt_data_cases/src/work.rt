@@ -1,4 +1,4 @@
-use crate::data::data;
+use crate::data::read_data;
 use rt_algebra::{Expr, Pred, Query, Typed, work};
 use rt_schema::ColKind;
 use rt_value::{Boxed, List, NoMemory, Op};
@@ -49,8 +49,8 @@ fn difference(alloc: Global, a: Query, b: Query) -> Result<Query, NoMemory> {
 
 fn work_on(alloc: Global, query: Query) -> Result<u128, NoMemory> {
     let query = typed(alloc, query)?;
-    let data = data(alloc, SCHEMA, &FILES)?;
-    Ok(work(&query, &data.given))
+    let tables = read_data(alloc, SCHEMA, &FILES)?;
+    Ok(work(&query, &tables.given))
 }
 
 #[test]
