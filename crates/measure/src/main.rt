@@ -1,12 +1,13 @@
-//! Measures a search: how many nodes the formula of the counterexamples has, into how many clauses
-//! it is written, and how many conflicts the search has. A line comes as soon as its part is done, so
-//! that a reader of the lines can take the times. The words are those of `ratest`, and so is the
-//! status where an input is refused.
+//! Measures a search: how many nodes the formula of the counterexamples has, how many rows can matter
+//! to it, into how many clauses it is written, and how many conflicts the search has. A line comes as
+//! soon as its part is done, so that a reader of the lines can take the times. The words are those of
+//! `ratest`, and so is the status where an input is refused.
 #![tactic(auto)]
 
 use rt_annot::goal;
 use rt_formula::Dag;
 use rt_io::{RealFiles, RealSink, Sink, write_text};
+use rt_rules::cone;
 use rt_search::smallest_counted;
 use rt_top::{Input, Outcome, read_input};
 use rt_value::{List, Txt};
@@ -37,9 +38,11 @@ fn measure<S: Sink>(alloc: Global, input: &Input, out: &mut S) -> Result<(), Out
     let schema = input.schema();
     let given = input.given();
     let mut dag = Dag::new(alloc, given.total())?;
-    let goal = goal(alloc, &mut dag, schema, given, input.left(), input.right())?;
+    let aim = goal(alloc, &mut dag, schema, given, input.left(), input.right())?;
     say(alloc, out, "nodes", dag.len() as u64)?;
-    let search = smallest_counted(alloc, &dag, goal, input.conflicts())?;
+    let cone = cone(alloc, &dag, aim.differs, schema, given)?;
+    say(alloc, out, "rows", cone.size() as u64)?;
+    let search = smallest_counted(alloc, &dag, aim.goal, &cone, input.conflicts())?;
     say(alloc, out, "clauses", search.clauses)?;
     say(alloc, out, "conflicts", search.conflicts)
 }

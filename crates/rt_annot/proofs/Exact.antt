@@ -83,7 +83,7 @@ module _ (s : List Bool) where
   project_exact (e ∷ es) f = rw (project_exact es f)
       (elim (e.1 s) as (λ b. cond b (f e.0 ∷ map f (rows_at s es)) (map f (rows_at s es)) ≡ map f (cond b (e.0 ∷ rows_at s es) (rows_at s es))) [ true ↦ refl | false ↦ refl ])
 
-  join_exact : (e : Entry) (ds : List Entry) → rows_at s (join_entry e ds) ≡ cond (e.1 s) (join_each e.0 (rows_at s ds)) []
+  pub join_exact : (e : Entry) (ds : List Entry) → rows_at s (join_entry e ds) ≡ cond (e.1 s) (join_each e.0 (rows_at s ds)) []
   join_exact e [] = elim (e.1 s) as (λ b. ◌≡◌ {A = Rows} [] (cond b [] [])) [ true ↦ refl | false ↦ refl ]
   join_exact e (d ∷ ds) = rw (join_exact e ds) (go (e.1 s) (d.1 s))
     where

@@ -1,7 +1,8 @@
 -- What is known of subqueries stays known, and holds under any rows in scope.
-use Rattle.std.proofs.Common.{◌≡◌, ℕ, zero, suc, ◌+◌, ◌<◌, Bool, List, [], ◌∷◌, ◌++◌, length, map, take, get_or, Bor, refl, sym, subst, ap, arith, ◌∙◌}
+use Rattle.std.proofs.Common.{◌≡◌, ℕ, zero, suc, ◌+◌, ◌<◌, add-one, take, ◌++◌, Bool, List, [], ◌∷◌, Option, None, Some, length, map, get_or, set, Bor, refl, sym, subst, ap, arith, ◌∙◌}
 use mathlib.Core.Path.{fun_ext}
-use Rattle.std.proofs.lemmas.List.{length-map, map-append, take_more}
+use Rattle.std.specs.Option.{unwrap_or}
+use Rattle.std.proofs.lemmas.List.{length-map, length-set}
 use Rattle.rt_schema.specs.Given.{Rows, Tables}
 use Rattle.rt_schema.specs.Kept.{kept}
 use Rattle.rt_algebra.specs.Answer.{answer_by}
@@ -32,56 +33,85 @@ tells_stay {old} {now} {f} g t = record {
 pub tells_as : {d : Shared} {f : Found} {answer : List Bool → Rows} (other : List Bool → Rows) → ((s : List Bool) → answer s ≡ other s) → Tells d f answer → Tells d f other
 tells_as {d} {f} {answer} other h t = let e : answer ≡ other = fun_ext h in let P : (List Bool → Rows) → Type 0 = Tells d f in subst P e t
 
-pub known_stay : {old now : Shared} {given : Tables} {qs : List Query} {fs : List Found} → IsGrown old now → AreKnown old given qs fs → AreKnown now given qs fs
+pub known_stay : {old now : Shared} {given : Tables} {qs : List Query} {fs : List (Option Found)} → IsGrown old now → AreKnown old given qs fs → AreKnown now given qs fs
 known_stay g a = record {
   one_each = a.one_each;
-  each = λ k q f l. record { stays = (a.each k q f l).stays; tells = tells_stay g (a.each k q f l).tells };
+  each = λ k q f l. record { stays = (a.each k q f l).stays; tells = λ x e. tells_stay g ((a.each k q f l).tells x e) };
 }
 
-later : {d : Shared} {given : Tables} {q : Query} {f : Found} {qs : List Query} {fs : List Found} → AreKnown d given (q ∷ qs) (f ∷ fs) → AreKnown d given qs fs
-later a = record { one_each = (let e = a.one_each in omega arith); each = λ k q f l. a.each (suc k) q f (omega arith) }
+-- nothing is known at first
+abbrev unknown : Bor Query → Option Found
+unknown b = None
 
-module _ {d : Shared} {given : Tables} {q : Query} {f : Found} (known : IsKnown d given q f) where
-  each_more : (qs : List Query) (fs : List Found) → AreKnown d given qs fs → (k : ℕ) (p : Query) (h : Found) → k < length (qs ++ q ∷ []) → IsKnown d given (get_or (qs ++ q ∷ []) k p) (get_or (fs ++ f ∷ []) k h)
-  each_more [] [] a zero p h l = known
-  each_more [] [] a (suc k) p h l = absurd (omega arith)
-  each_more [] (e ∷ fs) a k p h l = absurd (let e = a.one_each in omega arith)
-  each_more (r ∷ qs) [] a k p h l = absurd (let e = a.one_each in omega arith)
-  each_more (r ∷ qs) (e ∷ fs) a zero p h l = a.each 0 p h (omega arith)
-  each_more (r ∷ qs) (e ∷ fs) a (suc k) p h l = each_more qs fs (later a) k p h (omega arith)
+unknown_next : (bs : List (Bor Query)) (k : ℕ) → k < length bs → map unknown (take (suc k) bs) ≡ map unknown (take k bs) ++ None ∷ []
+unknown_next [] k l = absurd (omega arith)
+unknown_next (b ∷ bs) zero l = refl
+unknown_next (b ∷ bs) (suc k) l = ap (λ (fs : List (Option Found)). None ∷ fs) (unknown_next bs k (omega arith))
 
-  as_many : (qs : List Query) (fs : List Found) → length fs ≡ length qs → length (fs ++ f ∷ []) ≡ length (qs ++ q ∷ [])
-  as_many [] [] e = refl
-  as_many [] (h ∷ fs) e = absurd (omega arith)
-  as_many (r ∷ qs) [] e = absurd (omega arith)
-  as_many (r ∷ qs) (h ∷ fs) e = ap suc (as_many qs fs (omega arith))
+pub unknown_more : (bs : List (Bor Query)) (k : ℕ) → k < length bs → map unknown (take (k + 1) bs) ≡ map unknown (take k bs) ++ None ∷ []
+unknown_more bs k l = ap (λ i. map unknown (take i bs)) (add-one k) ∙ unknown_next bs k l
 
-  pub known_more : {qs : List Query} {fs : List Found} → AreKnown d given qs fs → AreKnown d given (qs ++ q ∷ []) (fs ++ f ∷ [])
-  known_more {qs} {fs} a = record { one_each = as_many qs fs a.one_each; each = each_more qs fs a }
+nothing : {d : Shared} {answer : List Bool → Rows} (bs : List (Bor Query)) (k : ℕ) (f : Option Found) → k < length bs → (x : Found) → get_or (map unknown bs) k f ≡ Some x → Tells d x answer
+nothing [] k f l x n = absurd (omega arith)
+nothing (b ∷ bs) zero f l x n = absurd (cc)
+nothing (b ∷ bs) (suc k) f l x n = nothing bs k f (omega arith) x n
 
-closed_at : (bs : List (Bor Query)) (k : ℕ) (b : Bor Query) → k < length bs → b ≡ get_or bs k b → AreClosed (map (λ q. q.now) bs) → StaysQuery 0 b.now
-closed_at [] k b l e h = absurd (omega arith)
-closed_at (a ∷ bs) zero b l e h = let P : Bor Query → Type 0 = λ y. StaysQuery 0 y.now in subst P (sym e) (h 0 a.now (omega arith))
-closed_at (a ∷ bs) (suc k) b l e h = closed_at bs k b (omega arith) e (λ i q m. h (suc i) q (omega arith))
+pub none_known : {d : Shared} {given : Tables} (bs cs : List (Bor Query)) (fs : List (Option Found)) → bs ≡ cs → AreClosed (map (λ q. q.now) cs) → fs ≡ map unknown bs → AreKnown d given (map (λ q. q.now) bs) fs
+none_known {d} {given} bs cs fs same closed e =
+    let P : List (Option Found) → Type 0 = AreKnown d given (map (λ q. q.now) bs) in
+    let Q : List (Bor Query) → Type 0 = λ xs. AreClosed (map (λ q. q.now) xs) in
+    let h : AreClosed (map (λ q. q.now) bs) = subst Q (sym same) closed in
+    subst P (sym e) (record {
+      one_each = length-map bs unknown ∙ sym (length-map bs (λ (b : Bor Query). b.now));
+      each = λ k q f l. record { stays = h k q l; tells = λ x n. nothing bs k f (let m = length-map bs (λ (b : Bor Query). b.now) in omega (arith, l, m)) x n };
+    })
 
--- the next query is known
-pub known_next : {old now : Shared} {given : Tables} {fs : List Found} {answer : List Bool → Rows} (bs : List (Bor Query)) (k : ℕ) (b : Bor Query) (f : Found) (new : List Found)
-    → k < length bs → b ≡ get_or bs k b → AreClosed (map (λ q. q.now) bs) → IsGrown old now → AreKnown old given (map (λ q. q.now) (take k bs)) fs
-    → Tells now f answer → ((s : List Bool) → answer s ≡ answer_by wrapped b.now (kept given s) []) → new ≡ fs ++ f ∷ [] → AreKnown now given (map (λ q. q.now) (take (k + 1) bs)) new
-known_next {old} {now} {given} {fs} bs k b f new l e h g a t r w =
-    let known : IsKnown now given b.now f = record { stays = closed_at bs k b l e h; tells = tells_as (λ s. answer_by wrapped b.now (kept given s) []) r t } in
-    let more = ap (map (λ (q : Bor Query). q.now)) (take_more bs k b l ∙ ap (λ y. take k bs ++ y ∷ []) (sym e)) ∙ map-append (λ (q : Bor Query). q.now) (take k bs) (b ∷ []) in
-    let P : List Query → Type 0 = λ qs. AreKnown now given qs new in
-    let Q : List Found → Type 0 = AreKnown now given (map (λ q. q.now) (take k bs) ++ b.now ∷ []) in
-    subst P (sym more) (subst Q (sym w) (known_more known (known_stay g a)))
+-- the query at a place names no row outside of it
+stays_at : {d : Shared} {given : Tables} {fs : List (Option Found)} (bs : List (Bor Query)) (q : Query) (k : ℕ) → AreKnown d given (map (λ q. q.now) bs) fs → k < length bs → get_or (map (λ q. q.now) bs) k q ≡ q → StaysQuery 0 q
+stays_at {d} {given} {fs} bs q k a l e =
+    let m = length-map bs (λ (b : Bor Query). b.now) in
+    let P : Query → Type 0 = StaysQuery 0 in
+    subst P e (a.each k q None (omega (arith, l, m))).stays
+
+-- what a query comes to with no rows in scope, it comes to under any
+pub tells_under : {d e : Shared} {given : Tables} {fs : List (Option Found)} {f : Found} (bs : List (Bor Query)) (q : Query) (k : ℕ) (env : Env) → AreKnown d given (map (λ q. q.now) bs) fs → k < length bs
+    → get_or (map (λ q. q.now) bs) k q ≡ q → Tells e f (λ s. answer_by wrapped q (kept given s) []) → Tells e f (λ s. answer_by wrapped q (kept given s) env)
+tells_under {d} {e} {given} bs q k env a l h t = tells_as (λ s. answer_by wrapped q (kept given s) env) (λ s. sym (stays_at bs q k a l h (kept given s) [] env refl)) t
 
 -- what is known at the place of a query tells of its rows under any rows in scope
-pub known_at : {d : Shared} {given : Tables} {fs : List Found} (bs : List (Bor Query)) (q : Query) (f : Found) (k : ℕ) (env : Env) → AreKnown d given (map (λ q. q.now) bs) fs → k < length bs
-    → get_or (map (λ q. q.now) bs) k q ≡ q → f ≡ get_or fs k f → Tells d f (λ s. answer_by wrapped q (kept given s) env)
+pub known_at : {d : Shared} {given : Tables} {fs : List (Option Found)} (bs : List (Bor Query)) (q : Query) (f : Found) (k : ℕ) (env : Env) → AreKnown d given (map (λ q. q.now) bs) fs → k < length bs
+    → get_or (map (λ q. q.now) bs) k q ≡ q → get_or fs k None ≡ Some f → Tells d f (λ s. answer_by wrapped q (kept given s) env)
 known_at {d} {given} {fs} bs q f k env a l e h =
     let m = length-map bs (λ (b : Bor Query). b.now) in
-    let here = a.each k q f (omega (arith, l, m)) in
-    let P : Query → Type 0 = λ p. IsKnown d given p (get_or fs k f) in
-    let Q : Found → Type 0 = λ g. IsKnown d given q g in
-    let known : IsKnown d given q f = subst Q (sym h) (subst P e here) in
-    tells_as (λ s. answer_by wrapped q (kept given s) env) (λ s. sym (known.stays (kept given s) [] env refl)) known.tells
+    let P : Query → Type 0 = λ p. Tells d f (λ s. answer_by wrapped p (kept given s) []) in
+    tells_under bs q k env a l e (subst P e ((a.each k q None (omega (arith, l, m))).tells f h))
+
+-- one more query is known
+later : {d : Shared} {given : Tables} {q : Query} {f : Option Found} {qs : List Query} {fs : List (Option Found)} → AreKnown d given (q ∷ qs) (f ∷ fs) → AreKnown d given qs fs
+later a = record { one_each = (let e = a.one_each in omega arith); each = λ k q f l. a.each (suc k) q f (omega arith) }
+
+set_each : {d : Shared} {given : Tables} (qs : List Query) (fs : List (Option Found)) (k : ℕ) (q : Query) (known : Option Found) → AreKnown d given qs fs → k < length qs → IsKnown d given (get_or qs k q) known
+    → (i : ℕ) (p : Query) (f : Option Found) → i < length qs → IsKnown d given (get_or qs i p) (get_or (set fs k known) i f)
+set_each [] fs k q known a l n i p f h = absurd (omega arith)
+set_each (r ∷ qs) [] k q known a l n i p f h = absurd (let e = a.one_each in omega arith)
+set_each (r ∷ qs) (g ∷ fs) zero q known a l n zero p f h = n
+set_each (r ∷ qs) (g ∷ fs) zero q known a l n (suc i) p f h = a.each (suc i) p f h
+set_each (r ∷ qs) (g ∷ fs) (suc k) q known a l n zero p f h = a.each zero p f h
+set_each (r ∷ qs) (g ∷ fs) (suc k) q known a l n (suc i) p f h = set_each qs fs k q known (later a) (omega arith) n i p f (omega arith)
+
+pub known_set : {d : Shared} {given : Tables} {fs new : List (Option Found)} {f : Found} (bs : List (Bor Query)) (q : Query) (k : ℕ) → AreKnown d given (map (λ q. q.now) bs) fs → k < length bs
+    → get_or (map (λ q. q.now) bs) k q ≡ q → Tells d f (λ s. answer_by wrapped q (kept given s) []) → new ≡ set fs k (Some f) → AreKnown d given (map (λ q. q.now) bs) new
+known_set {d} {given} {fs} {new} {f} bs q k a l e t n =
+    let m = length-map bs (λ (b : Bor Query). b.now) in
+    let P : List (Option Found) → Type 0 = AreKnown d given (map (λ q. q.now) bs) in
+    let Q : Found → Type 0 = λ x. Tells d x (λ s. answer_by wrapped q (kept given s) []) in
+    let K : Query → Type 0 = λ p. IsKnown d given p (Some f) in
+    let known : IsKnown d given q (Some f) = record { stays = stays_at bs q k a l e; tells = λ x h. subst Q (ap (λ (o : Option Found). unwrap_or o f) h) t } in
+    subst P (sym n) (record {
+      one_each = length-set fs k (Some f) ∙ a.one_each;
+      each = set_each (map (λ q. q.now) bs) fs k q (Some f) a (omega (arith, l, m)) (subst K (sym e) known);
+    })
+
+-- there is a place for what is known of the query
+pub place_within : {d : Shared} {given : Tables} {fs : List (Option Found)} (bs : List (Bor Query)) (k : ℕ) → AreKnown d given (map (λ q. q.now) bs) fs → k < length bs → k < length fs
+place_within bs k a l = let m = length-map bs (λ (b : Bor Query). b.now) in let e = a.one_each in omega (arith, l, m, e)

@@ -10,3 +10,5 @@ pub mod Joining
 pub mod Knowing
 pub mod Staying
 pub mod Telling
+pub mod Narrowing
+pub mod Members

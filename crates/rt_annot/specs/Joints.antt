@@ -2,7 +2,7 @@
 use Rattle.std.specs.Prelude.{◌≡◌, Bool, List, [], ◌∷◌, ◌++◌, map}
 use Rattle.std.specs.List.{All as Each, list_all}
 use Rattle.rt_schema.specs.Given.{Rows}
-use Rattle.rt_algebra.specs.Answer.{pairs}
+use Rattle.rt_algebra.specs.Join.{product_rows}
 use Rattle.rt_formula.specs.Shared.{Shared, val}
 use Rattle.rt_formula.specs.declared.noted.Noted.{Noted}
 use Rattle.rt_annot.specs.declared.joint.Joint.{Joint}
@@ -28,8 +28,28 @@ abbrev pub pair_joints : List Joint → List Noted → List Joint
 pair_joints [] ns = []
 pair_joints (j ∷ js) ns = join_joint j ns ++ pair_joints js ns
 
--- at every choice these are the rows: each of the front before each of the last
-pub record Makes (d : Shared) (front : List Joint) (last : List Noted) (rows : List Bool → Rows) : Type 0 where
-  pub front_below : AreJoints d front
-  pub last_below : AreNoted d last
-  pub same : (s : List Bool) → pairs (rows_at s (joint_entries d front)) (rows_at s (entries_of d last)) ≡ rows s
+-- the row without values alone, which is there at every choice
+abbrev pub unit_joints : List Joint
+unit_joints = record { row = []; nodes = [] } ∷ []
+
+-- each concatenation of a row of the front and a row of each member
+abbrev pub product_joints : List Joint → List (List Noted) → List Joint
+product_joints front [] = front
+product_joints front (ns ∷ members) = product_joints (pair_joints front ns) members
+
+-- the rows of each member at a choice
+abbrev pub member_rows : Shared → List Bool → List (List Noted) → List Rows
+member_rows d s members = map (λ ns. rows_at s (entries_of d ns)) members
+
+abbrev pub AreMembers : Shared → List (List Noted) → Type 0
+AreMembers d members = Each (AreNoted d) members
+
+-- at every choice these are the rows of the members
+pub record GiveEach (d : Shared) (members : List (List Noted)) (answers : List Bool → List Rows) : Type 0 where
+  pub below : AreMembers d members
+  pub same : (s : List Bool) → member_rows d s members ≡ answers s
+
+-- at every choice these are the rows of their product
+pub record Makes (d : Shared) (members : List (List Noted)) (rows : List Bool → Rows) : Type 0 where
+  pub below : AreMembers d members
+  pub same : (s : List Bool) → product_rows ([] ∷ []) (member_rows d s members) ≡ rows s

@@ -1,5 +1,5 @@
 -- What is known of the subqueries that name no row outside of them.
-use Rattle.std.specs.Prelude.{◌≡◌, ℕ, ◌<◌, Bool, List, [], ◌∷◌, length, slice_index_or}
+use Rattle.std.specs.Prelude.{◌≡◌, ℕ, ◌<◌, Bool, List, [], ◌∷◌, Option, Some, length, slice_index_or}
 use Rattle.std.specs.List.{All as Each, list_any}
 use Rattle.rt_value.specs.declared.value.Value.{Value}
 use Rattle.rt_value.specs.declared.value.Value.TheVariants.{Null}
@@ -43,14 +43,15 @@ pub record Tells (d : Shared) (f : Found) (answer : List Bool → Rows) : Type 0
   pub null : IsNode d f.null (λ s. has_first Null (answer s))
   pub firsts : (x : Value) (s : List Bool) → list_any (val d s) (group_at f.groups (x ∷ [])) ≡ has_first x (answer s)
 
-pub record IsKnown (d : Shared) (given : Tables) (q : Query) (f : Found) : Type 0 where
+-- what is known of a query, if anything
+pub record IsKnown (d : Shared) (given : Tables) (q : Query) (known : Option Found) : Type 0 where
   pub stays : StaysQuery 0 q
-  pub tells : Tells d f (λ s. answer_by wrapped q (kept given s) [])
+  pub tells : (f : Found) → known ≡ Some f → Tells d f (λ s. answer_by wrapped q (kept given s) [])
 
--- of each query what was found for it
-pub record AreKnown (d : Shared) (given : Tables) (qs : List Query) (fs : List Found) : Type 0 where
+-- what is known of each query
+pub record AreKnown (d : Shared) (given : Tables) (qs : List Query) (fs : List (Option Found)) : Type 0 where
   pub one_each : length fs ≡ length qs
-  pub each : (k : ℕ) (q : Query) (f : Found) → k < length qs → IsKnown d given (slice_index_or qs k q) (slice_index_or fs k f)
+  pub each : (k : ℕ) (q : Query) (f : Option Found) → k < length qs → IsKnown d given (slice_index_or qs k q) (slice_index_or fs k f)
 
 abbrev pub AreClosed : List Query → Type 0
 AreClosed qs = Each (StaysQuery 0) qs

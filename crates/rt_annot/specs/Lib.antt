@@ -3,4 +3,5 @@ pub mod Annotated
 pub mod Entries
 pub mod Joints
 pub mod Known
+pub mod Narrowed
 pub mod Stays

@@ -15,8 +15,16 @@ use rt_schema::{Given, Schema};
 use rt_value::NoMemory;
 use std::alloc::Global;
 
+/// The node that says that two queries answer differently, and the one that says that the choice of
+/// rows is lawful too: the choices that are looked for.
+#[derive(Clone, Copy, Debug)]
+pub struct Aim {
+    pub differs: Node,
+    pub goal: Node,
+}
+
 /// The node that is true at just the lawful choices of the given rows at which the two queries
-/// answer differently: those that are looked for.
+/// answer differently, and the part of it that leaves the law out.
 pub fn goal(
     alloc: Global,
     dag: &mut Dag,
@@ -24,19 +32,24 @@ pub fn goal(
     given: &Given,
     left: &Typed,
     right: &Typed,
-) -> Result<Node, NoMemory>
+) -> Result<Aim, NoMemory>
     requires rows { dag.old.rows ≡ places given.now.tables }
     requires of_schema { IsOf schema.now given.now }
     requires left { IsTyped given.now.kinds left.now }
     requires right { IsTyped given.now.kinds right.now }
     ensures grown { IsGrown dag.old dag.new }
-    ensures node { IfOk result (λ n. n < length dag.new.entries) }
-    ensures means { IfOk result (λ n. (keep : List Bool) → length keep ≡ dag.old.rows → val dag.new keep n ≡ (lawful schema.now (kept given.now.tables keep) && not (same_rows (plain left.now.query (kept given.now.tables keep)) (plain right.now.query (kept given.now.tables keep))))) }
+    ensures node { IfOk result (λ a. a.goal < length dag.new.entries) }
+    ensures differs { IfOk result (λ a. a.differs < length dag.new.entries) }
+    ensures parts { IfOk result (λ a. (keep : List Bool) → length keep ≡ dag.old.rows → val dag.new keep a.goal ≡ (lawful schema.now (kept given.now.tables keep) && val dag.new keep a.differs)) }
+    ensures means { IfOk result (λ a. (keep : List Bool) → length keep ≡ dag.old.rows → val dag.new keep a.goal ≡ (lawful schema.now (kept given.now.tables keep) && not (same_rows (plain left.now.query (kept given.now.tables keep)) (plain right.now.query (kept given.now.tables keep))))) }
 {
     let lawful = law(alloc, dag, schema, given)?;
     let first = annotate(alloc, dag, left, given)?;
     let second = annotate(alloc, dag, right, given)?;
     let differs = differ(alloc, dag, &first, &second)?;
     let both = dag.all(&[lawful, differs])?;
-    Ok(both)
+    Ok(Aim {
+        differs,
+        goal: both,
+    })
 }

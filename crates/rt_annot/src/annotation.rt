@@ -1,4 +1,4 @@
-ghost use Rattle.std.specs.Prelude.{◌≡◌, List, Bool, [], map, IfOk};
+ghost use Rattle.std.specs.Prelude.{◌≡◌, List, Bool, [], IfOk};
 ghost use Rattle.rt_value.specs.declared.value.Value.{Value};
 ghost use Rattle.rt_schema.specs.Given.{places};
 ghost use Rattle.rt_schema.specs.Kept.{kept};
@@ -6,13 +6,12 @@ ghost use Rattle.rt_algebra.specs.Answer.{answer_by, plain, has_row};
 ghost use Rattle.rt_algebra.specs.Expression.{wrapped};
 ghost use Rattle.rt_algebra.specs.Typed.{IsTyped};
 ghost use Rattle.rt_formula.specs.Shared.{IsGrown};
-ghost use Rattle.rt_annot.specs.Known.{AreClosed, AreKnown};
 ghost use Rattle.rt_annot.specs.Ann.{AreOf, node_at, node_value, rows_of};
 
 use crate::ann::Ann;
 use crate::evaluate::annotated;
 use crate::gather::in_query;
-use crate::known::Found;
+use crate::known::unknown;
 use rt_algebra::{Query, Typed};
 use rt_formula::Dag;
 use rt_schema::Given;
@@ -48,31 +47,9 @@ fn wrapped_annotation(
 {
     let closed = in_query(query, List::new(alloc))?;
     let queries = closed.as_slice();
-    let founds = founds_of(alloc, dag, tables, queries)?;
-    let rows = annotated(alloc, dag, tables, queries, founds.as_slice(), query, &[])?;
+    let mut founds = unknown(alloc, queries)?;
+    let rows = annotated(alloc, dag, tables, queries, &mut founds, query, &[])?;
     let ann = Ann::merged(alloc, dag, rows.as_slice())?;
     let _len = ann.len();
     Ok(ann)
-}
-
-/// What each of the queries comes to, by what those before it come to.
-fn founds_of(
-    alloc: Global,
-    dag: &mut Dag,
-    tables: &[List<Row>],
-    queries: &[&Query],
-) -> Result<List<Found>, NoMemory>
-    requires places { dag.old.rows ≡ places tables.now }
-    requires closed { AreClosed (map (λ q. q.now) queries.now) }
-    ensures grown { IsGrown dag.old dag.new }
-    ensures known { IfOk result (λ founds. AreKnown dag.new tables.now (map (λ q. q.now) queries.now) founds) }
-{
-    let mut founds = List::new(alloc);
-    for (at, query) in queries.iter().enumerate() {
-        let before = &queries[..at];
-        let rows = annotated(alloc, dag, tables, before, founds.as_slice(), query, &[])?;
-        let found = Found::of(alloc, dag, rows.as_slice())?;
-        founds.push(found)?;
-    }
-    Ok(founds)
 }

@@ -1,16 +1,16 @@
 //! The evaluation of conditions over all given rows.
-ghost use Rattle.std.specs.Prelude.{◌≡◌, map, IfOk};
+ghost use Rattle.std.specs.Prelude.{◌≡◌, [], map, IfOk};
 ghost use Rattle.rt_algebra.specs.Answer.{answer_by};
 ghost use Rattle.rt_algebra.specs.Expression.{wrapped};
 ghost use Rattle.rt_schema.specs.Given.{places};
 ghost use Rattle.rt_schema.specs.Kept.{kept};
 ghost use Rattle.rt_formula.specs.Shared.{IsGrown};
 ghost use Rattle.rt_annot.specs.Annotated.{IsGate, yes_when, no_when, test_under, test_all, test_any};
-ghost use Rattle.rt_annot.specs.Known.{AreKnown, exists_test, among_test};
+ghost use Rattle.rt_annot.specs.Known.{AreKnown, Tells, exists_test, among_test};
 
 use crate::evaluate::annotated;
 use crate::gate::{Gate, Gates, all, any, constant, is_always};
-use crate::known::{Found, find};
+use crate::known::{Found, find, known};
 use crate::member::{exists, member};
 use rt_algebra::{Pred, Query, null_truth, one_of_truth, scope, value};
 use rt_formula::Dag;
@@ -24,13 +24,14 @@ pub fn test(
     dag: &mut Dag,
     tables: &[List<Row>],
     queries: &[&Query],
-    founds: &[Found],
+    founds: &mut List<Option<Found>>,
     p: &Pred,
     env: &[&Row],
 ) -> Result<Gate, NoMemory>
     requires places { dag.old.rows ≡ places tables.now }
-    requires known { AreKnown dag.old tables.now (map (λ q. q.now) queries.now) founds.now }
+    requires known { AreKnown dag.old tables.now (map (λ q. q.now) queries.now) founds.old }
     ensures grown { IsGrown dag.old dag.new }
+    ensures known { AreKnown dag.new tables.now (map (λ q. q.now) queries.now) founds.new }
     ensures gate { IfOk result (λ g. IsGate dag.new g (yes_when p.now tables.now (map (λ r. r.now) env.now), no_when p.now tables.now (map (λ r. r.now) env.now))) }
 {
     match p {
@@ -82,17 +83,26 @@ fn has_rows(
     dag: &mut Dag,
     tables: &[List<Row>],
     queries: &[&Query],
-    founds: &[Found],
+    founds: &mut List<Option<Found>>,
     q: &Query,
     env: &[&Row],
 ) -> Result<Gate, NoMemory>
     requires places { dag.old.rows ≡ places tables.now }
-    requires known { AreKnown dag.old tables.now (map (λ q. q.now) queries.now) founds.now }
+    requires known { AreKnown dag.old tables.now (map (λ q. q.now) queries.now) founds.old }
     ensures grown { IsGrown dag.old dag.new }
+    ensures known { AreKnown dag.new tables.now (map (λ q. q.now) queries.now) founds.new }
     ensures gate { IfOk result (λ g. IsGate dag.new g (exists_test (λ s. answer_by wrapped q.now (kept tables.now s) (map (λ r. r.now) env.now)))) }
 {
     match find(queries, q) {
-        Some(at) => Ok(founds[at].some),
+        Some(at) => match known(founds.as_slice(), at) {
+            Some(found) => Ok(found.some),
+            None => {
+                let found = newly(alloc, dag, tables, queries, founds, q)?;
+                let gate = found.some;
+                founds.set(at, Some(found));
+                Ok(gate)
+            }
+        },
         None => {
             let rows = annotated(alloc, dag, tables, queries, founds, q, env)?;
             let gate = exists(alloc, dag, rows.as_slice())?;
@@ -108,27 +118,57 @@ fn has_value(
     dag: &mut Dag,
     tables: &[List<Row>],
     queries: &[&Query],
-    founds: &[Found],
+    founds: &mut List<Option<Found>>,
     x: &Value,
     q: &Query,
     env: &[&Row],
 ) -> Result<Gate, NoMemory>
     requires places { dag.old.rows ≡ places tables.now }
-    requires known { AreKnown dag.old tables.now (map (λ q. q.now) queries.now) founds.now }
+    requires known { AreKnown dag.old tables.now (map (λ q. q.now) queries.now) founds.old }
     ensures grown { IsGrown dag.old dag.new }
+    ensures known { AreKnown dag.new tables.now (map (λ q. q.now) queries.now) founds.new }
     ensures gate { IfOk result (λ g. IsGate dag.new g (among_test x.now (λ s. answer_by wrapped q.now (kept tables.now s) (map (λ r. r.now) env.now)))) }
 {
     match find(queries, q) {
-        Some(at) => {
-            let gate = founds[at].member(alloc, dag, x)?;
-            Ok(gate)
-        }
+        Some(at) => match known(founds.as_slice(), at) {
+            Some(found) => {
+                let gate = found.member(alloc, dag, x)?;
+                Ok(gate)
+            }
+            None => {
+                let found = newly(alloc, dag, tables, queries, founds, q)?;
+                let gate = found.member(alloc, dag, x)?;
+                founds.set(at, Some(found));
+                Ok(gate)
+            }
+        },
         None => {
             let rows = annotated(alloc, dag, tables, queries, founds, q, env)?;
             let gate = member(alloc, dag, x, rows.as_slice())?;
             Ok(gate)
         }
     }
+}
+
+/// What the rows of a query come to with no rows in scope.
+#[cycle(annotate)]
+fn newly(
+    alloc: Global,
+    dag: &mut Dag,
+    tables: &[List<Row>],
+    queries: &[&Query],
+    founds: &mut List<Option<Found>>,
+    q: &Query,
+) -> Result<Found, NoMemory>
+    requires places { dag.old.rows ≡ places tables.now }
+    requires known { AreKnown dag.old tables.now (map (λ q. q.now) queries.now) founds.old }
+    ensures grown { IsGrown dag.old dag.new }
+    ensures known { AreKnown dag.new tables.now (map (λ q. q.now) queries.now) founds.new }
+    ensures tells { IfOk result (λ f. Tells dag.new f (λ s. answer_by wrapped q.now (kept tables.now s) [])) }
+{
+    let rows = annotated(alloc, dag, tables, queries, founds, q, &[])?;
+    let found = Found::of(alloc, dag, rows.as_slice())?;
+    Ok(found)
 }
 
 /// Where all of the conditions are true, and where one is false. One that is false at every choice
@@ -139,13 +179,14 @@ fn all_hold(
     dag: &mut Dag,
     tables: &[List<Row>],
     queries: &[&Query],
-    founds: &[Found],
+    founds: &mut List<Option<Found>>,
     ps: &[Pred],
     env: &[&Row],
 ) -> Result<Gate, NoMemory>
     requires places { dag.old.rows ≡ places tables.now }
-    requires known { AreKnown dag.old tables.now (map (λ q. q.now) queries.now) founds.now }
+    requires known { AreKnown dag.old tables.now (map (λ q. q.now) queries.now) founds.old }
     ensures grown { IsGrown dag.old dag.new }
+    ensures known { AreKnown dag.new tables.now (map (λ q. q.now) queries.now) founds.new }
     ensures gate { IfOk result (λ g. IsGate dag.new g (test_all ps.now tables.now (map (λ r. r.now) env.now))) }
 {
     let mut yes = List::new(alloc);
@@ -171,13 +212,14 @@ fn any_holds(
     dag: &mut Dag,
     tables: &[List<Row>],
     queries: &[&Query],
-    founds: &[Found],
+    founds: &mut List<Option<Found>>,
     ps: &[Pred],
     env: &[&Row],
 ) -> Result<Gate, NoMemory>
     requires places { dag.old.rows ≡ places tables.now }
-    requires known { AreKnown dag.old tables.now (map (λ q. q.now) queries.now) founds.now }
+    requires known { AreKnown dag.old tables.now (map (λ q. q.now) queries.now) founds.old }
     ensures grown { IsGrown dag.old dag.new }
+    ensures known { AreKnown dag.new tables.now (map (λ q. q.now) queries.now) founds.new }
     ensures gate { IfOk result (λ g. IsGate dag.new g (test_any ps.now tables.now (map (λ r. r.now) env.now))) }
 {
     let mut yes = List::new(alloc);
@@ -202,14 +244,15 @@ pub fn test_row<'a>(
     dag: &mut Dag,
     tables: &[List<Row>],
     queries: &[&Query],
-    founds: &[Found],
+    founds: &mut List<Option<Found>>,
     p: &Pred,
     row: &'a Row,
     env: &[&'a Row],
 ) -> Result<Gate, NoMemory>
     requires places { dag.old.rows ≡ places tables.now }
-    requires known { AreKnown dag.old tables.now (map (λ q. q.now) queries.now) founds.now }
+    requires known { AreKnown dag.old tables.now (map (λ q. q.now) queries.now) founds.old }
     ensures grown { IsGrown dag.old dag.new }
+    ensures known { AreKnown dag.new tables.now (map (λ q. q.now) queries.now) founds.new }
     ensures gate { IfOk result (λ g. IsGate dag.new g (test_under p.now tables.now (map (λ r. r.now) env.now) row.now)) }
 {
     let inner = scope(alloc, row, env)?;

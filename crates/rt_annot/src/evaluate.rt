@@ -1,18 +1,19 @@
 //! The evaluation of queries over all given rows.
-ghost use Rattle.std.specs.Prelude.{◌≡◌, ◌∷◌, ◌++◌, [], map, IfOk};
-ghost use Rattle.rt_algebra.specs.Answer.{answer_by, product_after};
+ghost use Rattle.std.specs.Prelude.{◌≡◌, [], map, IfOk};
+ghost use Rattle.rt_algebra.specs.Answer.{answer_by};
 ghost use Rattle.rt_algebra.specs.Expression.{wrapped};
 ghost use Rattle.rt_schema.specs.Given.{places};
 ghost use Rattle.rt_schema.specs.Kept.{kept};
 ghost use Rattle.rt_formula.specs.Shared.{IsGrown};
-ghost use Rattle.rt_annot.specs.Entries.{selected, join_entry, paired};
-ghost use Rattle.rt_annot.specs.Annotated.{AreNodes, AreNoted, Gives, Choosing, entries_of, test_under};
+ghost use Rattle.rt_annot.specs.Entries.{selected};
+ghost use Rattle.rt_annot.specs.Annotated.{Gives, Choosing, test_under};
 ghost use Rattle.rt_annot.specs.Known.{AreKnown};
-ghost use Rattle.rt_annot.specs.Joints.{AreJoints, Makes, joint_entry, joint_entries};
+ghost use Rattle.rt_annot.specs.Joints.{AreJoints, GiveEach, Makes, joint_entries};
 
 use crate::conditions::test_row;
 use crate::gate::is_never;
-use crate::joint::{Joint, Parts, joined, meeting, unit, whole};
+use crate::join::narrowed;
+use crate::joint::{Joint, meeting, noted, product};
 use crate::known::Found;
 use crate::rows::{appended, projected, table};
 use crate::sets::{common, difference};
@@ -29,116 +30,82 @@ fn chosen(
     dag: &mut Dag,
     tables: &[List<Row>],
     queries: &[&Query],
-    founds: &[Found],
+    founds: &mut List<Option<Found>>,
     p: &Pred,
-    front: &[Joint],
-    last: &[Noted],
+    joints: &[Joint],
     env: &[&Row],
 ) -> Result<List<Noted>, NoMemory>
     requires places { dag.old.rows ≡ places tables.now }
-    requires known { AreKnown dag.old tables.now (map (λ q. q.now) queries.now) founds.now }
-    requires front { AreJoints dag.old front.now }
-    requires last { AreNoted dag.old last.now }
+    requires known { AreKnown dag.old tables.now (map (λ q. q.now) queries.now) founds.old }
+    requires joints { AreJoints dag.old joints.now }
     ensures grown { IsGrown dag.old dag.new }
-    ensures chosen { IfOk result (λ out. Choosing dag.old dag.new out [] (selected (paired (joint_entries dag.old front.now) (entries_of dag.old last.now)) (test_under p.now tables.now (map (λ r. r.now) env.now)))) }
+    ensures known { AreKnown dag.new tables.now (map (λ q. q.now) queries.now) founds.new }
+    ensures chosen { IfOk result (λ out. Choosing dag.old dag.new out [] (selected (joint_entries dag.old joints.now) (test_under p.now tables.now (map (λ r. r.now) env.now)))) }
 {
     let mut out = List::new(alloc);
-    for joint in front {
-        out = chosen_after(
-            alloc, dag, tables, queries, founds, p, out, joint, last, env,
-        )?;
-    }
-    Ok(out)
-}
-
-/// The list with the chosen rows at its end that begin with this one.
-#[cycle(annotate)]
-fn chosen_after(
-    alloc: Global,
-    dag: &mut Dag,
-    tables: &[List<Row>],
-    queries: &[&Query],
-    founds: &[Found],
-    p: &Pred,
-    rows: List<Noted>,
-    joint: &Joint,
-    last: &[Noted],
-    env: &[&Row],
-) -> Result<List<Noted>, NoMemory>
-    requires places { dag.old.rows ≡ places tables.now }
-    requires known { AreKnown dag.old tables.now (map (λ q. q.now) queries.now) founds.now }
-    requires rows { AreNoted dag.old rows }
-    requires joint { AreNodes dag.old joint.now.nodes }
-    requires last { AreNoted dag.old last.now }
-    ensures grown { IsGrown dag.old dag.new }
-    ensures chosen { IfOk result (λ out. Choosing dag.old dag.new out [] (entries_of dag.old rows ++ selected (join_entry (joint_entry dag.old joint.now) (entries_of dag.old last.now)) (test_under p.now tables.now (map (λ r. r.now) env.now)))) }
-{
-    let mut out = rows;
-    for noted in last {
-        let row = joint.row.join(alloc, &noted.row)?;
-        let gate = test_row(alloc, dag, tables, queries, founds, p, &row, &*env)?;
-        let node = meeting(alloc, dag, joint.nodes.as_slice(), noted.node, gate.yes)?;
+    for joint in joints {
+        let gate = test_row(alloc, dag, tables, queries, founds, p, &joint.row, &*env)?;
+        let node = meeting(alloc, dag, joint.nodes.as_slice(), gate.yes)?;
         if !is_never(dag, node) {
+            let row = joint.row.copy(alloc)?;
             out.push(Noted { row, node })?;
         }
     }
     Ok(out)
 }
 
-/// The rows of a product, not put together yet.
+/// The rows of each of the queries.
 #[cycle(annotate)]
-fn product(
+fn members(
     alloc: Global,
     dag: &mut Dag,
     tables: &[List<Row>],
     queries: &[&Query],
-    founds: &[Found],
+    founds: &mut List<Option<Found>>,
     qs: &[Query],
     env: &[&Row],
-) -> Result<Parts, NoMemory>
+) -> Result<List<List<Noted>>, NoMemory>
     requires places { dag.old.rows ≡ places tables.now }
-    requires known { AreKnown dag.old tables.now (map (λ q. q.now) queries.now) founds.now }
+    requires known { AreKnown dag.old tables.now (map (λ q. q.now) queries.now) founds.old }
     ensures grown { IsGrown dag.old dag.new }
-    ensures makes { IfOk result (λ parts. Makes dag.new parts.front parts.last (λ s. product_after ([] ∷ []) (map (answer_by wrapped) qs.now) (kept tables.now s) (map (λ r. r.now) env.now))) }
+    ensures known { AreKnown dag.new tables.now (map (λ q. q.now) queries.now) founds.new }
+    ensures give { IfOk result (λ out. GiveEach dag.new out (λ s. map (λ q. answer_by wrapped q (kept tables.now s) (map (λ r. r.now) env.now)) qs.now)) }
 {
-    let mut front = unit(alloc)?;
-    let mut last = List::new(alloc);
-    let row = Row::new(alloc);
-    let node = dag.yes();
-    last.push(Noted { row, node })?;
+    let mut out = List::new(alloc);
     for q in qs {
-        front = joined(alloc, front.as_slice(), last.as_slice())?;
-        last = annotated(alloc, dag, tables, queries, founds, q, env)?;
+        let rows = annotated(alloc, dag, tables, queries, founds, q, env)?;
+        out.push(rows)?;
     }
-    Ok(Parts { front, last })
+    Ok(out)
 }
 
-/// The rows of a query, which in the case of a product are not put together yet.
+/// The rows of the members of a product, and of another query those of the query alone.
 #[cycle(annotate)]
 fn source(
     alloc: Global,
     dag: &mut Dag,
     tables: &[List<Row>],
     queries: &[&Query],
-    founds: &[Found],
+    founds: &mut List<Option<Found>>,
     q: &Query,
     env: &[&Row],
-) -> Result<Parts, NoMemory>
+) -> Result<List<List<Noted>>, NoMemory>
     requires places { dag.old.rows ≡ places tables.now }
-    requires known { AreKnown dag.old tables.now (map (λ q. q.now) queries.now) founds.now }
+    requires known { AreKnown dag.old tables.now (map (λ q. q.now) queries.now) founds.old }
     ensures grown { IsGrown dag.old dag.new }
-    ensures known { AreKnown dag.new tables.now (map (λ q. q.now) queries.now) founds.now }
-    ensures makes { IfOk result (λ parts. Makes dag.new parts.front parts.last (λ s. answer_by wrapped q.now (kept tables.now s) (map (λ r. r.now) env.now))) }
+    ensures known { AreKnown dag.new tables.now (map (λ q. q.now) queries.now) founds.new }
+    ensures makes { IfOk result (λ out. Makes dag.new out (λ s. answer_by wrapped q.now (kept tables.now s) (map (λ r. r.now) env.now))) }
 {
     match q {
         Query::Product(qs) => {
-            let parts = product(alloc, dag, tables, queries, founds, qs.as_slice(), env)?;
-            Ok(parts)
+            let out = members(alloc, dag, tables, queries, founds, qs.as_slice(), env)?;
+            Ok(out)
         }
         _ => {
-            let last = annotated(alloc, dag, tables, queries, founds, q, env)?;
-            let front = unit(alloc)?;
-            Ok(Parts { front, last })
+            let rows = annotated(alloc, dag, tables, queries, founds, q, env)?;
+            let mut out = List::new(alloc);
+            out.push(rows)?;
+            Ok(out)
         }
     }
 }
@@ -150,34 +117,14 @@ pub fn annotated(
     dag: &mut Dag,
     tables: &[List<Row>],
     queries: &[&Query],
-    founds: &[Found],
+    founds: &mut List<Option<Found>>,
     q: &Query,
     env: &[&Row],
 ) -> Result<List<Noted>, NoMemory>
     requires places { dag.old.rows ≡ places tables.now }
-    requires known { AreKnown dag.old tables.now (map (λ q. q.now) queries.now) founds.now }
+    requires known { AreKnown dag.old tables.now (map (λ q. q.now) queries.now) founds.old }
     ensures grown { IsGrown dag.old dag.new }
-    ensures known { AreKnown dag.new tables.now (map (λ q. q.now) queries.now) founds.now }
-    ensures gives { IfOk result (λ out. Gives dag.new out (λ s. answer_by wrapped q.now (kept tables.now s) (map (λ r. r.now) env.now))) }
-{
-    let rows = layer(alloc, dag, tables, queries, founds, q, env)?;
-    Ok(rows)
-}
-
-/// The outermost layer of the query, over the rows of its members.
-#[cycle(annotate)]
-fn layer(
-    alloc: Global,
-    dag: &mut Dag,
-    tables: &[List<Row>],
-    queries: &[&Query],
-    founds: &[Found],
-    q: &Query,
-    env: &[&Row],
-) -> Result<List<Noted>, NoMemory>
-    requires places { dag.old.rows ≡ places tables.now }
-    requires known { AreKnown dag.old tables.now (map (λ q. q.now) queries.now) founds.now }
-    ensures grown { IsGrown dag.old dag.new }
+    ensures known { AreKnown dag.new tables.now (map (λ q. q.now) queries.now) founds.new }
     ensures gives { IfOk result (λ out. Gives dag.new out (λ s. answer_by wrapped q.now (kept tables.now s) (map (λ r. r.now) env.now))) }
 {
     match q {
@@ -187,9 +134,17 @@ fn layer(
         }
         Query::Select(a, p) => {
             let parts = source(alloc, dag, tables, queries, founds, a.get(), env)?;
-            let front = parts.front.as_slice();
-            let last = parts.last.as_slice();
-            let out = chosen(alloc, dag, tables, queries, founds, p, front, last, env)?;
+            let joints = narrowed(alloc, parts.as_slice(), p, env)?;
+            let out = chosen(
+                alloc,
+                dag,
+                tables,
+                queries,
+                founds,
+                p,
+                joints.as_slice(),
+                env,
+            )?;
             Ok(out)
         }
         Query::Project(a, items) => {
@@ -198,8 +153,9 @@ fn layer(
             Ok(out)
         }
         Query::Product(qs) => {
-            let parts = product(alloc, dag, tables, queries, founds, qs.as_slice(), env)?;
-            let out = whole(alloc, dag, &parts)?;
+            let parts = members(alloc, dag, tables, queries, founds, qs.as_slice(), env)?;
+            let joints = product(alloc, parts.as_slice())?;
+            let out = noted(alloc, dag, joints.as_slice())?;
             Ok(out)
         }
         Query::Union(a, b) => {

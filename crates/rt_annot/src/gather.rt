@@ -7,7 +7,7 @@ use crate::known::find;
 use rt_algebra::{Pred, Query};
 use rt_value::{List, NoMemory};
 
-/// The list with those of a query at its end, each once, and each after those within it.
+/// The list with those of a query at its end, each once.
 #[cycle(gather)]
 pub fn in_query<'a>(query: &'a Query, closed: List<&'a Query>) -> Result<List<&'a Query>, NoMemory>
     requires { AreClosed (map (λ q. q.now) closed) }

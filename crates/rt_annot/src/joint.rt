@@ -2,9 +2,8 @@
 ghost use Rattle.std.specs.Prelude.{◌≡◌, ◌++◌, ◌∷◌, [], ◌<◌, ◌&&◌, length, IfOk};
 ghost use Rattle.std.specs.List.{list_all};
 ghost use Rattle.rt_formula.specs.Shared.{val, IsGrown};
-ghost use Rattle.rt_annot.specs.Entries.{paired};
-ghost use Rattle.rt_annot.specs.Annotated.{AreNodes, AreNoted, IsNode, Reads, entries_of};
-ghost use Rattle.rt_annot.specs.Joints.{AreJoints, join_joint, pair_joints, joint_entries};
+ghost use Rattle.rt_annot.specs.Annotated.{AreNodes, IsNode, Reads};
+ghost use Rattle.rt_annot.specs.Joints.{AreJoints, join_joint, pair_joints, product_joints, unit_joints, joint_entries};
 
 use crate::gate::is_never;
 use rt_formula::{Dag, Node, Noted};
@@ -19,16 +18,9 @@ pub struct Joint {
     pub nodes: List<Node>,
 }
 
-/// Rows that are not put together yet: each row of the front before each row of the last.
-#[derive(Drop)]
-pub struct Parts {
-    pub front: List<Joint>,
-    pub last: List<Noted>,
-}
-
 /// The row without values alone, which is there at every choice.
 pub fn unit(alloc: Global) -> Result<List<Joint>, NoMemory>
-    ensures { IfOk result (λ out. out ≡ record { row = []; nodes = [] } ∷ []) }
+    ensures { IfOk result (λ out. out ≡ unit_joints) }
 {
     let mut out = List::new(alloc);
     let row = Row::new(alloc);
@@ -46,6 +38,15 @@ fn with_node(alloc: Global, nodes: &[Node], node: Node) -> Result<List<Node>, No
     Ok(out)
 }
 
+/// The row `first` before the row `rest`.
+pub fn joined_one(alloc: Global, first: &Joint, rest: &Noted) -> Result<Joint, NoMemory>
+    ensures { IfOk result (λ j. j ∷ [] ≡ join_joint first.now (rest.now ∷ [])) }
+{
+    let row = first.row.join(alloc, &rest.row)?;
+    let nodes = with_node(alloc, first.nodes.as_slice(), rest.node)?;
+    Ok(Joint { row, nodes })
+}
+
 /// The list with `first` before each row of `rests` at its end.
 fn joined_each(
     alloc: Global,
@@ -57,15 +58,13 @@ fn joined_each(
 {
     let mut out = joints;
     for rest in rests {
-        let row = first.row.join(alloc, &rest.row)?;
-        let nodes = with_node(alloc, first.nodes.as_slice(), rest.node)?;
-        out.push(Joint { row, nodes })?;
+        out.push(joined_one(alloc, first, rest)?)?;
     }
     Ok(out)
 }
 
 /// Each row of `firsts` before each row of `rests`.
-pub fn joined(alloc: Global, firsts: &[Joint], rests: &[Noted]) -> Result<List<Joint>, NoMemory>
+fn joined(alloc: Global, firsts: &[Joint], rests: &[Noted]) -> Result<List<Joint>, NoMemory>
     ensures { IfOk result (λ out. out ≡ pair_joints firsts.now rests.now) }
 {
     let mut out = List::new(alloc);
@@ -75,19 +74,19 @@ pub fn joined(alloc: Global, firsts: &[Joint], rests: &[Noted]) -> Result<List<J
     Ok(out)
 }
 
-/// The rows put together, each with a node.
-pub fn whole(alloc: Global, dag: &mut Dag, parts: &Parts) -> Result<List<Noted>, NoMemory>
-    requires front { AreJoints dag.old parts.now.front }
-    requires last { AreNoted dag.old parts.now.last }
-    ensures grown { IsGrown dag.old dag.new }
-    ensures reads { IfOk result (λ out. Reads dag.new out (paired (joint_entries dag.old parts.now.front) (entries_of dag.old parts.now.last))) }
+/// Each concatenation of a row of each member.
+pub fn product(alloc: Global, members: &[List<Noted>]) -> Result<List<Joint>, NoMemory>
+    ensures { IfOk result (λ out. out ≡ product_joints unit_joints members.now) }
 {
-    let joints = joined(alloc, parts.front.as_slice(), parts.last.as_slice())?;
-    let out = noted(alloc, dag, joints.as_slice())?;
+    let mut out = unit(alloc)?;
+    for rows in members {
+        out = joined(alloc, out.as_slice(), rows.as_slice())?;
+    }
     Ok(out)
 }
 
-fn noted(alloc: Global, dag: &mut Dag, joints: &[Joint]) -> Result<List<Noted>, NoMemory>
+/// The rows, each with one node.
+pub fn noted(alloc: Global, dag: &mut Dag, joints: &[Joint]) -> Result<List<Noted>, NoMemory>
     requires { AreJoints dag.old joints.now }
     ensures grown { IsGrown dag.old dag.new }
     ensures reads { IfOk result (λ out. Reads dag.new out (joint_entries dag.old joints.now)) }
@@ -106,20 +105,17 @@ pub fn meeting(
     alloc: Global,
     dag: &mut Dag,
     nodes: &[Node],
-    node: Node,
     condition: Node,
 ) -> Result<Node, NoMemory>
     requires nodes { AreNodes dag.old nodes.now }
-    requires node { node < length dag.old.entries }
     requires condition { condition < length dag.old.entries }
     ensures grown { IsGrown dag.old dag.new }
-    ensures node { IfOk result (λ n. IsNode dag.new n (λ s. (list_all (val dag.old s) nodes.now && val dag.old s node) && val dag.old s condition)) }
+    ensures node { IfOk result (λ n. IsNode dag.new n (λ s. list_all (val dag.old s) nodes.now && val dag.old s condition)) }
 {
     if is_never(dag, condition) {
         return Ok(condition);
     }
-    let mut children = with_node(alloc, nodes, node)?;
-    children.push(condition)?;
+    let children = with_node(alloc, nodes, condition)?;
     let meeting = dag.all(children.as_slice())?;
     Ok(meeting)
 }

@@ -1,5 +1,6 @@
-//! The subqueries that name no row outside of them: what their rows come to is found once.
-ghost use Rattle.std.specs.Prelude.{◌≡◌, ◌∷◌, [], ◌<◌, map, length, slice_index_or, IfOk, IfSome, List, Bool};
+//! The subqueries that name no row outside of them: what their rows come to is found once, when it
+//! is first asked for.
+ghost use Rattle.std.specs.Prelude.{◌≡◌, ◌∷◌, [], ◌<◌, map, length, slice_index_or, IfOk, IfSome, None, Some, List, Bool};
 ghost use Rattle.rt_value.specs.declared.value.Value.{Value};
 ghost use Rattle.rt_value.specs.Value.{value_eq};
 ghost use Rattle.rt_schema.specs.Given.{Rows};
@@ -15,7 +16,7 @@ use crate::member::exists;
 use crate::same::same_query;
 use rt_algebra::Query;
 use rt_formula::{Dag, Groups, Node, Noted};
-use rt_value::{NoMemory, Row, Value};
+use rt_value::{List, NoMemory, Row, Value};
 use std::alloc::Global;
 
 /// What the annotated rows of a query come to: whether there is one, whether the first value of
@@ -38,6 +39,27 @@ pub fn find(queries: &[&Query], query: &Query) -> Option<usize>
         }
     }
     None
+}
+
+/// For each query no more than that it may become known.
+pub fn unknown(alloc: Global, queries: &[&Query]) -> Result<List<Option<Found>>, NoMemory>
+    ensures { IfOk result (λ founds. founds ≡ map (λ q. None) queries.now) }
+{
+    let mut founds = List::new(alloc);
+    for _ in 0..queries.len() {
+        founds.push(None)?;
+    }
+    Ok(founds)
+}
+
+/// What is known of the query at a place.
+pub fn known(founds: &[Option<Found>], at: usize) -> Option<&Found>
+    ensures { IfSome result (λ f. slice_index_or founds.now at None ≡ Some f.now) }
+{
+    match founds.get(at) {
+        Some(found) => found.as_ref(),
+        None => None,
+    }
 }
 
 fn is_null(value: &Value) -> bool

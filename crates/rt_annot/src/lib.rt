@@ -12,6 +12,7 @@ mod difference;
 mod evaluate;
 mod gate;
 mod gather;
+mod join;
 mod joint;
 mod known;
 mod member;
@@ -19,7 +20,7 @@ mod rows;
 mod same;
 mod sets;
 
-pub use aim::goal;
+pub use aim::{Aim, goal};
 pub use ann::Ann;
 pub use annotation::annotate;
 pub use difference::differ;

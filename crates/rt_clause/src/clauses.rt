@@ -2,14 +2,15 @@ ghost use Rattle.std.specs.Prelude.{◌≡◌, [], ◌∷◌, ◌++◌, ◌<◌,
 ghost use Rattle.rt_clause.specs.Lists.{line_at};
 
 use crate::lit::Lit;
-use rt_value::{List, NoMemory};
+use crate::thin::ThinClause;
+use rt_value::NoMemory;
 use std::alloc::Global;
 use std::marker::Model;
 
 /// A list of clauses, in the order in which they were pushed.
 #[derive(Drop)]
 pub struct Clauses {
-    items: Vec<List<Lit>>,
+    items: Vec<ThinClause>,
     alloc: Global,
 }
 
@@ -43,7 +44,7 @@ impl Clauses {
         requires { i < length self.now }
         ensures { result.now ≡ line_at self.now i }
     {
-        self.items[i].as_slice()
+        self.items[i].lits()
     }
 
     /// Puts a copy of the clause at the end.
@@ -51,8 +52,8 @@ impl Clauses {
         ensures ok { OnOk result (self.new ≡ self.old ++ lits.now ∷ []) }
         ensures err { OnErr result (self.new ≡ self.old) }
     {
-        let lits = List::from_slice(self.alloc, lits)?;
-        self.items.push(lits)?;
+        let clause = ThinClause::of(self.alloc, lits)?;
+        self.items.push(clause)?;
         Ok(())
     }
 }

@@ -7,13 +7,18 @@
 #![tactic(auto)]
 
 mod clauses;
+mod deed;
 mod gates;
 mod lines;
 mod lit;
 mod named;
+mod places;
+mod start;
+mod thin;
 
 pub use clauses::Clauses;
 pub use gates::gate;
 pub use lines::{Adds, Lines};
 pub use lit::{Lit, LitList};
 pub use named::Named;
+pub use thin::ThinClause;

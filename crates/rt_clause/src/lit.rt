@@ -1,14 +1,18 @@
 ghost use Rattle.std.specs.Prelude.{◌≡◌, ◌<◌, ◌^◌};
-ghost use Rattle.rt_clause.specs.Literal.{negated};
+ghost use Rattle.std.specs.Cmp.Rules.{comparing};
+ghost use Rattle.std.proofs.Common.{rules};
+ghost use Rattle.rt_clause.specs.Literal.{negated, lit_eq};
+ghost use Rattle.rt_clause.specs.Packed.{packed};
 
 use rt_value::List;
+use std::fmt;
 use std::marker::Model;
 
-/// A literal: a variable, and the Bool at which the literal is true.
-#[derive(Clone, Copy, Debug, PartialEq, Eq, Hash)]
+/// A literal: a variable, and the Bool at which the literal is true. Both stand in one word, which
+/// is twice the variable, and one more where the Bool is true.
+#[derive(Clone, Copy)]
 pub struct Lit {
-    var: usize,
-    on: bool,
+    word: usize,
 }
 
 /// A list of literals.
@@ -17,14 +21,18 @@ pub type LitList = List<Lit>;
 impl Model for Lit {
     ghost use Rattle.std.specs.Prelude.{◌<◌, ◌^◌};
     ghost use Rattle.rt_clause.specs.Literal.{Literal};
+    ghost use Rattle.rt_clause.specs.Packed.{packed, unpacked, packed-unpacked};
+    ghost use Rattle.std.proofs.Common.{ap};
 
     ghost Value = { Literal };
 
-    ghost view = { λ l. record { var = l.var; on = l.on } };
+    ghost view = { λ l. unpacked l.word };
 
-    ghost invariant = { λ l. l.var < 2 ^ 62 };
+    ghost invariant = { λ l. l.word < 2 ^ 63 };
 
-    ghost inverse = { λ l. record { var = l.var; on = l.on } };
+    ghost inverse = { λ l. record { word = packed l } };
+
+    ghost inverse_ok = { λ l h. ap (λ w. record { word = w }) (packed-unpacked l.word) };
 }
 
 impl Lit {
@@ -33,29 +41,61 @@ impl Lit {
         ensures var { result.var ≡ var }
         ensures on { result.on ≡ on }
     {
-        Lit { var, on }
+        let word = if on { 2 * var + 1 } else { 2 * var };
+        Lit { word }
     }
 
     pub fn var(self) -> usize
         ensures is { result ≡ self.var }
         ensures small { result < 2 ^ 62 }
     {
-        self.var
+        self.word / 2
     }
 
     pub fn on(self) -> bool
         ensures { result ≡ self.on }
     {
-        self.on
+        self.word % 2 == 1
+    }
+
+    /// The literal's place in a list with one entry for each literal.
+    pub fn index(self) -> usize
+        ensures is { result ≡ packed self }
+        ensures small { result < 2 ^ 63 }
+    {
+        self.word
     }
 
     /// The literal of the same variable that is true where this one is false.
     pub fn negated(self) -> Lit
         ensures { result ≡ negated self }
     {
-        Lit {
-            var: self.var,
-            on: !self.on,
-        }
+        let word = if self.word % 2 == 1 {
+            self.word - 1
+        } else {
+            self.word + 1
+        };
+        Lit { word }
+    }
+}
+
+impl PartialEq for Lit {
+    ghost eq = { lit_eq };
+
+    ghost laws = { Prim.search (comparing, rules) };
+
+    fn eq(&self, other: &Lit) -> bool {
+        self.word == other.word
+    }
+}
+
+impl Eq for Lit {
+    ghost laws = { Prim.search (comparing, rules) };
+}
+
+impl fmt::Debug for Lit {
+    fn fmt<W: fmt::Write>(&self, f: &mut fmt::Formatter<W>) -> fmt::Result {
+        let sign = if self.on() { "" } else { "not " };
+        write!(f, "{sign}x{}", self.var())
     }
 }

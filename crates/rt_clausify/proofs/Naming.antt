@@ -16,7 +16,7 @@ use Rattle.rt_formula.specs.Shared.{Shared, IsSound, Fits, val, values, bool_at,
 use Rattle.rt_formula.proofs.Meaning.{val-entry}
 use Rattle.rt_formula.specs.declared.entry.Entry.{Entry}
 use Rattle.rt_formula.specs.declared.entry.Entry.TheVariants.{Yes, No, Row, Not, All, Any}
-use Rattle.rt_clausify.specs.Under.{is_marked, AreUnder}
+use Rattle.rt_formula.specs.Under.{is_marked, AreUnder}
 use Rattle.rt_clausify.specs.Written.{Written, written, name_at, named_by, with_name, with_gate, with_entry, with_node}
 
 -- of the first n nodes those that are marked have literals that mean what the nodes do

@@ -5,7 +5,6 @@
 //! there, and the row variables determine all others.
 #![tactic(auto)]
 
-mod under;
 mod write;
 
 pub use write::clausify;

@@ -4,12 +4,11 @@ ghost use Rattle.rt_clause.specs.Lists.{AreBelow, Determined};
 ghost use Rattle.rt_clause.specs.Models.{IsModel, lit_true};
 ghost use Rattle.rt_clause.specs.Gates.{gate, AgreeBelow, Extends};
 ghost use Rattle.rt_formula.specs.Shared.{Fits, val};
-ghost use Rattle.rt_clausify.specs.Under.{AreUnder};
+ghost use Rattle.rt_formula.specs.Under.{AreUnder};
 ghost use Rattle.rt_clausify.specs.Written.{name_at, named_by, with_entry, with_node, written};
 
-use crate::under::under;
 use rt_clause::{Adds, Lit, Named, gate};
-use rt_formula::{Dag, Entry, Node};
+use rt_formula::{Dag, Entry, Node, under};
 use rt_value::{Keep, List, NoMemory};
 use std::alloc::Global;
 

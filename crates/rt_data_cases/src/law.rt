@@ -2,10 +2,10 @@
 ghost use Rattle.rt_schema.specs.Given.{IsOf};
 
 use crate::data::{Data, choice, read_data};
-use rt_formula::Dag;
+use rt_formula::{Dag, Entry};
 use rt_rules::law;
 use rt_schema::{law_work, lawful};
-use rt_value::NoMemory;
+use rt_value::{Keep, NoMemory};
 use std::alloc::{AllocError, Global};
 use std::test::Fail;
 
@@ -121,5 +121,40 @@ fn two_thousand_rows(rt: HostRuntime) -> Result<(), Fail> {
     assert!(rt; is_true(alloc, &tables, all.as_str())?);
     let one_less = places(alloc, "0")?;
     assert!(rt; !is_true(alloc, &tables, one_less.as_str())?);
+    Ok(())
+}
+
+/// How many children the gates of a formula have.
+fn children(dag: &Dag) -> usize {
+    let mut children = 0_usize;
+    for at in 0..dag.len() {
+        if let Entry::All(of) | Entry::Any(of) = dag.entry(at) {
+            children = children.saturating_add(of.as_slice().len());
+        }
+    }
+    children
+}
+
+// A group of equal rows costs a few gates a row, and none for each pair of rows.
+#[test]
+fn two_thousand_rows_with_one_key_value(rt: HostRuntime) -> Result<(), Fail> {
+    let alloc = rt.alloc();
+    let mut file = String::new(alloc);
+    file.push_str("k\n")?;
+    for _ in 0..2_000 {
+        file.push_str("7\n")?;
+    }
+    let schema = "CREATE TABLE p (k INTEGER PRIMARY KEY)";
+    let tables = read_data(alloc, schema, &[file.as_str()])?;
+    let mut dag = Dag::new(alloc, tables.given.total())?;
+    let node = law(alloc, &mut dag, &tables.schema, &tables.given)?;
+    assert!(rt; dag.len() <= 20_000);
+    assert!(rt; children(&dag) <= 20_000);
+    let mut keep = Keep::all(alloc, 2_000, false)?;
+    for (place, wanted) in [(1_999, true), (0, false)] {
+        assert!(rt; keep.len() == dag.rows() && node.number() < dag.len() && place < keep.len());
+        keep.set(place, true);
+        assert_eq!(rt; dag.value(node, &keep)?, wanted, "{place}");
+    }
     Ok(())
 }

@@ -4,11 +4,15 @@
 #![tactic(auto)]
 
 #[cfg(test)]
+mod cones;
+#[cfg(test)]
 mod data;
 #[cfg(test)]
 mod law;
 #[cfg(test)]
 mod printed;
+#[cfg(test)]
+mod split;
 #[cfg(test)]
 mod table_files;
 #[cfg(test)]

@@ -1,24 +1,11 @@
-use Rattle.std.proofs.Common.{◌≡◌, ℕ, zero, suc, ◌+◌, ◌<◌, ◌≤◌, Bool, true, false, cond, ◌||◌, List, [], ◌∷◌, ◌++◌, length, take, drop, get_or, map, take-append-drop, drop-cons, add-one, refl, sym, ap, ◌∙◌, arith, inl, inr}
-use Rattle.std.proofs.lemmas.List.{take_more}
-use Rattle.std.proofs.lemmas.Grind.{common_steps}
+-- What is left of a line under a set of literals, and propagation along hints step by step.
+use Rattle.std.proofs.Common.{◌≡◌, ℕ, suc, ◌+◌, ◌<◌, ◌≤◌, Bool, true, false, cond, ◌||◌, List, [], ◌∷◌, ◌++◌, length, take, drop, get_or, map, take-append-drop, drop-cons, add-one, refl, sym, ap, ◌∙◌, inl, inr}
+use Rattle.std.proofs.lemmas.List.{take_more, take_all}
 use Rattle.std.specs.List.{list_all}
 use Rattle.rt_clause.specs.Literal.{Literal, negated, lit_eq}
 use Rattle.rt_clause.specs.Lists.{has, is_false, left, line_at, propagates}
-use Rattle.rt_clause.proofs.Literals.{lit_eq-sym}
 use Rattle.rt_clause.proofs.Bools.{bool-cases}
-
-same-both : (k l : Literal) → lit_eq k l ≡ lit_eq l k
-same-both k l = elim (bool-cases (lit_eq k l)) [
-  | inl a ↦ a ∙ sym (lit_eq-sym k l a)
-  | inr a ↦ elim (bool-cases (lit_eq l k)) [ inl b ↦ absurd (let d = lit_eq-sym l k b in cc) | inr b ↦ a ∙ sym b ]
-]
-
-cond-or : (a b : Bool) → cond a true b ≡ (a || b)
-cond-or true b = refl
-cond-or false b = refl
-
-pub put_has : (k l : Literal) (b : Bool) → cond (lit_eq l k) true b ≡ (lit_eq k l || b)
-put_has k l b = cond-or (lit_eq l k) b ∙ ap (λ a. a || b) (same-both l k)
+use Rattle.rt_clause.proofs.Propagating.{step-one}
 
 left-append : (set a b : List Literal) → left set (a ++ b) ≡ left set a ++ left set b
 left-append set [] b = refl
@@ -27,18 +14,12 @@ left-append set (x ∷ a) b = elim (bool-cases (is_false set x)) [ inl f ↦ rw 
 left-one : (set : List Literal) (l : Literal) → is_false set l ≡ false → left set (l ∷ []) ≡ l ∷ []
 left-one set l f = rw f refl
 
-left-none : (set : List Literal) (l : Literal) → is_false set l ≡ true → left set (l ∷ []) ≡ []
-left-none set l f = rw f refl
-
 left-step : (set c : List Literal) (i : ℕ) (l : Literal) → i < length c → l ≡ get_or c i l → left set (take (i + 1) c) ≡ left set (take i c) ++ left set (l ∷ [])
 left-step set c i l h e = ap (left set) (take_more c i l h ∙ ap (λ v. take i c ++ v ∷ []) (sym e)) ∙ left-append set (take i c) (l ∷ [])
 
 -- a literal that is not false comes last
-pub left-more : (set c : List Literal) (i : ℕ) (l : Literal) → i < length c → l ≡ get_or c i l → is_false set l ≡ false → left set (take (i + 1) c) ≡ left set (take i c) ++ l ∷ []
+left-more : (set c : List Literal) (i : ℕ) (l : Literal) → i < length c → l ≡ get_or c i l → is_false set l ≡ false → left set (take (i + 1) c) ≡ left set (take i c) ++ l ∷ []
 left-more set c i l h e f = left-step set c i l h e ∙ ap (λ ys. left set (take i c) ++ ys) (left-one set l f)
-
-pub left-same : (set c : List Literal) (i : ℕ) (l : Literal) → i < length c → l ≡ get_or c i l → is_false set l ≡ true → left set (take (i + 1) c) ≡ left set (take i c)
-left-same set c i l h e f = left-step set c i l h e ∙ ap (λ ys. left set (take i c) ++ ys) (left-none set l f) ∙ grind (arith, common_steps)
 
 all-snoc : (p : Literal → Bool) (ks ms : List Literal) (l : Literal) → p l ≡ false → list_all p ((ks ++ l ∷ []) ++ ms) ≡ false
 all-snoc p [] ms l f = rw f refl
@@ -55,15 +36,6 @@ several set c i l first more h e f k d = (
       ∙ ap (λ ys. ys ++ left set (drop (i + 1) c)) (left-more set c i l h e f ∙ ap (λ ys. ys ++ l ∷ []) k),
   all-snoc (lit_eq first) more (left set (drop (i + 1) c)) l d,
 )
-
-all-more : (p : Literal → Bool) (ks : List Literal) (l : Literal) → list_all p ks ≡ true → p l ≡ true → list_all p (ks ++ l ∷ []) ≡ true
-all-more p [] l h f = rw f refl
-all-more p (k ∷ ks) l h f = elim (bool-cases (p k)) [ inl t ↦ rw t (all-more p ks l (rw t at h) f) | inr t ↦ absurd (let d = rw t at h in cc) ]
-
-pub one-more : (set c : List Literal) (i : ℕ) (l first : Literal) → i < length c → l ≡ get_or c i l → is_false set l ≡ false → lit_eq first l ≡ true
-    → ((more : List Literal) × (left set (take i c) ≡ first ∷ more) × (list_all (lit_eq first) more ≡ true))
-    → (more : List Literal) × (left set (take (i + 1) c) ≡ first ∷ more) × (list_all (lit_eq first) more ≡ true)
-one-more set c i l first h e f d m = (m.0 ++ l ∷ [], left-more set c i l h e f ∙ ap (λ ys. ys ++ l ∷ []) m.1, all-more (lit_eq first) m.0 l m.2 d)
 
 -- what follows of sets with the same literals is the same
 left-agrees : (a b : List Literal) → ((l : Literal) → has a l ≡ has b l) → (c : List Literal) → left a c ≡ left b c
@@ -83,32 +55,21 @@ propagates-agrees lines a b h (i ∷ hints) =
     elim [ [] ↦ refl | l ∷ ls ↦ ap (λ y. cond (list_all (lit_eq l) ls) y false) (propagates-agrees lines (l ∷ a) (l ∷ b) (λ k. ap (λ z. lit_eq k l || z) (h k)) hints) ] in
     ap (go lines a hints) (left-agrees a b h (line_at lines i)) ∙ both (left b (line_at lines i))
 
-pub step-nothing : (lines : List (List Literal)) (set : List Literal) (h : ℕ) (hints : List ℕ) → left set (line_at lines h) ≡ [] → propagates lines set (h ∷ hints) ≡ true
-step-nothing lines set h hints e = ap (go lines set hints) e
-
-pub step-one : (lines : List (List Literal)) (set new : List Literal) (h : ℕ) (hints : List ℕ) (l : Literal)
+-- a line with one literal left adds that literal
+step-put : (lines : List (List Literal)) (set new : List Literal) (h : ℕ) (hints : List ℕ) (l : Literal)
     → ((more : List Literal) × (left set (line_at lines h) ≡ l ∷ more) × (list_all (lit_eq l) more ≡ true)) → ((k : Literal) → has new k ≡ (lit_eq k l || has set k))
     → propagates lines set (h ∷ hints) ≡ propagates lines new hints
-step-one lines set new h hints l m n =
-    ap (go lines set hints) m.1 ∙ ap (λ b. cond b (propagates lines (l ∷ set) hints) false) m.2 ∙ propagates-agrees lines (l ∷ set) new (λ k. sym (n k)) hints
-
-pub step-several : (lines : List (List Literal)) (set : List Literal) (h : ℕ) (hints : List ℕ)
-    → ((l : Literal) × (more : List Literal) × (left set (line_at lines h) ≡ l ∷ more) × (list_all (lit_eq l) more ≡ false)) → propagates lines set (h ∷ hints) ≡ false
-step-several lines set h hints m = ap (go lines set hints) m.2 ∙ ap (λ b. cond b (propagates lines (m.0 ∷ set) hints) false) m.3
+step-put lines set new h hints l m n =
+    step-one lines set h hints l m ∙ propagates-agrees lines (l ∷ set) new (λ k. sym (n k)) hints
 
 pub begin : (lines : List (List Literal)) (held lits : List Literal) (hints : List ℕ) (i : ℕ) → length lits ≤ i → ((k : Literal) → has held k ≡ has (map negated (take i lits)) k)
     → propagates lines (map negated lits) hints ≡ propagates lines held (drop 0 hints)
 begin lines held lits hints i e h =
-    propagates-agrees lines (map negated lits) held (λ k. ap (λ ys. has (map negated ys) k) (sym (take-all lits i e)) ∙ sym (h k)) hints where
-      take-all : (xs : List Literal) (n : ℕ) → length xs ≤ n → take n xs ≡ xs
-      take-all [] zero l = refl
-      take-all [] (suc n) l = refl
-      take-all (x ∷ xs) zero l = absurd (omega arith)
-      take-all (x ∷ xs) (suc n) l = ap (λ ys. x ∷ ys) (take-all xs n (omega arith))
+    propagates-agrees lines (map negated lits) held (λ k. ap (λ ys. has (map negated ys) k) (sym (take_all i lits e)) ∙ sym (h k)) hints
 
 pub next : (lines : List (List Literal)) (held new : List Literal) (hints : List ℕ) (i : ℕ) (l : Literal) → i < length hints
     → ((more : List Literal) × (left held (line_at lines (get_or hints i 0)) ≡ l ∷ more) × (list_all (lit_eq l) more ≡ true)) → ((k : Literal) → has new k ≡ (lit_eq k l || has held k))
     → propagates lines held (drop i hints) ≡ propagates lines new (drop (i + 1) hints)
 next lines held new hints i l h m n =
-    ap (propagates lines held) (drop-cons hints i 0 h) ∙ step-one lines held new (get_or hints i 0) (drop (suc i) hints) l m n
+    ap (propagates lines held) (drop-cons hints i 0 h) ∙ step-put lines held new (get_or hints i 0) (drop (suc i) hints) l m n
     ∙ ap (λ j. propagates lines new (drop j hints)) (sym (add-one i))

@@ -43,16 +43,16 @@ fn what_is_left(line: &[Lit], held: &Held) -> Rest
 
 // Whether assuming that the clause is false, and using the hinted lines in order as units, ends in
 // a false line.
-fn check(alloc: Global, lines: &Clauses, lits: &[Lit], hints: &[usize]) -> Result<bool, NoMemory>
+fn check(held: &mut Held, lines: &Clauses, lits: &[Lit], hints: &[usize]) -> Result<bool, NoMemory>
     requires { Each (λ h. h < length lines.now) hints.now }
     ensures { IfOk result (λ yes. yes ≡ follows lines.now lits.now hints.now) }
 {
-    let mut held = Held::new(alloc);
+    held.clear();
     for l in lits {
         held.put(l.negated())?;
     }
     for h in hints {
-        match what_is_left(lines.at(*h), &held) {
+        match what_is_left(lines.at(*h), held) {
             Rest::Nothing => return Ok(true),
             Rest::One(l) => held.put(l)?,
             Rest::Several => return Ok(false),
@@ -80,7 +80,7 @@ fn refutes_line(line: &[Lit], assume: &Option<Lit>) -> bool
 pub struct Checker {
     lines: Clauses,
     derived: Vec<bool>,
-    alloc: Global,
+    held: Held,
 }
 
 impl Checker {
@@ -92,7 +92,7 @@ impl Checker {
         Checker {
             lines: Clauses::new(alloc),
             derived: Vec::new(alloc),
-            alloc,
+            held: Held::new(alloc),
         }
     }
 
@@ -133,7 +133,7 @@ impl Adds for Checker {
 
 impl Lines for Checker {
     fn derive(&mut self, lits: &[Lit], hints: &[usize]) -> Result<bool, NoMemory> {
-        let yes = check(self.alloc, &self.lines, lits, hints)?;
+        let yes = check(&mut self.held, &self.lines, lits, hints)?;
         if yes {
             self.put(lits, true)?;
         }

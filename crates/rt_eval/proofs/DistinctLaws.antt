@@ -1,21 +1,23 @@
 -- What is left of rows that have been sorted and rid of repeats is the set of the rows.
-use Rattle.std.proofs.Common.{◌≡◌, Bool, true, false, ◌&&◌, ◌||◌, List, [], ◌∷◌, refl, sym, ◌∙◌, ap, subst, inl, inr}
-use Rattle.std.proofs.lemmas.Bool.{cases_Bool}
-use Rattle.std.proofs.lemmas.Bool.Decides.{Decides-int_eq}
+use Rattle.std.proofs.Common.{◌≡◌, ℕ, zero, suc, ◌<◌, ◌≤◌, Result, Ok, Err, length, get_or, arith, Bool, true, false, ◌&&◌, ◌||◌, List, [], ◌∷◌, refl, sym, ◌∙◌, ap, subst, inl, inr}
+use Rattle.std.specs.Prelude.{is_ok}
+use Rattle.std.proofs.Math.Dec.{ltb}
+use lib.Pointwise.{pointwise}
+use Rattle.rt_algebra.proofs.Rows.{and-left, and-right}
+use Rattle.rt_algebra.proofs.Keys.{row_exact, equal_of}
+use Rattle.std.proofs.lemmas.Bool.{cases_Bool, ltb-true, ltb-false}
+use Rattle.std.proofs.lemmas.List.Folds.{list_any_at, list_any_none}
 use Rattle.std.proofs.lemmas.List.Filters.{dedup_is}
 use Rattle.std.proofs.lemmas.List.Kept.{IsStrictlySortedBy-dedup}
 use Rattle.std.proofs.lemmas.List.Sorted.{list_any-IsPermutation}
 use Rattle.std.specs.Cmp.{IsEquivalence}
-use Rattle.std.specs.Cmp.Lexicographic.{same_text}
 use Rattle.std.specs.declared.cmp.Ordering.{Ordering}
 use Rattle.std.specs.declared.cmp.Ordering.TheVariants.{Less, Equal, Greater}
-use Rattle.std.specs.List.{list_all, list_any, dedup, dedup_from, AllByRecursion}
+use Rattle.std.specs.List.{All as Each, list_all, list_any, dedup, dedup_from, AllByRecursion}
 use Rattle.std.specs.List.Retain.{IsFiltered, DiffersFromLast}
-use Rattle.std.specs.List.Sorted.{IsSorted, IsStrictlySortedBy, IsPermutation}
-use Rattle.std.specs.Ordering.{is_eq, ordering_reverse}
+use Rattle.std.specs.List.Sorted.{IsSorted, IsStrictlySortedBy, IsPermutation, IsNonDecreasingBy, IsSearchInRange, IsBinarySearchResult}
+use Rattle.std.specs.Ordering.{is_eq, ordering_reverse, ordering_index}
 use Rattle.rt_value.specs.declared.value.Value.{Value}
-use Rattle.rt_value.specs.declared.value.Value.TheVariants as v
-use Rattle.rt_value.specs.Value.{value_eq}
 use Rattle.rt_value.specs.Row.{row_cmp, row_eq}
 use Rattle.rt_value.specs.Order.{row_cmp_total, row_ties, row_eq_equiv}
 use Rattle.rt_schema.specs.Given.{Rows}
@@ -23,28 +25,11 @@ use Rattle.rt_algebra.specs.Answer.{has_row, same_rows}
 use Rattle.rt_eval.specs.Distinct.{placed_by, placed, distinct}
 
 -- sameness is equality
-value_same : (x y : Value) → value_eq x y ≡ true → x ≡ y
-value_same v.Null v.Null p = refl
-value_same v.Null (v.Int n) p = absurd (cc)
-value_same v.Null (v.Text t) p = absurd (cc)
-value_same (v.Int m) v.Null p = absurd (cc)
-value_same (v.Int m) (v.Int n) p = ap v.Int ((Decides-int_eq m n).0 p)
-value_same (v.Int m) (v.Text t) p = absurd (cc)
-value_same (v.Text s) v.Null p = absurd (cc)
-value_same (v.Text s) (v.Int n) p = absurd (cc)
-value_same (v.Text s) (v.Text t) p = ap v.Text (same_text s t (sym p))
+ordered_same : (r s : List Value) → row_cmp r s ≡ Equal → r ≡ s
+ordered_same r s p = row_exact r s p
 
 row_same : (r s : List Value) → row_eq r s ≡ true → r ≡ s
-row_same [] [] p = refl
-row_same [] (y ∷ s) p = absurd (cc)
-row_same (x ∷ r) [] p = absurd (cc)
-row_same (x ∷ r) (y ∷ s) p = elim (cases_Bool (value_eq x y)) [
-  | inl h ↦ let first = value_same x y h in let rest = row_same r s (rw h at p) in cc
-  | inr h ↦ let e : row_eq (x ∷ r) (y ∷ s) ≡ false = rw h refl in absurd (cc)
-]
-
-ordered_same : (r s : List Value) → row_cmp r s ≡ Equal → r ≡ s
-ordered_same r s p = row_same r s (row_ties r s ∙ ap is_eq p)
+row_same r s p = row_exact r s (equal_of (row_cmp r s) (sym (row_ties r s) ∙ p))
 
 differ : (r s : List Value) → row_cmp r s ≡ Less → row_eq r s ≡ false
 differ r s p = row_ties r s ∙ ap is_eq p
@@ -203,3 +188,83 @@ same rows xs ys r p f = rw (dedup_is row_eq xs ys f) (any_dedup row_eq row_eq_eq
 
 pub sorted_distinct : (rows xs ys : Rows) → IsPermutation rows xs → IsSorted row_cmp xs → IsFiltered (DiffersFromLast row_eq) [] xs ys → ys ≡ distinct rows
 sorted_distinct rows xs ys p s f = unique ys (distinct rows) (strict xs ys s f) (distinct_strict rows) (λ r. same rows xs ys r p f ∙ sym (distinct_has rows r))
+
+-- a set is searched by halves
+below_all : (row other : List Value) (rows : Rows) → Below row rows → (k : ℕ) → k < length rows → row_cmp row (get_or rows k other) ≡ Less
+below_all row other [] b k l = absurd (omega (arith, l))
+below_all row other (first ∷ rest) b zero l = b.0
+below_all row other (first ∷ rest) b (suc k) l = below_all row other rest b.1 k (omega (arith, l))
+
+index_below : (x y z : List Value) → row_cmp x y ≡ Less → ordering_index (row_cmp x z) ≤ ordering_index (row_cmp y z)
+index_below x y z p = go (row_cmp y z) refl
+  where
+    go : (o : Ordering) → row_cmp y z ≡ o → ordering_index (row_cmp x z) ≤ ordering_index (row_cmp y z)
+    go Less e = let same : row_cmp x z ≡ Less = row_cmp_total.trans x y z p e in rw (same, e) (omega arith)
+    go Equal e = let same : row_cmp x z ≡ Less = subst (λ w. row_cmp x w ≡ Less) (ordered_same y z e) p in rw (same, e) (omega arith)
+    go Greater e = rw e (at_most (row_cmp x z))
+      where
+        at_most : (o : Ordering) → ordering_index o ≤ 2
+        at_most Less = omega arith
+        at_most Equal = omega arith
+        at_most Greater = omega arith
+
+pub rising : (rows : Rows) (row : List Value) → IsStrictlySortedBy row_cmp rows → IsNonDecreasingBy (λ y. ordering_index (row_cmp y row)) rows
+unfolding IsStrictlySortedBy
+rising [] row s i j d l m = absurd (omega (arith, m))
+rising (first ∷ rest) row s zero zero d l m = omega arith
+rising (first ∷ rest) row s zero (suc j) d l m = index_below first (get_or rest j d) row (below_all first d rest s.0 j (omega (arith, m)))
+rising (first ∷ rest) row s (suc i) zero d l m = absurd (omega (arith, l))
+rising (first ∷ rest) row s (suc i) (suc j) d l m = rising rest row s.1 i j d (omega (arith, l)) (omega (arith, m))
+
+equal_at : (o : Ordering) (y row : List Value) → row_cmp y row ≡ o → row_eq row y ≡ is_eq o
+equal_at o y row e = row_eq_equiv.symm row y ∙ row_ties y row ∙ ap is_eq e
+
+pub searched : (rows : Rows) (row : List Value) (r : Result ℕ ℕ) → IsStrictlySortedBy row_cmp rows → IsSearchInRange r (length rows)
+    → IsBinarySearchResult (λ y. row_cmp y row) rows r → is_ok r ≡ has_row rows row
+searched rows row (Ok i) s l b = sym (list_any_at (row_eq row) rows i row l (equal_at Equal (get_or rows i row) row (b row)))
+searched rows row (Err i) s l b =
+    let parted = b (rising rows row s) in
+    let none : Each (λ y. row_eq row y ≡ false) rows =
+    (λ k d m. elim (cases_Bool (ltb k i)) [
+      | inl h ↦ equal_at Less (get_or rows k d) row (parted.0 k d (omega arith) (ltb-true k i h))
+      | inr h ↦ equal_at Greater (get_or rows k d) row (parted.1 k d (ltb-false k i h) m)
+    ]) in
+    sym (list_any_none (row_eq row) rows none)
+
+-- two sets are the same where they are equal
+among : (xs ys : Rows) (r : List Value) → list_all (has_row ys) xs ≡ true → has_row xs r ≡ true → has_row ys r ≡ true
+among [] ys r h k = absurd (cc)
+among (x ∷ xs) ys r h k = elim (cases_Bool (row_eq r x)) [
+  | inl e ↦ let same = row_same r x e in let P : List Value → Type 0 = λ z. has_row ys z ≡ true in subst P (sym same) (and-left (has_row ys x) _ h)
+  | inr e ↦ among xs ys r (and-right (has_row ys x) _ h) (rw e at k)
+]
+
+both_ways : (a b : Bool) → (a ≡ true → b ≡ true) → (b ≡ true → a ≡ true) → a ≡ b
+both_ways true b f g = sym (f refl)
+both_ways false true f g = g refl
+both_ways false false f g = refl
+
+all_equal : (xs ys : Rows) → pointwise row_eq xs ys ≡ true → xs ≡ ys
+all_equal [] [] h = refl
+all_equal [] (y ∷ ys) h = absurd (cc)
+all_equal (x ∷ xs) [] h = absurd (cc)
+all_equal (x ∷ xs) (y ∷ ys) h = let first = row_same x y (and-left (row_eq x y) _ h) in let rest = all_equal xs ys (and-right (row_eq x y) _ h) in cc
+
+equal_self : (xs : Rows) → pointwise row_eq xs xs ≡ true
+equal_self [] = refl
+equal_self (x ∷ xs) = let e = row_eq_equiv.refl x in rw e (equal_self xs)
+
+same_self : (xs ys : Rows) → ((r : List Value) → has_row xs r ≡ true → has_row ys r ≡ true) → list_all (has_row ys) xs ≡ true
+same_self [] ys h = refl
+same_self (x ∷ xs) ys h = let e = h x (itself x xs) in rw e (same_self xs ys (λ r k. h r (further r k)))
+  where
+    further : (r : List Value) → has_row xs r ≡ true → has_row (x ∷ xs) r ≡ true
+    further r k = elim (row_eq r x) as (λ b. (b || has_row xs r) ≡ true) [ true ↦ refl | false ↦ k ]
+
+pub equal_sets : (xs ys : Rows) → IsStrictlySortedBy row_cmp xs → IsStrictlySortedBy row_cmp ys → pointwise row_eq xs ys ≡ same_rows xs ys
+equal_sets xs ys s t = both_ways (pointwise row_eq xs ys) (same_rows xs ys)
+    (λ h. let e = all_equal xs ys h in let P : Rows → Type 0 = λ zs. same_rows xs zs ≡ true in let self = same_self xs xs (λ r k. k) in subst P e (rw self refl))
+    (λ h. let left = and-left (list_all (has_row ys) xs) _ h in
+    let right = and-right (list_all (has_row ys) xs) _ h in
+    let e = unique xs ys s t (λ r. both_ways (has_row xs r) (has_row ys r) (among xs ys r left) (among ys xs r right)) in
+    let P : Rows → Type 0 = λ zs. pointwise row_eq xs zs ≡ true in subst P e (equal_self xs))

@@ -2,6 +2,7 @@
 #![tactic(auto)]
 
 mod answer;
+mod join;
 mod kept;
 mod lists;
 mod query;

@@ -1,11 +1,22 @@
-ghost use Rattle.std.specs.Prelude.{◌≡◌, ◌∷◌, ◌++◌, map, not, IfOk};
+ghost use Rattle.std.specs.Prelude.{◌≡◌, ◌∷◌, ◌++◌, [], map, not, slice_index_or, IfOk};
 ghost use Rattle.std.specs.List.{filter};
 ghost use Rattle.rt_algebra.specs.Expression.{wrapped, row_by};
 ghost use Rattle.rt_algebra.specs.Answer.{has_row, some_truth, member_truth, pairs, join_each};
 
+use crate::rows::Rows;
 use rt_algebra::{Expr, cell_truth, row, scope};
 use rt_value::{List, NoMemory, Row, Truth, Value};
 use std::alloc::Global;
+
+/// The rows of a table, none where there is no such table.
+pub fn table_rows(tables: &[List<Row>], table: usize) -> &[Row]
+    ensures { result.now ≡ slice_index_or tables.now table [] }
+{
+    match tables.get(table) {
+        Some(rows) => rows.as_slice(),
+        None => &[],
+    }
+}
 
 /// Whether there is a row.
 pub fn some_truth(rows: &[Row]) -> Truth
@@ -28,13 +39,6 @@ pub fn member_truth(value: &Value, rows: &[Row]) -> Truth
     truth
 }
 
-/// Whether the row stands among the rows.
-pub fn has_row(rows: &[Row], row: &Row) -> bool
-    ensures { result ≡ has_row rows.now row.now }
-{
-    rows.iter().any(|other| *row == *other)
-}
-
 /// The rows, and copies of `more` after them.
 pub fn appended(alloc: Global, rows: List<Row>, more: &[Row]) -> Result<List<Row>, NoMemory>
     ensures { IfOk result (λ out. out ≡ rows ++ more.now) }
@@ -47,12 +51,13 @@ pub fn appended(alloc: Global, rows: List<Row>, more: &[Row]) -> Result<List<Row
 }
 
 /// The rows that stand among the others.
-pub fn common(alloc: Global, rows: &[Row], others: &[Row]) -> Result<List<Row>, NoMemory>
-    ensures { IfOk result (λ out. out ≡ filter (has_row others.now) rows.now) }
+pub fn common(alloc: Global, rows: &[Row], others: List<Row>) -> Result<List<Row>, NoMemory>
+    ensures { IfOk result (λ out. out ≡ filter (has_row others) rows.now) }
 {
+    let set = Rows::of(others)?;
     let mut out = List::new(alloc);
     for row in rows {
-        if has_row(others, row) {
+        if set.has(row) {
             out.push(row.copy(alloc)?)?;
         }
     }
@@ -60,12 +65,13 @@ pub fn common(alloc: Global, rows: &[Row], others: &[Row]) -> Result<List<Row>, 
 }
 
 /// The rows that do not stand among the others.
-pub fn difference(alloc: Global, rows: &[Row], others: &[Row]) -> Result<List<Row>, NoMemory>
-    ensures { IfOk result (λ out. out ≡ filter (λ r. not (has_row others.now r)) rows.now) }
+pub fn difference(alloc: Global, rows: &[Row], others: List<Row>) -> Result<List<Row>, NoMemory>
+    ensures { IfOk result (λ out. out ≡ filter (λ r. not (has_row others r)) rows.now) }
 {
+    let set = Rows::of(others)?;
     let mut out = List::new(alloc);
     for row in rows {
-        if !has_row(others, row) {
+        if !set.has(row) {
             out.push(row.copy(alloc)?)?;
         }
     }

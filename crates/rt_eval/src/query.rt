@@ -1,10 +1,12 @@
 ghost use Rattle.std.specs.Prelude.{◌≡◌, ◌∷◌, [], map, IfOk};
 ghost use Rattle.std.specs.List.{filter};
 ghost use Rattle.rt_algebra.specs.Expression.{wrapped};
-ghost use Rattle.rt_algebra.specs.Answer.{pred_by, answer_by, is_yes, product_after, all_of, any_of};
+ghost use Rattle.rt_algebra.specs.Answer.{pred_by, answer_by, is_yes, all_of, any_of};
+ghost use Rattle.rt_algebra.specs.Join.{product_rows};
 
-use crate::lists::{appended, common, difference, joined, member_truth, projected, some_truth};
-use rt_algebra::{Pred, Query, null_truth, one_of_truth, scope, value};
+use crate::join::{are_wide, chosen, product, widths};
+use crate::lists::{appended, common, difference, member_truth, projected, some_truth, table_rows};
+use rt_algebra::{Pred, Query, null_truth, one_of_truth, scope, split, value};
 use rt_value::{List, NoMemory, Row, Truth, compare};
 use std::alloc::Global;
 
@@ -19,19 +21,32 @@ pub fn answer(
     ensures { IfOk result (λ rows. rows ≡ answer_by wrapped query.now tables.now (map (λ r. r.now) env.now)) }
 {
     match query {
-        Query::Table(table) => match tables.get(*table) {
-            None => Ok(List::new(alloc)),
-            Some(rows) => appended(alloc, List::new(alloc), rows.as_slice()),
+        Query::Table(table) => appended(alloc, List::new(alloc), table_rows(tables, *table)),
+        Query::Select(source, condition) => match source.get() {
+            Query::Table(table) => {
+                let out = selected(alloc, table_rows(tables, *table), condition, tables, env)?;
+                Ok(out)
+            }
+            Query::Product(members) => {
+                let lists = each_answer(alloc, members.as_slice(), tables, env)?;
+                let out = product_selected(alloc, lists.as_slice(), condition, tables, env)?;
+                Ok(out)
+            }
+            source => {
+                let rows = answer(alloc, source, tables, env)?;
+                let out = selected(alloc, rows.as_slice(), condition, tables, env)?;
+                Ok(out)
+            }
         },
-        Query::Select(source, condition) => {
-            let rows = answer(alloc, source.get(), tables, env)?;
-            selected(alloc, rows.as_slice(), condition, tables, env)
-        }
         Query::Project(source, items) => {
             let rows = answer(alloc, source.get(), tables, env)?;
             projected(alloc, rows.as_slice(), items.as_slice(), env)
         }
-        Query::Product(members) => product(alloc, members.as_slice(), tables, env),
+        Query::Product(members) => {
+            let lists = each_answer(alloc, members.as_slice(), tables, env)?;
+            let out = product(alloc, lists.as_slice())?;
+            Ok(out)
+        }
         Query::Union(a, b) => {
             let first = answer(alloc, a.get(), tables, env)?;
             let second = answer(alloc, b.get(), tables, env)?;
@@ -40,12 +55,13 @@ pub fn answer(
         Query::Except(a, b) => {
             let first = answer(alloc, a.get(), tables, env)?;
             let second = answer(alloc, b.get(), tables, env)?;
-            difference(alloc, first.as_slice(), second.as_slice())
+            let out = difference(alloc, first.as_slice(), second)?;
+            Ok(out)
         }
         Query::Intersect(a, b) => {
             let first = answer(alloc, a.get(), tables, env)?;
             let second = answer(alloc, b.get(), tables, env)?;
-            common(alloc, first.as_slice(), second.as_slice())
+            common(alloc, first.as_slice(), second)
         }
     }
 }
@@ -72,20 +88,48 @@ fn selected(
     Ok(out)
 }
 
+/// The rows of a product whose condition is true. Most often the members' own conditions and the
+/// keys are all of it; else the whole condition is tested again, on the rows that they leave.
 #[cycle(answer)]
-fn product(
+fn product_selected(
     alloc: Global,
-    members: &[Query],
+    members: &[List<Row>],
+    condition: &Pred,
     tables: &[List<Row>],
     env: &[&Row],
 ) -> Result<List<Row>, NoMemory>
-    ensures { IfOk result (λ out. out ≡ product_after ([] ∷ []) (map (answer_by wrapped) members.now) tables.now (map (λ r. r.now) env.now)) }
+    ensures { IfOk result (λ out. out ≡ filter (λ r. is_yes (pred_by wrapped condition.now tables.now (r ∷ map (λ s. s.now) env.now))) (product_rows ([] ∷ []) members.now)) }
+{
+    let widths = widths(alloc, members)?;
+    if !are_wide(widths.as_slice(), members) {
+        let rows = product(alloc, members)?;
+        let out = selected(alloc, rows.as_slice(), condition, tables, env)?;
+        return Ok(out);
+    }
+    let parts = split(alloc, condition, widths.as_slice())?;
+    let rows = chosen(alloc, members, &parts, env)?;
+    match parts.rest.as_slice() {
+        [] => Ok(rows),
+        [_, ..] => {
+            let out = selected(alloc, rows.as_slice(), condition, tables, env)?;
+            Ok(out)
+        }
+    }
+}
+
+/// The answer of each query, in their order.
+#[cycle(answer)]
+fn each_answer(
+    alloc: Global,
+    queries: &[Query],
+    tables: &[List<Row>],
+    env: &[&Row],
+) -> Result<List<List<Row>>, NoMemory>
+    ensures { IfOk result (λ out. out ≡ map (λ q. answer_by wrapped q tables.now (map (λ r. r.now) env.now)) queries.now) }
 {
     let mut out = List::new(alloc);
-    out.push(Row::new(alloc))?;
-    for member in members {
-        let rows = answer(alloc, member, tables, env)?;
-        out = joined(alloc, out.as_slice(), rows.as_slice())?;
+    for query in queries {
+        out.push(answer(alloc, query, tables, env)?)?;
     }
     Ok(out)
 }
@@ -132,6 +176,7 @@ fn pred(
     }
 }
 
+/// AND, which asks no further member once one is false.
 #[cycle(answer)]
 fn all(
     alloc: Global,
@@ -143,12 +188,17 @@ fn all(
 {
     let mut truth = Truth::Yes;
     for member in members {
+        match truth {
+            Truth::No => return Ok(Truth::No),
+            Truth::Yes | Truth::Unknown => {}
+        }
         let next = pred(alloc, member, tables, env)?;
         truth = truth.and(next);
     }
     Ok(truth)
 }
 
+/// OR, which asks no further member once one is true.
 #[cycle(answer)]
 fn any(
     alloc: Global,
@@ -160,6 +210,10 @@ fn any(
 {
     let mut truth = Truth::No;
     for member in members {
+        match truth {
+            Truth::Yes => return Ok(Truth::Yes),
+            Truth::No | Truth::Unknown => {}
+        }
         let next = pred(alloc, member, tables, env)?;
         truth = truth.or(next);
     }

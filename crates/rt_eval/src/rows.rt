@@ -1,12 +1,10 @@
 ghost use Rattle.std.specs.Prelude.{◌≡◌, List, IfOk};
-ghost use Rattle.std.specs.List.{list_all};
 ghost use Rattle.std.specs.List.Sorted.{IsStrictlySortedBy};
 ghost use Rattle.rt_value.specs.declared.value.Value.{Value};
 ghost use Rattle.rt_value.specs.Row.{row_cmp};
 ghost use Rattle.rt_algebra.specs.Answer.{has_row, same_rows};
 ghost use Rattle.rt_eval.specs.Distinct.{distinct};
 
-use crate::lists::has_row;
 use rt_value::{List, NoMemory, Row};
 use std::marker::Model;
 
@@ -52,7 +50,7 @@ impl Rows {
     pub fn has(&self, row: &Row) -> bool
         ensures { result ≡ has_row self.now row.now }
     {
-        has_row(self.rows.as_slice(), row)
+        self.as_slice().binary_search(row).is_ok()
     }
 
     /// Whether two sets have the same rows; so also whether the lists do that they come from.
@@ -60,20 +58,6 @@ impl Rows {
         ensures sets { result ≡ same_rows self.now other.now }
         ensures lists { (xs ys : List (List Value)) → self.now ≡ distinct xs → other.now ≡ distinct ys → result ≡ same_rows xs ys }
     {
-        same_rows(self.as_slice(), other.as_slice())
+        self.as_slice() == other.as_slice()
     }
-}
-
-/// Whether each row of either list stands in the other.
-fn same_rows(a: &[Row], b: &[Row]) -> bool
-    ensures { result ≡ same_rows a.now b.now }
-{
-    all_among(a, b) && all_among(b, a)
-}
-
-/// Whether each of the rows stands among the others.
-fn all_among(rows: &[Row], others: &[Row]) -> bool
-    ensures { result ≡ list_all (has_row others.now) rows.now }
-{
-    rows.iter().all(|row| has_row(others, row))
 }

@@ -7,6 +7,7 @@ use Rattle.std.specs.declared.cmp.Ordering.{Ordering}
 use Rattle.std.specs.declared.cmp.Ordering.TheVariants.{Less, Equal, Greater}
 use Rattle.std.specs.Map.{lookup}
 use Rattle.std.specs.BTreeMap.{is_at}
+use Rattle.std.specs.Option.{unwrap_or}
 use Rattle.std.specs.Ordering.{ordering_then, is_eq}
 use Rattle.rt_value.specs.declared.value.Value.{Value}
 use Rattle.rt_value.specs.declared.value.Value.TheVariants.{Null, Int, Text}
@@ -61,6 +62,15 @@ module _ (ns : List Noted) (i : ℕ) (n : Noted) (l : i < length ns) (e : n ≡ 
 
   pub standing_more : (r : List Value) → standing r (take (i + 1) ns) ≡ standing r (take i ns) ++ cond (row_eq r n.row) (n.node ∷ []) []
   standing_more r = ap (standing r) taken ∙ where_append (row_eq r) (take i ns) (n ∷ [])
+
+-- a node becomes the group of a row
+pub group_is : (old new : Grouped) (k : List Value) (group : List ℕ) → ((q : List Value) → lookup (is_at (row_cmp q)) new ≡ cond (is_at (row_cmp k) q) (Some group) (lookup (is_at (row_cmp q)) old))
+    → (q : List Value) → group_at new q ≡ cond (row_eq q k) group (group_at old q)
+group_is old new k group inserted q =
+    ap (λ g. unwrap_or g []) (inserted q ∙ ap (λ b. cond b (Some group) (lookup (is_at (row_cmp q)) old)) (at_is k q)) ∙ by (row_eq q k) where
+      by : (b : Bool) → unwrap_or (cond b (Some group) (lookup (is_at (row_cmp q)) old)) [] ≡ cond b group (group_at old q)
+      by true = refl
+      by false = refl
 
 -- a node joins the group of a row
 pub group_joins : (old less new : Grouped) (k : List Value) (group : List ℕ) (n : ℕ) → group ≡ group_at old k

@@ -1,4 +1,6 @@
+pub mod Cut
 pub mod Gathering
 pub mod Groups
 pub mod Laws
 pub mod Shared
+pub mod Under

@@ -51,6 +51,17 @@ impl Groups {
         Ok(())
     }
 
+    /// Makes one node the whole group of a row. After an error the rows that are the same as it may
+    /// be lost.
+    pub fn set(&mut self, row: Row, node: Node) -> Result<(), NoMemory>
+        ensures { OnOk result ((other : List Value) → group_at self.new other ≡ cond (row_eq other row) (node ∷ []) (group_at self.old other)) }
+    {
+        let mut group = List::new(self.alloc);
+        group.push(node)?;
+        self.nodes.insert(row, group)?;
+        Ok(())
+    }
+
     /// All these rows.
     pub fn of(alloc: Global, rows: &[Noted]) -> Result<Groups, NoMemory>
         ensures { IfOk result (λ g. (row : List Value) → group_at g row ≡ standing row rows.now) }

@@ -1,10 +1,10 @@
 -- Kept rows, one row at a time.
-use Rattle.std.proofs.Common.{◌≡◌, ℕ, zero, suc, ◌+◌, ◌<◌, ◌≤◌, ◌-◌, Bool, true, false, cond, not, ◌&&◌, ◌||◌, List, [], ◌∷◌, length, drop, take, take_all, get_or, refl, sym, subst, ap, arith, add-one, add-zero, ◌∙◌}
+use Rattle.std.proofs.Common.{◌≡◌, ℕ, suc, ◌+◌, ◌<◌, ◌≤◌, ◌-◌, Bool, true, false, cond, not, ◌&&◌, ◌||◌, List, [], ◌∷◌, length, drop, take, take_all, get_or, refl, sym, ap, arith, add-one, add-zero, ◌∙◌}
 use Rattle.std.proofs.Math.Seq.{drop-cons, drop-length}
 use Rattle.std.proofs.lemmas.List.{drop-drop}
 use Rattle.std.specs.List.{list_all, list_any}
 use Rattle.rt_value.specs.declared.value.Value.{Value}
-use Rattle.rt_schema.specs.Given.{Rows, Tables, rows_at}
+use Rattle.rt_schema.specs.Given.{Rows, Tables}
 use Rattle.rt_schema.specs.Kept.{kept, kept_rows}
 use Rattle.rt_value.specs.Row.{row_eq}
 use Rattle.rt_schema.specs.Law.{agree, cells, is_null, key_holds, foreign_holds}

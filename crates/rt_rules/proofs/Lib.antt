@@ -1,2 +1,6 @@
+pub mod CutLemmas
 pub mod KeptLemmas
+pub mod LinkLemmas
 pub mod Meanings
+pub mod SetLemmas
+pub mod StepLemmas

@@ -1,8 +1,8 @@
 -- What nodes mean stays as the formula grows, and is put together by gates.
-use Rattle.std.proofs.Common.{◌≡◌, ℕ, zero, suc, ◌+◌, ◌<◌, ◌≤◌, Bool, true, false, cond, not, ◌&&◌, ◌||◌, List, [], ◌∷◌, ◌++◌, length, length-append, drop, get_or, append_assoc, refl, sym, subst, ap, arith, ◌∙◌}
+use Rattle.std.proofs.Common.{◌≡◌, ℕ, zero, suc, ◌+◌, ◌<◌, ◌≤◌, Bool, true, false, cond, ◌&&◌, ◌||◌, List, [], ◌∷◌, ◌++◌, length, length-append, drop, get_or, append_assoc, refl, sym, subst, ap, arith, ◌∙◌}
 use Rattle.std.proofs.lemmas.List.{append-nil}
 use Rattle.std.proofs.lemmas.List.Elements.{All-append}
-use Rattle.std.proofs.lemmas.List.Folds.{list_all-append, list_any-append}
+use Rattle.std.proofs.lemmas.List.Folds.{list_all-append}
 use Rattle.std.specs.List.{list_all, list_any, All as Each}
 use Rattle.rt_value.specs.declared.value.Value.{Value}
 use Rattle.rt_value.specs.Row.{row_eq}
@@ -13,7 +13,8 @@ use Rattle.rt_formula.specs.declared.entry.Entry.{Entry}
 use Rattle.rt_formula.specs.Shared.{Shared, IsGrown, val, bool_at}
 use Rattle.rt_formula.specs.Groups.{Grouped, group_at}
 use Rattle.rt_formula.proofs.Meaning.{val-grown}
-use Rattle.rt_rules.specs.Meaning.{Means, MeanAll, IsIndexed, IsNoted}
+use Rattle.rt_formula.proofs.GroupLemmas.{at_is, at_same}
+use Rattle.rt_rules.specs.Meaning.{Means, MeanAll, AreNodes, IsIndexed, IsNoted}
 use Rattle.rt_rules.proofs.KeptLemmas.{since, since-at, any-kept}
 
 pub grown-none : (d : Shared) → IsGrown d d
@@ -99,46 +100,52 @@ indexed-none d groups columns rows base e r =
       same = subst P (sym r) (λ keep l key. ap (list_any (val d keep)) (e key));
     }
 
+-- a row that is kept, or a row before it, is what its group says now
+pub noted-one : (old new : Shared) (before after : Grouped) (columns : List ℕ) (row key : List Value) (place n : ℕ) → IsGrown old new → AreNodes old before → key ≡ cells columns row → n < length new.entries
+    → ((q : List Value) → group_at after q ≡ cond (row_eq q key) (n ∷ []) (group_at before q)) → ((keep : List Bool) → val new keep n ≡ (bool_at keep place || list_any (val old keep) (group_at before key)))
+    → IsNoted old new before after columns row place
+noted-one old new before after columns row key place n grown nodes is here set means =
+    let B : List ℕ → Type 0 = λ ns. Each (λ m. m < length new.entries) ns in
+    record {
+      below = λ q. subst B (sym (set q)) (one q (row_eq q key));
+      same = λ keep l q. ap (list_any (val new keep)) (set q) ∙ by q keep (row_eq q key) refl ∙ ap (λ k. (bool_at keep place && row_eq q k) || list_any (val old keep) (group_at before q)) is;
+    } where
+      one : (q : List Value) (b : Bool) → Each (λ m. m < length new.entries) (cond b (n ∷ []) (group_at before q))
+      one q true zero d h = here
+      one q true (suc i) d h = absurd (omega (arith, h))
+      one q false i d h = each-grown old new grown (group_at before q) (nodes q) i d h
+
+      whole : (b v x : Bool) → v ≡ (b || x) → (v || false) ≡ ((b && true) || x)
+      whole true true x e = refl
+      whole true false x e = e
+      whole false true x e = e
+      whole false false x e = e
+
+      none : (b x : Bool) → x ≡ ((b && false) || x)
+      none true x = refl
+      none false x = refl
+
+      by : (q : List Value) (keep : List Bool) (b : Bool) → row_eq q key ≡ b → list_any (val new keep) (cond b (n ∷ []) (group_at before q)) ≡ ((bool_at keep place && b) || list_any (val old keep) (group_at before q))
+      by q keep true e =
+          whole (bool_at keep place) (val new keep n) (list_any (val old keep) (group_at before q))
+          (means keep ∙ ap (λ k. bool_at keep place || list_any (val old keep) (group_at before k)) (at_same key q (at_is key q ∙ e)))
+      by q keep false e =
+          any-same (val new keep) (val old keep) (group_at before q) (λ i d h. val-grown old new grown keep _ (nodes q i d h))
+          ∙ none (bool_at keep place) (list_any (val old keep) (group_at before q))
+
 -- one more row
 pub indexed-more : (old new : Shared) (before after : Grouped) (columns : List ℕ) (rows : Rows) (base at : ℕ) (row : List Value) → at < length rows → row ≡ get_or rows at row → base + length rows ≤ new.rows → IsGrown old new
-    → IsIndexed old before columns (drop (at + 1) rows) (base + (at + 1)) → IsNoted new before after columns row (base + at) → IsIndexed new after columns (drop at rows) (base + at)
-indexed-more old new before after columns rows base at row h e w grown m noted =
-    let kept = indexed-grown old new grown before columns (drop (at + 1) rows) (base + (at + 1)) m in
-    let B : List ℕ → Type 0 = λ ns. Each (λ n. n < length new.entries) ns in
-    record {
-      below = λ key. subst B (sym (noted.joined key)) (All-append (λ n. n < length new.entries) (group_at before key) (cond (row_eq key (cells columns row)) (noted.node ∷ []) []) (kept.below key) (one (row_eq key (cells columns row))));
-      same = λ keep l key.
-          let b = bool_at keep (base + at) in
-          let p = row_eq key (cells columns row) in
-          ap (list_any (val new keep)) (noted.joined key)
-          ∙ list_any-append (val new keep) (group_at before key) (cond p (noted.node ∷ []) [])
-          ∙ ap (λ x. x || list_any (val new keep) (cond p (noted.node ∷ []) [])) (kept.same keep l key)
-          ∙ joined (list_any (λ r. row_eq key (cells columns r)) (since rows base (at + 1) keep)) p (val new keep noted.node) b noted.node (val new keep) refl (noted.means.same keep l)
-          ∙ sym (any-kept (λ r. row_eq key (cells columns r)) b row (since rows base (at + 1) keep))
-          ∙ ap (list_any (λ r. row_eq key (cells columns r))) (sym (since-at rows base at row keep h e (omega (arith, l, w, h))));
-    } where
-      one : (p : Bool) → Each (λ n. n < length new.entries) (cond p (noted.node ∷ []) [])
-      one true zero d g = noted.means.below
-      one true (suc k) d g = absurd (omega arith)
-      one false k d g = absurd (omega arith)
-
-      joined : (x p v b : Bool) (n : ℕ) (value : ℕ → Bool) → v ≡ value n → v ≡ b → (x || list_any value (cond p (n ∷ []) [])) ≡ ((b && p) || x)
-      joined x true v b n value q r = flip x (value n) b (sym q ∙ r) where
-        flip : (x u b : Bool) → u ≡ b → (x || (u || false)) ≡ ((b && true) || x)
-        flip true true true g = refl
-        flip true true false g = absurd (cc)
-        flip true false true g = absurd (cc)
-        flip true false false g = refl
-        flip false true true g = refl
-        flip false true false g = absurd (cc)
-        flip false false true g = absurd (cc)
-        flip false false false g = refl
-      joined x false v b n value q r = flip x b where
-        flip : (x b : Bool) → (x || false) ≡ ((b && false) || x)
-        flip true true = refl
-        flip true false = refl
-        flip false true = refl
-        flip false false = refl
+    → IsIndexed old before columns (drop (at + 1) rows) (base + (at + 1)) → IsNoted old new before after columns row (base + at) → IsIndexed new after columns (drop at rows) (base + at)
+indexed-more old new before after columns rows base at row h e w grown m noted = record {
+  below = noted.below;
+  same = λ keep l key.
+      let b = bool_at keep (base + at) in
+      let p = row_eq key (cells columns row) in
+      noted.same keep l key
+      ∙ ap (λ x. (b && p) || x) (m.same keep (l ∙ grown.rows) key)
+      ∙ sym (any-kept (λ r. row_eq key (cells columns r)) b row (since rows base (at + 1) keep))
+      ∙ ap (list_any (λ r. row_eq key (cells columns r))) (sym (since-at rows base at row keep h e (omega (arith, l, w, h))));
+}
 
 -- two nodes together
 pub pair-means : (a b c : Shared) (x y n : ℕ) (f g h : List Bool → Bool) → IsGrown a b → IsGrown b c → Means a x f → Means b y g → n < length c.entries

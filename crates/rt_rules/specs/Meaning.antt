@@ -1,12 +1,12 @@
 -- What nodes and groups of nodes mean at every choice of rows.
-use Rattle.std.specs.Prelude.{◌≡◌, ℕ, ◌<◌, ◌+◌, Bool, not, ◌&&◌, ◌||◌, List, [], ◌∷◌, ◌++◌, cond, drop, length}
+use Rattle.std.specs.Prelude.{◌≡◌, ℕ, ◌<◌, Bool, not, ◌&&◌, ◌||◌, List, drop, length}
 use Rattle.std.specs.List.{list_all, list_any, All as Each}
 use Rattle.rt_value.specs.declared.value.Value.{Value}
 use Rattle.rt_value.specs.Row.{row_eq}
 use Rattle.rt_schema.specs.Given.{Rows}
 use Rattle.rt_schema.specs.Kept.{kept_rows}
 use Rattle.rt_schema.specs.Law.{cells, agree, is_null, cell}
-use Rattle.rt_formula.specs.Shared.{Shared, IsGrown, val, bool_at}
+use Rattle.rt_formula.specs.Shared.{Shared, val, bool_at}
 use Rattle.rt_formula.specs.Groups.{Grouped, group_at}
 
 -- the node's value at each choice of rows
@@ -19,17 +19,21 @@ pub record MeanAll (d : Shared) (nodes : List ℕ) (value : List Bool → Bool) 
   pub below : Each (λ n. n < length d.entries) nodes
   pub same : (keep : List Bool) → length keep ≡ d.rows → list_all (val d keep) nodes ≡ value keep
 
+-- all groups are of nodes of the formula
+abbrev pub AreNodes : Shared → Grouped → Type 0
+AreNodes d groups = (key : List Value) → Each (λ n. n < length d.entries) (group_at groups key)
+
 -- the nodes of a group say whether a kept row has these values in the columns
 pub record IsIndexed (d : Shared) (groups : Grouped) (columns : List ℕ) (rows : Rows) (base : ℕ) : Type 0 where
-  pub below : (key : List Value) → Each (λ n. n < length d.entries) (group_at groups key)
+  pub below : AreNodes d groups
   pub same : (keep : List Bool) → length keep ≡ d.rows → (key : List Value)
       → list_any (val d keep) (group_at groups key) ≡ list_any (λ row. row_eq key (cells columns row)) (kept_rows rows (drop base keep))
 
--- one row joined the groups, with the node that says that it is kept
-pub record IsNoted (d : Shared) (old new : Grouped) (columns : List ℕ) (row : List Value) (place : ℕ) : Type 0 where
-  pub node : ℕ
-  pub means : Means d node (λ keep. bool_at keep place)
-  pub joined : (key : List Value) → group_at new key ≡ group_at old key ++ cond (row_eq key (cells columns row)) (node ∷ []) []
+-- one row joined the groups: its group says that the row is kept, or what it said before
+pub record IsNoted (old new : Shared) (before after : Grouped) (columns : List ℕ) (row : List Value) (place : ℕ) : Type 0 where
+  pub below : AreNodes new after
+  pub same : (keep : List Bool) → length keep ≡ new.rows → (key : List Value)
+      → list_any (val new keep) (group_at after key) ≡ ((bool_at keep place && row_eq key (cells columns row)) || list_any (val old keep) (group_at before key))
 
 -- a row at a place is not kept, or it has a value in the column
 abbrev pub filled : ℕ → List Value → ℕ → List Bool → Bool

@@ -1,14 +1,16 @@
 //! The rows of a table, grouped by their values in some columns.
 ghost use Rattle.std.specs.Prelude.{◌≡◌, ◌<◌, ◌≤◌, ◌+◌, length, IfOk, OnOk};
 ghost use Rattle.rt_formula.specs.Shared.{IsGrown};
-ghost use Rattle.rt_rules.specs.Meaning.{IsIndexed, IsNoted};
+ghost use Rattle.rt_rules.specs.Meaning.{AreNodes, IsIndexed, IsNoted};
 
 use crate::cells::cells;
-use rt_formula::{Dag, Groups, Noted};
+use rt_formula::{Dag, Groups};
 use rt_value::{NoMemory, Row};
 use std::alloc::Global;
 
-/// Notes the row at a place under its values in the columns.
+/// Notes the row at a place under its values in the columns. A group is one gate, over the row that
+/// was noted last and the gate of those noted before it, so that a row costs one gate however large
+/// its group is.
 pub(crate) fn note(
     alloc: Global,
     dag: &mut Dag,
@@ -17,13 +19,16 @@ pub(crate) fn note(
     row: &Row,
     place: usize,
 ) -> Result<(), NoMemory>
-    requires { place < dag.old.rows }
+    requires place { place < dag.old.rows }
+    requires nodes { AreNodes dag.old groups.old }
     ensures grown { IsGrown dag.old dag.new }
-    ensures noted { OnOk result (IsNoted dag.new groups.old groups.new columns.now row.now place) }
+    ensures noted { OnOk result (IsNoted dag.old dag.new groups.old groups.new columns.now row.now place) }
 {
     let key = cells(alloc, columns, row)?;
-    let node = dag.row(place)?;
-    groups.put(&Noted { row: key, node })?;
+    let before = dag.any(groups.get(&key))?;
+    let kept = dag.row(place)?;
+    let either = dag.any(&[kept, before])?;
+    groups.set(key, either)?;
     Ok(())
 }
 

@@ -1,5 +1,5 @@
 ghost use Rattle.std.specs.Prelude.{◌≡◌, ◌<◌, ◌≤◌, ◌+◌, ◌^◌, Bool, List, length, drop, IfOk};
-ghost use Rattle.rt_schema.specs.Given.{IsOf, places, rows_at};
+ghost use Rattle.rt_schema.specs.Given.{IsOf, base_of, places, rows_at};
 ghost use Rattle.rt_schema.specs.Kept.{kept, kept_rows};
 ghost use Rattle.rt_schema.specs.Law.{lawful, tables_hold, rules_hold, rule_holds};
 ghost use Rattle.rt_formula.specs.Shared.{IsGrown, val};
@@ -112,9 +112,11 @@ fn rule_node(
 }
 
 // The rows of a table and the place of the first, `base` being the place of the first row of all.
-fn table_at<'a>(all: &'a [List<Row>], table: usize, base: usize) -> (&'a [Row], usize)
+pub(crate) fn table_at<'a>(all: &'a [List<Row>], table: usize, base: usize) -> (&'a [Row], usize)
     requires { base + places all.now < 2 ^ 64 }
     ensures in_range { result.1 + length result.0.now ≤ base + places all.now }
+    ensures of { result.0.now ≡ rows_at all.now table }
+    ensures first { result.1 ≡ base + base_of table all.now }
     ensures rows { (keep : List Bool) → kept_rows result.0.now (drop result.1 keep) ≡ rows_at (kept all.now (drop base keep)) table }
 {
     match all {

@@ -4,24 +4,26 @@ use Rattle.std.proofs.Math.Nat.{max-le, le-max_left}
 use Rattle.std.specs.Option.{option_to_list}
 use Rattle.rt_value.specs.Keep.{size}
 use Rattle.rt_clause.specs.Literal.{Literal, negated}
-use Rattle.rt_clause.specs.Lists.{has, line_at, Closed, Determined, IsBelow, AreBelow}
+use Rattle.rt_clause.specs.Lists.{has, line_at, IsMet, Closed, Determined, IsBelow, AreBelow}
 use Rattle.rt_clause.specs.Models.{lit_true, clause_true, IsModel}
 use Rattle.rt_clause.specs.Refuting.{Refutes, IsRefuted}
 use Rattle.rt_clause.specs.Gates.{AgreeBelow, Extends}
 use Rattle.rt_clause.proofs.Bools.{bool-cases}
 use Rattle.rt_clause.proofs.Literals.{has-head, has-tail, has-cases, has-append_cases, has-map_negated}
 use Rattle.rt_clause.proofs.Following.{lit_true-negated}
-use Rattle.rt_clause.proofs.EachLine.{each-none, each-cons, each-head, each-tail, each-append, closed-front}
+use Rattle.rt_clause.proofs.EachLine.{each-none, each-cons, each-head, each-tail, each-append, each-back, closed-front}
 use Rattle.rt_clause.proofs.Extending.{index-front, model-older}
-use Rattle.rt_formula.specs.Shared.{Shared, val}
+use Rattle.rt_clause.proofs.GateLaws.{IsTrueAt}
+use Rattle.rt_formula.specs.Shared.{Shared, bool_at, val}
 use Rattle.rt_solver.specs.Search.{line_of}
 use Rattle.rt_solver.specs.Solving.{reach, width_from, width, variables, HasSearched}
 use Rattle.rt_solver.specs.Answers.{IsModelled}
 use Rattle.rt_solver.proofs.Widths.{reach-least}
 use Rattle.rt_totalizer.specs.Outputs.{output_at}
 use Rattle.rt_totalizer.proofs.Rows.{cell-has}
-use Rattle.rt_search.specs.Least.{IsGoal, IsNever}
+use Rattle.rt_search.specs.Sought.{IsSought, IsWithin, left_out, not_kept}
 use Rattle.rt_search.specs.Aimed.{IsAimed, IsCounted, fewer_than}
+use Rattle.rt_search.proofs.LeftOut.{left_out-below, left_out-forces, left_out-met, left_out-true}
 use Rattle.rt_search.proofs.Taking.{take-index, take-length}
 
 reach-le : (n m : ℕ) (c : List Literal) → n ≤ m → IsBelow m c → reach n c ≤ m
@@ -61,21 +63,40 @@ refuting-below next (Some x) c a (inr e) l h = (let P : List Literal → Type 0 
   | inr c' ↦ absurd (cc)
 ])
 
--- clausify makes the aim
-pub clausified : (d : Shared) (goal : ℕ) (lines : List (List Literal)) (next : ℕ) → d.rows ≤ next → AreBelow next lines
+-- the lines of a formula with those that leave rows out are an aim
+pub aimed-begun : (d : Shared) (goal : ℕ) (cone : List Bool) (lines new : List (List Literal)) (next : ℕ) → length cone ≡ d.rows → d.rows ≤ next → AreBelow next lines
     → ((keep : List Bool) → length keep ≡ d.rows → val d keep goal ≡ true → (bools : List Bool) × (length bools ≡ next) × AgreeBelow d.rows keep bools × IsModel lines bools)
-    → ((keep bools : List Bool) → AgreeBelow d.rows keep bools → IsModel lines bools → val d keep goal ≡ true) → Determined lines d.rows next → IsAimed d goal lines next
-clausified d goal lines next w b c s t = record { wide = w; below = b; complete = λ keep g. c keep g.0 g.1; sound = s; determined = t }
+    → ((keep bools : List Bool) → AgreeBelow d.rows keep bools → IsModel lines bools → val d keep goal ≡ true) → Determined lines d.rows next → new ≡ lines ++ left_out 0 cone → IsAimed d goal cone new next
+aimed-begun d goal cone lines new next long w b c s t e =
+    let out = left_out 0 cone in
+    let B : List (List Literal) → Type 0 = AreBelow next in
+    record {
+      wide = w;
+      below = subst B (sym e) (each-append (IsBelow next) lines out b (left_out-below 0 cone next (omega (arith, w, long))));
+      complete = λ keep g.
+          let r = c keep g.0 g.1 in
+          let M : List (List Literal) → Type 0 = λ ls. IsModel ls r.0 in
+          (r.0, r.1, r.2, subst M (sym e) (each-append (IsTrueAt r.0) lines out r.3 (left_out-true 0 cone r.0 (λ v l o. ap (bool_at r.0) (let z : 0 + v ≡ v = omega arith in z) ∙ sym (r.2 v (omega (arith, l, long))) ∙ g.2 v (omega (arith, l, long)) o))));
+      sound = λ keep bools a m.
+          let M : List (List Literal) → Type 0 = λ ls. IsModel ls bools in
+          let all = subst M e m in (
+            s keep bools a (model-older lines out bools all),
+            λ v l o. a v l ∙ ap (bool_at bools) (let z : v ≡ 0 + v = omega arith in z) ∙ left_out-forces 0 cone bools (each-back (IsTrueAt bools) lines out all) v (omega (arith, l, long)) o,
+          );
+      determined = λ set x g. (let C : List (List Literal) → Type 0 = λ ls. Closed ls set in t set (closed-front lines out set (subst C e x)) g);
+      outside = λ v l o set x. (let C : List (List Literal) → Type 0 = λ ls. Closed ls set in
+          let y = subst C e x in
+          ap (λ k. has set (not_kept k)) (let z : v ≡ 0 + v = omega arith in z) ∙ left_out-met 0 cone set y.consistent (each-back (IsMet set) lines out y.met) v (omega (arith, l, long)) o);
+    }
 
 -- a call of solve keeps the aim
-pub aimed-on : (d : Shared) (goal : ℕ) (lines new : List (List Literal)) (fo fn : List Bool) (assume : Option Literal) (next rows : ℕ) → rows ≡ d.rows → IsAimed d goal lines next → IfSome assume (λ a. a.var < next)
-    → HasSearched lines new fo fn assume (variables lines assume rows) → IsAimed d goal new next
-aimed-on d goal lines new fo fn assume next rows e h a s =
+pub aimed-on : (d : Shared) (goal : ℕ) (cone : List Bool) (lines new : List (List Literal)) (fo fn : List Bool) (assume : Option Literal) (next first : ℕ) → first ≤ next → IsAimed d goal cone lines next → IfSome assume (λ a. a.var < next)
+    → HasSearched lines new fo fn assume first (variables lines assume first) → IsAimed d goal cone new next
+aimed-on d goal cone lines new fo fn assume next first f h a s =
     let more = map (line_of assume) s.learned ++ s.last in
-    let m = variables lines assume rows in
-    let w = h.wide in
-    let le = variables-le next lines assume rows (omega (arith, e, w)) h.below a in
-    let learned : AreBelow next s.learned = (λ i b l g. let p = s.below m (λ set c x. x) i b l g in omega (arith, p, le)) in
+    let m = variables lines assume first in
+    let le = variables-le next lines assume first f h.below a in
+    let learned : AreBelow next s.learned = (λ i b l g. let p = s.below.0 i b l g in omega (arith, p, le)) in
     let last : AreBelow next s.last = elim s.refutes [
       | inl z ↦ (let P : List (List Literal) → Type 0 = AreBelow next in subst P (sym z) (each-none (IsBelow next)))
       | inr z ↦ (let P : List (List Literal) → Type 0 = AreBelow next in subst P (sym z.1) (each-cons (IsBelow next) z.0 [] (refuting-below next assume z.0 a z.2) (each-none (IsBelow next))))
@@ -87,6 +108,7 @@ aimed-on d goal lines new fo fn assume next rows e h a s =
       complete = λ keep g. let r = h.complete keep g in (r.0, r.1, r.2, s.sound r.0 r.3);
       sound = λ keep bools ag m. (let M : List (List Literal) → Type 0 = λ ls. IsModel ls bools in h.sound keep bools ag (model-older lines more bools (subst M s.lines m)));
       determined = λ set c g. (let C : List (List Literal) → Type 0 = λ ls. Closed ls set in h.determined set (closed-front lines more set (subst C s.lines c)) g);
+      outside = λ v l o set c. (let C : List (List Literal) → Type 0 = λ ls. Closed ls set in h.outside v l o set (closed-front lines more set (subst C s.lines c)));
     }
 
 pub counted-on : (d : Shared) (lines new more : List (List Literal)) (next : ℕ) (outs : List Literal) → new ≡ lines ++ more → IsCounted d lines next outs → IsCounted d new next outs
@@ -96,8 +118,8 @@ counted-on d lines new more next outs e h = record {
 }
 
 -- and so does a counter
-pub aimed-extends : (d : Shared) (goal : ℕ) (lines new : List (List Literal)) (next m : ℕ) → IsAimed d goal lines next → Extends lines next new m → IsAimed d goal new m
-aimed-extends d goal lines new next m h e = record {
+pub aimed-extends : (d : Shared) (goal : ℕ) (cone : List Bool) (lines new : List (List Literal)) (next m : ℕ) → IsAimed d goal cone lines next → Extends lines next new m → IsAimed d goal cone new m
+aimed-extends d goal cone lines new next m h e = record {
   wide = (let a = h.wide in let b = e.wider in omega (arith, a, b));
   below = e.below h.below;
   complete = λ keep g.
@@ -107,15 +129,17 @@ aimed-extends d goal lines new next m h e = record {
       (r.0 ++ x.0, x.1, (λ v b. r.2 v b ∙ sym (index-front r.0 x.0 v (let l = r.1 in omega (arith, b, l, w)))), x.2);
   sound = λ keep bools a q. (let M : List (List Literal) → Type 0 = λ ls. IsModel ls bools in h.sound keep bools a (model-older lines e.more bools (subst M e.lines q)));
   determined = e.determined d.rows h.determined;
+  outside = λ v l o set c. (let C : List (List Literal) → Type 0 = λ ls. Closed ls set in h.outside v l o set (closed-front lines e.more set (subst C e.lines c)));
 }
 
--- the rows of a model are a choice at which the goal is true
-pub model-goal : (d : Shared) (goal : ℕ) (lines : List (List Literal)) (assume : Option Literal) (next m rows : ℕ) (bools keep : List Bool) → rows ≡ d.rows → rows ≤ length bools → keep ≡ take rows bools → IsAimed d goal lines next → IsModelled lines assume m bools
-    → IsGoal d goal keep
-model-goal d goal lines assume next m rows bools keep e w k h q =
-    let G : List Bool → Type 0 = IsGoal d goal in
+-- the rows of a model are a choice that is sought
+pub model-sought : (d : Shared) (goal : ℕ) (cone : List Bool) (lines : List (List Literal)) (assume : Option Literal) (next m rows : ℕ) (bools keep : List Bool) → rows ≡ d.rows → rows ≤ length bools → keep ≡ take rows bools → IsAimed d goal cone lines next → IsModelled lines assume m bools
+    → IsSought d goal cone keep
+model-sought d goal cone lines assume next m rows bools keep e w k h q =
+    let S : List Bool → Type 0 = IsSought d goal cone in
     let R : ℕ → Type 0 = λ n. n ≤ length bools in
-    subst G (sym (k ∙ ap (λ n. take n bools) e)) (take-length d.rows bools (subst R e w), h.sound (take d.rows bools) bools (take-index d.rows bools) q.model)
+    let f = h.sound (take d.rows bools) bools (take-index d.rows bools) q.model in
+    subst S (sym (k ∙ ap (λ n. take n bools) e)) (take-length d.rows bools (subst R e w), f.0, f.1)
 
 not-le : (a b : ℕ) → nat_le a b ≡ false → b < a
 not-le a b h = search rules
@@ -167,9 +191,9 @@ refuted-false lines assume bools r m a = by assume a r.2 (m r.0 r.1) where
       let f = ap (λ b. b || false) (sym n) ∙ g in cc
 
 -- the lines refute, so no choice has fewer rows
-pub refuted-least : (d : Shared) (goal : ℕ) (lines : List (List Literal)) (a : Literal) (next : ℕ) (outs : List Literal) (most : ℕ) (best : List Bool) → IsAimed d goal lines next → IsCounted d lines next outs
-    → a ≡ fewer_than outs most → most ≡ size best → 0 < most → most ≤ length outs → IsRefuted lines (Some a) → (other : List Bool) → IsGoal d goal other → size best ≤ size other
-refuted-least d goal lines a next outs most best h q ae me z o r other g = elim (bool-cases (nat_lt (size other) (size best))) [
+pub refuted-least : (d : Shared) (goal : ℕ) (cone : List Bool) (lines : List (List Literal)) (a : Literal) (next : ℕ) (outs : List Literal) (most : ℕ) (best : List Bool) → IsAimed d goal cone lines next → IsCounted d lines next outs
+    → a ≡ fewer_than outs most → most ≡ size best → 0 < most → most ≤ length outs → IsRefuted lines (Some a) → (other : List Bool) → IsSought d goal cone other → size best ≤ size other
+refuted-least d goal cone lines a next outs most best h q ae me z o r other g = elim (bool-cases (nat_lt (size other) (size best))) [
   | inl y ↦ absurd (
       let l : size other < size best = search rules in
       let x = h.complete other g in
@@ -177,8 +201,9 @@ refuted-least d goal lines a next outs most best h q ae me z o r other g = elim 
   | inr y ↦ search rules
 ]
 
-pub refuted-never : (d : Shared) (goal : ℕ) (lines : List (List Literal)) (next : ℕ) → IsAimed d goal lines next → IsRefuted lines None → IsNever d goal
-refuted-never d goal lines next h r keep k = elim (bool-cases (val d keep goal)) [
-  | inl y ↦ absurd (let x = h.complete keep (k, y) in refuted-false lines None x.0 r x.3 tt)
+pub refuted-never : (d : Shared) (goal : ℕ) (cone : List Bool) (lines : List (List Literal)) (next : ℕ) → IsAimed d goal cone lines next → IsRefuted lines None
+    → (keep : List Bool) → length keep ≡ d.rows → IsWithin d.rows cone keep → val d keep goal ≡ false
+refuted-never d goal cone lines next h r keep k w = elim (bool-cases (val d keep goal)) [
+  | inl y ↦ absurd (let x = h.complete keep (k, y, w) in refuted-false lines None x.0 r x.3 tt)
   | inr y ↦ y
 ]

@@ -1,6 +1,15 @@
 pub mod Aiming
 pub mod Apart
+pub mod Asking
+pub mod Attempts
+pub mod Keeps
+pub mod Leading
+pub mod Leaving
+pub mod LeftOut
 pub mod Nogoods
-pub mod Taking
+pub mod Others
+pub mod Places
 pub mod Rounds
+pub mod Taking
 pub mod Targets
+pub mod Whole

@@ -1,21 +1,22 @@
 -- The lines of a search.
-use Rattle.std.specs.Prelude.{◌≡◌, ℕ, ◌≤◌, Bool, true, List, length}
+use Rattle.std.specs.Prelude.{◌≡◌, ℕ, ◌<◌, ◌≤◌, Bool, true, false, List, length}
 use Rattle.rt_clause.specs.Literal.{Literal, negated}
-use Rattle.rt_clause.specs.Lists.{IsBelow, AreBelow, Determined}
+use Rattle.rt_clause.specs.Lists.{has, IsBelow, AreBelow, Closed, Determined}
 use Rattle.rt_clause.specs.Models.{IsModel}
 use Rattle.rt_clause.specs.Gates.{AgreeBelow}
-use Rattle.rt_formula.specs.Shared.{Shared, val}
+use Rattle.rt_formula.specs.Shared.{Shared, bool_at, val}
 use Rattle.rt_totalizer.specs.Outputs.{output_at, CountsRows}
-use Rattle.rt_search.specs.Least.{IsGoal}
+use Rattle.rt_search.specs.Sought.{IsSought, IsWithin, not_kept}
 
--- the lines have a model over a choice of rows exactly where the goal is true there, and the rows
--- determine the other variables
-pub record IsAimed (d : Shared) (goal : ℕ) (lines : List (List Literal)) (next : ℕ) : Type 0 where
+-- the lines have a model over a choice exactly where it is sought, the rows determine the other
+-- variables, and propagation gives that no row outside of the cone is kept
+pub record IsAimed (d : Shared) (goal : ℕ) (cone : List Bool) (lines : List (List Literal)) (next : ℕ) : Type 0 where
   pub wide : d.rows ≤ next
   pub below : AreBelow next lines
-  pub complete : (keep : List Bool) → IsGoal d goal keep → (bools : List Bool) × (length bools ≡ next) × AgreeBelow d.rows keep bools × IsModel lines bools
-  pub sound : (keep bools : List Bool) → AgreeBelow d.rows keep bools → IsModel lines bools → val d keep goal ≡ true
+  pub complete : (keep : List Bool) → IsSought d goal cone keep → (bools : List Bool) × (length bools ≡ next) × AgreeBelow d.rows keep bools × IsModel lines bools
+  pub sound : (keep bools : List Bool) → AgreeBelow d.rows keep bools → IsModel lines bools → (val d keep goal ≡ true) × IsWithin d.rows cone keep
   pub determined : Determined lines d.rows next
+  pub outside : (v : ℕ) → v < d.rows → bool_at cone v ≡ false → (set : List Literal) → Closed lines set → has set (not_kept v) ≡ true
 
 -- under the lines the outputs count the kept rows
 pub record IsCounted (d : Shared) (lines : List (List Literal)) (next : ℕ) (outs : List Literal) : Type 0 where

@@ -1,19 +1,23 @@
 ghost use Rattle.std.specs.Prelude.{◌≡◌, ◌≤◌, ◌<◌, IfOk, IfSome, length};
 ghost use Rattle.rt_value.specs.Keep.{size};
+ghost use Rattle.rt_totalizer.specs.Outputs.{CountsFirst};
 ghost use Rattle.rt_search.specs.Aimed.{IsAimed, IsCounted, fewer_than};
-ghost use Rattle.rt_search.specs.Least.{IsBest, IsGoal};
+ghost use Rattle.rt_search.specs.Sought.{IsBestWithin, IsSought};
 
+use crate::attempt::attempt;
 use crate::best::{Best, SpentBest};
 use crate::choice::rows_of;
 use crate::counted::Counted;
+use crate::first::first;
 use rt_clause::{Lit, LitList, Named};
 use rt_formula::{Dag, Node};
 use rt_solver::{Found, Solver};
+use rt_totalizer::Outputs;
 use rt_value::{Keep, NoMemory};
 use std::alloc::Global;
 
 // The literal that says that fewer than `most` rows are kept.
-fn fewer(outs: &LitList, most: usize) -> Lit
+pub(crate) fn fewer(outs: &LitList, most: usize) -> Lit
     requires some { 0 < most }
     requires within { most ≤ length outs.now }
     ensures { result ≡ fewer_than outs.now most }
@@ -21,24 +25,29 @@ fn fewer(outs: &LitList, most: usize) -> Lit
     outs.as_slice()[most - 1].negated()
 }
 
-/// Goes on from a choice to ones of fewer rows, until there is none or the budget is spent.
+/// Goes on from a choice to ones of fewer rows, until there is none, and then to the first of those
+/// of as many rows; or until the budget is spent.
 pub(crate) fn lower(
     alloc: Global,
     solver: &mut Solver<Counted>,
     dag: &Dag,
     goal: Node,
+    cone: &Keep,
     named: Named,
-    outs: &LitList,
+    counter: &Outputs,
     best: Keep,
     budget: Option<u64>,
 ) -> Result<Best, NoMemory>
     requires rows { named.rows ≡ dag.now.rows }
     requires budget { IfSome budget (λ b. 1 ≤ b) }
-    requires aimed { IsAimed dag.now goal solver.old.0.lines named.next }
-    requires counted { IsCounted dag.now solver.old.0.lines named.next outs.now }
-    requires best { IsGoal dag.now goal best }
-    requires within { size best ≤ length outs.now }
-    ensures { IfOk result (IsBest dag.now goal budget) }
+    requires long { length cone.now ≡ dag.now.rows }
+    requires aimed { IsAimed dag.now goal cone.now solver.old.0.lines named.next }
+    requires counted { IsCounted dag.now solver.old.0.lines named.next counter.now.outs }
+    requires firsts { CountsFirst dag.now.rows (length counter.now.outs) named.next solver.old.0.lines counter.now.firsts }
+    requires best { IsSought dag.now goal cone.now best }
+    requires within { size best ≤ length counter.now.outs }
+    requires room { size best < dag.now.rows → size best < length counter.now.outs }
+    ensures { IfOk result (IsBestWithin dag.now goal cone.now budget) }
 {
     let rows = named.rows();
     let mut best = best;
@@ -47,18 +56,19 @@ pub(crate) fn lower(
         if most == 0 {
             return Ok(Best::Least(best));
         }
-        let bound = fewer(outs, most);
-        match solver.solve(Some(bound), rows, budget)? {
+        let bound = fewer(&counter.outs, most);
+        match attempt(solver, &Some(bound), rows, named.next(), budget)? {
             Found::Model(model) => best = rows_of(alloc, &model, rows)?,
             Found::Refuted => {
                 if !solver.lines().refutes(Some(bound)) {
                     unreachable!();
                 }
-                return Ok(Best::Least(best));
+                return first(alloc, solver, dag, goal, cone, named, counter, best, budget);
             }
             Found::Spent(nogoods) => {
                 return Ok(Best::Spent(SpentBest {
                     best: Some(best),
+                    least: false,
                     nogoods,
                 }));
             }

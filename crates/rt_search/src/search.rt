@@ -1,37 +1,59 @@
 ghost use Rattle.std.specs.Prelude.{◌≡◌, ◌≤◌, ◌<◌, [], IfOk, IfSome, length};
-ghost use Rattle.rt_search.specs.Least.{IsBest};
+ghost use Rattle.rt_search.specs.Aimed.{IsAimed};
+ghost use Rattle.rt_search.specs.Least.{IsBest, IsEnough};
+ghost use Rattle.rt_search.specs.Sought.{IsBestWithin};
 
+use crate::attempt::attempt;
 use crate::best::{Best, SpentBest};
 use crate::choice::rows_of;
 use crate::counted::Counted;
+use crate::encode::encode;
 use crate::lower::lower;
-use rt_clausify::clausify;
+use crate::smaller::smaller;
+use rt_clause::Named;
 use rt_formula::{Dag, Node};
 use rt_solver::{Found, Solver};
-use rt_totalizer::{Outputs, count};
-use rt_value::NoMemory;
+use rt_totalizer::count;
+use rt_value::{Keep, NoMemory};
 use std::alloc::Global;
 
-// Searches with a solver that has no lines yet.
-fn search(
+// One more than the size, where the rows allow it.
+fn one_above(size: usize, rows: usize) -> usize
+    ensures within { result ≤ rows }
+    ensures above { size < rows → size < result }
+    ensures reach { size ≤ rows → size ≤ result }
+{
+    if size < rows { size + 1 } else { rows }
+}
+
+// Searches within the cone, with a solver that has the lines of the goal.
+fn within(
     alloc: Global,
     solver: &mut Solver<Counted>,
     dag: &Dag,
     goal: Node,
+    cone: &Keep,
+    named: Named,
     budget: Option<u64>,
 ) -> Result<Best, NoMemory>
-    requires budget { IfSome budget (λ b. 1 ≤ b) }
+    requires rows { named.rows ≡ dag.now.rows }
     requires goal { goal < length dag.now.entries }
-    requires empty { solver.old.0.lines ≡ [] }
-    ensures { IfOk result (IsBest dag.now goal budget) }
+    requires long { length cone.now ≡ dag.now.rows }
+    requires budget { IfSome budget (λ b. 1 ≤ b) }
+    requires aimed { IsAimed dag.now goal cone.now solver.old.0.lines named.next }
+    ensures { IfOk result (IsBestWithin dag.now goal cone.now budget) }
 {
-    let mut named = clausify(alloc, dag, goal, solver)?;
+    let mut named = named;
     let rows = dag.rows();
-    match solver.solve(None, rows, budget)? {
+    match attempt(solver, &None, rows, named.next(), budget)? {
         Found::Model(model) => {
-            let best = rows_of(alloc, &model, rows)?;
-            let Outputs { outs } = count(alloc, best.size(), &mut named, solver)?;
-            lower(alloc, solver, dag, goal, named, &outs, best, budget)
+            let model = rows_of(alloc, &model, rows)?;
+            let best = smaller(dag, goal, cone, model)?;
+            let upto = one_above(best.size(), rows);
+            let counter = count(alloc, upto, &mut named, solver)?;
+            lower(
+                alloc, solver, dag, goal, cone, named, &counter, best, budget,
+            )
         }
         Found::Refuted => {
             if !solver.lines().refutes(None) {
@@ -41,9 +63,31 @@ fn search(
         }
         Found::Spent(nogoods) => Ok(Best::Spent(SpentBest {
             best: None,
+            least: false,
             nogoods,
         })),
     }
+}
+
+// Searches with a solver that has no lines yet.
+fn search(
+    alloc: Global,
+    solver: &mut Solver<Counted>,
+    dag: &Dag,
+    goal: Node,
+    cone: &Keep,
+    budget: Option<u64>,
+) -> Result<Best, NoMemory>
+    requires budget { IfSome budget (λ b. 1 ≤ b) }
+    requires goal { goal < length dag.now.entries }
+    requires long { length cone.now ≡ dag.now.rows }
+    requires cone { IsEnough dag.now goal cone.now }
+    requires empty { solver.old.0.lines ≡ [] }
+    ensures { IfOk result (IsBest dag.now goal budget) }
+{
+    let named = encode(alloc, dag, goal, cone, solver)?;
+    let best = within(alloc, solver, dag, goal, cone, named, budget)?;
+    Ok(best)
 }
 
 /// What a search found, with how many clauses it was given, those of the formula and of the counter,
@@ -60,14 +104,17 @@ pub fn smallest_counted(
     alloc: Global,
     dag: &Dag,
     goal: Node,
+    cone: &Keep,
     budget: Option<u64>,
 ) -> Result<Searched, NoMemory>
     requires goal { goal < length dag.now.entries }
+    requires long { length cone.now ≡ dag.now.rows }
+    requires cone { IsEnough dag.now goal cone.now }
     requires budget { IfSome budget (λ b. 1 ≤ b) }
     ensures { IfOk result (λ s. IsBest dag.now goal budget s.best) }
 {
     let mut solver = Solver::new(alloc, Counted::new(alloc));
-    let best = search(alloc, &mut solver, dag, goal, budget)?;
+    let best = search(alloc, &mut solver, dag, goal, cone, budget)?;
     let lines = solver.lines();
     Ok(Searched {
         best,
@@ -76,13 +123,23 @@ pub fn smallest_counted(
     })
 }
 
-/// The least choice of rows at which the goal is true. The budget, where there is one, is the number
-/// of clauses that each round of the search may learn, and at least 1.
-pub fn smallest(alloc: Global, dag: &Dag, goal: Node, budget: Option<u64>) -> Result<Best, NoMemory>
+/// The first of the least choices of rows at which the goal is true. The cone has one Bool for each
+/// row: where the goal is true it stays true without the rows outside of it, so that these need no
+/// search. The budget, where there is one, is the number of clauses that each round of the search may
+/// learn, and at least 1.
+pub fn smallest(
+    alloc: Global,
+    dag: &Dag,
+    goal: Node,
+    cone: &Keep,
+    budget: Option<u64>,
+) -> Result<Best, NoMemory>
     requires goal { goal < length dag.now.entries }
+    requires long { length cone.now ≡ dag.now.rows }
+    requires cone { IsEnough dag.now goal cone.now }
     requires budget { IfSome budget (λ b. 1 ≤ b) }
     ensures { IfOk result (IsBest dag.now goal budget) }
 {
     let mut solver = Solver::new(alloc, Counted::new(alloc));
-    search(alloc, &mut solver, dag, goal, budget)
+    search(alloc, &mut solver, dag, goal, cone, budget)
 }

@@ -15,6 +15,8 @@ mod encoded;
 #[cfg(test)]
 mod formulas;
 #[cfg(test)]
+mod heap;
+#[cfg(test)]
 mod search;
 #[cfg(test)]
 mod solver;

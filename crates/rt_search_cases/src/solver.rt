@@ -2,7 +2,7 @@ ghost use Rattle.std.specs.Prelude.{◌<◌};
 
 use rt_clause::{Adds, Lit};
 use rt_derive::Checker;
-use rt_solver::{Found, Solver};
+use rt_solver::{Found, Order, Solver};
 use std::alloc::Global;
 use std::test::Fail;
 
@@ -16,7 +16,7 @@ fn clauses_may_be_added_between_calls(rt: HostRuntime) -> Result<(), Fail> {
     let second = Lit::of(1, true);
     let mut solver = solver(rt.alloc());
     solver.add(&[first, second])?;
-    match solver.solve(None, 2, Some(4))? {
+    match solver.solve(None, 2, Some(4), Order::Free)? {
         Found::Model(keep) => {
             assert_eq!(rt; keep.len(), 2);
             assert!(rt; keep.is(0) || keep.is(1));
@@ -26,12 +26,12 @@ fn clauses_may_be_added_between_calls(rt: HostRuntime) -> Result<(), Fail> {
     solver.add(&[second.negated()])?;
     assert!(rt;
         matches!(
-            &solver.solve(Some(first.negated()), 2, Some(4))?,
+            &solver.solve(Some(first.negated()), 2, Some(4), Order::Free)?,
             Found::Refuted
         )
     );
     assert!(rt; solver.lines().refutes(Some(first.negated())));
-    match solver.solve(None, 2, Some(4))? {
+    match solver.solve(None, 2, Some(4), Order::Free)? {
         Found::Model(keep) => {
             assert_eq!(rt; keep.len(), 2);
             assert!(rt; keep.is(0) && !keep.is(1));
@@ -39,7 +39,12 @@ fn clauses_may_be_added_between_calls(rt: HostRuntime) -> Result<(), Fail> {
         _ => assert!(rt; false, "there is a model"),
     }
     solver.add(&[first.negated()])?;
-    assert!(rt; matches!(&solver.solve(None, 2, Some(4))?, Found::Refuted));
+    assert!(rt;
+        matches!(
+            &solver.solve(None, 2, Some(4), Order::Free)?,
+            Found::Refuted
+        )
+    );
     assert!(rt; solver.lines().refutes(None));
     Ok(())
 }
@@ -90,11 +95,16 @@ fn add_pigeons(
 fn four_pigeons_in_three_holes(rt: HostRuntime) -> Result<(), Fail> {
     let mut solver = solver(rt.alloc());
     add_pigeons(rt.alloc(), &mut solver, 3, Holes::Three)?;
-    match solver.solve(None, 12, Some(1))? {
+    match solver.solve(None, 12, Some(1), Order::Free)? {
         Found::Spent(list) => assert_eq!(rt; list.len(), 1),
         _ => assert!(rt; false, "the budget is spent"),
     }
-    assert!(rt; matches!(&solver.solve(None, 12, Some(4096))?, Found::Refuted));
+    assert!(rt;
+        matches!(
+            &solver.solve(None, 12, Some(4096), Order::Free)?,
+            Found::Refuted
+        )
+    );
     assert!(rt; solver.lines().refutes(None));
     Ok(())
 }
@@ -103,7 +113,7 @@ fn four_pigeons_in_three_holes(rt: HostRuntime) -> Result<(), Fail> {
 fn seven_pigeons_in_six_holes(rt: HostRuntime) -> Result<(), Fail> {
     let mut solver = solver(rt.alloc());
     add_pigeons(rt.alloc(), &mut solver, 6, Holes::Six)?;
-    assert!(rt; matches!(&solver.solve(None, 42, None)?, Found::Refuted));
+    assert!(rt; matches!(&solver.solve(None, 42, None, Order::Free)?, Found::Refuted));
     Ok(())
 }
 
@@ -124,6 +134,6 @@ fn two_hundred_clauses(rt: HostRuntime) -> Result<(), Fail> {
         }
         solver.add(&lits)?;
     }
-    assert!(rt; matches!(&solver.solve(None, 60, None)?, Found::Model(_)));
+    assert!(rt; matches!(&solver.solve(None, 60, None, Order::Free)?, Found::Model(_)));
     Ok(())
 }

@@ -1,119 +1,45 @@
 -- The step back after a conflict.
-use Rattle.std.proofs.Common.{◌≡◌, ◌≢◌, ℕ, zero, suc, ◌-◌, append_assoc, length-append, ◌<◌, true, false, List, [], ◌∷◌, ◌++◌, length, map, reverse, refl, sym, ap, subst, ◌∙◌, ◌⊎◌, inl, inr, Option, Some, None, IfSome, arith}
-use Rattle.std.proofs.lemmas.List.{reverse-append, append-nil}
+use Rattle.std.proofs.Common.{◌≡◌, ◌≢◌, ℕ, zero, suc, ◌-◌, length-append, ◌<◌, ◌≤◌, true, false, List, [], ◌∷◌, ◌++◌, length, map, reverse, refl, sym, ap, subst, ◌∙◌, ◌⊎◌, inl, inr, Option, Some, None, IfSome, arith}
+use Rattle.std.proofs.lemmas.List.{reverse-append}
 use Rattle.std.specs.Option.{option_to_list}
 use Rattle.rt_clause.specs.Literal.{Literal, negated}
-use Rattle.rt_clause.specs.Lists.{has, line_at, IsMet, Closed, Fresh, HasNoRepeat}
+use Rattle.rt_clause.specs.Lists.{has, line_at, IsMet, Fresh, HasNoRepeat}
 use Rattle.rt_clause.proofs.Literals.{has-head, has-tail, has-cases, has-append_left, has-append_right, has-append_cases, negated-twice}
 use Rattle.rt_solver.specs.declared.trail.Step.{Step}
 use Rattle.rt_solver.specs.declared.trail.Why.{Why}
 use Rattle.rt_solver.specs.declared.trail.Why.TheVariants.{Line, Decided, Assumed}
-use Rattle.rt_solver.specs.Trail.{lits, value_in, IsApart, IsUnit, RestsOn, BeforeDecisions, decisions, decided_by, newest, first_of_list, digit}
-use Rattle.rt_solver.specs.Cut.{HasPart}
-use Rattle.rt_solver.specs.Analysis.{causes, clause_of, IsDecision, AreDecisions}
+use Rattle.rt_solver.specs.Trail.{lits, value_in, IsApart, IsUnit, RestsOn, BeforeDecisions, decisions, decided_by, digit}
+use Rattle.rt_solver.specs.Analysis.{causes, clause_of, IsChoice, AreChosen, Lacks}
 use Rattle.rt_solver.specs.Looking.{IsBelow, AreBelow}
-use Rattle.rt_solver.specs.Search.{IsReady, GoesOn}
-use Rattle.rt_solver.proofs.Number.{none-apart, distance-grows, number-grows, count-fits}
-use Rattle.rt_solver.proofs.FreshLaws.{absent-lit, founded-above, apart-above, founded-push, met-before, none-before}
+use Rattle.rt_solver.specs.Search.{IsReady, GoesOn, DecidesBelow}
+use Rattle.rt_solver.proofs.Number.{distance-grows, number-grows, count-fits}
+use Rattle.rt_solver.proofs.FreshLaws.{first_law, absent-lit, founded-above, apart-above, founded-push, met-before}
+use Rattle.rt_solver.proofs.Queues.{before-map}
 
 subst-has : (t : List Step) (a b : Literal) → a ≡ b → has (lits t) a ≡ true → has (lits t) b ≡ true
 subst-has t a b e h = let P : Literal → Type 0 = λ k. has (lits t) k ≡ true in subst P e h
 
--- decisions are among the literals
-pub chosen-has : (ds : List Literal) (t : List Step) → AreDecisions ds t → (l : Literal) → has ds l ≡ true → has (lits t) l ≡ true
-chosen-has [] t h l g = absurd (cc)
-chosen-has (d ∷ ds) [] h l g = absurd h
-chosen-has (d ∷ ds) (s ∷ t) h l g = elim h [
+-- the found literals are among those of the trail
+pub chosen-has : (first : ℕ) (ds : List Literal) (t : List Step) → AreChosen first ds t → (l : Literal) → has ds l ≡ true → has (lits t) l ≡ true
+chosen-has first [] t h l g = absurd (cc)
+chosen-has first (d ∷ ds) [] h l g = absurd h
+chosen-has first (d ∷ ds) (s ∷ t) h l g = elim h [
   | inl a ↦ elim (has-cases d l ds g) [
     | inl e ↦ subst-has (s ∷ t) s.lit l (sym (e ∙ a.0)) (has-head s.lit (lits t))
-    | inr r ↦ has-tail s.lit l (lits t) (chosen-has ds t a.2 l r)
+    | inr r ↦ has-tail s.lit l (lits t) (chosen-has first ds t a.2 l r)
   ]
-  | inr b ↦ has-tail s.lit l (lits t) (chosen-has (d ∷ ds) t b l g)
+  | inr b ↦ has-tail s.lit l (lits t) (chosen-has first (d ∷ ds) t b l g)
 ]
-
-pub chosen-weaken : (ds : List Literal) (s : Step) (t : List Step) → AreDecisions ds t → AreDecisions ds (s ∷ t)
-chosen-weaken [] s t h = tt
-chosen-weaken (d ∷ ds) s t h = inr h
-
-pub chosen-tail : (d : Literal) (ds : List Literal) (t : List Step) → AreDecisions (d ∷ ds) t → AreDecisions ds t
-chosen-tail d ds [] h = absurd h
-chosen-tail d ds (s ∷ t) h = elim h [ inl a ↦ chosen-weaken ds s t a.2 | inr b ↦ chosen-weaken ds s t (chosen-tail d ds t b) ]
-
--- a literal of an older part is not that of a newer step
-not-head : (m : ℕ) (s : Step) (t : List Step) (l : Literal) → IsApart m (s ∷ t) → has (lits t) l ≡ true → s.lit ≡ l → ⊥
-not-head m s t l a h e =
-    let v : value_in t l.var ≡ None = (let P : Literal → Type 0 = λ k. value_in t k.var ≡ None in subst P e a.1) in
-    let n = absent-lit t l v in cc
-
-newest-has : (t : List Step) (l : Literal) → newest t ≡ Some l → has (lits t) l ≡ true
-newest-has [] l h = absurd (cc)
-newest-has (s ∷ t) l h = each (λ e. newest-has t l e) s.why h where
-  each : (newest t ≡ Some l → has (lits t) l ≡ true) → (w : Why) → first_of_list (decided_by w s.lit (decisions t)) ≡ Some l → has (s.lit ∷ lits t) l ≡ true
-  each older (Line r) e = has-tail s.lit l (lits t) (older e)
-  each older Assumed e = has-tail s.lit l (lits t) (older e)
-  each older Decided e = let q : s.lit ≡ l = cc in let P : Literal → Type 0 = λ k. has (s.lit ∷ lits t) k ≡ true in subst P q (has-head s.lit (lits t))
-
--- where there are two decisions or more, the second found is not the newest, and where there is one, the newest is there
-pub newest-other : (m : ℕ) (late : Literal) (ds : List Literal) (t : List Step) → IsApart m t → AreDecisions (late ∷ ds) t → newest t ≡ first_of_list ds → ⊥
-newest-other m late ds [] a h e = h
-newest-other m late ds (s ∷ t) a h e = each (λ b q. newest-other m late ds t a.2 b q) s.why h e where
-  inside : (xs : List Literal) → AreDecisions xs t → Some s.lit ≡ first_of_list xs → ⊥
-  inside [] b q = cc
-  inside (x ∷ xs) b q = not-head m s t x a (chosen-has (x ∷ xs) t b x (has-head x xs)) (let z : s.lit ≡ x = cc in z)
-
-  each : (AreDecisions (late ∷ ds) t → newest t ≡ first_of_list ds → ⊥) → (w : Why) → ((late ≡ s.lit) × IsDecision w × AreDecisions ds t) ⊎ AreDecisions (late ∷ ds) t
-      → first_of_list (decided_by w s.lit (decisions t)) ≡ first_of_list ds → ⊥
-  each older (Line r) h e = elim h [ inl b ↦ absurd b.1 | inr b ↦ older b e ]
-  each older Assumed h e = elim h [ inl b ↦ absurd b.1 | inr b ↦ older b e ]
-  each older Decided h e = elim h [ inl b ↦ inside ds b.2 e | inr b ↦ inside ds (chosen-tail late ds t b) e ]
-
--- a part of the trail with the second decision as its newest
-pub there-is : (ds : List Literal) (t : List Step) → AreDecisions ds t → (above : List Step) × (kept : List Step) × (t ≡ above ++ kept) × (newest kept ≡ first_of_list ds)
-there-is [] t h = (t, [], sym (append-nil t), refl)
-there-is (d ∷ ds) [] h = absurd h
-there-is (d ∷ ds) (s ∷ t) h = elim h [
-  | inl a ↦ ([], s ∷ t, refl, by s.why a.1 ∙ ap Some (sym a.0))
-  | inr b ↦ (let r = there-is (d ∷ ds) t b in (s ∷ r.0, r.1, ap (λ y. s ∷ y) r.2, r.3))
-] where
-  by : (w : Why) → IsDecision w → first_of_list (decided_by w s.lit (decisions t)) ≡ Some s.lit
-  by (Line r) q = absurd q
-  by Decided q = refl
-  by Assumed q = absurd q
-
-value-older : (above t : List Step) (v : ℕ) → value_in (above ++ t) v ≡ None → value_in t v ≡ None
-value-older [] t v h = h
-value-older (s ∷ above) t v h = value-older above t v (none-apart s (above ++ t) v h).1
-
--- the latest decision is popped
-pub late-popped : (m : ℕ) (late : Literal) (ds : List Literal) (above kept : List Step) → IsApart m (above ++ kept) → AreDecisions (late ∷ ds) (above ++ kept) → newest kept ≡ first_of_list ds
-    → value_in kept late.var ≡ None
-late-popped m late ds [] kept a h e = absurd (newest-other m late ds kept a h e)
-late-popped m late ds (s ∷ above) kept a h e = elim h [
-  | inl b ↦ value-older above kept late.var (let P : Literal → Type 0 = λ k. value_in (above ++ kept) k.var ≡ None in subst P (sym b.0) a.1)
-  | inr b ↦ late-popped m late ds above kept a.2 b e
-]
-
--- the others are kept
-pub others-kept : (m : ℕ) (ds : List Literal) (above kept : List Step) → IsApart m (above ++ kept) → AreDecisions ds (above ++ kept) → newest kept ≡ first_of_list ds → AreDecisions ds kept
-others-kept m ds [] kept a h e = h
-others-kept m [] (s ∷ above) kept a h e = tt
-others-kept m (d ∷ ds) (s ∷ above) kept a h e = elim h [
-  | inl b ↦ absurd (not-head m s (above ++ kept) d a (in-older above kept d (newest-has kept d e)) (sym b.0))
-  | inr b ↦ others-kept m (d ∷ ds) above kept a.2 b e
-] where
-  in-older : (xs t : List Step) (l : Literal) → has (lits t) l ≡ true → has (lits (xs ++ t)) l ≡ true
-  in-older [] t l g = g
-  in-older (x ∷ xs) t l g = has-tail x.lit l (lits (xs ++ t)) (in-older xs t l g)
 
 -- the learned clause, literal by literal
-reverse-has : (xs : List Literal) (l : Literal) → has (reverse xs) l ≡ true → has xs l ≡ true
+pub reverse-has : (xs : List Literal) (l : Literal) → has (reverse xs) l ≡ true → has xs l ≡ true
 reverse-has [] l h = h
 reverse-has (x ∷ xs) l h = let P : List Literal → Type 0 = λ ys. has ys l ≡ true in elim (has-append_cases (reverse xs) (x ∷ []) l (subst P (reverse-append (x ∷ []) xs) h)) [
   | inl a ↦ has-tail x l xs (reverse-has xs l a)
   | inr b ↦ elim (has-cases x l [] b) [ inl e ↦ (let Q : Literal → Type 0 = λ k. has (x ∷ xs) k ≡ true in subst Q (sym e) (has-head x xs)) | inr c ↦ absurd (cc) ]
 ]
 
-has-reverse : (xs : List Literal) (l : Literal) → has xs l ≡ true → has (reverse xs) l ≡ true
+pub has-reverse : (xs : List Literal) (l : Literal) → has xs l ≡ true → has (reverse xs) l ≡ true
 has-reverse [] l h = h
 has-reverse (x ∷ xs) l h = let P : List Literal → Type 0 = λ ys. has ys l ≡ true in subst P (sym (reverse-append (x ∷ []) xs)) (elim (has-cases x l xs h) [
   | inl e ↦ has-append_right (reverse xs) (x ∷ []) l (let Q : Literal → Type 0 = λ k. has (x ∷ []) k ≡ true in subst Q (sym e) (has-head x []))
@@ -144,65 +70,29 @@ cause-cases late ds assume l h = elim (has-append_cases (reverse (late ∷ ds)) 
   opt (Some a) g = elim (has-cases a l [] g) [ inl e ↦ ap Some (sym e) | inr c ↦ absurd (cc) ]
 
 -- the new line is unit under the part that is kept
-pub learned-unit : (late : Literal) (ds : List Literal) (assume : Option Literal) (kept : List Step) → AreDecisions ds kept → IfSome assume (λ a. has (lits kept) a ≡ true)
+pub learned-unit : (first : ℕ) (late : Literal) (ds : List Literal) (assume : Option Literal) (kept : List Step) → AreChosen first ds kept → IfSome assume (λ a. has (lits kept) a ≡ true)
     → IsUnit (clause_of (late ∷ ds) assume) (lits kept) (negated late)
-learned-unit late ds assume kept d a = record {
+learned-unit first late ds assume kept d a = record {
   among = map-has (causes (late ∷ ds) assume) late (has-append_left (reverse (late ∷ ds)) (option_to_list assume) late (has-reverse (late ∷ ds) late (has-head late ds)));
   others = λ k h. elim (cause-cases late ds assume (negated k) (has-map (causes (late ∷ ds) assume) k h)) [
     | inl e ↦ inl (sym (negated-twice k) ∙ ap negated e)
     | inr r ↦ elim r [
-      | inl x ↦ inr (chosen-has ds kept d (negated k) x)
+      | inl x ↦ inr (chosen-has first ds kept d (negated k) x)
       | inr y ↦ inr (let P : Option Literal → Type 0 = λ o. IfSome o (λ b. has (lits kept) b ≡ true) in subst P y a)
     ]
   ];
 }
 
 -- and it is met before each decision there
-pub learned-met : (m : ℕ) (late : Literal) (ds : List Literal) (assume : Option Literal) (kept : List Step) → IsApart m kept → value_in kept late.var ≡ None → newest kept ≡ first_of_list ds
+pub learned-met : (first m : ℕ) (late : Literal) (ds : List Literal) (assume : Option Literal) (kept : List Step) → IsApart m kept → value_in kept late.var ≡ None → AreChosen first ds kept → BeforeDecisions (Lacks ds) kept
     → BeforeDecisions (λ set. IsMet set (clause_of (late ∷ ds) assume)) kept
-learned-met m late [] assume kept a v e = none-before (clause_of (late ∷ []) assume) kept e
-learned-met m late (d ∷ ds) assume kept a v e =
+learned-met first m late [] assume kept a v c o = before-map (Lacks []) (λ set. IsMet set (clause_of (late ∷ []) assume)) kept (λ set h. absurd h) o
+learned-met first m late (d ∷ ds) assume kept a v c o =
     let out = absent-lit kept late v in
     let cause = λ (l : Literal) (h : has (late ∷ d ∷ ds) l ≡ true). map-has (causes (late ∷ d ∷ ds) assume) l (has-append_left (reverse (late ∷ d ∷ ds)) (option_to_list assume) l (has-reverse (late ∷ d ∷ ds) l h)) in
-    met-before m kept (clause_of (late ∷ d ∷ ds) assume) late d a e out
-    (λ q. let i = newest-has kept d e in let P : Literal → Type 0 = λ k. has (lits kept) k ≡ false in let o = subst P q out in cc)
+    met-before m kept (clause_of (late ∷ d ∷ ds) assume) late d a (before-map (Lacks (d ∷ ds)) (λ set. has set d ≡ false) kept (λ set h. h) o) out
+    (λ q. let i = chosen-has first (d ∷ ds) kept c d (has-head d ds) in let P : Literal → Type 0 = λ k. has (lits kept) k ≡ false in let o = subst P q out in cc)
     (cause late (has-head late (d ∷ ds))) (cause d (has-tail late d (d ∷ ds) (has-head d ds)))
-
--- it is fresh, without the assumption's negation
-pub learned-fresh : (lines : List (List Literal)) (late : Literal) (ds : List Literal) (assume : Option Literal) (kept : List Step) → Closed lines (lits kept) → IfSome assume (λ a. has (lits kept) a ≡ true)
-    → AreDecisions ds kept → value_in kept late.var ≡ None → HasNoRepeat (map negated (reverse ds) ++ negated late ∷ []) → Fresh lines assume (map negated (reverse ds) ++ negated late ∷ [])
-learned-fresh lines late ds assume kept c a d v once = record {
-  front = map negated (reverse ds);
-  last = negated late;
-  parts = refl;
-  once = once;
-  set = lits kept;
-  closed = c;
-  assumed = a;
-  denied = λ l h. chosen-has ds kept d (negated l) (reverse-has ds (negated l) (has-map (reverse ds) l h));
-  unset = absent-lit kept (negated late) v;
-  unset_negated = absent-lit kept (negated (negated late)) v;
-}
-
--- one step back
-pub back-there : (s : Step) (t : List Step) (early : Option Literal) → (newest (s ∷ t) ≡ early → ⊥) → HasPart (s ∷ t) early → HasPart t early
-back-there s t early other h = go h.0 h.1 h.2 h.3 where
-  go : (above kept : List Step) → s ∷ t ≡ above ++ kept → newest kept ≡ early → HasPart t early
-  go [] kept e n = absurd (other (ap newest e ∙ n))
-  go (x ∷ above) kept e n = let q : t ≡ above ++ kept = cc in (above, kept, q, n)
-
-pub back-none : (early : Option Literal) → (newest [] ≡ early → ⊥) → HasPart [] early → ⊥
-back-none early other h = go h.0 h.1 h.2 h.3 where
-  go : (above kept : List Step) → [] ≡ above ++ kept → newest kept ≡ early → ⊥
-  go [] kept e n = other (ap newest e ∙ n)
-  go (x ∷ above) kept e n = cc
-
-pub back-decided : (s : Step) (t : List Step) (early : Option Literal) → (newest (s ∷ t) ≡ early → ⊥) → newest t ≡ early → s.why ≡ Decided
-back-decided s t early other n = by s.why other where
-  by : (w : Why) → (first_of_list (decided_by w s.lit (decisions t)) ≡ early → ⊥) → w ≡ Decided
-  by (Line r) o = absurd (o n)
-  by Decided o = refl
-  by Assumed o = absurd (o n)
 
 pub has-var : (m : ℕ) (t : List Step) (l : Literal) → IsApart m t → has (lits t) l ≡ true → l.var < m
 has-var m [] l a h = absurd (cc)
@@ -212,17 +102,17 @@ has-var m (s ∷ t) l a h = elim (has-cases s.lit l (lits t) h) [
 ]
 
 -- no variable stands twice among the found
-chosen-distinct : (m : ℕ) (ds : List Literal) (t : List Step) → IsApart m t → AreDecisions ds t → HasNoRepeat ds
-chosen-distinct m [] t a h = tt
-chosen-distinct m (d ∷ ds) [] a h = absurd h
-chosen-distinct m (d ∷ ds) (s ∷ t) a h = elim h [
+pub chosen-distinct : (first m : ℕ) (ds : List Literal) (t : List Step) → IsApart m t → AreChosen first ds t → HasNoRepeat ds
+chosen-distinct first m [] t a h = tt
+chosen-distinct first m (d ∷ ds) [] a h = absurd h
+chosen-distinct first m (d ∷ ds) (s ∷ t) a h = elim h [
   | inl b ↦ (
-    (λ k g q. let i = chosen-has ds t b.2 k g in
+    (λ k g q. let i = chosen-has first ds t b.2 k g in
         let v : value_in t k.var ≡ None = (let e : s.lit.var ≡ k.var = ap (λ (j : Literal). j.var) (sym b.0) ∙ sym q in let P : ℕ → Type 0 = λ n. value_in t n ≡ None in subst P e a.1) in
         let n = absent-lit t k v in cc),
-    chosen-distinct m ds t a.2 b.2,
+    chosen-distinct first m ds t a.2 b.2,
   )
-  | inr b ↦ chosen-distinct m (d ∷ ds) t a.2 b
+  | inr b ↦ chosen-distinct first m (d ∷ ds) t a.2 b
 ]
 
 norepeat-snoc : (xs : List Literal) (l : Literal) → HasNoRepeat xs → ((k : Literal) → has xs k ≡ true → k.var ≢ l.var) → HasNoRepeat (xs ++ l ∷ [])
@@ -272,21 +162,24 @@ decision-more (Line r) l k ds h = h
 decision-more Decided l k ds h = has-tail l k ds h
 decision-more Assumed l k ds h = h
 
--- what was chosen is a decision
-pub chosen-decision : (ds : List Literal) (t : List Step) → AreDecisions ds t → (l : Literal) → has ds l ≡ true → has (decisions t) l ≡ true
-chosen-decision [] t h l g = absurd (cc)
-chosen-decision (d ∷ ds) [] h l g = absurd h
-chosen-decision (d ∷ ds) (s ∷ t) h l g = elim h [
-  | inl a ↦ elim (has-cases d l ds g) [
-    | inl e ↦ (let P : Literal → Type 0 = λ k. has (decided_by s.why s.lit (decisions t)) k ≡ true in subst P (sym (e ∙ a.0)) (head s.why a.1))
-    | inr r ↦ decision-more s.why s.lit l (decisions t) (chosen-decision ds t a.2 l r)
-  ]
-  | inr b ↦ decision-more s.why s.lit l (decisions t) (chosen-decision (d ∷ ds) t b l g)
-] where
-  head : (w : Why) → IsDecision w → has (decided_by w s.lit (decisions t)) s.lit ≡ true
-  head (Line r) q = absurd q
-  head Decided q = has-head s.lit (decisions t)
-  head Assumed q = absurd q
+-- what was chosen is below what bounds the first variables and each decision
+pub chosen-below : (first n : ℕ) (ds : List Literal) (t : List Step) → first ≤ n → AreChosen first ds t → DecidesBelow n t → (l : Literal) → has ds l ≡ true → l.var < n
+chosen-below first n [] t f h b l g = absurd (cc)
+chosen-below first n (d ∷ ds) [] f h b l g = absurd h
+chosen-below first n (d ∷ ds) (s ∷ t) f h b l g =
+    let older : DecidesBelow n t = (λ k e. b k (decision-more s.why s.lit k (decisions t) e)) in
+    elim h [
+      | inl a ↦ elim (has-cases d l ds g) [
+        | inl e ↦ (let q : l.var ≡ s.lit.var = ap (λ (k : Literal). k.var) (e ∙ a.0) in let x = here a.1 in omega (arith, q, x))
+        | inr r ↦ chosen-below first n ds t f a.2 older l r
+      ]
+      | inr c ↦ chosen-below first n (d ∷ ds) t f c older l g
+    ] where
+      here : IsChoice first s → s.lit.var < n
+      here c = elim c [
+        | inl x ↦ omega (arith, x, f)
+        | inr w ↦ b s.lit (let P : Why → Type 0 = λ y. has (decided_by y s.lit (decisions t)) s.lit ≡ true in subst P (sym w) (has-head s.lit (decisions t)))
+      ]
 
 decision-above : (above : List Step) (s : Step) (t : List Step) → s.why ≡ Decided → has (decisions (above ++ s ∷ t)) s.lit ≡ true
 decision-above [] s t e = let P : Why → Type 0 = λ w. has (decided_by w s.lit (decisions t)) s.lit ≡ true in subst P (sym e) (has-head s.lit (decisions t))
@@ -307,27 +200,20 @@ decides-all m (s ∷ t) a l h = each (λ g. decides-all m t a.2 l g) s.why h whe
   each older Decided g = elim (has-cases s.lit l (decisions t) g) [ inl e ↦ (let P : Literal → Type 0 = λ k. k.var < m in subst P (sym e) a.0) | inr r ↦ older r ]
 
 -- the whole step after a conflict
-pub goes-on : (lines : List (List Literal)) (assume : Option Literal) (m : ℕ) (above kept : List Step) (s : Step) (late : Literal) (ds : List Literal)
-    → IsReady lines assume (record { steps = above ++ s ∷ kept; vars = m }) → AreDecisions (late ∷ ds) (above ++ s ∷ kept) → s.why ≡ Decided → newest kept ≡ first_of_list ds
+pub goes-on : (lines : List (List Literal)) (assume : Option Literal) (first m : ℕ) (above kept : List Step) (s : Step) (late : Literal) (ds : List Literal)
+    → IsReady lines assume (record { steps = above ++ s ∷ kept; vars = m }) → AreChosen first (late ∷ ds) (above ++ s ∷ kept) → s.why ≡ Decided → value_in kept late.var ≡ None → AreChosen first ds kept → BeforeDecisions (Lacks ds) kept
     → (w : Why) → w ≡ Line (length (lines ++ clause_of (late ∷ ds) assume ∷ []) - 1)
-    → GoesOn lines (lines ++ clause_of (late ∷ ds) assume ∷ []) assume (record { steps = above ++ s ∷ kept; vars = m }) (record { steps = (record { lit = negated late; why = w }) ∷ kept; vars = m })
-goes-on lines assume m above kept s late ds r chosen sd n w we =
+    → GoesOn lines (lines ++ clause_of (late ∷ ds) assume ∷ []) assume first (record { steps = above ++ s ∷ kept; vars = m }) (record { steps = (record { lit = negated late; why = w }) ∷ kept; vars = m })
+goes-on lines assume first m above kept s late ds r chosen sd v others o w we =
     let c = clause_of (late ∷ ds) assume in
     let new = lines ++ c ∷ [] in
     let apart-s = apart-above m above (s ∷ kept) r.apart in
-    let q : above ++ s ∷ kept ≡ (above ++ s ∷ []) ++ kept = sym (append_assoc above (s ∷ []) kept) in
-    let AP : List Step → Type 0 = IsApart m in
-    let apart' = subst AP q r.apart in
-    let DP : List Step → Type 0 = AreDecisions (late ∷ ds) in
-    let chosen' = subst DP q chosen in
-    let v : value_in kept late.var ≡ None = late-popped m late ds (above ++ s ∷ []) kept apart' chosen' n in
-    let others : AreDecisions ds kept = others-kept m ds (above ++ s ∷ []) kept apart' (chosen-tail late ds _ chosen') n in
     let fs = founded-above lines assume above (s ∷ kept) r.founded in
     let RP : Why → Type 0 = λ y. RestsOn lines assume kept s.lit y in
     let base = subst RP sd fs.0 in
-    let met = learned-met m late ds assume kept apart-s.2 v n in
-    let unit = learned-unit late ds assume kept others base.1 in
-    let late-in : has (lits (above ++ s ∷ kept)) late ≡ true = chosen-has (late ∷ ds) (above ++ s ∷ kept) chosen late (has-head late ds) in
+    let met = learned-met first m late ds assume kept apart-s.2 v others o in
+    let unit = learned-unit first late ds assume kept others base.1 in
+    let late-in : has (lits (above ++ s ∷ kept)) late ≡ true = chosen-has first (late ∷ ds) (above ++ s ∷ kept) chosen late (has-head late ds) in
     let low : late.var < m = has-var m (above ++ s ∷ kept) late r.apart late-in in
     let UP : List Literal → Type 0 = λ y. IsUnit y (lits kept) (negated late) in
     let WP : Why → Type 0 = λ y. RestsOn new assume kept (negated late) y in
@@ -341,7 +227,7 @@ goes-on lines assume m above kept s late ds r chosen sd n w we =
         below = below-push m lines c r.below (λ l h. elim (cause-cases late ds assume (negated l) (has-map (causes (late ∷ ds) assume) l h)) [
           | inl e ↦ (let e' : l.var ≡ late.var = ap (λ (j : Literal). j.var) e in omega (arith, e', low))
           | inr x ↦ elim x [
-            | inl y ↦ has-var m (above ++ s ∷ kept) (negated l) r.apart (chosen-has (late ∷ ds) (above ++ s ∷ kept) chosen (negated l) (has-tail late (negated l) ds y))
+            | inl y ↦ has-var m (above ++ s ∷ kept) (negated l) r.apart (chosen-has first (late ∷ ds) (above ++ s ∷ kept) chosen (negated l) (has-tail late (negated l) ds y))
             | inr y ↦ has-var m kept (negated l) apart-s.2 (let P : Option Literal → Type 0 = λ o. IfSome o (λ b. has (lits kept) b ≡ true) in subst P y base.1)
           ]
         ]);
@@ -349,21 +235,22 @@ goes-on lines assume m above kept s late ds r chosen sd n w we =
       };
       nearer = distance-grows m (above ++ s ∷ kept) (step ∷ kept) after-apart
           (number-grows m above kept s step sd (ap digit we) apart-s.0 low (count-fits m m (above ++ s ∷ kept) r.apart));
-      below = λ k b. (
-        (λ l h. b (negated l) (chosen-decision (late ∷ ds) (above ++ s ∷ kept) chosen (negated l) (reverse-has (late ∷ ds) (negated l) (has-map (reverse (late ∷ ds)) l h)))),
+      below = λ k f b. (
+        (λ l h. chosen-below first k (late ∷ ds) (above ++ s ∷ kept) f chosen b (negated l) (reverse-has (late ∷ ds) (negated l) (has-map (reverse (late ∷ ds)) l h))),
         (let KP : Why → Type 0 = λ y. (l : Literal) → has (decided_by y (negated late) (decisions kept)) l ≡ true → l.var < k in
             subst KP (sym we) (λ l h. b l (decisions-older above s kept l h))),
       );
-      grew = λ k b.
-          let lo : late.var < k = b late (chosen-decision (late ∷ ds) (above ++ s ∷ kept) chosen late (has-head late ds)) in
+      grew = λ k f b.
+          let lo : late.var < k = chosen-below first k (late ∷ ds) (above ++ s ∷ kept) f chosen b late (has-head late ds) in
           let so : s.lit.var < k = b s.lit (decision-above above s kept sd) in
           number-grows k above kept s step sd (ap digit we) so lo (count-fits m k (above ++ s ∷ kept) r.apart);
       longer = record {
         clause = map negated (reverse (late ∷ ds));
         lines = ap (λ y. lines ++ y ∷ []) (map-append (reverse (late ∷ ds)) (option_to_list assume));
         fresh = (let FP : List Literal → Type 0 = λ y. Fresh lines assume y in let e = front-last late ds in
-            subst FP (sym e) (learned-fresh lines late ds assume kept base.0 base.1 others v
-            (let NP : List Literal → Type 0 = HasNoRepeat in subst NP e (norepeat-clause (late ∷ ds) (chosen-distinct m (late ∷ ds) (above ++ s ∷ kept) r.apart chosen)))));
+            subst FP (sym e) (first_law lines assume above kept s r.founded sd (map negated (reverse ds)) (negated late)
+            (λ l h. chosen-has first ds kept others (negated l) (reverse-has ds (negated l) (has-map (reverse ds) l h))) v
+            (let NP : List Literal → Type 0 = HasNoRepeat in subst NP e (norepeat-clause (late ∷ ds) (chosen-distinct first m (late ∷ ds) (above ++ s ∷ kept) r.apart chosen)))));
       };
     } where
       more : (o : Option Literal) → IfSome o (λ a. has (lits kept) a ≡ true) → IfSome o (λ a. has (negated late ∷ lits kept) a ≡ true)

@@ -21,10 +21,10 @@ pub record IsModelled (lines : List (List Literal)) (assume : Option Literal) (m
   pub model : IsModel lines bools
   pub assumed : IfSome assume (λ a. lit_true bools a ≡ true)
 
-abbrev pub IsFound : List (List Literal) → List (List Literal) → Option Literal → ℕ → Option ℕ → Found → Type 0
-IsFound old new assume m budget (Model bools) = IsModelled new assume m bools
-IsFound old new assume m budget Refuted = IsRefuted new assume
-IsFound old new assume m budget (Spent list) = IsSomeAnd budget (λ b. IsSpent old new assume m b list)
+abbrev pub IsFound : List (List Literal) → List (List Literal) → Option Literal → ℕ → ℕ → Option ℕ → Found → Type 0
+IsFound old new assume first m budget (Model bools) = IsModelled new assume m bools
+IsFound old new assume first m budget Refuted = IsRefuted new assume
+IsFound old new assume first m budget (Spent list) = IsSomeAnd budget (λ b. IsSpent old new assume first m b list)
 
 -- where the budget is not spent, fewer clauses came than it says: one line fewer at least, or as many lines where the last one refutes
 abbrev pub IsUnspent : List (List Literal) → List (List Literal) → Option ℕ → Found → Type 0

@@ -3,9 +3,15 @@ pub mod Table
 pub mod Analysis
 pub mod Looking
 pub mod Marking
-pub mod Cut
 pub mod Search
 pub mod State
 pub mod Solving
 pub mod Answers
 pub mod Laws
+pub mod Same
+pub mod Watching
+pub mod Turning
+pub mod Propagating
+pub mod Based
+pub mod Picking
+pub mod Fixed

@@ -1,12 +1,11 @@
 -- The state of a search.
-use Rattle.std.specs.Prelude.{◌≡◌, ℕ, ◌<◌, ◌≤◌, Bool, true, false, List, [], ◌∷◌, ◌++◌, map, length, Option, Some, None, IfSome, IsSome}
+use Rattle.std.specs.Prelude.{◌≡◌, ℕ, ◌<◌, ◌≤◌, Bool, true, List, [], ◌∷◌, ◌++◌, map, length, Option, Some, None, IfSome, IsSome}
 use Rattle.std.specs.Option.{option_to_list}
 use Rattle.rt_clause.specs.Literal.{Literal, negated}
 use Rattle.rt_clause.specs.Lists.{has, line_at, IsMet, Fresh, Determined}
 use Rattle.rt_clause.specs.Models.{IsModel}
 use Rattle.rt_clause.specs.Refuting.{Refutes}
-use Rattle.rt_solver.specs.Trail.{lits, value_in, IsApart, IsFounded, distance, number, decisions, first_of_list}
-use Rattle.rt_solver.specs.declared.learn.Pair.{Pair}
+use Rattle.rt_solver.specs.Trail.{lits, value_in, IsApart, IsFounded, distance, number, decisions}
 use Rattle.rt_solver.specs.declared.trail.Step.{Step}
 use Rattle.rt_solver.specs.Table.{Tracked}
 use Rattle.rt_solver.specs.Looking.{IsBelow, AreBelow}
@@ -50,22 +49,26 @@ flags assume learned = map (λ line. true) (map (line_of assume) learned)
 abbrev pub KeepsModels : List (List Literal) → List (List Literal) → Type 0
 KeepsModels old new = (bools : List Bool) → IsModel old bools → IsModel new bools
 
--- fresh clauses were learned since old, counted by each number of variables that determine all of them
-pub record HasLearned (old new : List (List Literal)) (flags_old flags_new : List Bool) (assume : Option Literal) (trail : Tracked) : Type 0 where
+-- P holds of all m variables, and of the first ones where these determine the others
+abbrev pub AtBounds : List (List Literal) → ℕ → ℕ → (ℕ → Type 0) → Type 0
+AtBounds lines first m P = P m × (Determined lines first m → P first)
+
+-- fresh clauses were learned since old, counted by all variables, and by the first ones where these determine the others
+pub record HasLearned (old new : List (List Literal)) (flags_old flags_new : List Bool) (assume : Option Literal) (first : ℕ) (trail : Tracked) : Type 0 where
   pub learned : List (List Literal)
   pub fresh : AreFresh old assume learned
   pub lines : new ≡ old ++ map (line_of assume) learned
   pub derived : flags_new ≡ flags_old ++ flags assume learned
   pub sound : KeepsModels old new
-  pub counted : (n : ℕ) → Determined old n trail.vars → IsCounted n learned trail.steps
+  pub counted : AtBounds old first trail.vars (λ n. IsCounted n learned trail.steps)
 
 -- the search goes on, nearer to its end
-pub record GoesOn (old new : List (List Literal)) (assume : Option Literal) (before after : Tracked) : Type 0 where
+pub record GoesOn (old new : List (List Literal)) (assume : Option Literal) (first : ℕ) (before after : Tracked) : Type 0 where
   pub ready : IsReady new assume after
   pub nearer : distance before.vars after.steps < distance before.vars before.steps
   pub longer : IsLonger old new assume
-  pub below : (n : ℕ) → DecidesBelow n before.steps → IsBelow n longer.clause × DecidesBelow n after.steps
-  pub grew : (n : ℕ) → DecidesBelow n before.steps → number n before.steps < number n after.steps
+  pub below : (n : ℕ) → first ≤ n → DecidesBelow n before.steps → IsBelow n longer.clause × DecidesBelow n after.steps
+  pub grew : (n : ℕ) → first ≤ n → DecidesBelow n before.steps → number n before.steps < number n after.steps
 
 -- each variable below n has a value
 abbrev pub HasValues : ℕ → List Step → Type 0
@@ -80,11 +83,12 @@ pub record IsWhole (lines : List (List Literal)) (trail : Tracked) : Type 0 wher
 abbrev pub IsEnd : List (List Literal) → List (List Literal) → Option Literal → Type 0
 IsEnd old new assume = (c : List Literal) × (new ≡ old ++ c ∷ []) × Refutes assume c
 
-abbrev pub IsStep : List (List Literal) → List (List Literal) → Option Literal → Tracked → Tracked → Bool → Type 0
-IsStep old new assume before after true = IsEnd old new assume
-IsStep old new assume before after false = GoesOn old new assume before after
+-- a step after a conflict: it refuted, or the line was learned
+abbrev pub IsStep : List (List Literal) → List (List Literal) → Option Literal → ℕ → Tracked → Tracked → Option (List Literal) → Type 0
+IsStep old new assume first before after None = IsEnd old new assume
+IsStep old new assume first before after (Some line) = GoesOn old new assume first before after × (new ≡ old ++ line ∷ [])
 
--- the first of a list, and the second where there is one
-abbrev pub AreFirst : List Literal → Option Pair → Type 0
-AreFirst found None = found ≡ []
-AreFirst found (Some p) = (rest : List Literal) × (found ≡ p.late ∷ rest) × (first_of_list rest ≡ p.early)
+-- the first of a list
+abbrev pub IsFirst : List Literal → Option Literal → Type 0
+IsFirst found None = found ≡ []
+IsFirst found (Some l) = (rest : List Literal) × (found ≡ l ∷ rest)

@@ -1,91 +1,244 @@
-ghost use Rattle.std.specs.Prelude.{◌≡◌, ℕ, ◌<◌, ◌+◌, ◌^◌, List, ◌∷◌, length, reverse, true, IfOk, OnOk, Option};
+ghost use Rattle.std.specs.Prelude.{◌≡◌, ℕ, ◌<◌, ◌≤◌, ◌+◌, List, ◌∷◌, [], length, true, false, IfOk, OnOk, Option, MatchOption, IsTrue, ◌↔◌, ◌⊎◌};
 ghost use Rattle.rt_clause.specs.Lists.{has, line_at};
 ghost use Rattle.rt_clause.specs.Literal.{Literal};
 ghost use Rattle.rt_solver.specs.declared.trail.Step.{Step};
-ghost use Rattle.rt_solver.specs.Trail.{lits, IsFounded, RestsOn, IsLineWithin};
-ghost use Rattle.rt_solver.specs.Looking.{AreBelow, IsBroken};
-ghost use Rattle.rt_solver.specs.Analysis.{IsLearned, IsWalked};
+ghost use Rattle.rt_solver.specs.declared.trail.Why.TheVariants.{Decided};
+ghost use Rattle.rt_solver.specs.Marking.{marked_by};
+ghost use Rattle.rt_solver.specs.Trail.{lits, oldest, IsApart, IsFounded, RestsOn, IsLineWithin};
+ghost use Rattle.rt_solver.specs.Looking.{IsBelow, AreBelow, IsBroken};
+ghost use Rattle.rt_solver.specs.Analysis.{IsLearned, IsRested, IsWalked, IsChoiceAt, IsMarkedAt, IsUnled, IsGathered, IsSought, IsTraced};
 
+use crate::base::Base;
+use crate::lead::lead;
 use crate::marks::Marks;
-use crate::store::Store;
 use crate::trail::{Step, Trail, Why};
-use rt_clause::Lit;
+use crate::walk::Walk;
+use rt_clause::{Lines, Lit};
 use rt_value::NoMemory;
-use std::alloc::Global;
 
-/// The decisions that a conflict rests on, latest first, and the lines that lead there.
-#[derive(Drop)]
-pub struct Learned {
-    pub found: Vec<Lit>,
-    pub hints: Vec<usize>,
-}
-
-/// A walk back over the trail.
-#[derive(Drop)]
-pub(crate) struct Walk {
-    pub(crate) marks: Marks,
-    pub(crate) found: Vec<Lit>,
-    pub(crate) hints: Vec<usize>,
-}
-
-fn visit(lines: &Store, step: Step, walk: &mut Walk) -> Result<(), NoMemory>
-    requires below { AreBelow (length walk.old.marks) lines.now }
-    requires var { step.lit.var < length walk.old.marks }
-    requires line { IsLineWithin lines.now step.why }
-    ensures { OnOk result ((assume : Option Literal) (vars : ℕ) (trail rest : List Step) → RestsOn lines.now assume rest step.lit step.why
-        → IsWalked lines.now assume vars trail (step ∷ rest) walk.old → IsWalked lines.now assume vars trail rest walk.new) }
+// Resolves with the line that a marked step rests on.
+fn visit<L: Lines + Drop>(base: &Base<L>, step: Step, walk: &mut Walk) -> Result<(), NoMemory>
+    requires below { AreBelow (length walk.old.marks.marks) (L.lines base.now.0) }
+    requires var { step.lit.var < length walk.old.marks.marks }
+    requires line { IsLineWithin (L.lines base.now.0) step.why }
+    ensures found { OnOk result (walk.new.found.items ≡ walk.old.found.items) }
+    ensures marks { length walk.new.marks.marks ≡ length walk.old.marks.marks }
+    ensures walked { OnOk result ((assume : Option Literal) (vars : ℕ) (rest : List Step) → IsApart vars (step ∷ rest) → RestsOn (L.lines base.now.0) assume rest step.lit step.why
+        → (marked_by walk.old.marks step.lit.var ≡ true → step.why ≡ Decided → ⊥)
+        → IsWalked (L.lines base.now.0) assume vars (step ∷ rest) walk.old → IsWalked (L.lines base.now.0) assume vars rest walk.new) }
 {
     let lit = step.lit;
     if !walk.marks.is(lit.var()) {
         return Ok(());
     }
+    walk.marks.visit();
     match step.why {
         Why::Line(r) => {
             walk.hints.push(r)?;
-            walk.marks.mark(lines.at(r));
+            walk.marks.mark(base.at(r))?;
         }
-        Why::Decided => walk.found.push(lit)?,
+        Why::Decided => {}
         Why::Assumed => {}
     }
     Ok(())
 }
 
-fn reversed(alloc: Global, hints: &[usize]) -> Result<Vec<usize>, NoMemory>
-    ensures { IfOk result (λ v. v.items ≡ reverse hints.now) }
+// Whether steps are left that may be marked.
+fn is_due(walk: &Walk, place: usize) -> bool
+    ensures due { IsTrue result → 0 < place }
+    ensures over { result ≡ false → (place ≡ 0) ⊎ (walk.now.marks.due ≡ 0) }
 {
-    Ok(hints.iter().rev().copied().collect(alloc)?)
+    place > 0 && walk.marks.due() > 0
 }
 
-pub fn explain(
-    alloc: Global,
-    lines: &Store,
+// Walks back to the latest literal of the clause, and says how many steps are left before the newest
+// decision there.
+fn seek<L: Lines + Drop>(
+    base: &Base<L>,
     assume: &Option<Lit>,
+    first: usize,
+    trail: &Trail,
+    walk: &mut Walk,
+) -> Result<Option<usize>, NoMemory>
+    requires founded { IsFounded (L.lines base.now.0) assume.now trail.now.steps }
+    requires below { AreBelow trail.now.vars (L.lines base.now.0) }
+    requires none { walk.old.found.items ≡ [] }
+    requires walked { IsWalked (L.lines base.now.0) assume.now trail.now.vars trail.now.steps walk.old }
+    ensures { IfOk result (λ cut. MatchOption cut (IsSought (L.lines base.now.0) assume.now trail.now walk.new) (λ i. IsGathered (L.lines base.now.0) assume.now first trail.now i i walk.new)) }
+{
+    let mut seen = trail.len();
+    let mut i = trail.len();
+    'seek: while is_due(walk, i) {
+        i -= 1;
+        let step = trail.at(i);
+        let found = lead(trail, &walk.marks, i, first, &mut seen);
+        if let Some(cut) = found {
+            walk.keep(step.lit)?;
+            return Ok(Some(cut));
+        }
+        visit(base, step, walk)?;
+    }
+    Ok(None)
+}
+
+// Whether each literal of a line is marked, or got its value before the first decision.
+fn is_known(line: &[Lit], trail: &Trail, marks: &Marks) -> bool
+    requires below { IsBelow trail.now.vars line.now }
+    requires marks { length marks.now.marks ≡ trail.now.vars }
+{
+    for l in line {
+        let lit = *l;
+        let v = lit.var();
+        if !marks.is(v) && !trail.is_early(v) {
+            return false;
+        }
+    }
+    true
+}
+
+// Whether the literal of the step at a place is found: the step is marked, and a decision or one of
+// the first ones. What is true before the first decision is resolved away, and what the other
+// marked ones imply.
+fn stays<L: Lines + Drop>(
+    base: &Base<L>,
+    trail: &Trail,
+    walk: &Walk,
+    place: usize,
+    first: usize,
+) -> bool
+    requires line { (s : Step) → oldest (place + 1) trail.now.steps ≡ s ∷ oldest place trail.now.steps → IsLineWithin (L.lines base.now.0) s.why }
+    requires below { AreBelow trail.now.vars (L.lines base.now.0) }
+    requires place { place < length trail.now.steps }
+    requires marks { length walk.now.marks.marks ≡ trail.now.vars }
+    ensures marked { IsTrue result → IsMarkedAt trail.now.steps (marked_by walk.now.marks) place }
+    ensures choice { IsTrue result → IsChoiceAt first trail.now.steps place }
+    ensures other { result ≡ false → IsUnled trail.now.steps (marked_by walk.now.marks) place }
+{
+    let step = trail.at(place);
+    let lit = step.lit;
+    let marked = walk.marks.is(lit.var());
+    match step.why {
+        Why::Decided => marked,
+        Why::Line(r) => {
+            marked
+                && lit.var() < first
+                && trail.root() < place
+                && !is_known(base.at(r), trail, &walk.marks)
+        }
+        Why::Assumed => false,
+    }
+}
+
+// Whether a decision is passed while one literal is found.
+fn ends(walk: &Walk, why: Why) -> bool
+    ensures { IsTrue result ↔ (length walk.now.found.items < 2 × why ≡ Decided) }
+{
+    walk.found.len() < 2 && why.is_decided()
+}
+
+// Visits the step at a place, and says how many steps are to be left then.
+fn pass<L: Lines + Drop>(
+    base: &Base<L>,
+    assume: &Option<Lit>,
+    first: usize,
+    trail: &Trail,
+    place: usize,
+    cut: usize,
+    walk: &mut Walk,
+) -> Result<usize, NoMemory>
+    requires place { place < length trail.now.steps }
+    requires founded { IsFounded (L.lines base.now.0) assume.now trail.now.steps }
+    requires below { AreBelow trail.now.vars (L.lines base.now.0) }
+    requires gathered { IsGathered (L.lines base.now.0) assume.now first trail.now (place + 1) cut walk.old }
+    ensures { IfOk result (λ new. IsGathered (L.lines base.now.0) assume.now first trail.now place new walk.new) }
+{
+    let step = trail.at(place);
+    let why = step.why;
+    if stays(base, trail, walk, place, first) {
+        walk.keep(step.lit)?;
+        return Ok(cut);
+    }
+    visit(base, step, walk)?;
+    if ends(walk, why) { Ok(place) } else { Ok(cut) }
+}
+
+// Whether steps are left that may be marked, or decisions to go back to while one literal is found.
+fn is_left(walk: &Walk, place: usize) -> bool
+    ensures left { IsTrue result → 0 < place }
+    ensures over { result ≡ false → (place ≡ 0) ⊎ ((walk.now.marks.due ≡ 0) × (2 ≤ length walk.now.found.items)) }
+{
+    place > 0 && (walk.marks.due() > 0 || walk.found.len() < 2)
+}
+
+// Walks back from there over the rest of the trail, as far as marks are due.
+fn gather<L: Lines + Drop>(
+    base: &Base<L>,
+    assume: &Option<Lit>,
+    first: usize,
+    trail: &Trail,
+    cut: usize,
+    walk: &mut Walk,
+) -> Result<usize, NoMemory>
+    requires founded { IsFounded (L.lines base.now.0) assume.now trail.now.steps }
+    requires below { AreBelow trail.now.vars (L.lines base.now.0) }
+    requires gathered { IsGathered (L.lines base.now.0) assume.now first trail.now cut cut walk.old }
+    ensures { IfOk result (λ new. IsGathered (L.lines base.now.0) assume.now first trail.now 0 new walk.new) }
+{
+    let mut cut = cut;
+    let mut i = cut;
+    'gather: while is_left(walk, i) {
+        i -= 1;
+        cut = pass(base, assume, first, trail, i, cut, walk)?;
+    }
+    Ok(cut)
+}
+
+// Walks back until no mark is due, and says how many steps are to be left.
+fn trace<L: Lines + Drop>(
+    base: &Base<L>,
+    assume: &Option<Lit>,
+    first: usize,
+    trail: &Trail,
+    walk: &mut Walk,
+) -> Result<usize, NoMemory>
+    requires founded { IsFounded (L.lines base.now.0) assume.now trail.now.steps }
+    requires below { AreBelow trail.now.vars (L.lines base.now.0) }
+    requires none { walk.old.found.items ≡ [] }
+    requires walked { IsWalked (L.lines base.now.0) assume.now trail.now.vars trail.now.steps walk.old }
+    ensures { IfOk result (λ cut. IsTraced (L.lines base.now.0) assume.now first trail.now cut walk.new) }
+{
+    match seek(base, assume, first, trail, walk)? {
+        None => Ok(0),
+        Some(start) => {
+            let cut = gather(base, assume, first, trail, start, walk)?;
+            Ok(cut)
+        }
+    }
+}
+
+/// Says what a conflict rests on: decisions and literals of the first variables, and exactly one of
+/// them is as late as the newest decision among them. It answers how many of the oldest steps are
+/// left where all of them but the latest are true.
+pub(crate) fn explain<L: Lines + Drop>(
+    base: &Base<L>,
+    assume: &Option<Lit>,
+    first: usize,
     trail: &Trail,
     conflict: usize,
-) -> Result<Learned, NoMemory>
-    requires conflict { conflict < length lines.now }
-    requires broken { IsBroken (lits trail.now.steps) (line_at lines.now conflict) }
-    requires founded { IsFounded lines.now assume.now trail.now.steps }
-    requires below { AreBelow trail.now.vars lines.now }
-    ensures { IfOk result (λ x. IsLearned lines.now assume.now trail.now.steps x) }
+    walk: &mut Walk,
+) -> Result<usize, NoMemory>
+    requires conflict { conflict < length (L.lines base.now.0) }
+    requires broken { IsBroken (lits trail.now.steps) (line_at (L.lines base.now.0) conflict) }
+    requires founded { IsFounded (L.lines base.now.0) assume.now trail.now.steps }
+    requires below { AreBelow trail.now.vars (L.lines base.now.0) }
+    requires apart { IsApart trail.now.vars trail.now.steps }
+    requires rested { IsRested trail.now.vars walk.old }
+    ensures marks { IfOk result (λ _. length walk.new.marks.marks ≡ trail.now.vars) }
+    ensures learned { IfOk result (λ cut. IsLearned (L.lines base.now.0) assume.now first trail.now.steps cut walk.new) }
 {
-    let mut marks = Marks::new(alloc, trail.vars())?;
-    marks.mark(lines.at(conflict));
-    let mut walk = Walk {
-        marks,
-        found: Vec::new(alloc),
-        hints: vec![in alloc; conflict]?,
-    };
-    let mut i = trail.len();
-    'walk: while i > 0 {
-        i -= 1;
-        visit(lines, trail.at(i), &mut walk)?;
-    }
-    let Walk {
-        marks: _,
-        found,
-        hints,
-    } = walk;
-    let hints = reversed(alloc, hints.as_slice())?;
-    Ok(Learned { found, hints })
+    walk.begin(conflict)?;
+    walk.marks.mark(base.at(conflict))?;
+    let cut = trace(base, assume, first, trail, walk)?;
+    walk.finish();
+    Ok(cut)
 }

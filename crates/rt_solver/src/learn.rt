@@ -1,16 +1,19 @@
-ghost use Rattle.std.specs.Prelude.{◌≡◌, ℕ, ◌<◌, [], ◌∷◌, ◌++◌, length, map, reverse, true, IfOk, IfErr, OnOk, OnErr};
-ghost use Rattle.std.specs.List.{All as Each};
-ghost use Rattle.rt_clause.specs.Literal.{Literal, negated};
-ghost use Rattle.rt_clause.specs.Lists.{line_at, follows};
-ghost use Rattle.rt_solver.specs.Trail.{lits};
-ghost use Rattle.rt_solver.specs.Looking.{IsBroken};
-ghost use Rattle.rt_solver.specs.Analysis.{clause_of};
-ghost use Rattle.rt_solver.specs.Search.{KeepsModels, IsReady, IsStep, AreFirst};
+ghost use Rattle.std.specs.Prelude.{◌≡◌, [], ◌∷◌, ◌++◌, map, reverse, true, option_map, vec_items, IfSome, IfOk, IfErr};
+ghost use Rattle.std.specs.Option.{option_to_list};
+ghost use Rattle.rt_clause.specs.Literal.{negated};
+ghost use Rattle.rt_solver.specs.Analysis.{clause_of, IsRested};
+ghost use Rattle.rt_solver.specs.Propagating.{AreWatchedBefore, IsConflict, IsQueuedNow};
+ghost use Rattle.rt_solver.specs.Fixed.{AreSmallest};
+ghost use Rattle.rt_solver.specs.Picking.{IsOffered};
+ghost use Rattle.rt_solver.specs.Search.{KeepsModels, IsReady, IsStep, IsFirst};
 
 use crate::back::back;
+use crate::base::Base;
+use crate::clause::Clause;
 use crate::explain::explain;
-use crate::store::Store;
+use crate::pick::Pick;
 use crate::trail::{Step, Trail, Why};
+use crate::walk::Walk;
 use rt_clause::{Lines, Lit};
 use rt_value::NoMemory;
 use std::alloc::Global;
@@ -31,84 +34,75 @@ fn clause(alloc: Global, found: &[Lit], assume: &Option<Lit>) -> Result<Vec<Lit>
     Ok(lits)
 }
 
-// The latest decision of a learned clause, and the one before it.
-#[derive(Clone, Copy)]
-pub struct Pair {
-    late: Lit,
-    early: Option<Lit>,
+fn negations_in_order(alloc: Global, found: &[Lit]) -> Result<Vec<Lit>, NoMemory>
+    ensures { IfOk result (λ v. v.items ≡ map negated found.now) }
+{
+    Ok(found.iter().map(|l| l.negated()).collect(alloc)?)
 }
 
-// The first literal, and the second where there is one.
-fn two(found: &[Lit]) -> Option<Pair>
-    ensures { AreFirst found.now result }
+// The same literals, the negation of the latest one first and then that of the one before it.
+fn copy(alloc: Global, found: &[Lit], assume: &Option<Lit>) -> Result<Clause, NoMemory>
+    ensures { IfOk result (λ c. c ≡ map negated (found.now ++ option_to_list assume.now)) }
+{
+    let mut lits = negations_in_order(alloc, found)?;
+    if let Some(a) = assume {
+        lits.push(a.negated())?;
+    }
+    Clause::new(alloc, lits.as_slice())
+}
+
+fn latest(found: &[Lit]) -> Option<Lit>
+    ensures { IsFirst found.now result }
 {
     match found {
         [] => None,
-        [late] => Some(Pair {
-            late: *late,
-            early: None,
-        }),
-        [late, early, ..] => Some(Pair {
-            late: *late,
-            early: Some(*early),
-        }),
+        [late, ..] => Some(*late),
     }
 }
 
-// Hands a line to the lines, which take it.
-fn accept<L: Lines>(lines: &mut L, lits: &[Lit], hints: &[usize]) -> Result<(), NoMemory>
-    requires within { Each (λ h. h < length (L.lines lines.old)) hints.now }
-    requires follow { follows (L.lines lines.old) lits.now hints.now ≡ true }
-    ensures lines { OnOk result (L.lines lines.new ≡ L.lines lines.old ++ lits.now ∷ []) }
-    ensures sound { OnOk result (KeepsModels (L.lines lines.old) (L.lines lines.new)) }
-    ensures derived { OnOk result (L.derived lines.new ≡ L.derived lines.old ++ true ∷ []) }
-    ensures err_lines { OnErr result (L.lines lines.new ≡ L.lines lines.old) }
-    ensures err_derived { OnErr result (L.derived lines.new ≡ L.derived lines.old) }
-{
-    let yes = lines.derive(lits, hints)?;
-    prove!(yes);
-    Ok(())
-}
-
-/// Learns from a conflict, and goes back; or it refutes. The lines take the learned one last, so that after an error they are as before.
-pub(crate) fn learn<L: Lines>(
+/// Learns from a conflict, and goes back; or it refutes, and then names no line. After an error the lines are as before.
+pub(crate) fn learn<L: Lines + Drop>(
     alloc: Global,
-    lines: &mut L,
-    clauses: &mut Store,
+    base: &mut Base<L>,
     assume: &Option<Lit>,
+    first: usize,
     trail: &mut Trail,
+    pick: &mut Pick,
+    walk: &mut Walk,
     conflict: usize,
-) -> Result<bool, NoMemory>
-    requires same { L.lines lines.old ≡ clauses.old }
-    requires ready { IsReady clauses.old assume.now trail.old }
-    requires conflict { conflict < length clauses.old }
-    requires broken { IsBroken (lits trail.old.steps) (line_at clauses.old conflict) }
-    ensures same { IfOk result (λ _. L.lines lines.new ≡ clauses.new) }
-    ensures derived { IfOk result (λ _. L.derived lines.new ≡ L.derived lines.old ++ true ∷ []) }
-    ensures sound { IfOk result (λ _. KeepsModels (L.lines lines.old) (L.lines lines.new)) }
+) -> Result<Option<Vec<Lit>>, NoMemory>
+    requires ready { IsReady (L.lines base.old.0) assume.now trail.old }
+    requires conflict { IsConflict (L.lines base.old.0) trail.old.steps conflict }
+    requires before { AreWatchedBefore base.old.1 trail.old.steps }
+    requires rested { IsRested trail.old.vars walk.old }
+    requires offered { IsOffered pick.old trail.old.steps }
+    ensures derived { IfOk result (λ _. L.derived base.new.0 ≡ L.derived base.old.0 ++ true ∷ []) }
+    ensures sound { IfOk result (λ _. KeepsModels (L.lines base.old.0) (L.lines base.new.0)) }
     ensures vars { trail.new.vars ≡ trail.old.vars }
-    ensures step { IfOk result (λ done. IsStep clauses.old clauses.new assume.now trail.old trail.new done) }
-    ensures err_lines { IfErr result (λ _. L.lines lines.new ≡ L.lines lines.old) }
-    ensures err_derived { IfErr result (λ _. L.derived lines.new ≡ L.derived lines.old) }
+    ensures bound { pick.new.bound ≡ pick.old.bound }
+    ensures offered { IfOk result (λ _. IsOffered pick.new trail.new.steps) }
+    ensures smallest { IfOk result (λ _. AreSmallest trail.old.steps → AreSmallest trail.new.steps) }
+    ensures rested { IfOk result (λ _. IsRested trail.new.vars walk.new) }
+    ensures step { IfOk result (λ line. IsStep (L.lines base.old.0) (L.lines base.new.0) assume.now first trail.old trail.new (option_map vec_items line)) }
+    ensures queued { IfOk result (λ line. IfSome (option_map vec_items line) (λ _. IsQueuedNow base.new.1 trail.new.steps)) }
+    ensures err_lines { IfErr result (λ _. L.lines base.new.0 ≡ L.lines base.old.0) }
+    ensures err_derived { IfErr result (λ _. L.derived base.new.0 ≡ L.derived base.old.0) }
 {
-    let learned = explain(alloc, clauses, assume, trail, conflict)?;
-    let lits = clause(alloc, learned.found.as_slice(), assume)?;
-    clauses.push(lits.as_slice())?;
-    match two(learned.found.as_slice()) {
-        None => {
-            accept(lines, lits.as_slice(), learned.hints.as_slice())?;
-            Ok(true)
-        }
-        Some(pair) => {
-            let Pair { late, early } = pair;
-            back(trail, early);
-            let why = Why::Line(clauses.len() - 1);
+    let cut = explain(base, assume, first, trail, conflict, walk)?;
+    let line = clause(alloc, walk.found.as_slice(), assume)?;
+    let copy = copy(alloc, walk.found.as_slice(), assume)?;
+    base.derive(copy, line.as_slice(), walk.hints.as_slice())?;
+    walk.rest(pick);
+    match latest(walk.found.as_slice()) {
+        None => Ok(None),
+        Some(late) => {
+            back(trail, pick, cut);
+            let why = Why::Line(base.len() - 1);
             trail.push(Step {
                 lit: late.negated(),
                 why,
-            })?;
-            accept(lines, lits.as_slice(), learned.hints.as_slice())?;
-            Ok(false)
+            });
+            Ok(Some(line))
         }
     }
 }

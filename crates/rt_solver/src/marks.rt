@@ -1,53 +1,109 @@
-ghost use Rattle.std.specs.Prelude.{◌≡◌, ℕ, ◌<◌, length, true, false, IfOk};
+ghost use Rattle.std.specs.Prelude.{◌≡◌, ℕ, List, ◌+◌, ◌-◌, ◌<◌, ◌≤◌, length, true, false, IfOk, OnOk, MatchOption};
 ghost use Rattle.rt_clause.specs.Literal.{Literal};
 ghost use Rattle.rt_clause.specs.Lists.{has};
+ghost use Rattle.rt_solver.specs.declared.trail.Step.{Step};
 ghost use Rattle.rt_solver.specs.Looking.{IsBelow};
-ghost use Rattle.rt_solver.specs.Marking.{marked_by};
+ghost use Rattle.rt_solver.specs.Marking.{marked_by, marked_steps, IsUnmarked};
+ghost use Rattle.rt_solver.specs.Trail.{IsApart};
 
 use rt_clause::Lit;
 use rt_value::NoMemory;
 use std::alloc::Global;
 use std::marker::Model;
 
-/// Which variables are marked.
+/// Which variables are marked, and how many of them are still to be visited. They are kept from one
+/// conflict to the next, so that taking the marks away costs no more than setting them did.
 #[derive(Drop)]
 pub(crate) struct Marks {
     marks: Vec<bool>,
+    marked: Vec<usize>,
+    due: usize,
 }
 
 impl Model for Marks {
-    ghost use Rattle.std.specs.Prelude.{List, Bool};
+    ghost use Rattle.rt_solver.specs.Marking.{Marked, IsMarking};
 
-    ghost Value = { List Bool };
+    ghost Value = { Marked };
 
-    ghost view = { λ m. m.marks.items };
+    ghost view = { λ m. record { marks = m.marks.items; marked = m.marked.items; due = m.due } };
+
+    ghost invariant = { λ m. IsMarking m.marks.items m.marked.items m.due };
 }
 
 impl Marks {
     pub(crate) fn new(alloc: Global, n: usize) -> Result<Marks, NoMemory>
-        ensures { IfOk result (λ m. length m ≡ n) }
+        ensures len { IfOk result (λ m. length m.marks ≡ n) }
+        ensures none { IfOk result (λ m. IsUnmarked m) }
     {
         let marks = vec![in alloc; false; n]?;
-        Ok(Marks { marks })
+        Ok(Marks {
+            marks,
+            marked: Vec::new(alloc),
+            due: 0,
+        })
     }
 
     pub(crate) fn is(&self, v: usize) -> bool
-        requires { v < length self.now }
+        requires { v < length self.now.marks }
         ensures { result ≡ marked_by self.now v }
     {
         self.marks[v]
     }
 
-    pub(crate) fn mark(&mut self, line: &[Lit])
-        requires { IsBelow (length self.old) line.now }
-        ensures len { length self.new ≡ length self.old }
+    /// How many marked variables are to be visited.
+    pub(crate) fn due(&self) -> usize
+        ensures { result ≡ self.now.due }
+    {
+        self.due
+    }
+
+    // Marks a variable.
+    fn set(&mut self, v: usize) -> Result<(), NoMemory>
+        requires { v < length self.old.marks }
+        ensures len { length self.new.marks ≡ length self.old.marks }
+        ensures kept { (w : ℕ) → marked_by self.old w ≡ true → marked_by self.new w ≡ true }
+        ensures is { OnOk result (marked_by self.new v ≡ true) }
+        ensures counted { (n : ℕ) (t : List Step) → IsApart n t → marked_steps self.new t + self.old.due ≤ marked_steps self.old t + self.new.due }
+    {
+        if !self.marks[v] {
+            self.marked.push(v)?;
+            self.marks[v] = true;
+            self.due += 1;
+        }
+        Ok(())
+    }
+
+    /// Marks the variables of a line.
+    pub(crate) fn mark(&mut self, line: &[Lit]) -> Result<(), NoMemory>
+        requires { IsBelow (length self.old.marks) line.now }
+        ensures len { length self.new.marks ≡ length self.old.marks }
         ensures kept { (v : ℕ) → marked_by self.old v ≡ true → marked_by self.new v ≡ true }
-        ensures set { (k : Literal) → has line.now k ≡ true → marked_by self.new k.var ≡ true }
+        ensures set { OnOk result ((k : Literal) → has line.now k ≡ true → marked_by self.new k.var ≡ true) }
+        ensures counted { (n : ℕ) (t : List Step) → IsApart n t → marked_steps self.new t + self.old.due ≤ marked_steps self.old t + self.new.due }
     {
         for l in line {
             let lit = *l;
-            let v = lit.var();
-            self.marks[v] = true;
+            self.set(lit.var())?;
         }
+        Ok(())
+    }
+
+    /// A marked variable is visited.
+    pub(crate) fn visit(&mut self)
+        ensures marks { self.new.marks ≡ self.old.marks }
+        ensures due { self.new.due ≡ self.old.due - 1 }
+    {
+        self.due = self.due.saturating_sub(1);
+    }
+
+    /// Takes a mark away, and names its variable.
+    pub(crate) fn take(&mut self) -> Option<usize>
+        ensures len { length self.new.marks ≡ length self.old.marks }
+        ensures taken { MatchOption result (IsUnmarked self.new) (λ v. (v < length self.old.marks) × (length self.new.marked < length self.old.marked)) }
+    {
+        self.due = 0;
+        let v = self.marked.pop()?;
+        self.marks[v] = false;
+        Some(v)
     }
 }

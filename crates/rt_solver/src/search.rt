@@ -1,34 +1,28 @@
-ghost use Rattle.std.specs.Prelude.{◌≡◌, ℕ, ◌<◌, ◌≤◌, ◌^◌, [], length, None, Some, IsSome, IfSome, IfOk, MatchOption, IsTrue, ◌↔◌};
+ghost use Rattle.std.specs.Prelude.{◌≡◌, ℕ, ◌<◌, ◌≤◌, ◌^◌, List as Seq, [], ◌∷◌, ◌++◌, length, None, Some, IsSome, IfSome, IfOk, MatchOption, IsTrue, ◌↔◌};
+ghost use Rattle.rt_clause.specs.Literal.{Literal};
 ghost use Rattle.rt_solver.specs.Trail.{value_in, decisions};
-ghost use Rattle.rt_solver.specs.Search.{IsReady, HasValues};
+ghost use Rattle.rt_solver.specs.declared.order.Order.TheVariants.{Fixed};
+ghost use Rattle.rt_solver.specs.Fixed.{IfFixed, AreSmallest};
+ghost use Rattle.rt_solver.specs.Picking.{IsOffered};
+ghost use Rattle.rt_solver.specs.Search.{line_of, IsReady, HasValues};
 ghost use Rattle.rt_solver.specs.Solving.{HasSearched, IsEnding, IsUnspentEnding};
 
+use crate::base::Base;
 use crate::learn::learn;
-use crate::look::{Scan, scan_from};
-use crate::store::Store;
+use crate::order::Order;
+use crate::pick::Pick;
 use crate::trail::{Step, Trail, Why};
+use crate::walk::Walk;
 use rt_clause::{Lines, Lit};
-use rt_value::NoMemory;
+use rt_value::{List, NoMemory};
 use std::alloc::Global;
 
-// The first variable without a value.
-fn open(trail: &Trail) -> Option<usize>
-    ensures { MatchOption result (HasValues trail.now.vars trail.now.steps) (λ v. (v < trail.now.vars) × (value_in trail.now.steps v ≡ None) × HasValues v trail.now.steps) }
-{
-    for v in 0..trail.vars() {
-        if trail.value(v).is_none() {
-            return Some(v);
-        }
-    }
-    None
-}
-
 /// How a search ended.
-#[derive(Clone, Copy)]
+#[derive(Drop)]
 pub enum Ending {
     Whole,
     Refuted,
-    Spent,
+    Spent(List<List<Lit>>),
 }
 
 fn is_spent(budget: Option<u64>, learned: usize) -> bool
@@ -40,53 +34,89 @@ fn is_spent(budget: Option<u64>, learned: usize) -> bool
     }
 }
 
-/// Searches until each variable has a value, the lines refute, or the budget is spent.
-pub(crate) fn run<L: Lines>(
+// A learned line without the assumption's negation.
+fn clause_of_line(alloc: Global, line: &[Lit], assume: &Option<Lit>) -> Result<List<Lit>, NoMemory>
+    ensures { IfOk result (λ c. (clause : Seq Literal) → line.now ≡ line_of assume.now clause → c ≡ clause) }
+{
+    match (assume, line) {
+        (Some(_), [clause @ .., _]) => List::from_slice(alloc, clause),
+        _ => List::from_slice(alloc, line),
+    }
+}
+
+// Keeps the clause of a learned line, where there is a budget.
+fn keep(
     alloc: Global,
-    lines: &mut L,
-    clauses: &mut Store,
-    assume: &Option<Lit>,
-    trail: &mut Trail,
+    kept: &mut List<List<Lit>>,
     budget: Option<u64>,
+    line: &[Lit],
+    assume: &Option<Lit>,
+) -> Result<(), NoMemory>
+    ensures { IfOk result (λ _. IfSome budget (λ _. (clause : Seq Literal) → line.now ≡ line_of assume.now clause → kept.new ≡ kept.old ++ clause ∷ [])) }
+{
+    match budget {
+        None => Ok(()),
+        Some(_) => {
+            kept.push(clause_of_line(alloc, line, assume)?)?;
+            Ok(())
+        }
+    }
+}
+
+/// Searches until each variable has a value, the lines refute, or the budget is spent.
+pub(crate) fn run<L: Lines + Drop>(
+    alloc: Global,
+    base: &mut Base<L>,
+    assume: &Option<Lit>,
+    first: usize,
+    budget: Option<u64>,
+    order: Order,
+    pick: &mut Pick,
+    trail: &mut Trail,
 ) -> Result<Ending, NoMemory>
-    requires same { L.lines lines.old ≡ clauses.old }
-    requires ready { IsReady clauses.old assume.now trail.old }
+    requires ready { IsReady (L.lines base.old.0) assume.now trail.old }
     requires few { trail.old.vars ≤ 2 ^ 62 }
+    requires first { first ≤ trail.old.vars }
     requires undecided { decisions trail.old.steps ≡ [] }
     requires budget { IfSome budget (λ b. 1 ≤ b) }
+    requires bound { pick.old.bound ≤ first }
+    requires fixed { order ≡ Fixed → pick.old.bound ≡ 0 }
+    requires offered { IsOffered pick.old trail.old.steps }
     ensures vars { trail.new.vars ≡ trail.old.vars }
-    ensures same { IfOk result (λ _. L.lines lines.new ≡ clauses.new) }
-    ensures ending { IfOk result (λ ending. IsEnding clauses.old clauses.new assume.now trail.new budget ending) }
-    ensures unspent { IfOk result (λ ending. IsUnspentEnding clauses.old clauses.new budget ending) }
-    ensures searched { HasSearched (L.lines lines.old) (L.lines lines.new) (L.derived lines.old) (L.derived lines.new) assume.now trail.old.vars }
+    ensures ending { IfOk result (λ ending. IsEnding (L.lines base.old.0) (L.lines base.new.0) assume.now first trail.new budget ending) }
+    ensures smallest { IfOk result (λ _. IfFixed order (AreSmallest trail.new.steps)) }
+    ensures unspent { IfOk result (λ ending. IsUnspentEnding (L.lines base.old.0) (L.lines base.new.0) budget ending) }
+    ensures searched { HasSearched (L.lines base.old.0) (L.lines base.new.0) (L.derived base.old.0) (L.derived base.new.0) assume.now first trail.old.vars }
 {
-    let start = clauses.len();
-    let mut place = 0;
+    let start = base.len();
+    let mut kept: List<List<Lit>> = List::new(alloc);
+    let mut walk = Walk::new(alloc, trail.vars())?;
+    let mut conflict = base.begin(trail);
     'search: loop {
-        match scan_from(clauses, trail, place) {
-            Scan::UnitAt(i, lit) => {
-                place = i;
-                trail.push(Step {
-                    lit,
-                    why: Why::Line(i),
-                })?;
-            }
-            Scan::BrokenAt(i) => {
-                if learn(alloc, lines, clauses, assume, trail, i)? {
-                    return Ok(Ending::Refuted);
+        match conflict {
+            Some(number) => match learn(
+                alloc, base, assume, first, trail, pick, &mut walk, number,
+            )? {
+                None => return Ok(Ending::Refuted),
+                Some(line) => {
+                    keep(alloc, &mut kept, budget, line.as_slice(), assume)?;
+                    if is_spent(budget, base.len() - start) {
+                        return Ok(Ending::Spent(kept));
+                    }
+                    let from = trail.len() - 1;
+                    conflict = base.propagate(trail, from);
                 }
-                if is_spent(budget, clauses.len() - start) {
-                    return Ok(Ending::Spent);
-                }
-            }
-            Scan::Quiet => match open(trail) {
+            },
+            None => match pick.pick(trail) {
                 None => return Ok(Ending::Whole),
                 Some(v) => {
-                    let lit = Lit::of(v, false);
+                    let from = trail.len();
+                    let lit = order.decision(v);
                     trail.push(Step {
                         lit,
                         why: Why::Decided,
-                    })?;
+                    });
+                    conflict = base.propagate(trail, from);
                 }
             },
         }

@@ -6,10 +6,13 @@ ghost use Rattle.rt_solver.specs.Trail.{value_in};
 ghost use Rattle.rt_solver.specs.Search.{line_of, HasValues};
 ghost use Rattle.rt_solver.specs.Solving.{reach, width, variables, HasSearched};
 ghost use Rattle.rt_solver.specs.State.{has_failed};
+ghost use Rattle.rt_solver.specs.Fixed.{IsInOrder};
 ghost use Rattle.rt_solver.specs.Answers.{Reads, IsFound, IsUnspent, IsBegun};
 
+use crate::base::Base;
+use crate::order::Order;
+use crate::pick::Pick;
 use crate::search::{Ending, run};
-use crate::store::Store;
 use crate::trail::{Step, Trail, Why};
 use rt_clause::{Adds, Lines, Lit};
 use rt_value::{Keep, List, NoMemory};
@@ -31,8 +34,8 @@ const MOST_VARIABLES: usize = 1 << 62;
 /// call answered want of memory.
 #[derive(Drop)]
 pub struct Solver<L: Lines + Drop> {
-    lines: L,
-    clauses: Store,
+    base: Base<L>,
+    pick: Pick,
     failed: bool,
     alloc: Global,
 }
@@ -40,15 +43,12 @@ pub struct Solver<L: Lines + Drop> {
 impl<L: Lines + Drop> Model for Solver<L> {
     ghost use Rattle.std.specs.Prelude.{Bool};
     ghost use Rattle.std.specs.Coded.{coded×, coded_bool};
-    ghost use Rattle.rt_solver.specs.State.{IsSettled};
 
     ghost Value = { L × Bool };
 
     ghost coded = { coded× L.code coded_bool };
 
-    ghost view = { λ s. (s.lines, s.failed) };
-
-    ghost invariant = { λ s. IsSettled (L.lines s.lines) s.clauses s.failed };
+    ghost view = { λ s. (s.base.0, s.failed) };
 }
 
 // One more than the greatest variable that a call speaks of.
@@ -70,15 +70,12 @@ fn begun(alloc: Global, vars: usize, assume: &Option<Lit>) -> Result<Trail, NoMe
     requires { IfSome assume.now (λ a. a.var < vars) }
     ensures { IfOk result (λ trail. IsBegun vars assume.now trail) }
 {
-    let mut trail = Trail::new(alloc);
-    for _ in 0..vars {
-        trail.grow()?;
-    }
+    let mut trail = Trail::new(alloc, vars)?;
     if let Some(a) = assume {
         trail.push(Step {
             lit: *a,
             why: Why::Assumed,
-        })?;
+        });
     }
     Ok(trail)
 }
@@ -96,32 +93,6 @@ fn values(alloc: Global, trail: &Trail) -> Result<Keep, NoMemory>
     Ok(bools)
 }
 
-// A learned line without the assumption's negation.
-fn clause_of_line(alloc: Global, line: &[Lit], assume: &Option<Lit>) -> Result<List<Lit>, NoMemory>
-    ensures { IfOk result (λ c. (clause : Seq Literal) → line.now ≡ line_of assume.now clause → c ≡ clause) }
-{
-    match (assume, line) {
-        (Some(_), [clause @ .., _]) => List::from_slice(alloc, clause),
-        _ => List::from_slice(alloc, line),
-    }
-}
-
-// The clauses of the lines from a place on.
-fn learned_from(
-    alloc: Global,
-    lines: &Store,
-    start: usize,
-    assume: &Option<Lit>,
-) -> Result<List<List<Lit>>, NoMemory>
-    ensures { IfOk result (λ list. (learned : Seq (Seq Literal)) → drop start lines.now ≡ map (line_of assume.now) learned → list ≡ learned) }
-{
-    let mut list: List<List<Lit>> = List::new(alloc);
-    for i in start..lines.len() {
-        list.push(clause_of_line(alloc, lines.at(i), assume)?)?;
-    }
-    Ok(list)
-}
-
 impl<L: Lines + Drop> Solver<L> {
     /// A solver over no lines yet, which takes no memory.
     pub fn new(alloc: Global, lines: L) -> Solver<L>
@@ -129,8 +100,8 @@ impl<L: Lines + Drop> Solver<L> {
         ensures { result ≡ (lines, false) }
     {
         Solver {
-            lines,
-            clauses: Store::new(alloc),
+            base: Base::new(alloc, lines),
+            pick: Pick::new(alloc),
             failed: false,
             alloc,
         }
@@ -139,22 +110,24 @@ impl<L: Lines + Drop> Solver<L> {
     pub fn lines(&self) -> &L
         ensures { result.now ≡ self.now.0 }
     {
-        &self.lines
+        self.base.lines()
     }
 
     /// Searches for a model of the lines and of `assume`, over the variables below `first`, those of
-    /// the lines and that of `assume`. Open variables are decided in their order, so those below
-    /// `first` before others, and set to false. A budget is the number of clauses after which the
-    /// search gives up; without one it ends by itself.
+    /// the lines and that of `assume`. Those below `first` are decided before others, as the order
+    /// says. Learned clauses are over variables below `first` and over decisions. A budget is the
+    /// number of clauses after which the search gives up; without one it ends by itself.
     pub fn solve(
         &mut self,
         assume: Option<Lit>,
         first: usize,
         budget: Option<u64>,
+        order: Order,
     ) -> Result<Found, NoMemory>
         requires { IfSome budget (λ b. 1 ≤ b) }
-        ensures searched { HasSearched (L.lines self.old.0) (L.lines self.new.0) (L.derived self.old.0) (L.derived self.new.0) assume (variables (L.lines self.old.0) assume first) }
-        ensures found { IfOk result (λ found. IsFound (L.lines self.old.0) (L.lines self.new.0) assume (variables (L.lines self.old.0) assume first) budget found) }
+        ensures searched { HasSearched (L.lines self.old.0) (L.lines self.new.0) (L.derived self.old.0) (L.derived self.new.0) assume first (variables (L.lines self.old.0) assume first) }
+        ensures found { IfOk result (λ found. IsFound (L.lines self.old.0) (L.lines self.new.0) assume first (variables (L.lines self.old.0) assume first) budget found) }
+        ensures order { IfOk result (λ found. IsInOrder order (L.lines self.old.0) assume first found) }
         ensures unspent { IfOk result (λ found. IsUnspent (L.lines self.old.0) (L.lines self.new.0) budget found) }
         ensures failed { IsTrue (has_failed self.old) → IsErr result }
         ensures fails { OnErr result (IsTrue (has_failed self.new)) }
@@ -164,23 +137,25 @@ impl<L: Lines + Drop> Solver<L> {
             return Err(NoMemory);
         }
         self.failed = true;
-        let vars = variables_of(first, self.clauses.vars(), &assume);
+        let vars = variables_of(first, self.base.vars(), &assume);
         if vars > MOST_VARIABLES {
             return Err(NoMemory);
         }
         let mut trail = begun(self.alloc, vars, &assume)?;
-        let start = self.clauses.len();
+        self.pick.begin(vars, order.bound(first))?;
         let found = match run(
             self.alloc,
-            &mut self.lines,
-            &mut self.clauses,
+            &mut self.base,
             &assume,
-            &mut trail,
+            first,
             budget,
+            order,
+            &mut self.pick,
+            &mut trail,
         )? {
             Ending::Whole => Found::Model(values(self.alloc, &trail)?),
             Ending::Refuted => Found::Refuted,
-            Ending::Spent => Found::Spent(learned_from(self.alloc, &self.clauses, start, &assume)?),
+            Ending::Spent(list) => Found::Spent(list),
         };
         self.failed = false;
         Ok(found)
@@ -205,8 +180,7 @@ impl<L: Lines + Drop> Adds for Solver<L> {
             return Err(NoMemory);
         }
         self.failed = true;
-        self.clauses.push(lits)?;
-        self.lines.add(lits)?;
+        self.base.add(self.alloc, lits)?;
         self.failed = false;
         Ok(())
     }

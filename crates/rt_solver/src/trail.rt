@@ -1,4 +1,5 @@
-ghost use Rattle.std.specs.Prelude.{◌≡◌, ℕ, [], ◌∷◌, ◌<◌, ◌≤◌, length, Some, None, OnOk, OnErr, MatchOption};
+ghost use Rattle.std.specs.Prelude.{◌≡◌, ◌<◌, ◌≤◌, [], ◌∷◌, length, None, IfOk, IsTrue, MatchOption, ◌↔◌};
+ghost use Rattle.rt_solver.specs.declared.trail.Why.TheVariants.{Decided};
 
 use rt_clause::Lit;
 use rt_value::NoMemory;
@@ -20,40 +21,59 @@ pub struct Step {
     pub why: Why,
 }
 
+impl Why {
+    pub fn is_decided(self) -> bool
+        ensures { IsTrue result ↔ (self ≡ Decided) }
+    {
+        match self {
+            Why::Line(_) => false,
+            Why::Decided => true,
+            Why::Assumed => false,
+        }
+    }
+}
+
 /// The literals that are true, in the order in which they became so.
 #[derive(Drop)]
 pub struct Trail {
     steps: Vec<Step>,
     values: Vec<Option<bool>>,
-    decided: Vec<Lit>,
+    places: Vec<usize>,
+    root: usize,
 }
 
 impl Model for Trail {
     ghost use Rattle.rt_solver.specs.Table.{Tracked, IsTable};
-    ghost use Rattle.std.specs.Prelude.{reverse, length};
+    ghost use Rattle.std.specs.Prelude.{reverse, length, vec_capacity, ◌≤◌, ◌≡◌};
 
     ghost Value = { Tracked };
 
     ghost view = { λ t. record { steps = reverse t.steps.items; vars = length t.values.items } };
 
-    ghost invariant = { λ t. IsTable t.values.items (reverse t.steps.items) (reverse t.decided.items) };
+    ghost invariant = { λ t. IsTable t.values.items (reverse t.steps.items) (vec_capacity t.steps) × (t.root ≤ length t.steps.items) × (length t.places.items ≡ length t.values.items) };
 }
 
 impl Trail {
-    ghost use Rattle.std.specs.Prelude.{◌≡◌, ℕ, [], ◌∷◌, ◌<◌, ◌≤◌, length, Some, None, OnOk, OnErr, MatchOption};
+    ghost use Rattle.std.specs.Prelude.{◌≡◌, ℕ, [], ◌∷◌, ◌<◌, ◌≤◌, length, Some, None, IfOk, MatchOption};
     ghost use Rattle.std.specs.Prelude.{◌+◌};
-    ghost use Rattle.rt_solver.specs.Trail.{value_in, IsApart, lits, newest, oldest};
+    ghost use Rattle.rt_clause.specs.Lists.{is_false};
+    ghost use Rattle.rt_solver.specs.Trail.{value_in, IsApart, lits, oldest};
     ghost use Rattle.rt_solver.specs.Table.{IsStatus};
 
-    pub fn new(alloc: Global) -> Trail
-        ensures steps { result.steps ≡ [] }
-        ensures vars { result.vars ≡ 0 }
+    /// No steps over so many variables, with room for a step of each.
+    pub fn new(alloc: Global, vars: usize) -> Result<Trail, NoMemory>
+        ensures steps { IfOk result (λ t. t.steps ≡ []) }
+        ensures vars { IfOk result (λ t. t.vars ≡ vars) }
     {
-        Trail {
-            steps: Vec::new(alloc),
-            values: Vec::new(alloc),
-            decided: Vec::new(alloc),
-        }
+        let steps = Vec::with_capacity(alloc, vars)?;
+        let values = vec![in alloc; None; vars]?;
+        let places = vec![in alloc; 0; vars]?;
+        Ok(Trail {
+            steps,
+            values,
+            places,
+            root: 0,
+        })
     }
 
     pub fn vars(&self) -> usize
@@ -73,7 +93,8 @@ impl Trail {
     /// Whether a literal is true or false, or its variable has no value.
     pub fn is(&self, lit: Lit) -> Option<bool>
         requires { lit.var < self.now.vars }
-        ensures { IsStatus (lits self.now.steps) (value_in self.now.steps lit.var) lit result }
+        ensures status { IsStatus (lits self.now.steps) (value_in self.now.steps lit.var) lit result }
+        ensures apart { IsApart self.now.vars self.now.steps }
     {
         match self.values[lit.var()] {
             None => None,
@@ -81,54 +102,64 @@ impl Trail {
         }
     }
 
+    pub fn is_false(&self, lit: Lit) -> bool
+        requires { lit.var < self.now.vars }
+        ensures { result ≡ is_false (lits self.now.steps) lit }
+    {
+        match self.is(lit) {
+            None => false,
+            Some(on) => !on,
+        }
+    }
+
     pub fn len(&self) -> usize
-        ensures { result ≡ length self.now.steps }
+        ensures is { result ≡ length self.now.steps }
+        ensures apart { IsApart self.now.vars self.now.steps }
     {
         self.steps.len()
+    }
+
+    /// Whether a variable with a value got it before the first decision.
+    pub(crate) fn is_early(&self, v: usize) -> bool
+        requires { v < self.now.vars }
+    {
+        self.places[v] < self.root
     }
 
     /// The step at a place, counted from the oldest.
     pub fn at(&self, i: usize) -> Step
         requires { i < length self.now.steps }
-        ensures { oldest (i + 1) self.now.steps ≡ result ∷ oldest i self.now.steps }
+        ensures step { oldest (i + 1) self.now.steps ≡ result ∷ oldest i self.now.steps }
+        ensures apart { IsApart self.now.vars self.now.steps }
     {
         self.steps[i]
     }
 
-    /// The newest decision.
-    pub fn newest(&self) -> Option<Lit>
-        ensures { result ≡ newest self.now.steps }
+    /// The number of steps before the first decision.
+    pub fn root(&self) -> usize
+        ensures { result ≤ length self.now.steps }
     {
-        self.decided.last().copied()
+        self.root
     }
 
-    /// One more variable.
-    pub fn grow(&mut self) -> Result<(), NoMemory>
-        ensures steps { self.new.steps ≡ self.old.steps }
-        ensures ok { OnOk result (self.new.vars ≡ self.old.vars + 1) }
-    {
-        self.values.push(None)?;
-        Ok(())
-    }
-
-    pub fn push(&mut self, step: Step) -> Result<(), NoMemory>
+    /// One more step, which takes no memory.
+    pub fn push(&mut self, step: Step)
         requires below { step.lit.var < self.old.vars }
         requires unset { value_in self.old.steps step.lit.var ≡ None }
-        ensures ok { OnOk result (self.new.steps ≡ step ∷ self.old.steps) }
+        ensures steps { self.new.steps ≡ step ∷ self.old.steps }
         ensures apart { IsApart self.new.vars self.new.steps }
         ensures vars { self.new.vars ≡ self.old.vars }
-        ensures err { OnErr result (self.new ≡ self.old) }
     {
         let lit = step.lit;
         let v = lit.var();
         let on = lit.on();
-        self.steps.reserve(1)?;
-        if let Why::Decided = step.why {
-            self.decided.push(lit)?;
-        }
+        let is_root = self.root == self.steps.len() && !step.why.is_decided();
         self.steps.push_reserved(step);
         self.values[v] = Some(on);
-        Ok(())
+        self.places[v] = self.steps.len() - 1;
+        if is_root {
+            self.root = self.steps.len();
+        }
     }
 
     pub fn pop(&mut self) -> Option<Step>
@@ -139,9 +170,7 @@ impl Trail {
         let lit = step.lit;
         let v = lit.var();
         self.values[v] = None;
-        if let Why::Decided = step.why {
-            self.decided.pop();
-        }
+        self.root = self.root.min(self.steps.len());
         Some(step)
     }
 }

@@ -1,5 +1,5 @@
 -- From the least choice at which the goal is true to the smallest counterexample.
-use Rattle.std.proofs.Common.{◌≡◌, ◌∙◌, sym, ap, subst, refl, ℕ, Bool, not, List, length, ◌&&◌, Result, Ok, Err}
+use Rattle.std.proofs.Common.{◌≡◌, ◌∙◌, sym, ap, subst, refl, ℕ, Bool, true, false, not, List, length, ◌&&◌, Result, Ok, Err}
 use Rattle.std.specs.Prelude.{Option, Some, None, IfOk, IfSome, IsSomeAnd, ◌<◌, ◌^◌}
 use Rattle.rt_clause.specs.Literal.{Literal}
 use Rattle.rt_value.specs.declared.no_memory.NoMemory.{NoMemory}
@@ -9,14 +9,16 @@ use Rattle.rt_schema.specs.Kept.{kept}
 use Rattle.rt_schema.specs.Law.{lawful}
 use Rattle.rt_algebra.specs.Answer.{plain, same_rows}
 use Rattle.rt_algebra.specs.declared.typed.Typed.{Typed}
+use Rattle.rt_formula.specs.Cut.{cut}
 use Rattle.rt_formula.specs.Shared.{IsGrown, Shared, val}
-use Rattle.rt_search.specs.Least.{IsBest, IsGoal, IsSpentBest}
+use Rattle.rt_formula.proofs.Cutting.{cut-length}
+use Rattle.rt_search.specs.Least.{HasFewest as HasFewestRows, IsBest, IsEnough, IsGoal, IsSpentBest}
 use Rattle.rt_search.specs.Nogoods.{IsSpentBy}
 use Rattle.rt_search.proofs.Targets.{spent-narrowed}
 use Rattle.rt_search.specs.declared.best.Best.{Best}
 use Rattle.rt_search.specs.declared.best.Best.TheVariants.{Least, Never, Spent}
 use Rattle.rt_top.specs.Accepted.{Accepted}
-use Rattle.rt_top.specs.Smallest.{IsCounter, IsGivenUp, IsVerdict, counters, differ_at, lawful_at}
+use Rattle.rt_top.specs.Smallest.{HasFewest, IsCounter, IsFirst, IsGivenUp, IsVerdict, counters, differ_at, lawful_at}
 
 -- the node is true at just the counterexamples
 abbrev pub Means : Accepted → Shared → ℕ → Type 0
@@ -35,39 +37,47 @@ to_counter : (input : Accepted) (d : Shared) (goal : ℕ) → d.rows ≡ places 
     → (keep : List Bool) → IsGoal d goal keep → IsCounter input keep
 to_counter input d goal rows m keep g = (g.0 ∙ rows, sym (m keep g.0) ∙ g.1)
 
-spent : (input : Accepted) (d : Shared) (goal budget : ℕ) (best : Option (List Bool)) (nogoods : List (List Literal)) → d.rows ≡ places input.given.tables → Means input d goal
-    → IsSpentBy d.rows (IsGoal d goal) best budget nogoods → IsSpentBy (places input.given.tables) (IsCounter input) best budget nogoods
-spent input d goal budget best nogoods rows m s =
-    subst (λ (r : ℕ). IsSpentBy r (IsCounter input) best budget nogoods) rows
-    (spent-narrowed d.rows (IsGoal d goal) (IsCounter input) best budget nogoods (to_goal input d goal rows m) s)
+spent : (input : Accepted) (d : Shared) (goal budget : ℕ) (best : Option (List Bool)) (least : Bool) (nogoods : List (List Literal)) → d.rows ≡ places input.given.tables → Means input d goal
+    → IsSpentBy d.rows (IsGoal d goal) best least budget nogoods → IsSpentBy (places input.given.tables) (IsCounter input) best least budget nogoods
+spent input d goal budget best least nogoods rows m s =
+    subst (λ (r : ℕ). IsSpentBy r (IsCounter input) best least budget nogoods) rows
+    (spent-narrowed d.rows (IsGoal d goal) (IsCounter input) best least budget nogoods (to_goal input d goal rows m) s)
 
 best_counter : (input : Accepted) (d : Shared) (goal : ℕ) (best : Option (List Bool)) → d.rows ≡ places input.given.tables → Means input d goal
     → IfSome best (IsGoal d goal) → IfSome best (IsCounter input)
 best_counter input d goal None rows m h = tt
 best_counter input d goal (Some keep) rows m h = to_counter input d goal rows m keep h
 
-given_up : (input : Accepted) (d : Shared) (goal budget : ℕ) (best : Option (List Bool)) (nogoods : List (List Literal)) → d.rows ≡ places input.given.tables → Means input d goal
-    → IsSpentBest d goal budget best nogoods → IsGivenUp input budget best nogoods
-given_up input d goal budget best nogoods rows m s = record {
+fewest_counter : (input : Accepted) (d : Shared) (goal : ℕ) (best : Option (List Bool)) → d.rows ≡ places input.given.tables → Means input d goal
+    → IsSomeAnd best (HasFewestRows (IsGoal d goal)) → IsSomeAnd best (HasFewest input)
+fewest_counter input d goal None rows m h = h
+fewest_counter input d goal (Some keep) rows m h = λ t c. h t (to_goal input d goal rows m t c)
+
+given_up : (input : Accepted) (d : Shared) (goal budget : ℕ) (best : Option (List Bool)) (least : Bool) (nogoods : List (List Literal)) → d.rows ≡ places input.given.tables → Means input d goal
+    → IsSpentBest d.rows (IsGoal d goal) budget best least nogoods → IsGivenUp input budget best least nogoods
+given_up input d goal budget best least nogoods rows m s = record {
   small = subst (λ (r : ℕ). budget < 2 ^ r) rows s.small;
   best_is = best_counter input d goal best rows m s.best_is;
-  spent = spent input d goal budget best nogoods rows m s.spent;
+  least_is = λ t. fewest_counter input d goal best rows m (s.least_is t);
+  spent = spent input d goal budget best least nogoods rows m s.spent;
 }
 
-spent_verdict : (input : Accepted) (d : Shared) (goal : ℕ) (conflicts : Option ℕ) (best : Option (List Bool)) (nogoods : List (List Literal)) → d.rows ≡ places input.given.tables → Means input d goal
-    → IsSomeAnd conflicts (λ b. IsSpentBest d goal b best nogoods) → IsSomeAnd conflicts (λ b. IsGivenUp input b best nogoods)
-spent_verdict input d goal None best nogoods rows m h = h
-spent_verdict input d goal (Some b) best nogoods rows m h = given_up input d goal b best nogoods rows m h
+spent_verdict : (input : Accepted) (d : Shared) (goal : ℕ) (conflicts : Option ℕ) (best : Option (List Bool)) (least : Bool) (nogoods : List (List Literal)) → d.rows ≡ places input.given.tables → Means input d goal
+    → IsSomeAnd conflicts (λ b. IsSpentBest d.rows (IsGoal d goal) b best least nogoods) → IsSomeAnd conflicts (λ b. IsGivenUp input b best least nogoods)
+spent_verdict input d goal None best least nogoods rows m h = h
+spent_verdict input d goal (Some b) best least nogoods rows m h = given_up input d goal b best least nogoods rows m h
 
 -- what the search finds is the verdict
 pub verdict_from : (input : Accepted) (d : Shared) (goal : ℕ) (best : Best) → d.rows ≡ places input.given.tables → Means input d goal
     → IsBest d goal input.conflicts best → IsVerdict input best
+unfolding IsFirst
 verdict_from input d goal (Least keep) rows m l = record {
-  counter = to_counter input d goal rows m keep l.is_goal;
+  counter = to_counter input d goal rows m keep l.is_target;
   smallest = λ t c. l.least t (to_goal input d goal rows m t c);
+  first = λ t c. l.first t (to_goal input d goal rows m t c);
 }
 verdict_from input d goal Never rows m n = λ t c. let l : length t ≡ d.rows = c ∙ sym rows in sym (m t l) ∙ n t l
-verdict_from input d goal (Spent s) rows m h = spent_verdict input d goal input.conflicts s.best s.nogoods rows m h
+verdict_from input d goal (Spent s) rows m h = spent_verdict input d goal input.conflicts s.best s.least s.nogoods rows m h
 
 -- the same, from what is known of the parts of an input
 pub verdict_of : (input : Accepted) (schema : List Table) (given : Instance) (left right : Typed) (conflicts : Option ℕ) (old d : Shared) (goal total : ℕ) (found : Result Best NoMemory)
@@ -91,3 +101,15 @@ verdict_of input schema given left right conflicts old d goal total found s g l 
     then_verdict : (found : Result Best NoMemory) → ((b : Best) → IsBest d goal conflicts b → IsVerdict input b) → IfOk found (IsBest d goal conflicts) → IfOk found (IsVerdict input)
     then_verdict (Ok b) f h = f b h
     then_verdict (Err e) f h = tt
+
+-- wherever the goal is true, it is true where no row outside of the cone is kept
+pub enough : (old d : Shared) (goal differs : ℕ) (cone : List Bool) (law : List Bool → Bool) → IsGrown old d → ((keep : List Bool) → length keep ≡ old.rows → val d keep goal ≡ (law keep && val d keep differs))
+    → ((keep : List Bool) → length keep ≡ d.rows → law keep ≡ true → law (cut keep cone) ≡ true) → ((keep : List Bool) → val d (cut keep cone) differs ≡ val d keep differs) → IsEnough d goal cone
+enough old d goal differs cone law grown parts lawful same keep g =
+    let l : length keep ≡ old.rows = g.0 ∙ grown.rows in
+    let q : (law keep && val d keep differs) ≡ true = sym (parts keep l) ∙ g.1 in
+    parts (cut keep cone) (cut-length keep cone ∙ l)
+    ∙ both (law keep) (law (cut keep cone)) (val d keep differs) (val d (cut keep cone) differs) q (lawful keep g.0) (same keep) where
+      both : (a b x y : Bool) → (a && x) ≡ true → (a ≡ true → b ≡ true) → y ≡ x → (b && y) ≡ true
+      both false b x y q f e = absurd (cc)
+      both true b x y q f e = rw (f refl, e) q

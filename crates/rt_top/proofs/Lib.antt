@@ -1,4 +1,5 @@
 mod DecideLemmas
+mod OneLemmas
 mod PlaceLemmas
 mod ShapeLemmas
 mod StepLemmas

@@ -50,7 +50,7 @@ WitnessRow c keep = (input : Accepted) × IsRead c input × IsSmallest input kee
 
 -- the budget of conflicts of the command is spent
 abbrev pub SpentRow : Call → Spent → Type 0
-SpentRow c s = (input : Accepted) × IsRead c input × (input.conflicts ≡ Some s.budget) × IsGivenUp input s.budget s.best s.nogoods
+SpentRow c s = (input : Accepted) × IsRead c input × (input.conflicts ≡ Some s.budget) × IsGivenUp input s.budget s.best s.least s.nogoods
 
 abbrev pub UsageRow : Call → Type 0
 UsageRow c = command c.words ≡ None
@@ -184,7 +184,7 @@ limit_of (Some k) = k.work_limit
 abbrev pub Says : Call → Outcome → List ℕ → Type 0
 Says c outcome.Agree said = (input : Accepted) × IsRead c input × Agrees input × (said ≡ agree_of input)
 Says c (outcome.Witness keep) said = (input : Accepted) × IsRead c input × IsSmallest input keep × (said ≡ witness_of input keep)
-Says c (outcome.Spent s) said = (input : Accepted) × IsRead c input × (input.conflicts ≡ Some s.budget) × IsGivenUp input s.budget s.best s.nogoods × (said ≡ spent_of input s)
+Says c (outcome.Spent s) said = (input : Accepted) × IsRead c input × (input.conflicts ≡ Some s.budget) × IsGivenUp input s.budget s.best s.least s.nogoods × (said ≡ spent_of input s)
 Says c o said = said ≡ refusal_text (limit_of (command c.words)) o
 
 -- one sink over a call: whether it tells its bytes, these, and its count, before and after
@@ -266,5 +266,5 @@ pub record NoSinkRose (out err : Log) : Type 0 where
 abbrev pub Judges : Accepted → Outcome → List ℕ → Type 0
 Judges input outcome.Agree said = Agrees input × (said ≡ agree_of input)
 Judges input (outcome.Witness keep) said = IsSmallest input keep × (said ≡ witness_of input keep)
-Judges input (outcome.Spent s) said = (input.conflicts ≡ Some s.budget) × IsGivenUp input s.budget s.best s.nogoods × (said ≡ spent_of input s)
+Judges input (outcome.Spent s) said = (input.conflicts ≡ Some s.budget) × IsGivenUp input s.budget s.best s.least s.nogoods × (said ≡ spent_of input s)
 Judges input _ said = ⊥

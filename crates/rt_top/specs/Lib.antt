@@ -2,6 +2,7 @@ pub mod Accepted
 pub mod Answers
 pub mod Faults
 pub mod Judged
+pub mod One
 pub mod Placed
 pub mod Smallest
 pub mod Source

@@ -1,6 +1,6 @@
 -- Counterexamples, and the smallest of them (Miao, Roy and Yang, SIGMOD 2019): lawful
 -- sub-instances at which the answers of two queries differ.
-use Rattle.std.specs.Prelude.{◌≡◌, ℕ, ◌≤◌, ◌<◌, ◌^◌, Bool, true, false, not, ◌&&◌, List, length, Option, IfSome, IsSomeAnd}
+use Rattle.std.specs.Prelude.{◌≡◌, ℕ, ◌≤◌, ◌<◌, ◌^◌, Bool, true, false, not, ◌&&◌, IsTrue, List, length, Option, IfSome, IsSomeAnd}
 use Rattle.rt_value.specs.Keep.{size}
 use Rattle.rt_schema.specs.Given.{Rows, places}
 use Rattle.rt_schema.specs.Kept.{kept}
@@ -10,6 +10,7 @@ use Rattle.rt_algebra.specs.declared.typed.Typed.{Typed}
 use Rattle.rt_top.specs.Accepted.{Accepted}
 use Rattle.rt_clause.specs.Literal.{Literal}
 use Rattle.rt_search.specs.Nogoods.{IsSpentBy}
+use Rattle.rt_search.specs.Order.{ComesBefore}
 use Rattle.rt_search.specs.declared.best.Best.{Best}
 use Rattle.rt_search.specs.declared.best.Best.TheVariants.{Least, Never, Spent}
 
@@ -37,24 +38,35 @@ counters input keep = lawful_at input keep && differ_at input keep
 abbrev pub IsCounter : Accepted → List Bool → Type 0
 IsCounter input keep = IsChoice input keep × (counters input keep ≡ true)
 
--- a counterexample, and no other keeps fewer rows
+-- no counterexample keeps fewer rows
+abbrev pub HasFewest : Accepted → List Bool → Type 0
+HasFewest input keep = (t : List Bool) → IsCounter input t → size keep ≤ size t
+
+-- no counterexample that keeps as many rows comes before it
+unfoldable pub IsFirst : Accepted → List Bool → Type 0
+IsFirst input keep = (t : List Bool) → IsCounter input t → size t ≡ size keep → ComesBefore t keep → ⊥
+
+-- a counterexample; no other keeps fewer rows, and none that keeps as many comes before it
 pub record IsSmallest (input : Accepted) (keep : List Bool) : Type 0 where
   pub counter : IsCounter input keep
-  pub smallest : (t : List Bool) → IsCounter input t → size keep ≤ size t
+  pub smallest : HasFewest input keep
+  pub first : IsFirst input keep
 
 -- there is no counterexample
 abbrev pub Agrees : Accepted → Type 0
 Agrees input = (t : List Bool) → IsChoice input t → counters input t ≡ false
 
 -- the search was given up: the budget is below the number of choices; the best choice so far is a
--- counterexample, where there is one; and as many clauses as the budget says are true at each better
--- counterexample
-pub record IsGivenUp (input : Accepted) (budget : ℕ) (best : Option (List Bool)) (nogoods : List (List Literal)) : Type 0 where
+-- counterexample, where there is one; where it is said to keep the fewest rows, it is there and does;
+-- and as many clauses as the budget says are true at each better counterexample, or then at each that
+-- keeps as few
+pub record IsGivenUp (input : Accepted) (budget : ℕ) (best : Option (List Bool)) (least : Bool) (nogoods : List (List Literal)) : Type 0 where
   pub small : budget < 2 ^ places input.given.tables
   pub best_is : IfSome best (IsCounter input)
-  pub spent : IsSpentBy (places input.given.tables) (IsCounter input) best budget nogoods
+  pub least_is : IsTrue least → IsSomeAnd best (HasFewest input)
+  pub spent : IsSpentBy (places input.given.tables) (IsCounter input) best least budget nogoods
 
 abbrev pub IsVerdict : Accepted → Best → Type 0
 IsVerdict input (Least keep) = IsSmallest input keep
 IsVerdict input Never = Agrees input
-IsVerdict input (Spent s) = IsSomeAnd input.conflicts (λ budget. IsGivenUp input budget s.best s.nogoods)
+IsVerdict input (Spent s) = IsSomeAnd input.conflicts (λ budget. IsGivenUp input budget s.best s.least s.nogoods)

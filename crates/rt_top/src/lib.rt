@@ -4,6 +4,7 @@
 mod decision;
 mod faults;
 mod input;
+pub mod laws;
 mod outcome;
 mod part;
 mod place;

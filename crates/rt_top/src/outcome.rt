@@ -44,12 +44,14 @@ pub enum Limit {
 }
 
 /// What is known where the budget of conflicts is spent: the best choice of places so far, if there
-/// is one, and as many clauses over places as the budget says. Each is true at every counterexample
-/// that keeps fewer rows than the best, or at every one where there is no best.
+/// is one, whether no counterexample is known to keep fewer rows, and as many clauses over places as
+/// the budget says. Each is true at every counterexample that keeps fewer rows than the best, or at
+/// most as many where none keeps fewer, or at every one where there is no best.
 #[derive(Debug, Drop)]
 pub struct Spent {
     pub budget: u64,
     pub best: Option<Keep>,
+    pub least: bool,
     pub nogoods: List<LitList>,
 }
 
@@ -58,7 +60,8 @@ pub struct Spent {
 pub enum Outcome {
     /// The queries agree on every lawful sub-instance.
     Agree,
-    /// A smallest counterexample, as the choice of the places that it keeps.
+    /// The first of the smallest counterexamples in the order of rows, as the choice of the places
+    /// that it keeps.
     Witness(Keep),
     /// The words are no command.
     Usage,

@@ -51,7 +51,7 @@ fn witness_of(alloc: Global, input: &Input, keep: &Keep) -> Result<Bytes, NoMemo
 }
 
 fn spent_of(alloc: Global, input: &Input, spent: &Spent) -> Result<Bytes, NoMemory>
-    requires { IsGivenUp input.now spent.now.budget spent.now.best spent.now.nogoods }
+    requires { IsGivenUp input.now spent.now.budget spent.now.best spent.now.least spent.now.nogoods }
     ensures { IfOk result (λ text. text ≡ spent_of input.now spent.now) }
 {
     let schema = input.schema();
@@ -69,12 +69,13 @@ fn spent_of(alloc: Global, input: &Input, spent: &Spent) -> Result<Bytes, NoMemo
 
 fn given_up(alloc: Global, input: &Input, budget: u64, found: SpentBest) -> Result<Answer, NoMemory>
     requires budget { input.now.conflicts ≡ Some budget }
-    requires given_up { IsGivenUp input.now budget found.best found.nogoods }
+    requires given_up { IsGivenUp input.now budget found.best found.least found.nogoods }
     ensures { IfOk result (λ a. Judges input.now a.outcome a.text) }
 {
     let spent = Spent {
         budget,
         best: found.best,
+        least: found.least,
         nogoods: found.nogoods,
     };
     let text = spent_of(alloc, input, &spent)?;

@@ -71,7 +71,7 @@ fn ends(
 fn words_and_options(rt: HostRuntime) -> Result<(), Fail> {
     let alloc = rt.alloc();
     let work = "ratest: limit: work 28040 is above 28039\n";
-    let table: [(&[&str], u8, &str, &str); 13] = [
+    let table: [(&[&str], u8, &str, &str); 15] = [
         (&[], 2, "", USAGE),
         (&["s", "d", "p", "q", "q"], 2, "", USAGE),
         (&["made", "0"], 2, "", USAGE),
@@ -94,6 +94,13 @@ fn words_and_options(rt: HostRuntime) -> Result<(), Fail> {
             "",
         ),
         (&["made", "20"], 1, "made 20\nrows 100\nwitness: 3\n", ""),
+        (
+            &["made", "20", "--conflicts", "262144"],
+            1,
+            "made 20\nrows 100\nwitness: 3\n",
+            "",
+        ),
+        (&["made", "400"], 1, "made 400\nrows 2000\nwitness: 3\n", ""),
         (&["made", "20", "--work", "28039"], 5, "", work),
     ];
     for (command, status, out, err) in table {
@@ -103,6 +110,41 @@ fn words_and_options(rt: HostRuntime) -> Result<(), Fail> {
             "{out}{err}"
         );
     }
+    Ok(())
+}
+
+/// The places that the smallest witness of a command keeps, and none where there is no witness.
+fn witness(alloc: Global, command: &[&str]) -> Result<List<usize>, NoMemory> {
+    let mut none = MemFiles::new(alloc);
+    let (mut out, mut err) = (MemSink::new(alloc), MemSink::new(alloc));
+    let command = words(alloc, command)?;
+    let mut places = List::new(alloc);
+    if let Outcome::Witness(keep) = ratest(
+        alloc,
+        command.as_slice(),
+        &mut none,
+        &mut out,
+        &mut err,
+    ) {
+        for (place, kept) in keep.as_slice().iter().enumerate() {
+            if *kept {
+                places.push(place)?;
+            }
+        }
+    }
+    Ok(places)
+}
+
+/// The third student, and the fifth and the sixth registration: all students come first.
+#[test]
+fn first_of_the_generated(rt: HostRuntime) -> Result<(), Fail> {
+    let alloc = rt.alloc();
+    let small = witness(alloc, &["made", "20"])?;
+    assert_eq!(rt; small.as_slice(), [2, 24, 25].as_slice());
+    let large = witness(alloc, &["made", "400"])?;
+    assert_eq!(rt; large.as_slice(), [2, 404, 405].as_slice());
+    let again = witness(alloc, &["made", "400"])?;
+    assert_eq!(rt; again.as_slice(), large.as_slice());
     Ok(())
 }
 
@@ -165,10 +207,26 @@ fn large_tables(rt: HostRuntime) -> Result<(), Fail> {
     let rows = numbers(alloc, 2000)?;
     let mut all = files(alloc, schema, &[("d/x.csv", rows.as_str())], left, right)?;
     assert!(rt; ends(alloc, &mut all, &FOUR, 0, "agree\n", "")?);
+    let one = ["s", "d", "p", "q", "--conflicts", "1"];
+    assert!(rt; ends(alloc, &mut all, &one, 0, "agree\n", "")?);
     let rows = numbers(alloc, 2001)?;
     let mut more = files(alloc, schema, &[("d/x.csv", rows.as_str())], left, right)?;
     let limit = "ratest: limit: more than 2000 rows\n";
     assert!(rt; ends(alloc, &mut more, &FOUR, 5, "", limit)?);
+    Ok(())
+}
+
+/// Each row is joined with itself; of the thousand smallest witnesses the first row is printed.
+#[test]
+fn first_of_a_thousand(rt: HostRuntime) -> Result<(), Fail> {
+    let alloc = rt.alloc();
+    let schema = "CREATE TABLE x (a INTEGER); CREATE TABLE y (a INTEGER);";
+    let (left, right) = ("SELECT x.a FROM x, y WHERE x.a = y.a", "SELECT a FROM x");
+    let rows = numbers(alloc, 1000)?;
+    let tables = [("d/x.csv", rows.as_str()), ("d/y.csv", rows.as_str())];
+    let mut files = files(alloc, schema, &tables, left, right)?;
+    let out = "witness: 1\nx 1: 1\nonly query 1: 0\nonly query 2: 1\n  1\nboth: 0\n";
+    assert!(rt; ends(alloc, &mut files, &FOUR, 1, out, "")?);
     Ok(())
 }
 

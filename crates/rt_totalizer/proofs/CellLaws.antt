@@ -14,7 +14,7 @@ use Rattle.rt_clause.proofs.Extending.{index-end, lit_true-front, model-front, d
 use Rattle.rt_totalizer.specs.Cell.{cell}
 
 -- what holds of two literals, or of three, holds of each literal of the clause of them
-each-of_two : (P : Literal → Type 0) (a b : Literal) → P a → P b → (l : Literal) → has (a ∷ b ∷ []) l ≡ true → P l
+pub each-of_two : (P : Literal → Type 0) (a b : Literal) → P a → P b → (l : Literal) → has (a ∷ b ∷ []) l ≡ true → P l
 each-of_two P a b pa pb l h = elim (has-cases a l (b ∷ []) h) [
   | inl e ↦ subst P (sym e) pa
   | inr r ↦ elim (has-cases b l [] r) [ inl e ↦ subst P (sym e) pb | inr c ↦ absurd (cc) ]
@@ -94,7 +94,7 @@ cell-forces bools out old row before h =
       by false false false b n np nr nb e f g k a1 a2 a3 a4 = refl
 
 -- a met clause all of whose literals but one are false has that one in the set
-unit-has : (set c : List Literal) (out : Literal) → ((k : Literal) → has set k ≡ true → has set (negated k) ≡ false) → IsMet set c
+pub unit-has : (set c : List Literal) (out : Literal) → ((k : Literal) → has set k ≡ true → has set (negated k) ≡ false) → IsMet set c
     → ((l : Literal) → has c l ≡ true → (l ≡ out) ⊎ (has set (negated l) ≡ true)) → has set out ≡ true
 unit-has set c out once met false_but = elim met [
   | inl x ↦ elim (false_but x.0 x.1) [ inl e ↦ ap (has set) (sym e) ∙ x.2 | inr f ↦ absurd (clash f (once x.0 x.2)) ]

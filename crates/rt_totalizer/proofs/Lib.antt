@@ -1,3 +1,4 @@
 pub mod CellLaws
+pub mod Firsts
 pub mod Rows
 pub mod Totals

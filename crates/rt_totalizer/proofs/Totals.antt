@@ -65,7 +65,7 @@ counter-row old n i cells m lines cells' m' lines' c r =
     })
 
 -- how many rows a choice keeps
-kept-agrees : (i : ℕ) (xs ys : List Bool) → AgreeBelow i xs ys → kept_below i xs ≡ kept_below i ys
+pub kept-agrees : (i : ℕ) (xs ys : List Bool) → AgreeBelow i xs ys → kept_below i xs ≡ kept_below i ys
 kept-agrees zero xs ys a = refl
 kept-agrees (suc i) xs ys a =
     let h = kept-agrees i xs ys (λ v b. a v (omega (arith, b))) in
@@ -84,7 +84,7 @@ fold-shift : (a : ℕ) (xs : List Bool) → fold (λ n x. n + cond x 1 0) a xs �
 fold-shift a [] = omega arith
 fold-shift a (x ∷ xs) = let p = fold-shift (a + cond x 1 0) xs in let q = fold-shift (0 + cond x 1 0) xs in omega (arith, p, q)
 
-kept-size : (keep : List Bool) → kept_below (length keep) keep ≡ size keep
+pub kept-size : (keep : List Bool) → kept_below (length keep) keep ≡ size keep
 kept-size [] = refl
 kept-size (b ∷ xs) =
     let q = fold-shift (0 + cond b 1 0) xs in

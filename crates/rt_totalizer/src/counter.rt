@@ -1,20 +1,34 @@
 ghost use Rattle.std.specs.Prelude.{◌≡◌, ◌≤◌, ◌<◌, ◌∷◌, IfOk, OnErr, length};
 ghost use Rattle.rt_clause.specs.Literal.{Literal};
-ghost use Rattle.rt_clause.specs.Lists.{AreBelow, IsBelow};
+ghost use Rattle.rt_clause.specs.Lists.{AreBelow, IsBelow, line_at};
 ghost use Rattle.rt_clause.specs.Gates.{Extends};
 ghost use Rattle.rt_totalizer.specs.Cells.{first_cells};
-ghost use Rattle.rt_totalizer.specs.Outputs.{CountsRows};
+ghost use Rattle.rt_totalizer.specs.Outputs.{CountsFirst, CountsRows, first_at};
 
 use crate::cells::{Cells, MOST_VARIABLES, with_row};
 use rt_clause::{Adds, Lit, LitList, Named, gate};
 use rt_value::{List, NoMemory};
 use std::alloc::Global;
 
-/// The literals of a counter: the j-th, counted from 1, is true exactly where at least j rows are
-/// kept.
+/// The literals of a counter: the j-th output, counted from 1, is true exactly where at least j rows
+/// are kept. For each number of first rows there are literals that say the same of those rows alone,
+/// from no row on.
 #[derive(Drop)]
 pub struct Outputs {
     pub outs: LitList,
+    pub firsts: List<LitList>,
+}
+
+impl Outputs {
+    /// The literal that is true exactly where at least `kept` of the first `rows` rows are kept.
+    pub fn at_least(&self, kept: usize, rows: usize) -> Lit
+        requires rows { rows < length self.now.firsts }
+        requires kept { kept < length (line_at self.now.firsts rows) }
+        ensures { result ≡ first_at self.now.firsts rows kept }
+    {
+        let cells = &self.firsts.as_slice()[rows];
+        cells.as_slice()[kept]
+    }
 }
 
 // The cells before any row: at least no row is always kept, and no more than that.
@@ -57,6 +71,7 @@ pub fn count<A: Adds>(
     ensures low { IfOk result (λ o. IsBelow named.new.next o.outs) }
     ensures extends { IfOk result (λ _. Extends (A.lines to.old) named.old.next (A.lines to.new) named.new.next) }
     ensures counts { IfOk result (λ o. CountsRows named.old.rows (A.lines to.new) o.outs) }
+    ensures firsts { IfOk result (λ o. CountsFirst named.old.rows upto named.new.next (A.lines to.new) o.firsts) }
     ensures err { OnErr result (named.new ≡ named.old) }
 {
     let start = named.next();
@@ -69,10 +84,13 @@ pub fn count<A: Adds>(
         list: first_cells(alloc, upto, always)?,
         next: start + 1,
     };
+    let mut firsts: List<LitList> = List::new(alloc);
+    firsts.push(List::from_slice(alloc, cells.list.as_slice())?)?;
     for row in 0..named.rows() {
         cells = with_row(alloc, row, &cells, to)?;
+        firsts.push(List::from_slice(alloc, cells.list.as_slice())?)?;
     }
     let outs = rest(alloc, &cells.list)?;
     *named = Named::of(named.rows(), cells.next, named.goal());
-    Ok(Outputs { outs })
+    Ok(Outputs { outs, firsts })
 }

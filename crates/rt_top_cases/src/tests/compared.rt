@@ -84,10 +84,23 @@ fn counters(alloc: Global, input: &Input, keep: &Keep) -> Result<bool, NoMemory>
     Ok(lawful(input.schema(), input.given(), keep) && differ(alloc, input, keep)?)
 }
 
-/// Whether a choice of so many rows would be the smallest so far.
-fn is_smaller(size: usize, smallest: Option<usize>) -> bool {
-    match smallest {
-        Some(other) => size < other,
+/// Whether one choice comes before another: it keeps the first row that only one of them keeps.
+fn comes_before(keep: &Keep, other: &Keep) -> bool {
+    for (a, b) in keep.as_slice().iter().zip(other.as_slice()) {
+        if *a != *b {
+            return *a;
+        }
+    }
+    false
+}
+
+/// Whether a choice keeps fewer rows than the best so far, or as many and comes before it.
+fn is_better(keep: &Keep, best: &Option<Keep>) -> bool {
+    match best {
+        Some(other) => {
+            let (size, least) = (keep.size(), other.size());
+            size < least || (size == least && comes_before(keep, other))
+        }
         None => true,
     }
 }
@@ -97,33 +110,35 @@ fn choices(places: usize) -> usize {
     1 << places.min(10)
 }
 
-/// The size of a smallest counterexample, by a trial of every choice of at most ten rows.
-fn tried(alloc: Global, input: &Input) -> Result<Option<usize>, NoMemory> {
+/// The first of the smallest counterexamples, by a trial of every choice of at most ten rows.
+fn tried(alloc: Global, input: &Input) -> Result<Option<Keep>, NoMemory> {
     let places = input.given().total();
-    let mut smallest = None;
+    let mut best = None;
     for number in 0..choices(places) {
         let keep = choice(alloc, places, number)?;
-        let size = keep.size();
-        if is_smaller(size, smallest) && counters(alloc, input, &keep)? {
-            smallest = Some(size);
+        if is_better(&keep, &best) && counters(alloc, input, &keep)? {
+            best = Some(keep);
         }
     }
-    Ok(smallest)
+    Ok(best)
 }
 
-/// Whether the search finds a counterexample of this size, or none where there is none.
-fn finds(alloc: Global, input: &Input, smallest: Option<usize>) -> Result<bool, NoMemory> {
+/// Whether the search finds just this counterexample, or none where there is none.
+fn finds(alloc: Global, input: &Input, first: &Option<Keep>) -> Result<bool, NoMemory> {
     match decide(alloc, input)? {
-        Best::Least(keep) => Ok(counters(alloc, input, &keep)? && smallest == Some(keep.size())),
-        Best::Never => Ok(smallest.is_none()),
+        Best::Least(keep) => match first {
+            Some(other) => Ok(keep == *other),
+            None => Ok(false),
+        },
+        Best::Never => Ok(first.is_none()),
         Best::Spent(_) => Ok(false),
     }
 }
 
 /// Whether the search finds what the trial finds, over at most ten rows.
 fn agrees(alloc: Global, input: &Input) -> Result<bool, NoMemory> {
-    let smallest = tried(alloc, input)?;
-    Ok(input.given().total() <= 10 && finds(alloc, input, smallest)?)
+    let first = tried(alloc, input)?;
+    Ok(input.given().total() <= 10 && finds(alloc, input, &first)?)
 }
 
 fn read_and_agree(alloc: Global, files: &mut MemFiles) -> Result<bool, NoMemory> {

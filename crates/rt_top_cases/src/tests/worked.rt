@@ -342,37 +342,48 @@ fn sets_and_files(rt: HostRuntime) -> Result<(), Fail> {
     Ok(())
 }
 
-/// Either of two smallest witnesses may be printed.
+/// Of two smallest witnesses the first in the order of rows is printed.
 #[test]
-fn either_of_two(rt: HostRuntime) -> Result<(), Fail> {
+fn first_of_two(rt: HostRuntime) -> Result<(), Fail> {
     let alloc = rt.alloc();
-    let schema = "CREATE TABLE d (a INTEGER);";
-    let (left, right) = ("SELECT a FROM d", "SELECT a FROM d WHERE a <> 5");
-    let mut files = files(alloc, schema, &[("d/d.csv", "a\n5\n5\n")], left, right)?;
-    let first = "witness: 1\nd 1: 5\nonly query 1: 1\n  5\nonly query 2: 0\nboth: 0\n";
-    let second = "witness: 1\nd 2: 5\nonly query 1: 1\n  5\nonly query 2: 0\nboth: 0\n";
     assert!(rt;
-        ends(alloc, &mut files, &FOUR, 1, first, "")?
-            || ends(alloc, &mut files, &FOUR, 1, second, "")?
+        all_end(
+            alloc,
+            "CREATE TABLE d (a INTEGER);",
+            &[("d/d.csv", "a\n5\n5\n")],
+            &[(
+                "SELECT a FROM d",
+                "SELECT a FROM d WHERE a <> 5",
+                1,
+                "witness: 1\nd 1: 5\nonly query 1: 1\n  5\nonly query 2: 0\nboth: 0\n",
+            ),],
+        )?
     );
-    Ok(())
-}
-
-/// Without the foreign key either of two rows tells the queries apart.
-#[test]
-fn either_of_two_grades(rt: HostRuntime) -> Result<(), Fail> {
-    let alloc = rt.alloc();
-    let left =
-        "SELECT s.name FROM student s WHERE EXISTS (SELECT * FROM reg r WHERE r.name = s.name AND r.grade > 80)";
-    let right = "SELECT name FROM reg WHERE grade > 80";
-    let mut files = files(alloc, LOOSE, &[STUDENT, REG], left, right)?;
-    let first =
-        "witness: 1\nreg 1: 'Mary', 216, 'CS', 100\nonly query 1: 0\nonly query 2: 1\n  'Mary'\nboth: 0\n";
-    let second =
-        "witness: 1\nreg 3: 'John', 316, 'CS', 90\nonly query 1: 0\nonly query 2: 1\n  'John'\nboth: 0\n";
     assert!(rt;
-        ends(alloc, &mut files, &FOUR, 1, first, "")?
-            || ends(alloc, &mut files, &FOUR, 1, second, "")?
+        all_end(
+            alloc,
+            SCHEMA,
+            &[TABLE],
+            &[(
+                ALL,
+                "SELECT * FROM t WHERE a > 3",
+                1,
+                "witness: 1\nt 2: 2, 20\nonly query 1: 1\n  2, 20\nonly query 2: 0\nboth: 0\n",
+            ),],
+        )?
+    );
+    assert!(rt;
+        all_end(
+            alloc,
+            LOOSE,
+            &[STUDENT, REG],
+            &[(
+                "SELECT s.name FROM student s WHERE EXISTS (SELECT * FROM reg r WHERE r.name = s.name AND r.grade > 80)",
+                "SELECT name FROM reg WHERE grade > 80",
+                1,
+                "witness: 1\nreg 1: 'Mary', 216, 'CS', 100\nonly query 1: 0\nonly query 2: 1\n  'Mary'\nboth: 0\n",
+            ),],
+        )?
     );
     Ok(())
 }

@@ -4,8 +4,12 @@ use Rattle.rt_algebra.specs.Expression.{wrapped}
 use Rattle.rt_schema.specs.Kept.{kept}
 use Rattle.rt_annot.specs.Entries.{rows_at}
 use Rattle.rt_annot.specs.Annotated.{entries_of}
+use Rattle.rt_annot.proofs.Knowing.{none_known}
 use Rattle.rt_annot.proofs.Merged.{merged_below, annotated_rows, rows_value}
 use Rattle.rt_annot.proofs.annotation.wrapped_annotation.Goals as goal
+
+pub annotated-requires-clause-known : goal.annotated-requires-clause-known
+annotated-requires-clause-known c = none_known c.as_slice-queries.result.now c.in_ok-closed.closed c.in_ok-founds.founds c.as_slice-queries.ensures c.in_ok-closed.ensures c.in_ok-founds.ensures
 
 pub returns-clause-nodes : goal.returns-clause-nodes
 returns-clause-nodes c = merged_below _ _ _ c.in_ok-ann.ensures.merged c.len-len.ensures.sorted
@@ -13,7 +17,7 @@ returns-clause-nodes c = merged_below _ _ _ c.in_ok-ann.ensures.merged c.len-len
 pub returns-clause-rows : goal.returns-clause-rows
 returns-clause-rows c =
     annotated_rows _ c.in_ok-ann.ann _ (λ s. answer_by wrapped c.args.query.now (kept c.args.tables.now s) []) c.in_ok-ann.ensures.merged
-    (λ s. ap (λ ns. rows_at s (entries_of c.annotated.new.dag ns)) c.as_slice-2.ensures ∙ c.in_ok-rows.ensures.gives.same s) c.len-len.ensures.sorted
+    (λ s. ap (λ ns. rows_at s (entries_of c.annotated.new.dag ns)) c.as_slice.ensures ∙ c.in_ok-rows.ensures.gives.same s) c.len-len.ensures.sorted
 
 pub returns-clause-entries : goal.returns-clause-entries
 returns-clause-entries c keep r = sym (rows_value c.merged.new.dag keep r c.in_ok-ann.ann c.len-len.ensures.sorted) ∙ returns-clause-rows c keep r

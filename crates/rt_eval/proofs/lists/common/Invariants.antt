@@ -5,4 +5,4 @@ use Rattle.rt_eval.proofs.lists.common.Given as goal
 
 abbrev pub invariant-loop-row : goal.invariant-loop-row
 invariant-loop-row l =
-    l.out ≡ filter (has_row l.others) (take l.row-index l.rows)
+    l.out ≡ filter (has_row l.set) (take l.row-index l.rows)

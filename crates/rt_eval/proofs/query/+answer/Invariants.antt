@@ -1,8 +1,8 @@
-use Rattle.std.proofs.Common.{◌≡◌, ◌∷◌, [], map, take, drop}
+use Rattle.std.proofs.Common.{◌≡◌, ◌∷◌, map, take, drop}
 use Rattle.std.specs.List.{filter}
 use Rattle.rt_value.specs.Truth.{truth_and, truth_or}
 use Rattle.rt_algebra.specs.Expression.{wrapped}
-use Rattle.rt_algebra.specs.Answer.{pred_by, answer_by, is_yes, product_after, all_of, any_of}
+use Rattle.rt_algebra.specs.Answer.{pred_by, answer_by, is_yes, all_of, any_of}
 use Rattle.rt_eval.proofs.query.+answer.Given as goal
 
 abbrev pub invariant-all-loop-member : goal.invariant-all-loop-member
@@ -19,7 +19,5 @@ abbrev pub invariant-selected-loop-row : goal.invariant-selected-loop-row
 invariant-selected-loop-row l =
     l.out ≡ filter (λ r. is_yes (pred_by wrapped l.condition l.tables (r ∷ map (λ s. s.now) l.env))) (take l.row-index l.rows)
 
-abbrev pub invariant-product-loop-member : goal.invariant-product-loop-member
-invariant-product-loop-member l =
-    product_after l.out (map (answer_by wrapped) (drop l.member-index l.members)) l.tables (map (λ r. r.now) l.env)
-    ≡ product_after ([] ∷ []) (map (answer_by wrapped) l.members) l.tables (map (λ r. r.now) l.env)
+abbrev pub invariant-each_answer-loop-query : goal.invariant-each_answer-loop-query
+invariant-each_answer-loop-query l = l.out ≡ map (λ q. answer_by wrapped q l.tables (map (λ r. r.now) l.env)) (take l.query-index l.queries)

@@ -1,7 +1,6 @@
-use Rattle.std.proofs.Common.{◌≡◌, ◌+◌, ◌-◌, ◌||◌, ℕ, List, drop, subst, sym, ap, ◌∙◌, arith}
-use Rattle.std.specs.List.{list_any}
+use Rattle.std.proofs.Common.{◌≡◌, ◌+◌, ◌-◌, ℕ, List, drop, subst, sym, ap, ◌∙◌, arith}
 use Rattle.rt_schema.specs.Kept.{kept_rows}
-use Rattle.rt_schema.specs.Law.{agree, cells, is_null, foreign_holds}
+use Rattle.rt_schema.specs.Law.{foreign_holds}
 use Rattle.rt_formula.specs.Shared.{bool_at}
 use Rattle.rt_rules.specs.Meaning.{MeanAll, met}
 use Rattle.rt_rules.proofs.KeptLemmas.{since, since-at, foreign-kept}

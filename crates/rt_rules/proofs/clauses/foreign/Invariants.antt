@@ -1,4 +1,4 @@
-use Rattle.std.proofs.Common.{◌≤◌, ◌+◌, length, drop}
+use Rattle.std.proofs.Common.{◌≤◌, length, drop}
 use Rattle.rt_formula.specs.Shared.{IsGrown}
 use Rattle.rt_schema.specs.Kept.{kept_rows}
 use Rattle.rt_schema.specs.Law.{foreign_holds}

@@ -1,11 +1,12 @@
-use Rattle.std.proofs.Common.{◌≡◌, ◌+◌, ◌-◌, ℕ, List, length, drop, subst, sym, ap, ◌∙◌, arith, refl}
+use Rattle.std.proofs.Common.{◌≡◌, ◌+◌, ◌-◌, ℕ, List, length, drop, subst, sym, ap, ◌∙◌, arith}
 use Rattle.std.proofs.lemmas.List.{drop_all}
 use Rattle.rt_schema.specs.Given.{Rows}
 use Rattle.rt_schema.specs.Law.{key_holds}
+use Rattle.rt_formula.specs.Groups.{group_at}
 use Rattle.rt_formula.specs.Shared.{bool_at}
 use Rattle.rt_rules.specs.Meaning.{Means, MeanAll, IsIndexed, apart}
 use Rattle.rt_rules.proofs.KeptLemmas.{since, since-at, since-end, key-kept}
-use Rattle.rt_rules.proofs.Meanings.{grown-none, grown-on, clauses-none, clauses-more, all-grown, indexed-none, indexed-grown, indexed-more}
+use Rattle.rt_rules.proofs.Meanings.{each-grown, grown-none, grown-on, clauses-none, clauses-more, all-grown, indexed-none, indexed-grown, indexed-more}
 use Rattle.rt_rules.proofs.clauses.key.Goals as goal
 
 pub rows-init : goal.rows-init
@@ -16,6 +17,9 @@ rows-init c = record {
   clauses = (let C : List ℕ → Type 0 = λ ns. MeanAll c.args.dag.now ns (λ keep. key_holds c.args.columns.now (since c.args.rows.now c.args.base (length c.args.rows.now) keep)) in
       subst C (sym c.new-clauses.ensures) (clauses-none _ _ (λ keep. ap (key_holds c.args.columns.now) (since-end c.args.rows.now c.args.base keep))));
 }
+
+pub note-requires-clause-nodes : goal.note-requires-clause-nodes
+note-requires-clause-nodes c key = each-grown c.rows.dag c.apart.new.dag c.in_ok-clause.ensures.grown (group_at c.rows.later key) (c.rows.invariant.later.below key)
 
 pub rows-preserved : goal.rows-preserved
 rows-preserved c =

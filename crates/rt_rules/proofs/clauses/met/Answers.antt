@@ -1,11 +1,10 @@
-use Rattle.std.proofs.Common.{◌≡◌, ◌+◌, ℕ, List, Bool, true, false, not, ◌&&◌, ◌||◌, ◌∷◌, [], refl, sym, ap, subst, ◌∙◌, drop}
-use Rattle.std.specs.List.{list_all, list_any}
+use Rattle.std.proofs.Common.{◌≡◌, ℕ, List, Bool, true, false, not, ◌||◌, sym, ap, subst, ◌∙◌, drop}
+use Rattle.std.specs.List.{list_any}
 use Rattle.rt_value.specs.declared.value.Value.{Value}
 use Rattle.rt_value.specs.Row.{row_eq}
 use Rattle.rt_schema.specs.Kept.{kept_rows}
 use Rattle.rt_schema.specs.Law.{agree, cells, is_null}
-use Rattle.rt_formula.specs.Shared.{val, bool_at}
-use Rattle.rt_formula.specs.Groups.{group_at}
+use Rattle.rt_formula.specs.Shared.{val}
 use Rattle.rt_formula.proofs.Meaning.{val-grown}
 use Rattle.rt_rules.proofs.KeptLemmas.{agree-same}
 use Rattle.rt_rules.proofs.Meanings.{below-grown}

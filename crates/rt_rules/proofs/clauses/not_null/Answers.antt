@@ -1,5 +1,4 @@
 use Rattle.std.proofs.Common.{◌≡◌, ◌+◌, ◌-◌, ℕ, List, not, subst, sym, ap, ◌∙◌, arith}
-use Rattle.std.specs.List.{list_all}
 use Rattle.rt_schema.specs.Law.{cell, is_null, not_null_holds}
 use Rattle.rt_formula.specs.Shared.{bool_at}
 use Rattle.rt_rules.specs.Meaning.{MeanAll, filled}

@@ -1,4 +1,4 @@
-use Rattle.std.proofs.Common.{◌≡◌, ◌+◌, ◌&&◌, List, ◌∷◌, length, drop, sym, ap, ◌∙◌}
+use Rattle.std.proofs.Common.{◌+◌, ◌&&◌, List, ◌∷◌, length, drop, sym, ap, ◌∙◌}
 use Rattle.rt_schema.specs.Given.{Rows, Tables}
 use Rattle.rt_schema.specs.Kept.{kept, kept_rows}
 use Rattle.rt_schema.specs.Law.{rules_hold, tables_hold}

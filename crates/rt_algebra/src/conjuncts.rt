@@ -1,0 +1,156 @@
+//! The conjuncts of a condition over members side by side.
+ghost use Rattle.std.specs.Prelude.{◌≡◌, ◌+◌, not, map, IfOk};
+ghost use Rattle.std.specs.List.{filter, filter_map};
+ghost use Rattle.rt_algebra.specs.Join.{Joins, JoinsWhole};
+ghost use Rattle.rt_algebra.specs.Split.{Splits, split_of, apart, conjuncts, own_of, key_of, pair, place, is_taken};
+
+use crate::copy::copy_pred;
+use crate::expr::Expr;
+use crate::moved::{lies, own_of};
+use crate::parts::{KeyPair, Split};
+use crate::query::Pred;
+use rt_value::{List, NoMemory, Op};
+use std::alloc::Global;
+use std::slice;
+
+/// The condition over members of these widths, taken apart.
+pub fn split(alloc: Global, pred: &Pred, widths: &[usize]) -> Result<Split, NoMemory>
+    ensures parts { IfOk result (λ s. s ≡ split_of pred.now widths.now) }
+    ensures law { IfOk result (λ s. Splits pred.now widths.now s) }
+    ensures joins { IfOk result (λ s. Joins pred.now widths.now s) }
+    ensures joins_whole { IfOk result (λ s. JoinsWhole pred.now widths.now s) }
+{
+    let parts = apart(alloc, conjuncts(pred), widths)?;
+    Ok(parts)
+}
+
+fn apart(alloc: Global, conjuncts: &[Pred], widths: &[usize]) -> Result<Split, NoMemory>
+    ensures { IfOk result (λ s. s ≡ apart conjuncts.now widths.now) }
+{
+    let mut own = List::new(alloc);
+    let mut keys = List::new(alloc);
+    let mut base: usize = 0;
+    for width in widths {
+        own.push(owns(alloc, conjuncts, base, *width)?)?;
+        keys.push(keys_of(alloc, conjuncts, base, *width)?)?;
+        base = after(base, *width)?;
+    }
+    let rest = rest(alloc, conjuncts, widths)?;
+    Ok(Split { own, keys, rest })
+}
+
+/// The members of an outermost AND, else the condition itself.
+fn conjuncts(pred: &Pred) -> &[Pred]
+    ensures { result.now ≡ conjuncts pred.now }
+{
+    match pred {
+        Pred::And(members) => members.as_slice(),
+        _ => slice::from_ref(pred),
+    }
+}
+
+/// Where the next member begins. No row is as wide as the machine's word allows.
+fn after(base: usize, width: usize) -> Result<usize, NoMemory>
+    ensures { IfOk result (λ next. next ≡ base + width) }
+{
+    base.checked_add(width).ok_or(NoMemory)
+}
+
+/// The member's own conjuncts, over its row.
+fn owns(
+    alloc: Global,
+    conjuncts: &[Pred],
+    base: usize,
+    width: usize,
+) -> Result<List<Pred>, NoMemory>
+    ensures { IfOk result (λ out. out ≡ filter_map (own_of base width) conjuncts.now) }
+{
+    let mut out = List::new(alloc);
+    for conjunct in conjuncts {
+        match own_of(alloc, conjunct, base, width)? {
+            Some(own) => out.push(own)?,
+            None => {}
+        }
+    }
+    Ok(out)
+}
+
+fn keys_of(
+    alloc: Global,
+    conjuncts: &[Pred],
+    base: usize,
+    width: usize,
+) -> Result<List<KeyPair>, NoMemory>
+    ensures { IfOk result (λ out. out ≡ filter_map (key_of base width) conjuncts.now) }
+{
+    let mut out = List::new(alloc);
+    for conjunct in conjuncts {
+        match key_of(conjunct, base, width) {
+            Some(key) => out.push(key)?,
+            None => {}
+        }
+    }
+    Ok(out)
+}
+
+/// The pair of columns that have to be equal, of which one lies in the member and one before it.
+fn key_of(pred: &Pred, base: usize, width: usize) -> Option<KeyPair>
+    ensures { result ≡ key_of base width pred.now }
+{
+    match pred {
+        Pred::Cmp(Op::Eq, a, b) => pair(place(a), place(b), base, width),
+        _ => None,
+    }
+}
+
+fn place(expr: &Expr) -> Option<usize>
+    ensures { result ≡ place expr.now }
+{
+    match expr {
+        Expr::Col(up, at) if *up == 0 => Some(*at),
+        _ => None,
+    }
+}
+
+fn pair(a: Option<usize>, b: Option<usize>, base: usize, width: usize) -> Option<KeyPair>
+    ensures { result ≡ pair base width a b }
+{
+    match (a, b) {
+        (Some(a), Some(b)) if a < base && lies(base, width, b) => Some(KeyPair {
+            before: a,
+            own: b - base,
+        }),
+        (Some(a), Some(b)) if b < base && lies(base, width, a) => Some(KeyPair {
+            before: b,
+            own: a - base,
+        }),
+        _ => None,
+    }
+}
+
+/// The conjuncts that are neither own to a member nor a key.
+fn rest(alloc: Global, conjuncts: &[Pred], widths: &[usize]) -> Result<List<Pred>, NoMemory>
+    ensures { IfOk result (λ out. out ≡ filter (λ p. not (is_taken 0 widths.now p)) conjuncts.now) }
+{
+    let mut out = List::new(alloc);
+    for conjunct in conjuncts {
+        if !is_taken(alloc, conjunct, widths)? {
+            out.push(copy_pred(alloc, conjunct)?)?;
+        }
+    }
+    Ok(out)
+}
+
+fn is_taken(alloc: Global, conjunct: &Pred, widths: &[usize]) -> Result<bool, NoMemory>
+    ensures { IfOk result (λ b. b ≡ is_taken 0 widths.now conjunct.now) }
+{
+    let mut base: usize = 0;
+    for width in widths {
+        let own = own_of(alloc, conjunct, base, *width)?;
+        if own.is_some() || key_of(conjunct, base, *width).is_some() {
+            return Ok(true);
+        }
+        base = after(base, *width)?;
+    }
+    Ok(false)
+}

@@ -1,0 +1,192 @@
+//! The rows of a product that a condition may choose: each member's rows are narrowed by its own
+//! conjuncts, and joined by its keys.
+ghost use Rattle.std.specs.Prelude.{◌≡◌, ◌++◌, ◌∷◌, [], length, map, nat_eq, slice_get, IfOk};
+ghost use Rattle.std.specs.List.{cons_option, filter_map, list_all};
+ghost use Rattle.rt_algebra.specs.Expression.{wrapped};
+ghost use Rattle.rt_algebra.specs.Split.{all_simple};
+ghost use Rattle.rt_annot.specs.Joints.{join_joint, unit_joints};
+ghost use Rattle.rt_annot.specs.Narrowed.{IsNarrowed, are_long, joined_joints, matched_joints, own_rows};
+
+use crate::joint::{Joint, joined_one, product, unit};
+use rt_algebra::{KeyPair, Pred, Split, all_true, matches, scope, split};
+use rt_formula::Noted;
+use rt_value::{List, NoMemory, Row};
+use std::alloc::Global;
+
+/// Rows of the product, and among them at every choice each on which the condition is true.
+pub fn narrowed(
+    alloc: Global,
+    members: &[List<Noted>],
+    condition: &Pred,
+    env: &[&Row],
+) -> Result<List<Joint>, NoMemory>
+    ensures { IfOk result (IsNarrowed condition.now (map (λ r. r.now) env.now) members.now) }
+{
+    let widths = widths(alloc, members)?;
+    if are_long(widths.as_slice(), members) {
+        let parts = split(alloc, condition, widths.as_slice())?;
+        let out = chosen(alloc, members, &parts, env)?;
+        Ok(out)
+    } else {
+        let out = product(alloc, members)?;
+        Ok(out)
+    }
+}
+
+/// The concatenations on which each member's own conditions and keys hold.
+fn chosen(
+    alloc: Global,
+    members: &[List<Noted>],
+    parts: &Split,
+    env: &[&Row],
+) -> Result<List<Joint>, NoMemory>
+    ensures { IfOk result (λ out. out ≡ joined_joints parts.now.own parts.now.keys unit_joints members.now (map (λ r. r.now) env.now)) }
+{
+    let mut out = unit(alloc)?;
+    for (at, rows) in members.iter().enumerate() {
+        let own = own_rows(alloc, rows.as_slice(), parts.own_of(at), env)?;
+        out = matched(alloc, parts.keys_of(at), out.as_slice(), own.as_slice())?;
+    }
+    Ok(out)
+}
+
+/// The rows on which the conditions are true, each as the innermost in scope.
+fn own_rows(
+    alloc: Global,
+    rows: &[Noted],
+    conditions: &[Pred],
+    env: &[&Row],
+) -> Result<List<Noted>, NoMemory>
+    ensures { IfOk result (λ out. out ≡ own_rows conditions.now (map (λ r. r.now) env.now) rows.now) }
+{
+    let mut out = List::new(alloc);
+    for noted in rows {
+        let own = is_own(alloc, &noted.row, conditions, env)?;
+        if own {
+            let row = noted.row.copy(alloc)?;
+            let node = noted.node;
+            out.push(Noted { row, node })?;
+        }
+    }
+    Ok(out)
+}
+
+fn is_own(alloc: Global, row: &Row, conditions: &[Pred], env: &[&Row]) -> Result<bool, NoMemory>
+    ensures { IfOk result (λ b. b ≡ all_simple wrapped conditions.now (row.now ∷ map (λ r. r.now) env.now)) }
+{
+    let inner = scope(alloc, row, env)?;
+    let holds = all_true(alloc, conditions, inner.as_slice())?;
+    Ok(holds)
+}
+
+/// Each of the rows before each row of the member that matches it by the keys.
+fn matched(
+    alloc: Global,
+    keys: &[KeyPair],
+    befores: &[Joint],
+    rows: &[Noted],
+) -> Result<List<Joint>, NoMemory>
+    ensures { IfOk result (λ out. out ≡ matched_joints keys.now befores.now rows.now) }
+{
+    let firsts = joint_rows(alloc, befores)?;
+    let seconds = noted_rows(alloc, rows)?;
+    let places = matches(alloc, keys, firsts.as_slice(), seconds.as_slice())?;
+    let mut out = List::new(alloc);
+    for (at, before) in befores.iter().enumerate() {
+        out = picked_each(alloc, out, before, rows, places.as_slice()[at].as_slice())?;
+    }
+    Ok(out)
+}
+
+fn joint_rows<'a>(alloc: Global, joints: &'a [Joint]) -> Result<List<&'a Row>, NoMemory>
+    ensures { IfOk result (λ out. map (λ r. r.now) out ≡ map (λ j. j.row) joints.now) }
+{
+    let mut out = List::new(alloc);
+    for joint in joints {
+        out.push(&joint.row)?;
+    }
+    Ok(out)
+}
+
+fn noted_rows<'a>(alloc: Global, rows: &'a [Noted]) -> Result<List<&'a Row>, NoMemory>
+    ensures { IfOk result (λ out. map (λ r. r.now) out ≡ map (λ n. n.row) rows.now) }
+{
+    let mut out = List::new(alloc);
+    for noted in rows {
+        out.push(&noted.row)?;
+    }
+    Ok(out)
+}
+
+/// `out`, and the row before each of the rows at the places.
+fn picked_each(
+    alloc: Global,
+    out: List<Joint>,
+    before: &Joint,
+    rows: &[Noted],
+    places: &[usize],
+) -> Result<List<Joint>, NoMemory>
+    ensures { IfOk result (λ o. o ≡ out ++ join_joint before.now (filter_map (slice_get rows.now) places.now)) }
+{
+    let mut out = out;
+    for place in places {
+        out = with_picked(alloc, out, before, rows, *place)?;
+    }
+    Ok(out)
+}
+
+/// `out`, and the row before the one at the place, where there is one.
+fn with_picked(
+    alloc: Global,
+    out: List<Joint>,
+    before: &Joint,
+    rows: &[Noted],
+    place: usize,
+) -> Result<List<Joint>, NoMemory>
+    ensures { IfOk result (λ o. o ≡ out ++ join_joint before.now (cons_option (slice_get rows.now place) [])) }
+{
+    let mut out = out;
+    match rows.get(place) {
+        Some(row) => {
+            out.push(joined_one(alloc, before, row)?)?;
+            Ok(out)
+        }
+        None => Ok(out),
+    }
+}
+
+/// How many values each row of a member has, where all have as many.
+fn widths(alloc: Global, members: &[List<Noted>]) -> Result<List<usize>, NoMemory>
+    ensures { IfOk result (λ out. length out ≡ length members.now) }
+{
+    let mut out = List::new(alloc);
+    for rows in members {
+        let width = match rows.as_slice().first() {
+            Some(noted) => noted.row.len(),
+            None => 0,
+        };
+        out.push(width)?;
+    }
+    Ok(out)
+}
+
+/// Whether each row of each member has as many values as the width says.
+fn are_long(widths: &[usize], members: &[List<Noted>]) -> bool
+    ensures { result ≡ are_long widths.now members.now }
+{
+    if widths.len() != members.len() {
+        return false;
+    }
+    for (at, rows) in members.iter().enumerate() {
+        if !is_long(widths[at], rows.as_slice()) {
+            return false;
+        }
+    }
+    true
+}
+
+fn is_long(width: usize, rows: &[Noted]) -> bool
+    ensures { result ≡ list_all (λ n. nat_eq (length n.row) width) rows.now }
+{
+    rows.iter().all(|noted| noted.row.len() == width)
+}

@@ -1,0 +1,91 @@
+-- One more step of a join.
+use Rattle.std.proofs.Common.{◌≡◌, ◌≢◌, ℕ, ℤ, ◌+◌, ◌<◌, Bool, true, false, not, ◌&&◌, arith, List, [], ◌∷◌, ◌++◌, length, map, drop, get_or, Option, None, Some, refl, sym, ap, ap₂, ◌∙◌, add-one}
+use Rattle.std.specs.List.{filter, filter_map, cons_option, slice_get, list_all}
+use Rattle.std.specs.Prelude.{nat_eq}
+use Rattle.std.proofs.Math.Seq.{drop-cons}
+use Rattle.std.proofs.lemmas.List.{append_assoc, map-id, get_or-map}
+use Rattle.rt_value.specs.declared.value.Value.{Value}
+use Rattle.rt_schema.specs.Given.{Rows, Tables}
+use Rattle.rt_algebra.specs.Answer.{Condition, Answer, has_row, join_each, pairs, is_yes, pred_by, answer_by, pred_step, query_step, product_after}
+use Rattle.rt_algebra.specs.Expression.{Env, wrapped}
+use Rattle.rt_algebra.specs.Join.{places_where, matches, matched, joined_rows, product_rows, are_wide}
+use Rattle.rt_algebra.specs.Split.{all_simple, keys_yes, first, later}
+use Rattle.rt_algebra.specs.declared.query.Pred.{Pred}
+use Rattle.rt_algebra.specs.declared.query.Query.{Query}
+use Rattle.rt_algebra.specs.declared.query.Query.TheVariants as v
+use Rattle.rt_algebra.specs.declared.query.Pred.TheOpen.{Select, Product, Except}
+use Rattle.rt_algebra.specs.declared.query.Pred.TheFolds.{fold-roll-Query}
+use Rattle.rt_algebra.specs.declared.parts.KeyPair.{KeyPair}
+use Rattle.rt_algebra.proofs.Places.{picked, later_drop, drop_more}
+
+join_cons : (b : List Value) (o : Option (List Value)) (ys : Rows) → join_each b (cons_option o ys) ≡ join_each b (cons_option o []) ++ join_each b ys
+join_cons b None ys = refl
+join_cons b (Some y) ys = refl
+
+pub picked_step : (b : List Value) (rows : Rows) (places : List ℕ) (i d : ℕ) → i < length places
+    → (out next whole : Rows) → next ≡ out ++ join_each b (cons_option (slice_get rows (get_or places i d)) [])
+    → out ++ join_each b (filter_map (slice_get rows) (drop i places)) ≡ whole → next ++ join_each b (filter_map (slice_get rows) (drop (i + 1) places)) ≡ whole
+picked_step b rows places i d l out next whole n h =
+    let p = get_or places i d in
+    let more = filter_map (slice_get rows) (drop (i + 1) places) in
+    let rest : drop i places ≡ p ∷ drop (i + 1) places = rw add-one (drop-cons places i d l) in
+    ap (λ xs. xs ++ join_each b more) n ∙ append_assoc out (join_each b (cons_option (slice_get rows p) [])) (join_each b more)
+    ∙ ap (λ xs. out ++ xs) (sym (join_cons b (slice_get rows p) more)) ∙ ap (λ ps. out ++ join_each b (filter_map (slice_get rows) ps)) (sym rest) ∙ h
+
+map_at : {X Y : Type 0} (f : X → Y) (xs : List X) (i : ℕ) (x : X) (y : Y) → i < length xs → x ≡ get_or xs i x → y ≡ get_or (map f xs) i y → y ≡ f x
+map_at f xs i x y l e h = h ∙ get_or-map f xs i x y l ∙ ap f (sym e)
+
+pub matched_step : (ks : List KeyPair) (befores rows : Rows) (i : ℕ) (b : List Value) → i < length befores → b ≡ get_or befores i b
+    → (ps : List ℕ) → ps ≡ get_or (matches ks befores rows) i ps
+    → (out next whole : Rows) → next ≡ out ++ join_each b (filter_map (slice_get rows) ps)
+    → out ++ matched ks (drop i befores) rows ≡ whole → next ++ matched ks (drop (i + 1) befores) rows ≡ whole
+matched_step ks befores rows i b l e ps f out next whole n h =
+    let more = matched ks (drop (i + 1) befores) rows in
+    let here = ap (filter_map (slice_get rows)) (map_at (λ x. places_where (keys_yes ks x) 0 rows) befores i b ps l e f ∙ ap (places_where (keys_yes ks b) 0) (sym (map-id rows))) ∙ picked (λ r. r) (keys_yes ks b) rows in
+    ap (λ xs. xs ++ more) n ∙ append_assoc out (join_each b (filter_map (slice_get rows) ps)) more
+    ∙ ap (λ xs. out ++ (join_each b xs ++ more)) here ∙ ap (λ bs. out ++ matched ks bs rows) (sym (drop_more befores i b l e)) ∙ h
+
+pub chosen_step : (fit : ℤ → ℤ) (own : List (List Pred)) (keys : List (List KeyPair)) (members : List Rows) (env : Env) (i : ℕ) (rows : Rows) → i < length members → rows ≡ get_or members i rows
+    → (out mine next whole : Rows) → mine ≡ filter (λ r. all_simple fit (first (drop i own)) (r ∷ env)) rows → next ≡ matched (first (drop i keys)) out mine
+    → joined_rows fit (drop i own) (drop i keys) out (drop i members) env ≡ whole → joined_rows fit (drop (i + 1) own) (drop (i + 1) keys) next (drop (i + 1) members) env ≡ whole
+chosen_step fit own keys members env i rows l e out mine next whole m n h =
+    ap₂ (λ os ks. joined_rows fit os ks next (drop (i + 1) members) env) (sym (later_drop own i)) (sym (later_drop keys i))
+    ∙ ap (λ xs. joined_rows fit (later (drop i own)) (later (drop i keys)) xs (drop (i + 1) members) env) (n ∙ ap (matched (first (drop i keys)) out) m)
+    ∙ ap (λ ms. joined_rows fit (drop i own) (drop i keys) out ms env) (sym (drop_more members i rows l e)) ∙ h
+
+-- products
+pub product_of : (qs : List Query) (front : Rows) (db : Tables) (env : Env) → product_rows front (map (λ q. answer_by wrapped q db env) qs) ≡ product_after front (map (answer_by wrapped) qs) db env
+product_of [] front db env = refl
+product_of (q ∷ qs) front db env = product_of qs (pairs front (answer_by wrapped q db env)) db env
+
+pub at_product : {q : Query} (qs : List Query) (db : Tables) (env : Env) → q ≡ v.Product qs → product_rows ([] ∷ []) (map (λ q. answer_by wrapped q db env) qs) ≡ answer_by wrapped q db env
+at_product qs db env h =
+    product_of qs ([] ∷ []) db env ∙ sym (ap (λ f. f db env) (fold-roll-Query Condition Answer (pred_step wrapped) (query_step wrapped) (Product qs)))
+    ∙ ap (λ x. answer_by wrapped x db env) (v.rolls-Product qs ∙ sym h)
+
+pub at_select : {q : Query} (a : Query) (p : Pred) (db : Tables) (env : Env) → q ≡ v.Select a p
+    → filter (λ r. is_yes (pred_by wrapped p db (r ∷ env))) (answer_by wrapped a db env) ≡ answer_by wrapped q db env
+at_select a p db env h =
+    sym (ap (λ f. f db env) (fold-roll-Query Condition Answer (pred_step wrapped) (query_step wrapped) (Select a p))) ∙ ap (λ x. answer_by wrapped x db env) (v.rolls-Select a p ∙ sym h)
+
+pub at_except : {q : Query} (a b : Query) (db : Tables) (env : Env) → q ≡ v.Except a b
+    → filter (λ r. not (has_row (answer_by wrapped b db env) r)) (answer_by wrapped a db env) ≡ answer_by wrapped q db env
+at_except a b db env h =
+    sym (ap (λ f. f db env) (fold-roll-Query Condition Answer (pred_step wrapped) (query_step wrapped) (Except a b))) ∙ ap (λ x. answer_by wrapped x db env) (v.rolls-Except a b ∙ sym h)
+
+-- what is left to test
+pub nothing : {X : Type 0} (xs : List X) → length xs < 1 → xs ≡ []
+nothing [] l = refl
+nothing (x ∷ xs) l = absurd (omega (arith, l))
+
+-- widths
+pub uneven : (widths : List ℕ) (members : List Rows) → length widths ≢ length members → false ≡ are_wide widths members
+uneven [] [] h = absurd (h refl)
+uneven [] (rows ∷ members) h = refl
+uneven (width ∷ widths) [] h = refl
+uneven (width ∷ widths) (rows ∷ members) h =
+    let rest = uneven widths members (λ e. h (omega (arith, e))) in rw (sym rest) (sym (and_false (list_all (λ row. nat_eq (length row) width) rows)))
+  where
+    and_false : (b : Bool) → (b && false) ≡ false
+    and_false true = refl
+    and_false false = refl

@@ -1,0 +1,182 @@
+//! Products, and what the parts of a condition choose from them, member by member.
+ghost use Rattle.std.specs.Prelude.{◌≡◌, ◌∷◌, ◌++◌, [], length, map, nat_eq, slice_get, slice_index_or, IfOk};
+ghost use Rattle.std.specs.List.{cons_option, filter, filter_map, list_all};
+ghost use Rattle.rt_algebra.specs.Answer.{join_each};
+ghost use Rattle.rt_algebra.specs.Expression.{wrapped};
+ghost use Rattle.rt_algebra.specs.Join.{are_wide, joined_rows, matched, product_rows};
+ghost use Rattle.rt_algebra.specs.Split.{all_simple};
+
+use crate::lists::joined;
+use rt_algebra::{KeyPair, Pred, Split, all_true, matches, scope};
+use rt_value::{List, NoMemory, Row};
+use std::alloc::Global;
+
+/// Each concatenation of a row of each member.
+pub fn product(alloc: Global, members: &[List<Row>]) -> Result<List<Row>, NoMemory>
+    ensures { IfOk result (λ out. out ≡ product_rows ([] ∷ []) members.now) }
+{
+    let mut out = unit(alloc)?;
+    for rows in members {
+        out = joined(alloc, out.as_slice(), rows.as_slice())?;
+    }
+    Ok(out)
+}
+
+/// The concatenations on which each member's own conditions and keys hold.
+pub fn chosen(
+    alloc: Global,
+    members: &[List<Row>],
+    parts: &Split,
+    env: &[&Row],
+) -> Result<List<Row>, NoMemory>
+    ensures { IfOk result (λ out. out ≡ joined_rows wrapped parts.now.own parts.now.keys ([] ∷ []) members.now (map (λ s. s.now) env.now)) }
+{
+    let mut out = unit(alloc)?;
+    for (at, rows) in members.iter().enumerate() {
+        let own = own_rows(alloc, rows.as_slice(), parts.own_of(at), env)?;
+        out = matched(alloc, parts.keys_of(at), out.as_slice(), own.as_slice())?;
+    }
+    Ok(out)
+}
+
+fn unit(alloc: Global) -> Result<List<Row>, NoMemory>
+    ensures { IfOk result (λ out. out ≡ [] ∷ []) }
+{
+    let mut out = List::new(alloc);
+    out.push(Row::new(alloc))?;
+    Ok(out)
+}
+
+/// The rows on which the conditions are true, each as the innermost in scope.
+fn own_rows(
+    alloc: Global,
+    rows: &[Row],
+    conditions: &[Pred],
+    env: &[&Row],
+) -> Result<List<Row>, NoMemory>
+    ensures { IfOk result (λ out. out ≡ filter (λ r. all_simple wrapped conditions.now (r ∷ map (λ s. s.now) env.now)) rows.now) }
+{
+    let mut out = List::new(alloc);
+    for row in rows {
+        let own = is_own(alloc, row, conditions, env)?;
+        if own {
+            out.push(row.copy(alloc)?)?;
+        }
+    }
+    Ok(out)
+}
+
+fn is_own(alloc: Global, row: &Row, conditions: &[Pred], env: &[&Row]) -> Result<bool, NoMemory>
+    ensures { IfOk result (λ b. b ≡ all_simple wrapped conditions.now (row.now ∷ map (λ s. s.now) env.now)) }
+{
+    let inner = scope(alloc, row, env)?;
+    let holds = all_true(alloc, conditions, inner.as_slice())?;
+    Ok(holds)
+}
+
+/// Each of the rows before each row of the member that matches it by the keys.
+fn matched(
+    alloc: Global,
+    keys: &[KeyPair],
+    befores: &[Row],
+    rows: &[Row],
+) -> Result<List<Row>, NoMemory>
+    ensures { IfOk result (λ out. out ≡ matched keys.now befores.now rows.now) }
+{
+    let firsts = borrowed(alloc, befores)?;
+    let seconds = borrowed(alloc, rows)?;
+    let places = matches(alloc, keys, firsts.as_slice(), seconds.as_slice())?;
+    let mut out = List::new(alloc);
+    for (at, before) in befores.iter().enumerate() {
+        out = picked_each(alloc, out, before, rows, places.as_slice()[at].as_slice())?;
+    }
+    Ok(out)
+}
+
+fn borrowed<'a>(alloc: Global, rows: &'a [Row]) -> Result<List<&'a Row>, NoMemory>
+    ensures { IfOk result (λ out. map (λ r. r.now) out ≡ rows.now) }
+{
+    let mut out = List::new(alloc);
+    for row in rows {
+        out.push(row)?;
+    }
+    Ok(out)
+}
+
+/// `out`, and the row before each of the rows at the places.
+fn picked_each(
+    alloc: Global,
+    out: List<Row>,
+    before: &Row,
+    rows: &[Row],
+    places: &[usize],
+) -> Result<List<Row>, NoMemory>
+    ensures { IfOk result (λ o. o ≡ out ++ join_each before.now (filter_map (slice_get rows.now) places.now)) }
+{
+    let mut out = out;
+    for place in places {
+        out = with_picked(alloc, out, before, rows, *place)?;
+    }
+    Ok(out)
+}
+
+/// `out`, and the row before the one at the place, where there is one.
+fn with_picked(
+    alloc: Global,
+    out: List<Row>,
+    before: &Row,
+    rows: &[Row],
+    place: usize,
+) -> Result<List<Row>, NoMemory>
+    ensures { IfOk result (λ o. o ≡ out ++ join_each before.now (cons_option (slice_get rows.now place) [])) }
+{
+    let mut out = out;
+    match rows.get(place) {
+        Some(row) => {
+            out.push(before.join(alloc, row)?)?;
+            Ok(out)
+        }
+        None => Ok(out),
+    }
+}
+
+/// How many values each row of a member has, where all have as many.
+pub fn widths(alloc: Global, members: &[List<Row>]) -> Result<List<usize>, NoMemory>
+    ensures { IfOk result (λ out. out ≡ map (λ rows. length (slice_index_or rows 0 [])) members.now) }
+{
+    let mut out = List::new(alloc);
+    for rows in members {
+        out.push(first_width(rows.as_slice()))?;
+    }
+    Ok(out)
+}
+
+fn first_width(rows: &[Row]) -> usize
+    ensures { result ≡ length (slice_index_or rows.now 0 []) }
+{
+    match rows {
+        [] => 0,
+        [row, ..] => row.len(),
+    }
+}
+
+/// Whether each row of each member has as many values as the width says.
+pub fn are_wide(widths: &[usize], members: &[List<Row>]) -> bool
+    ensures { result ≡ are_wide widths.now members.now }
+{
+    if widths.len() != members.len() {
+        return false;
+    }
+    for (at, rows) in members.iter().enumerate() {
+        if !is_wide(widths[at], rows.as_slice()) {
+            return false;
+        }
+    }
+    true
+}
+
+fn is_wide(width: usize, rows: &[Row]) -> bool
+    ensures { result ≡ list_all (λ r. nat_eq (length r) width) rows.now }
+{
+    rows.iter().all(|row| row.len() == width)
+}

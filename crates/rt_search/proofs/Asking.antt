@@ -1,0 +1,144 @@
+-- One question for an earlier row: what the lines say before the call of solve, and after.
+use Rattle.std.proofs.Common.{◌≡◌, ℕ, ◌+◌, ◌-◌, ◌*◌, ◌<◌, ◌≤◌, Bool, true, List, [], ◌∷◌, ◌++◌, take, length, refl, sym, ap, subst, inl, inr, Some, arith}
+use Rattle.std.proofs.Math.Nat.{mul-le-mul_left}
+use Rattle.rt_value.specs.Keep.{size}
+use Rattle.rt_clause.specs.Literal.{Literal}
+use Rattle.rt_clause.specs.Lists.{line_at, IsBelow}
+use Rattle.rt_clause.specs.Models.{IsModel}
+use Rattle.rt_clause.specs.Refuting.{IsRefuted}
+use Rattle.rt_clause.specs.Gates.{gate}
+use Rattle.rt_clause.proofs.Literals.{has-cases}
+use Rattle.rt_clause.proofs.Extending.{extends-gate, model-older}
+use Rattle.rt_formula.specs.Shared.{Shared}
+use Rattle.rt_solver.specs.Answers.{IsModelled}
+use Rattle.rt_totalizer.specs.Outputs.{CountsFirst, first_at}
+use Rattle.rt_totalizer.proofs.Rows.{cell-has}
+use Rattle.rt_totalizer.proofs.Totals.{kept-size}
+use Rattle.rt_search.specs.Aimed.{IsAimed}
+use Rattle.rt_search.specs.Attempts.{IsGrown}
+use Rattle.rt_search.specs.Leading.{IsLeading}
+use Rattle.rt_search.specs.Order.{IsNext}
+use Rattle.rt_search.proofs.Aiming.{aimed-extends, model-sought}
+use Rattle.rt_search.proofs.Keeps.{kept-some}
+use Rattle.rt_search.proofs.Leading.{IsAsked, KeepsNone, asked-begun, asked-on, asked-model, model-asked, none-refuted, none-here, leading-next}
+
+-- the next kept row is one of those that the best choice keeps
+pub kept-within : (d : Shared) (goal : ℕ) (cone : List Bool) (lines : List (List Literal)) (best : List Bool) (place kept row : ℕ) (held : Literal) → IsLeading d goal cone lines best place kept held → IsNext best place row → row < d.rows → kept + 1 ≤ size best
+kept-within d goal cone lines best place kept row held l n r =
+    let t = l.best_is.0 in
+    let b : row < length best = omega (arith, r, t) in
+    let k = l.kept_is in
+    let m = kept-some place row (length best) best best (λ v h. refl) n.from b (n.kept b) in
+    let s = kept-size best in
+    omega (arith, k, m, s)
+
+pub low-both : (m : ℕ) (a b : Literal) → a.var < m → b.var < m → IsBelow m (a ∷ b ∷ [])
+low-both m a b p q l h = elim (has-cases a l (b ∷ []) h) [
+  | inl e ↦ (let V : ℕ → Type 0 = λ v. v < m in subst V (ap (λ (j : Literal). j.var) (sym e)) p)
+  | inr r ↦ elim (has-cases b l [] r) [ inl e ↦ (let V : ℕ → Type 0 = λ v. v < m in subst V (ap (λ (j : Literal). j.var) (sym e)) q) | inr c ↦ absurd (cc) ]
+]
+
+-- a gate of two literals keeps the aim
+pub both-aimed : (d : Shared) (goal : ℕ) (cone : List Bool) (lines new : List (List Literal)) (next : ℕ) (a b out : Literal) → IsAimed d goal cone lines next → out.var ≡ next → a.var < next → b.var < next → new ≡ lines ++ gate out (a ∷ b ∷ []) → IsAimed d goal cone new (next + 1)
+both-aimed d goal cone lines new next a b out h o p q e =
+    let A : List (List Literal) → Type 0 = λ ls. IsAimed d goal cone ls (next + 1) in
+    subst A (sym e) (aimed-extends d goal cone lines (lines ++ gate out (a ∷ b ∷ [])) next (next + 1) h (extends-gate lines next out (a ∷ b ∷ []) o (low-both next a b p q)))
+
+pub firsts-on : (rows upto next next' : ℕ) (lines new more firsts : List (List Literal)) → next ≤ next' → new ≡ lines ++ more → CountsFirst rows upto next lines firsts → CountsFirst rows upto next' new firsts
+firsts-on rows upto next next' lines new more firsts w e c = record {
+  all = c.all;
+  each = c.each;
+  low = λ p h l b. (let q = c.low p h l b in omega (arith, q, w));
+  means = λ p h bools m. (let M : List (List Literal) → Type 0 = λ ls. IsModel ls bools in c.means p h bools (model-older lines more bools (subst M e m)));
+}
+
+-- the lines with the literal of a question
+pub given-aimed : (d : Shared) (goal : ℕ) (cone : List Bool) (lines given firsts : List (List Literal)) (upto next : ℕ) (best : List Bool) (place kept row : ℕ) (held earlier asked : Literal) → IsAimed d goal cone lines next → CountsFirst d.rows upto next lines firsts
+    → IsLeading d goal cone lines best place kept held → IsNext best place row → row < d.rows → held.var < next → size best < upto → earlier ≡ first_at firsts row (kept + 1) → asked.var ≡ next → given ≡ lines ++ gate asked (held ∷ earlier ∷ [])
+    → IsAimed d goal cone given (next + 1)
+given-aimed d goal cone lines given firsts upto next best place kept row held earlier asked h c l n r low room ee av ge =
+    let k = kept-within d goal cone lines best place kept row held l n r in
+    let here : row ≤ d.rows = omega (arith, r) in
+    let long = c.each row here in
+    let L : Literal → Type 0 = λ x. x.var < next in
+    let el = subst L (sym ee) (c.low row here (first_at firsts row (kept + 1)) (cell-has (line_at firsts row) (kept + 1) (omega (arith, long, k, room)))) in
+    both-aimed d goal cone lines given next held earlier asked h av low el ge
+
+-- what is known after a question
+pub record HasAsked (d : Shared) (goal : ℕ) (cone : List Bool) (lines firsts : List (List Literal)) (upto next : ℕ) (best : List Bool) (place kept row : ℕ) (held asked : Literal) : Type 0 where
+  pub aimed : IsAimed d goal cone lines next
+  pub firsts_are : CountsFirst d.rows upto next lines firsts
+  pub question : IsAsked d goal cone lines best place kept row held asked
+
+pub has-asked : (d : Shared) (goal : ℕ) (cone : List Bool) (lines given new firsts : List (List Literal)) (upto next : ℕ) (best : List Bool) (place kept row : ℕ) (held earlier asked : Literal)
+    → IsAimed d goal cone lines next → CountsFirst d.rows upto next lines firsts → IsLeading d goal cone lines best place kept held → IsNext best place row → row < d.rows → held.var < next → size best < upto
+    → earlier ≡ first_at firsts row (kept + 1) → asked.var ≡ next → given ≡ lines ++ gate asked (held ∷ earlier ∷ []) → IsGrown given new (Some asked) (next + 1)
+    → HasAsked d goal cone new firsts upto (next + 1) best place kept row held asked
+has-asked d goal cone lines given new firsts upto next best place kept row held earlier asked h c l n r low room ee av ge s =
+    let k = kept-within d goal cone lines best place kept row held l n r in
+    let most : kept + 1 ≤ upto = omega (arith, k, room) in
+    let here : row ≤ d.rows = omega (arith, r) in
+    let aimed = given-aimed d goal cone lines given firsts upto next best place kept row held earlier asked h c l n r low room ee av ge in
+    record {
+      aimed = s.aims d goal cone (omega (arith, av)) aimed;
+      firsts_are = firsts-on d.rows upto (next + 1) (next + 1) given new _ firsts (omega arith) s.lines (firsts-on d.rows upto next (next + 1) lines given _ firsts (omega arith) ge c);
+      question = asked-on d goal cone given new _ best place kept row held asked s.lines (asked-begun d goal cone lines given firsts upto next best place kept row held earlier asked l n here c most ee ge);
+    }
+
+-- a model is an earlier choice of as many rows
+pub earlier-found : (d : Shared) (goal : ℕ) (cone : List Bool) (new firsts : List (List Literal)) (upto next rows : ℕ) (best : List Bool) (place kept row row' : ℕ) (held asked : Literal) (bools mid : List Bool) → rows ≡ d.rows
+    → HasAsked d goal cone new firsts upto next best place kept row held asked → (rows ≤ length bools) × IsModelled new (Some asked) (length bools) bools → mid ≡ take rows bools → IsNext mid place row' → IsLeading d goal cone new mid place kept asked × (row' < row)
+earlier-found d goal cone new firsts upto next rows best place kept row row' held asked bools mid e h q k n =
+    let g = model-sought d goal cone new (Some asked) next (length bools) rows bools mid e q.0 k h.aimed q.1 in
+    asked-model d goal cone new best place kept row row' held asked mid g h.question (model-asked d goal cone new best place kept row (length bools) rows held asked bools mid e q.0 k h.question q.1) n
+
+-- no choice keeps an earlier row, so that the next row of the best is settled
+pub record IsSettled (d : Shared) (goal : ℕ) (cone : List Bool) (lines firsts : List (List Literal)) (upto next : ℕ) (best : List Bool) (place kept row : ℕ) (held : Literal) : Type 0 where
+  pub aimed : IsAimed d goal cone lines next
+  pub firsts_are : CountsFirst d.rows upto next lines firsts
+  pub leading : IsLeading d goal cone lines best place kept held
+  pub none : KeepsNone d goal cone leading.value kept row
+  pub low : held.var < next
+
+pub settled-refuted : (d : Shared) (goal : ℕ) (cone : List Bool) (lines firsts : List (List Literal)) (upto next : ℕ) (best : List Bool) (place kept row : ℕ) (held asked : Literal) → HasAsked d goal cone lines firsts upto next best place kept row held asked → held.var < next
+    → IsRefuted lines (Some asked) → IsSettled d goal cone lines firsts upto next best place kept row held
+settled-refuted d goal cone lines firsts upto next best place kept row held asked h low r = record {
+  aimed = h.aimed;
+  firsts_are = h.firsts_are;
+  leading = h.question.leading;
+  none = none-refuted d goal cone lines next best place kept row held asked h.aimed h.question r;
+  low = low;
+}
+
+pub settled-here : (d : Shared) (goal : ℕ) (cone : List Bool) (lines firsts : List (List Literal)) (upto next : ℕ) (best : List Bool) (place kept row : ℕ) (held : Literal) → IsAimed d goal cone lines next → CountsFirst d.rows upto next lines firsts
+    → IsLeading d goal cone lines best place kept held → held.var < next → row ≡ place → IsSettled d goal cone lines firsts upto next best place kept row held
+settled-here d goal cone lines firsts upto next best place kept row held a c l low e =
+    let S : ℕ → Type 0 = λ r. IsSettled d goal cone lines firsts upto next best place kept r held in
+    subst S (sym e) (record { aimed = a; firsts_are = c; leading = l; none = none-here d goal cone lines best place kept held l; low = low })
+
+-- one place more
+pub record HasNext (d : Shared) (goal : ℕ) (cone : List Bool) (lines firsts : List (List Literal)) (upto next : ℕ) (best : List Bool) (place kept : ℕ) (held : Literal) : Type 0 where
+  pub aimed : IsAimed d goal cone lines next
+  pub firsts_are : CountsFirst d.rows upto next lines firsts
+  pub leading : IsLeading d goal cone lines best place kept held
+  pub low : held.var < next
+
+pub has-next : (d : Shared) (goal : ℕ) (cone : List Bool) (lines new firsts : List (List Literal)) (upto next : ℕ) (best : List Bool) (place kept row : ℕ) (held x out : Literal) → IsSettled d goal cone lines firsts upto next best place kept row held → IsNext best place row → row < d.rows
+    → x.var ≡ row → x.on ≡ true → out.var ≡ next → new ≡ lines ++ gate out (held ∷ x ∷ []) → HasNext d goal cone new firsts upto (next + 1) best (row + 1) (kept + 1) out
+has-next d goal cone lines new firsts upto next best place kept row held x out s n r xv xo ov e =
+    let w = s.aimed.wide in
+    record {
+      aimed = both-aimed d goal cone lines new next held x out s.aimed ov s.low (omega (arith, xv, r, w)) e;
+      firsts_are = firsts-on d.rows upto next (next + 1) lines new _ firsts (omega arith) e s.firsts_are;
+      leading = leading-next d goal cone lines new best place kept row held x out s.leading n r s.none xv xo e;
+      low = omega (arith, ov);
+    }
+
+-- the measure of the questions
+pub falls : (rows place place' row row' : ℕ) → place < place' → place' ≤ rows → row' ≤ rows → (rows - place') * (rows + 1) + row' < (rows - place) * (rows + 1) + row
+falls rows place place' row row' a b c =
+    let x = rows - place' in
+    let y = rows - place in
+    let m : x + 1 ≤ y = omega (arith, a, b) in
+    let k = mul-le-mul_left (rows + 1) m in
+    omega (arith, k, c)

@@ -1,0 +1,353 @@
+-- How far a choice of the fewest rows is known to be the first of them.
+use Rattle.std.proofs.Common.{◌≡◌, ℕ, suc, ◌+◌, ◌<◌, ◌≤◌, nat_lt, nat_le, Bool, true, false, cond, not, ◌&&◌, inl, inr, List, [], ◌∷◌, ◌++◌, take, length, slice_index_or, refl, sym, ap, subst, ◌∙◌, Some, arith, rules}
+use Rattle.std.specs.Bool.{beq}
+use Rattle.rt_value.specs.Keep.{size}
+use Rattle.rt_clause.specs.Literal.{Literal}
+use Rattle.rt_clause.specs.Models.{lit_true, IsModel}
+use Rattle.rt_clause.specs.Refuting.{IsRefuted}
+use Rattle.rt_clause.specs.Gates.{gate, AgreeBelow}
+use Rattle.rt_clause.proofs.Bools.{bool-cases, and-both}
+use Rattle.rt_clause.proofs.Extending.{gate-means, model-older}
+use Rattle.rt_formula.specs.Shared.{Shared}
+use Rattle.rt_solver.specs.Answers.{IsModelled}
+use Rattle.rt_totalizer.specs.Cells.{kept_below}
+use Rattle.rt_totalizer.specs.Outputs.{CountsFirst, first_at}
+use Rattle.rt_totalizer.proofs.Totals.{kept-agrees, kept-size}
+use Rattle.rt_totalizer.proofs.Rows.{le-true}
+use Rattle.rt_search.specs.Least.{HasFewest, IsLeast}
+use Rattle.rt_search.specs.Sought.{IsSought}
+use Rattle.rt_search.specs.Order.{ComesBefore, IsBare, IsNext}
+use Rattle.rt_search.specs.Leading.{AllFew, HasValue, IsLeading}
+use Rattle.rt_search.specs.Aimed.{IsAimed, IsCounted, fewer_than}
+use Rattle.rt_search.proofs.Aiming.{fewer-means, refuted-false, lt-not-le}
+use Rattle.rt_search.proofs.Keeps.{kept-none, kept-on, kept-off, kept-some, bare-of, before-place, before-from, before-more, before-all, before-later}
+use Rattle.rt_search.proofs.Taking.{take-index, take-length}
+
+pub clash : {b : Bool} → b ≡ true → b ≡ false → ⊥
+clash p q = cc
+
+-- two choices agree on one more place
+pub one-more : (p : ℕ) (xs ys : List Bool) → AgreeBelow p xs ys → slice_index_or xs p false ≡ slice_index_or ys p false → AgreeBelow (p + 1) xs ys
+one-more p xs ys a e i h = elim (bool-cases (nat_lt i p)) [
+  | inl y ↦ a i (search rules)
+  | inr y ↦ (let b : p ≤ i = search rules in let q : i ≡ p = omega (arith, b, h) in ap (λ j. slice_index_or xs j false) q ∙ e ∙ sym (ap (λ j. slice_index_or ys j false) q))
+]
+
+-- where no row from the place on is kept, none comes before it
+pub leading-first : (d : Shared) (goal : ℕ) (cone : List Bool) (lines : List (List Literal)) (best : List Bool) (place kept row : ℕ) (held : Literal) → IsLeading d goal cone lines best place kept held → IsNext best place row → d.rows ≤ row → IsLeast (IsSought d goal cone) best
+leading-first d goal cone lines best place kept row held l n h = record {
+  is_target = l.best_is;
+  least = l.fewest;
+  first = λ s g e b. (
+      let w = n.within in
+      let f = n.from in
+      let t = l.best_is.0 in
+      let same : row ≡ length best = omega (arith, w, h, t) in
+      let B : ℕ → Type 0 = λ k. IsBare place k best in
+      let more = before-more place s best (g.0 ∙ sym t) (l.alike s g (l.rivals s g e b)) (omega (arith, f, same)) (subst B same n.bare) b in
+      omega (arith, more, e));
+}
+
+-- a choice of all rows has none before it
+pub leading-all : (d : Shared) (goal : ℕ) (cone : List Bool) (best : List Bool) → IsSought d goal cone best → HasFewest (IsSought d goal cone) best → d.rows ≤ size best → size best ≤ length best → IsLeast (IsSought d goal cone) best
+leading-all d goal cone best g f h w = record {
+  is_target = g;
+  least = f;
+  first = λ s t e b. (let r = g.0 in before-all s best (omega (arith, h, r, w)) (t.0 ∙ sym g.0) b);
+}
+
+-- a choice of no rows has none before it
+pub least-none : (d : Shared) (goal : ℕ) (cone : List Bool) (best : List Bool) → IsSought d goal cone best → size best ≡ 0 → IsLeast (IsSought d goal cone) best
+least-none d goal cone best g z = record {
+  is_target = g;
+  least = λ other o. omega (arith, z);
+  first = λ s t e b. (
+      let k = kept-some 0 b.place (length s) s best (λ v h. absurd (omega (arith, h))) (omega arith) (before-place s best b) b.keeps in
+      let q = kept-size s in
+      omega (arith, k, q, e, z));
+}
+
+-- to begin with it is held that no more rows are kept
+pub leading-begun : (d : Shared) (goal : ℕ) (cone : List Bool) (lines : List (List Literal)) (next : ℕ) (outs : List Literal) (best : List Bool) (most : ℕ) (held : Literal) → IsSought d goal cone best → HasFewest (IsSought d goal cone) best → IsCounted d lines next outs
+    → most ≡ size best + 1 → most ≤ length outs → held ≡ fewer_than outs most → IsLeading d goal cone lines best 0 0 held
+leading-begun d goal cone lines next outs best most held g f c m w h = record {
+  best_is = g;
+  fewest = f;
+  value = λ s. not (nat_le most (size s));
+  held_is = λ keep bools k a q. ap (lit_true bools) h ∙ fewer-means d lines next outs most c (omega (arith, m)) w keep bools k a q;
+  kept_is = refl;
+  few = λ s t v. (elim (bool-cases (nat_le most (size s))) [
+    | inl y ↦ absurd (clash v (ap not y))
+    | inr y ↦ (let b : size s < most = search rules in omega (arith, b, m))
+  ]);
+  alike = λ s t v i b. absurd (omega (arith, b));
+  rivals = λ s t e b. ap not (lt-not-le most (size s) (omega (arith, e, m)));
+}
+
+-- and each choice of no more rows makes it true
+pub all-few : (d : Shared) (goal : ℕ) (cone : List Bool) (lines : List (List Literal)) (next : ℕ) (outs : List Literal) (best : List Bool) (most : ℕ) (held : Literal) → IsSought d goal cone best → HasFewest (IsSought d goal cone) best → IsCounted d lines next outs
+    → most ≡ size best + 1 → most ≤ length outs → held ≡ fewer_than outs most → AllFew d goal cone lines best held
+unfolding leading-begun
+all-few d goal cone lines next outs best most held g f c m w h =
+    (leading-begun d goal cone lines next outs best most held g f c m w h, λ s t z. ap not (lt-not-le most (size s) (omega (arith, z, m))))
+
+-- more lines keep what is known
+pub value-on : (d : Shared) (lines new more : List (List Literal)) (l : Literal) (value : List Bool → Bool) → new ≡ lines ++ more → HasValue d lines l value → HasValue d new l value
+value-on d lines new more l value e h keep bools k a m = (let M : List (List Literal) → Type 0 = λ ls. IsModel ls bools in h keep bools k a (model-older lines more bools (subst M e m)))
+
+unfoldable pub leading-on : (d : Shared) (goal : ℕ) (cone : List Bool) (lines new more : List (List Literal)) (best : List Bool) (place kept : ℕ) (held : Literal) → new ≡ lines ++ more → IsLeading d goal cone lines best place kept held → IsLeading d goal cone new best place kept held
+leading-on d goal cone lines new more best place kept held e l = record {
+  best_is = l.best_is;
+  fewest = l.fewest;
+  value = l.value;
+  held_is = value-on d lines new more held l.value e l.held_is;
+  kept_is = l.kept_is;
+  few = l.few;
+  alike = l.alike;
+  rivals = l.rivals;
+}
+
+-- the value of both of two literals
+pub both-value : (d : Shared) (lines new : List (List Literal)) (a b out : Literal) (u v : List Bool → Bool) → new ≡ lines ++ gate out (a ∷ b ∷ []) → HasValue d lines a u → HasValue d lines b v → HasValue d new out (λ s. u s && v s)
+both-value d lines new a b out u v e f g keep bools k ag m =
+    let M : List (List Literal) → Type 0 = λ ls. IsModel ls bools in
+    let n = subst M e m in
+    let older = model-older lines (gate out (a ∷ b ∷ [])) bools n in
+    gate-means lines out (a ∷ b ∷ []) bools n ∙ by (lit_true bools a) (lit_true bools b) (u keep) (v keep) (f keep bools k ag older) (g keep bools k ag older) where
+      by : (x y p q : Bool) → x ≡ p → y ≡ q → (x && (y && true)) ≡ (p && q)
+      by true true p q h i = cc
+      by true false p q h i = cc
+      by false y p q h i = ap (λ z. z && q) h
+
+-- that at least so many of the first rows are kept
+earlier-value : (d : Shared) (lines firsts : List (List Literal)) (upto next row kept : ℕ) (l : Literal) → CountsFirst d.rows upto next lines firsts → row ≤ d.rows → kept ≤ upto → l ≡ first_at firsts row kept
+    → HasValue d lines l (λ s. nat_le kept (kept_below row s))
+earlier-value d lines firsts upto next row kept l c r w e keep bools k a m =
+    let long = c.each row r in
+    ap (lit_true bools) e ∙ c.means row r bools m kept (omega (arith, long, w)) ∙ ap (nat_le kept) (sym (kept-agrees row keep bools (λ v h. a v (omega (arith, h, r)))))
+
+pub row-value : (d : Shared) (lines : List (List Literal)) (row : ℕ) (l : Literal) → row < d.rows → l.var ≡ row → l.on ≡ true → HasValue d lines l (λ s. slice_index_or s row false)
+row-value d lines row l r v o keep bools k a m =
+    ap (λ b. beq (slice_index_or bools l.var false) b) o ∙ beq-true (slice_index_or bools l.var false) ∙ ap (λ i. slice_index_or bools i false) v ∙ sym (a row r) where
+      beq-true : (b : Bool) → beq b true ≡ b
+      beq-true true = refl
+      beq-true false = refl
+
+-- the question whether a row before the next one can be kept: the literal that is assumed
+pub record IsAsked (d : Shared) (goal : ℕ) (cone : List Bool) (lines : List (List Literal)) (best : List Bool) (place kept row : ℕ) (held asked : Literal) : Type 0 where
+  pub leading : IsLeading d goal cone lines best place kept held
+  pub next_is : IsNext best place row
+  pub within : row ≤ d.rows
+  pub asked_is : HasValue d lines asked (λ s. leading.value s && nat_le (kept + 1) (kept_below row s))
+
+pub asked-begun : (d : Shared) (goal : ℕ) (cone : List Bool) (lines new firsts : List (List Literal)) (upto next : ℕ) (best : List Bool) (place kept row : ℕ) (held earlier asked : Literal) → IsLeading d goal cone lines best place kept held → IsNext best place row → row ≤ d.rows
+    → CountsFirst d.rows upto next lines firsts → kept + 1 ≤ upto → earlier ≡ first_at firsts row (kept + 1) → new ≡ lines ++ gate asked (held ∷ earlier ∷ []) → IsAsked d goal cone new best place kept row held asked
+unfolding leading-on
+asked-begun d goal cone lines new firsts upto next best place kept row held earlier asked l n r c w e g = record {
+  leading = leading-on d goal cone lines new (gate asked (held ∷ earlier ∷ [])) best place kept held g l;
+  next_is = n;
+  within = r;
+  asked_is = both-value d lines new held earlier asked l.value (λ s. nat_le (kept + 1) (kept_below row s)) g l.held_is (earlier-value d lines firsts upto next row (kept + 1) earlier c r w e);
+}
+
+pub asked-on : (d : Shared) (goal : ℕ) (cone : List Bool) (lines new more : List (List Literal)) (best : List Bool) (place kept row : ℕ) (held asked : Literal) → new ≡ lines ++ more → IsAsked d goal cone lines best place kept row held asked → IsAsked d goal cone new best place kept row held asked
+unfolding leading-on
+asked-on d goal cone lines new more best place kept row held asked e q = record {
+  leading = leading-on d goal cone lines new more best place kept held e q.leading;
+  next_is = q.next_is;
+  within = q.within;
+  asked_is = value-on d lines new more asked (λ s. q.leading.value s && nat_le (kept + 1) (kept_below row s)) e q.asked_is;
+}
+
+-- a choice with at least so many of the first rows
+le-of : (a b : ℕ) → nat_le a b ≡ true → a ≤ b
+le-of a b h = search rules
+
+-- a model keeps an earlier row: it is the best from now on
+pub asked-model : (d : Shared) (goal : ℕ) (cone : List Bool) (lines : List (List Literal)) (best : List Bool) (place kept row row' : ℕ) (held asked : Literal) (mid : List Bool) → IsSought d goal cone mid
+    → (q : IsAsked d goal cone lines best place kept row held asked) → (q.leading.value mid && nat_le (kept + 1) (kept_below row mid)) ≡ true → IsNext mid place row' → IsLeading d goal cone lines mid place kept asked × (row' < row)
+asked-model d goal cone lines best place kept row row' held asked mid g q t n = (
+  record {
+    best_is = g;
+    fewest = λ other o. (let a = l.fewest other o in let b = l.few mid g both.0 in omega (arith, a, b));
+    value = λ s. l.value s && nat_le (kept + 1) (kept_below row s);
+    held_is = q.asked_is;
+    kept_is = l.kept_is ∙ sym (kept-agrees place mid best like);
+    few = λ s o v. (let a = l.few s o (and-both (l.value s) (nat_le (kept + 1) (kept_below row s)) v).0 in let b = l.fewest mid g in omega (arith, a, b));
+    alike = λ s o v i b. l.alike s o (and-both (l.value s) (nat_le (kept + 1) (kept_below row s)) v).0 i b ∙ sym (like i b);
+    rivals = λ s o e b. rival s o e (before-later place row s mid best from like bare more b);
+  },
+  sooner,
+) where
+  l : IsLeading d goal cone lines best place kept held
+  l = q.leading
+
+  both : (l.value mid ≡ true) × (nat_le (kept + 1) (kept_below row mid) ≡ true)
+  both = and-both (l.value mid) (nat_le (kept + 1) (kept_below row mid)) t
+
+  like : AgreeBelow place mid best
+  like = l.alike mid g both.0
+
+  from : place ≤ row
+  from = q.next_is.from
+
+  bare : IsBare place row best
+  bare = q.next_is.bare
+
+  more : kept_below place mid < kept_below row mid
+  more = let a = le-of (kept + 1) (kept_below row mid) both.1 in let k = l.kept_is in let s = kept-agrees place mid best like in omega (arith, a, k, s)
+
+  sooner : row' < row
+  sooner = elim (bool-cases (nat_lt row' row)) [
+    | inl y ↦ search rules
+    | inr y ↦ absurd (let h : row ≤ row' = search rules in let e = kept-none place row mid from (λ v a b. n.bare v a (omega (arith, b, h))) in omega (arith, e, more))
+  ]
+
+  true-both : (x y : Bool) → x ≡ true → y ≡ true → (x && y) ≡ true
+  true-both x y h i = ap (λ b. b && y) h ∙ i
+
+  rival : (s : List Bool) → IsSought d goal cone s → size s ≡ size mid → (b : ComesBefore s best) × (b.place < row) → (l.value s && nat_le (kept + 1) (kept_below row s)) ≡ true
+  rival s o e b =
+      let x = l.fewest mid g in
+      let y = l.few mid g both.0 in
+      let v = l.rivals s o (omega (arith, e, x, y)) b.0 in
+      let a = l.alike s o v in
+      let k = l.kept_is in
+      let m = kept-some place b.0.place row s best a (before-from place s best a b.0) b.1 b.0.keeps in
+      true-both (l.value s) (nat_le (kept + 1) (kept_below row s)) v (le-true (kept + 1) (kept_below row s) (omega (arith, m, k)))
+
+-- no goal keeps an earlier row
+abbrev pub KeepsNone : Shared → ℕ → List Bool → (List Bool → Bool) → ℕ → ℕ → Type 0
+KeepsNone d goal cone value kept row = (s : List Bool) → IsSought d goal cone s → value s ≡ true → kept_below row s < kept + 1
+
+-- so the next row of the best is the next one of the first
+unfoldable pub leading-settled : (d : Shared) (goal : ℕ) (cone : List Bool) (lines : List (List Literal)) (best : List Bool) (place kept row : ℕ) (held both : Literal) → (l : IsLeading d goal cone lines best place kept held) → IsNext best place row → row < d.rows
+    → KeepsNone d goal cone l.value kept row → HasValue d lines both (λ s. l.value s && slice_index_or s row false) → IsLeading d goal cone lines best (row + 1) (kept + 1) both
+leading-settled d goal cone lines best place kept row held both l n r none h = record {
+  best_is = l.best_is;
+  fewest = l.fewest;
+  value = λ s. l.value s && slice_index_or s row false;
+  held_is = h;
+  kept_is = counted;
+  few = λ s g v. l.few s g (and-both (l.value s) (slice_index_or s row false) v).0;
+  alike = λ s g v. like s g (and-both (l.value s) (slice_index_or s row false) v);
+  rivals = λ s g q b. rival s g b (l.rivals s g q b);
+} where
+  here : slice_index_or best row false ≡ true
+  here = let t = l.best_is.0 in n.kept (omega (arith, r, t))
+
+  counted : kept + 1 ≡ kept_below (row + 1) best
+  counted =
+      let k = l.kept_is in
+      let b = kept-none place row best n.from n.bare in
+      let o : kept_below (suc row) best ≡ kept_below row best + 1 = ap (λ y. cond y (kept_below row best + 1) (kept_below row best)) here in
+      let s : row + 1 ≡ suc row = omega arith in
+      let c = ap (λ i. kept_below i best) s in
+      omega (arith, k, b, o, c)
+
+  bare : (s : List Bool) → IsSought d goal cone s → l.value s ≡ true → IsBare place row s
+  bare s g v = let a = none s g v in let k = l.kept_is in bare-of place row s best (l.alike s g v) (omega (arith, a, k))
+
+  below : (s : List Bool) → IsSought d goal cone s → l.value s ≡ true → AgreeBelow row s best
+  below s g v i h = elim (bool-cases (nat_lt i place)) [
+    | inl y ↦ l.alike s g v i (search rules)
+    | inr y ↦ (let b : place ≤ i = search rules in bare s g v i b h ∙ sym (n.bare i b h))
+  ]
+
+  like : (s : List Bool) → IsSought d goal cone s → (l.value s ≡ true) × (slice_index_or s row false ≡ true) → AgreeBelow (row + 1) s best
+  like s g v i h = elim (bool-cases (nat_lt i row)) [
+    | inl y ↦ below s g v.0 i (search rules)
+    | inr y ↦ (let b : row ≤ i = search rules in let q : i ≡ row = omega (arith, b, h) in
+        ap (λ j. slice_index_or s j false) q ∙ v.1 ∙ sym (ap (λ j. slice_index_or best j false) q ∙ here))
+  ]
+
+  keeps : (s : List Bool) → IsSought d goal cone s → ComesBefore s best → l.value s ≡ true → slice_index_or s row false ≡ true
+  keeps s g b v =
+      let f = before-from row s best (below s g v) b in
+      elim (bool-cases (nat_lt row b.place)) [
+        | inl y ↦ b.same row (search rules) ∙ here
+        | inr y ↦ absurd (let h : b.place ≤ row = search rules in let q : b.place ≡ row = omega (arith, h, f) in clash (ap (λ j. slice_index_or best j false) q ∙ here) b.leaves)
+      ]
+
+  rival : (s : List Bool) → IsSought d goal cone s → ComesBefore s best → l.value s ≡ true → (l.value s && slice_index_or s row false) ≡ true
+  rival s g b v = ap (λ y. y && slice_index_or s row false) v ∙ keeps s g b v
+
+pub leading-next : (d : Shared) (goal : ℕ) (cone : List Bool) (lines new : List (List Literal)) (best : List Bool) (place kept row : ℕ) (held x both : Literal) → (l : IsLeading d goal cone lines best place kept held) → IsNext best place row → row < d.rows
+    → KeepsNone d goal cone l.value kept row → x.var ≡ row → x.on ≡ true → new ≡ lines ++ gate both (held ∷ x ∷ []) → IsLeading d goal cone new best (row + 1) (kept + 1) both
+unfolding leading-on
+leading-next d goal cone lines new best place kept row held x both l n r none xv xo e =
+    leading-settled d goal cone new best place kept row held both (leading-on d goal cone lines new (gate both (held ∷ x ∷ [])) best place kept held e l) n r none
+    (both-value d lines new held x both l.value (λ s. slice_index_or s row false) e l.held_is (row-value d lines row x r xv xo))
+
+-- where a place is left out by the best and by each choice that makes the held literal true
+unfoldable pub leading-out : (d : Shared) (goal : ℕ) (cone : List Bool) (lines : List (List Literal)) (best : List Bool) (place kept : ℕ) (held : Literal) → (l : IsLeading d goal cone lines best place kept held) → slice_index_or best place false ≡ false
+    → ((s : List Bool) → IsSought d goal cone s → l.value s ≡ true → slice_index_or s place false ≡ false) → IsLeading d goal cone lines best (place + 1) kept held
+leading-out d goal cone lines best place kept held l b out = record {
+  best_is = l.best_is;
+  fewest = l.fewest;
+  value = l.value;
+  held_is = l.held_is;
+  kept_is = l.kept_is ∙ sym (kept-off place best b) ∙ ap (λ i. kept_below i best) (let s : suc place ≡ place + 1 = omega arith in s);
+  few = l.few;
+  alike = λ s g v. one-more place s best (l.alike s g v) (out s g v ∙ sym b);
+  rivals = l.rivals;
+}
+
+-- where a choice that makes the held literal true keeps a place that the best leaves out
+unfoldable pub leading-found : (d : Shared) (goal : ℕ) (cone : List Bool) (lines : List (List Literal)) (best : List Bool) (place kept : ℕ) (held asked : Literal) (mid : List Bool) → (l : IsLeading d goal cone lines best place kept held) → slice_index_or best place false ≡ false
+    → HasValue d lines asked (λ s. l.value s && slice_index_or s place false) → IsSought d goal cone mid → (l.value mid && slice_index_or mid place false) ≡ true → IsLeading d goal cone lines mid (place + 1) (kept + 1) asked
+leading-found d goal cone lines best place kept held asked mid l b h g t = record {
+  best_is = g;
+  fewest = λ other o. (let a = l.fewest other o in let c = l.few mid g both.0 in omega (arith, a, c));
+  value = λ s. l.value s && slice_index_or s place false;
+  held_is = h;
+  kept_is = (let k = l.kept_is in let s = kept-agrees place mid best like in let o = kept-on place mid both.1 in let c = ap (λ i. kept_below i mid) next in omega (arith, k, s, o, c));
+  few = λ s o v. (let a = l.few s o (and-both (l.value s) (slice_index_or s place false) v).0 in let c = l.fewest mid g in omega (arith, a, c));
+  alike = λ s o v. (let w = and-both (l.value s) (slice_index_or s place false) v in one-more place s mid (λ i z. l.alike s o w.0 i z ∙ sym (like i z)) (w.1 ∙ sym both.1));
+  rivals = λ s o e r. rival s o e r (before-later place (place + 1) s mid best (omega arith) like (λ v x y. let q : v ≡ place = omega (arith, x, y) in ap (λ i. slice_index_or best i false) q ∙ b) more r);
+} where
+  next : suc place ≡ place + 1
+  next = omega arith
+
+  both : (l.value mid ≡ true) × (slice_index_or mid place false ≡ true)
+  both = and-both (l.value mid) (slice_index_or mid place false) t
+
+  like : AgreeBelow place mid best
+  like = l.alike mid g both.0
+
+  more : kept_below place mid < kept_below (place + 1) mid
+  more = let o = kept-on place mid both.1 in let c = ap (λ i. kept_below i mid) next in omega (arith, o, c)
+
+  rival : (s : List Bool) → IsSought d goal cone s → size s ≡ size mid → ComesBefore s mid → (f : ComesBefore s best) × (f.place < place + 1) → (l.value s && slice_index_or s place false) ≡ true
+  rival s o e r f =
+      let x = l.fewest mid g in
+      let y = l.few mid g both.0 in
+      let v = l.rivals s o (omega (arith, e, x, y)) f.0 in
+      let a = before-from place s best (l.alike s o v) f.0 in
+      let z = f.1 in
+      let q : f.0.place ≡ place = omega (arith, a, z) in
+      ap (λ c. c && slice_index_or s place false) v ∙ ap (λ i. slice_index_or s i false) (sym q) ∙ f.0.keeps
+
+-- where nothing is to be asked
+pub none-here : (d : Shared) (goal : ℕ) (cone : List Bool) (lines : List (List Literal)) (best : List Bool) (place kept : ℕ) (held : Literal) → (l : IsLeading d goal cone lines best place kept held) → KeepsNone d goal cone l.value kept place
+none-here d goal cone lines best place kept held l s g v = let k = l.kept_is in let a = kept-agrees place s best (l.alike s g v) in omega (arith, k, a)
+
+-- where the lines refute
+pub none-refuted : (d : Shared) (goal : ℕ) (cone : List Bool) (lines : List (List Literal)) (next : ℕ) (best : List Bool) (place kept row : ℕ) (held asked : Literal) → IsAimed d goal cone lines next → (q : IsAsked d goal cone lines best place kept row held asked) → IsRefuted lines (Some asked)
+    → KeepsNone d goal cone q.leading.value kept row
+none-refuted d goal cone lines next best place kept row held asked h q r s g v = elim (bool-cases (nat_lt (kept_below row s) (kept + 1))) [
+  | inl y ↦ search rules
+  | inr y ↦ absurd (
+      let b : kept + 1 ≤ kept_below row s = search rules in
+      let x = h.complete s g in
+      refuted-false lines (Some asked) x.0 r x.3 (q.asked_is s x.0 g.0 x.2 x.3 ∙ ap (λ z. z && nat_le (kept + 1) (kept_below row s)) v ∙ le-true (kept + 1) (kept_below row s) b))
+]
+
+-- the rows of a model of the question
+pub model-asked : (d : Shared) (goal : ℕ) (cone : List Bool) (lines : List (List Literal)) (best : List Bool) (place kept row m rows : ℕ) (held asked : Literal) (bools mid : List Bool) → rows ≡ d.rows → rows ≤ length bools → mid ≡ take rows bools
+    → (q : IsAsked d goal cone lines best place kept row held asked) → IsModelled lines (Some asked) m bools → (q.leading.value mid && nat_le (kept + 1) (kept_below row mid)) ≡ true
+model-asked d goal cone lines best place kept row m rows held asked bools mid e w k q h =
+    let V : List Bool → Type 0 = λ s. (q.leading.value s && nat_le (kept + 1) (kept_below row s)) ≡ true in
+    let L : ℕ → Type 0 = λ n. n ≤ length bools in
+    let at : take rows bools ≡ take d.rows bools = ap (λ n. take n bools) e in
+    subst V (sym (k ∙ at)) (sym (q.asked_is (take d.rows bools) bools (take-length d.rows bools (subst L e w)) (take-index d.rows bools) h.model) ∙ h.assumed)

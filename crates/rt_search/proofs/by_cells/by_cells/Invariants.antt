@@ -1,0 +1,22 @@
+use Rattle.std.proofs.Common.{◌≡◌, ◌<◌, ◌+◌, ◌-◌, ◌*◌, ◌^◌, length}
+use Rattle.rt_value.specs.Keep.{size}
+use Rattle.rt_totalizer.specs.Outputs.{CountsFirst}
+use Rattle.rt_search.specs.Aimed.{IsAimed}
+use Rattle.rt_search.specs.Order.{IsNext}
+use Rattle.rt_search.specs.Leading.{IsLeading}
+use Rattle.rt_search.proofs.by_cells.by_cells.Given as goal
+
+abbrev pub invariant-first : goal.invariant-first
+invariant-first l = record {
+  rows : l.rows ≡ l.fn.dag.rows;
+  small : l.rows < 2 ^ 61;
+  aimed : IsAimed l.fn.dag l.fn.goal l.fn.cone l.solver.0.lines l.next;
+  firsts : CountsFirst l.fn.dag.rows (length l.counter.outs) l.next l.solver.0.lines l.counter.firsts;
+  leading : IsLeading l.fn.dag l.fn.goal l.fn.cone l.solver.0.lines l.best l.place l.kept l.held;
+  next_is : IsNext l.best l.place l.row;
+  low : l.held.var < l.next;
+  room : size l.best < length l.counter.outs;
+}
+
+abbrev pub decreases-first : goal.decreases-first
+decreases-first l = (l.rows - l.place) * (l.rows + 1) + l.row

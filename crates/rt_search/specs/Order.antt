@@ -1,0 +1,21 @@
+-- The order of choices by the rows that they keep.
+use Rattle.std.specs.Prelude.{◌≡◌, ℕ, ◌<◌, ◌≤◌, Bool, true, false, List, length, slice_index_or}
+use Rattle.rt_clause.specs.Gates.{AgreeBelow}
+
+-- at the first place at which the two differ, this one keeps the row
+pub record ComesBefore (keep other : List Bool) : Type 0 where
+  pub place : ℕ
+  pub same : AgreeBelow place keep other
+  pub keeps : slice_index_or keep place false ≡ true
+  pub leaves : slice_index_or other place false ≡ false
+
+-- no row from one place to before another is kept
+abbrev pub IsBare : ℕ → ℕ → List Bool → Type 0
+IsBare p q keep = (v : ℕ) → p ≤ v → v < q → slice_index_or keep v false ≡ false
+
+-- the first row from a place on that a choice keeps, or the number of rows
+pub record IsNext (keep : List Bool) (place row : ℕ) : Type 0 where
+  pub from : place ≤ row
+  pub within : row ≤ length keep
+  pub bare : IsBare place row keep
+  pub kept : row < length keep → slice_index_or keep row false ≡ true

@@ -1,0 +1,65 @@
+ghost use Rattle.std.specs.Prelude.{◌≡◌, ◌≤◌, ◌<◌, IfOk, IfSome, length};
+ghost use Rattle.rt_value.specs.Keep.{size};
+ghost use Rattle.rt_totalizer.specs.Outputs.{CountsFirst};
+ghost use Rattle.rt_search.specs.Aimed.{IsAimed, IsCounted};
+ghost use Rattle.rt_search.specs.Least.{HasFewest};
+ghost use Rattle.rt_search.specs.Sought.{IsBestWithin, IsSought};
+
+use crate::alone::is_alone;
+use crate::attempt::is_small;
+use crate::best::Best;
+use crate::both::MOST_VARIABLES;
+use crate::by_cells::by_cells;
+use crate::by_rows::by_rows;
+use crate::counted::Counted;
+use crate::lower::fewer;
+use rt_clause::Named;
+use rt_formula::{Dag, Node};
+use rt_solver::Solver;
+use rt_totalizer::Outputs;
+use rt_value::{Keep, NoMemory};
+use std::alloc::Global;
+
+/// Goes on from a choice of the fewest rows to the first of them in the order of rows, or until the
+/// budget is spent. Mostly there is no other one, which takes a single question.
+pub(crate) fn first(
+    alloc: Global,
+    solver: &mut Solver<Counted>,
+    dag: &Dag,
+    goal: Node,
+    cone: &Keep,
+    named: Named,
+    counter: &Outputs,
+    best: Keep,
+    budget: Option<u64>,
+) -> Result<Best, NoMemory>
+    requires rows { named.rows ≡ dag.now.rows }
+    requires budget { IfSome budget (λ b. 1 ≤ b) }
+    requires long { length cone.now ≡ dag.now.rows }
+    requires aimed { IsAimed dag.now goal cone.now solver.old.0.lines named.next }
+    requires counted { IsCounted dag.now solver.old.0.lines named.next counter.now.outs }
+    requires firsts { CountsFirst dag.now.rows (length counter.now.outs) named.next solver.old.0.lines counter.now.firsts }
+    requires best { IsSought dag.now goal cone.now best }
+    requires fewest { HasFewest (IsSought dag.now goal cone.now) best }
+    requires room { size best < dag.now.rows → size best < length counter.now.outs }
+    ensures { IfOk result (IsBestWithin dag.now goal cone.now budget) }
+{
+    let most = best.size();
+    if most >= named.rows() {
+        return Ok(Best::Least(best));
+    }
+    if named.next() >= MOST_VARIABLES {
+        return Err(NoMemory);
+    }
+    let held = fewer(&counter.outs, most + 1);
+    if is_small(budget, named.rows()) {
+        return by_rows(alloc, solver, dag, goal, cone, named, best, held, budget);
+    }
+    let mut named = named;
+    let alone = is_alone(alloc, solver, dag, goal, cone, &mut named, &best, held)?;
+    if alone {
+        return Ok(Best::Least(best));
+    }
+    let keep = by_cells(alloc, solver, dag, goal, cone, named, counter, best, held)?;
+    Ok(Best::Least(keep))
+}

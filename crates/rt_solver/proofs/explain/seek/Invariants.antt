@@ -1,0 +1,14 @@
+use Rattle.std.proofs.Common.{◌≡◌, ◌≤◌, length, []}
+use Rattle.rt_solver.specs.Trail.{oldest}
+use Rattle.rt_solver.specs.Analysis.{IsWalked}
+use Rattle.rt_solver.proofs.explain.seek.Given as goal
+
+abbrev pub invariant-seek : goal.invariant-seek
+invariant-seek g l = record {
+  place : l.i ≤ length l.trail.steps;
+  none : l.walk.found.items ≡ [];
+  walked : IsWalked (g.L.Adds.lines l.base.0) l.assume l.trail.vars (oldest l.i l.trail.steps) l.walk;
+}
+
+abbrev pub decreases-seek : goal.decreases-seek
+decreases-seek g l = l.i

@@ -1,0 +1,101 @@
+ghost use Rattle.std.specs.Prelude.{◌≡◌, ◌<◌, ◌≤◌, length, take, swap, MatchOption, IfOk};
+ghost use Rattle.rt_solver.specs.Same.{IsSame, IsSpread, AreFirst, HasOther};
+
+use rt_clause::{Lit, ThinClause};
+use rt_value::NoMemory;
+use std::alloc::Global;
+use std::marker::Model;
+
+/// A clause of the solver's own, whose literals may change places, with the place where the last
+/// search for a literal to watch ended.
+#[derive(Drop)]
+pub(crate) struct Clause {
+    lits: ThinClause,
+    ended: usize,
+}
+
+impl Model for Clause {
+    ghost use Rattle.std.specs.Prelude.{List, ◌≤◌, length};
+    ghost use Rattle.rt_clause.specs.Literal.{Literal};
+
+    ghost Value = { List Literal };
+
+    ghost view = { λ c. c.lits };
+
+    ghost invariant = { λ c. c.ended ≤ length c.lits };
+}
+
+// The place of a literal that differs from the first.
+fn other(lits: &[Lit]) -> Option<usize>
+    ensures { MatchOption result (AreFirst lits.now) (λ j. HasOther lits.now j) }
+{
+    if lits.is_empty() {
+        return None;
+    }
+    let first = lits[0];
+    for j in 1..lits.len() {
+        if lits[j] != first {
+            return Some(j);
+        }
+    }
+    None
+}
+
+// The first literal, where there is one.
+fn first(lits: &[Lit]) -> &[Lit]
+    ensures { result.now ≡ take 1 lits.now }
+{
+    lits.split_at(lits.len().min(1)).0
+}
+
+impl Clause {
+    pub(crate) fn new(alloc: Global, lits: &[Lit]) -> Result<Clause, NoMemory>
+        ensures { IfOk result (λ c. c ≡ lits.now) }
+    {
+        let own = ThinClause::of(alloc, lits)?;
+        Ok(Clause {
+            lits: own,
+            ended: 0,
+        })
+    }
+
+    /// A copy of the literals in which the first two differ.
+    pub(crate) fn of(alloc: Global, lits: &[Lit]) -> Result<Clause, NoMemory>
+        ensures same { IfOk result (λ c. IsSame lits.now c) }
+        ensures spread { IfOk result (λ c. IsSpread c) }
+    {
+        match other(lits) {
+            None => Clause::new(alloc, first(lits)),
+            Some(j) => {
+                let mut own = Clause::new(alloc, lits)?;
+                own.exchange(1, j);
+                Ok(own)
+            }
+        }
+    }
+
+    pub(crate) fn lits(&self) -> &[Lit]
+        ensures { result.now ≡ self.now }
+    {
+        self.lits.lits()
+    }
+
+    /// Where a search for a literal to watch begins: where the last one ended, but after the
+    /// watched ones.
+    pub(crate) fn start(&self) -> usize
+        ensures low { 2 ≤ result }
+        ensures within { 2 ≤ length self.now → result ≤ length self.now }
+    {
+        self.ended.max(2)
+    }
+
+    /// Puts the literal at which a search ended into a watched place.
+    pub(crate) fn exchange(&mut self, watched: usize, ended: usize)
+        requires watched { watched < length self.old }
+        requires ended { ended < length self.old }
+        ensures { self.new ≡ swap self.old watched ended }
+    {
+        self.lits.swap(watched, ended);
+        self.ended = ended;
+    }
+}

@@ -1,0 +1,5 @@
+use Rattle.rt_top.proofs.OneLemmas.{answer-one, smallest-none, smallest-one, verdict-one}
+use Rattle.rt_top.proofs.laws.answer_is_one.Goals as goal
+
+pub returns : goal.returns
+returns c = record { one = smallest-one; none = smallest-none; verdict = verdict-one; answer = answer-one }
