@@ -4,4 +4,5 @@ pub mod GroupLemmas
 pub mod Growth
 pub mod MarkLemmas
 pub mod Meaning
+pub mod RunLemmas
 pub mod Standing

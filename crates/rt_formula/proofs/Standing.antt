@@ -1,11 +1,11 @@
 -- The rows under a node decide its value.
-use Rattle.std.proofs.Common.{◌≡◌, ℕ, zero, suc, ◌+◌, ◌<◌, ◌≤◌, Bool, true, false, not, List, [], ◌∷◌, length, slice_get, Option, None, Some, refl, sym, subst, ap, arith, ◌∙◌}
+use Rattle.std.proofs.Common.{◌≡◌, ℕ, zero, suc, ◌+◌, ◌<◌, Bool, true, not, List, [], ◌∷◌, length, slice_get, Some, refl, sym, ap, arith, ◌∙◌}
 use Rattle.std.specs.List.{list_all, list_any, All as Each}
 use Rattle.rt_formula.specs.declared.entry.Entry.{Entry}
 use Rattle.rt_formula.specs.declared.entry.Entry.TheVariants.{Yes, No, Row, Not, All, Any}
 use Rattle.rt_formula.specs.Cut.{cut}
 use Rattle.rt_formula.specs.Shared.{Shared, IsSound, val, values, bool_at, entry_value, children, named_rows}
-use Rattle.rt_formula.specs.Under.{is_marked, StandsUnder, RowStands, AreRowsUnder}
+use Rattle.rt_formula.specs.Under.{StandsUnder, RowStands}
 use Rattle.rt_formula.proofs.Cutting.{cut-in}
 use Rattle.rt_formula.proofs.MarkLemmas.{child-stands, goal-stands}
 use Rattle.rt_formula.proofs.Meaning.{val-entry}

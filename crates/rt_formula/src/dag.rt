@@ -3,6 +3,7 @@ ghost use Rattle.std.specs.Prelude.{◌≡◌, ℕ, List, [], ◌∷◌, ◌++�
 use crate::entry::{Entry, Kids, Node};
 use crate::gather::{Gate, Gathered};
 use crate::node_set::NodeSet;
+use crate::runs::joined_runs;
 use crate::values::{value_at, values_of};
 use indexmap::IndexSet;
 use rt_value::{Keep, List, NoMemory};
@@ -133,7 +134,8 @@ impl Dag {
         }
     }
 
-    /// The node that is true where any of these is; never, where there are none.
+    /// The node that is true where any of these is; never, where there are none. Children that come
+    /// one after another and are an `all` over the same first child are put together as one.
     pub fn any(&mut self, of: &[Node]) -> Result<Node, NoMemory>
         requires { Each (λ n. n < length self.old.entries) of.now }
         ensures grown { IsGrown self.old self.new }
@@ -141,9 +143,13 @@ impl Dag {
         ensures means { IfOk result (λ n. (keep : List Bool) → val self.new keep n ≡ list_any (val self.old keep) of.now) }
         ensures err { OnErr result (self.new ≡ self.old) }
     {
-        match self.gather(Gate::Any, of)? {
-            Gathered::Decided => Ok(self.yes()),
-            Gathered::Kept(kept) => self.any_of(kept.as_slice()),
+        let before = self.entries.len();
+        match self.any_in_runs(of) {
+            Ok(node) => Ok(node),
+            Err(error) => {
+                self.entries.truncate(before);
+                Err(error)
+            }
         }
     }
 
@@ -248,8 +254,38 @@ impl Dag {
         }
     }
 
+    // The same as `any`, but for what an error leaves.
+    fn any_in_runs(&mut self, of: &[Node]) -> Result<Node, NoMemory>
+        requires { Each (λ n. n < length self.old.entries) of.now }
+        ensures grown { IsGrown self.old self.new }
+        ensures node { IfOk result (λ n. n < length self.new.entries) }
+        ensures means { IfOk result (λ n. (keep : List Bool) → val self.new keep n ≡ list_any (val self.old keep) of.now) }
+    {
+        match self.gather(Gate::Any, of)? {
+            Gathered::Decided => Ok(self.yes()),
+            Gathered::Kept(kept) => {
+                let children = joined_runs(self.alloc, self, kept.as_slice())?;
+                self.any_plain(children.as_slice())
+            }
+        }
+    }
+
+    // An `any` of these children as they are.
+    pub(crate) fn any_plain(&mut self, of: &[Node]) -> Result<Node, NoMemory>
+        requires { Each (λ n. n < length self.old.entries) of.now }
+        ensures grown { IsGrown self.old self.new }
+        ensures node { IfOk result (λ n. n < length self.new.entries) }
+        ensures means { IfOk result (λ n. (keep : List Bool) → val self.new keep n ≡ list_any (val self.old keep) of.now) }
+        ensures err { OnErr result (self.new ≡ self.old) }
+    {
+        match self.gather(Gate::Any, of)? {
+            Gathered::Decided => Ok(self.yes()),
+            Gathered::Kept(kept) => self.any_of(kept.as_slice()),
+        }
+    }
+
     // An `all` of children none of which is left out.
-    fn all_of(&mut self, of: &[Node]) -> Result<Node, NoMemory>
+    pub(crate) fn all_of(&mut self, of: &[Node]) -> Result<Node, NoMemory>
         requires { Each (λ n. n < length self.old.entries) of.now }
         ensures grown { IsGrown self.old self.new }
         ensures node { IfOk result (λ n. n < length self.new.entries) }

@@ -13,6 +13,7 @@ pub mod laws;
 mod marks;
 mod node_set;
 mod noted;
+mod runs;
 mod values;
 
 pub use dag::Dag;

@@ -1,9 +1,6 @@
-use Rattle.std.proofs.Common.{◌≡◌, ◌∙◌, ◌+◌, ◌-◌, ◌<◌, ◌≤◌, ℕ, List, Bool, true, false, nat_eq, length, Some, slice_get, sym, ap, subst, inl, inr, arith, rules}
+use Rattle.std.proofs.Common.{◌≡◌, ◌∙◌, ◌+◌, ◌-◌, Bool, length, sym, ap, arith}
 use Rattle.std.proofs.lemmas.List.{length-replicate}
-use Rattle.std.specs.List.{All as Each}
-use Rattle.rt_formula.specs.declared.entry.Entry.{Entry}
-use Rattle.rt_formula.specs.Shared.{named_rows}
-use Rattle.rt_formula.specs.Under.{is_marked, RowStands}
+use Rattle.rt_formula.specs.Under.{is_marked}
 use Rattle.rt_formula.proofs.MarkLemmas.{all-marked, all-unmarked, closed-all, none-marked, only-named, marked-long}
 use Rattle.rt_formula.proofs.marks.marked_rows.Goals as goal
 

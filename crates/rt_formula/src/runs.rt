@@ -1,0 +1,147 @@
+//! Children of an `any` that come one after another and are an `all` over the same first child. Such
+//! a run is written as one child: an `all` over that first child and the `any` of what is left.
+ghost use Rattle.std.specs.Prelude.{◌≡◌, ℕ, List, ◌<◌, ◌≤◌, Bool, ◌&&◌, IfOk, IfSome, length, take};
+ghost use Rattle.std.specs.List.{list_all, list_any, All as Each};
+ghost use Rattle.rt_formula.specs.Runs.{StandsOver};
+ghost use Rattle.rt_formula.specs.Shared.{val, IsGrown};
+
+use crate::dag::Dag;
+use crate::entry::{Entry, Node};
+use rt_value::{List, NoMemory};
+use std::alloc::Global;
+
+/// Nodes at the front of a list that are two or more, each an `all` over the same first child.
+#[derive(Clone, Copy)]
+struct Run {
+    first: Node,
+    length: usize,
+}
+
+// The first child of an `all`.
+fn first_of(dag: &Dag, node: Node) -> Option<Node>
+    requires { node < length dag.now.entries }
+    ensures node { IfSome result (λ first. first < length dag.now.entries) }
+    ensures over { IfSome result (λ first. StandsOver dag.now first node) }
+{
+    match dag.entry(node.number()) {
+        Entry::All(children) => match children.as_slice() {
+            [first, ..] => Some(*first),
+            [] => None,
+        },
+        _ => None,
+    }
+}
+
+// How many nodes at the front are an `all` over this first child.
+fn length_over(dag: &Dag, first: Node, of: &[Node]) -> usize
+    requires { Each (λ n. n < length dag.now.entries) of.now }
+    ensures within { result ≤ length of.now }
+    ensures over { Each (StandsOver dag.now first) (take result of.now) }
+{
+    let mut length = 0;
+    for node in of {
+        match first_of(dag, *node) {
+            Some(other) if other == first => length += 1,
+            _ => return length,
+        }
+    }
+    length
+}
+
+// The run at the front.
+fn run_at_front(dag: &Dag, of: &[Node]) -> Option<Run>
+    requires { Each (λ n. n < length dag.now.entries) of.now }
+    ensures some { IfSome result (λ run. 0 < run.length) }
+    ensures within { IfSome result (λ run. run.length ≤ length of.now) }
+    ensures first { IfSome result (λ run. run.first < length dag.now.entries) }
+    ensures over { IfSome result (λ run. Each (StandsOver dag.now run.first) (take run.length of.now)) }
+{
+    let [child, ..] = of else {
+        return None;
+    };
+    let first = first_of(dag, *child)?;
+    let length = length_over(dag, first, of);
+    if length < 2 {
+        return None;
+    }
+    Some(Run { first, length })
+}
+
+// The children of an `all` but its first.
+fn later_children(alloc: Global, dag: &Dag, node: Node) -> Result<List<Node>, NoMemory>
+    requires { node < length dag.now.entries }
+    ensures nodes { IfOk result (λ later. Each (λ n. n < length dag.now.entries) later) }
+    ensures means { IfOk result (λ later. (first : ℕ) → StandsOver dag.now first node → (keep : List Bool) → val dag.now keep node ≡ (val dag.now keep first && list_all (val dag.now keep) later)) }
+{
+    match dag.entry(node.number()) {
+        Entry::All(children) => match children.as_slice() {
+            [_, later @ ..] => Ok(List::from_slice(alloc, later)?),
+            [] => Ok(List::new(alloc)),
+        },
+        _ => Ok(List::new(alloc)),
+    }
+}
+
+// What is left of an `all` without its first child.
+fn tail_of(alloc: Global, dag: &mut Dag, node: Node) -> Result<Node, NoMemory>
+    requires { node < length dag.old.entries }
+    ensures grown { IsGrown dag.old dag.new }
+    ensures node { IfOk result (λ tail. tail < length dag.new.entries) }
+    ensures means { IfOk result (λ tail. (first : ℕ) → StandsOver dag.old first node → (keep : List Bool) → val dag.old keep node ≡ (val dag.old keep first && val dag.new keep tail)) }
+{
+    let later = later_children(alloc, dag, node)?;
+    dag.all_of(later.as_slice())
+}
+
+// What is left of each child of a run.
+fn tails_of(alloc: Global, dag: &mut Dag, run: &[Node]) -> Result<List<Node>, NoMemory>
+    requires { Each (λ n. n < length dag.old.entries) run.now }
+    ensures grown { IsGrown dag.old dag.new }
+    ensures nodes { IfOk result (λ tails. Each (λ n. n < length dag.new.entries) tails) }
+    ensures means { IfOk result (λ tails. (first : ℕ) → first < length dag.old.entries → Each (StandsOver dag.old first) run.now → (keep : List Bool) → list_any (val dag.old keep) run.now ≡ (val dag.old keep first && list_any (val dag.new keep) tails)) }
+{
+    let mut tails = List::new(alloc);
+    for child in run {
+        tails.push(tail_of(alloc, dag, *child)?)?;
+    }
+    Ok(tails)
+}
+
+// The children of a run as one.
+fn joined(alloc: Global, dag: &mut Dag, first: Node, run: &[Node]) -> Result<Node, NoMemory>
+    requires first { first < length dag.old.entries }
+    requires nodes { Each (λ n. n < length dag.old.entries) run.now }
+    requires over { Each (StandsOver dag.old first) run.now }
+    ensures grown { IsGrown dag.old dag.new }
+    ensures node { IfOk result (λ node. node < length dag.new.entries) }
+    ensures means { IfOk result (λ node. (keep : List Bool) → val dag.new keep node ≡ list_any (val dag.old keep) run.now) }
+{
+    let tails = tails_of(alloc, dag, run)?;
+    let tail = dag.any_plain(tails.as_slice())?;
+    dag.all(&[first, tail])
+}
+
+/// The children of an `any` with each run as one.
+pub(crate) fn joined_runs(alloc: Global, dag: &mut Dag, of: &[Node]) -> Result<List<Node>, NoMemory>
+    requires { Each (λ n. n < length dag.old.entries) of.now }
+    ensures grown { IsGrown dag.old dag.new }
+    ensures nodes { IfOk result (λ nodes. Each (λ n. n < length dag.new.entries) nodes) }
+    ensures means { IfOk result (λ nodes. (keep : List Bool) → list_any (val dag.new keep) nodes ≡ list_any (val dag.old keep) of.now) }
+{
+    let mut nodes = List::new(alloc);
+    let mut rest = of;
+    'children: while let [child, others @ ..] = rest {
+        match run_at_front(dag, rest) {
+            Some(run) => {
+                let (children, next) = rest.split_at(run.length);
+                nodes.push(joined(alloc, dag, run.first, children)?)?;
+                rest = next;
+            }
+            None => {
+                nodes.push(*child)?;
+                rest = others;
+            }
+        }
+    }
+    Ok(nodes)
+}
