@@ -96,11 +96,14 @@ impl Checker {
         }
     }
 
-    /// Whether the lines have the empty clause, or the negation of `assume` alone.
+    /// Whether the lines have the empty clause, or the negation of `assume` alone. Such a line mostly
+    /// came last, so the search begins there.
     pub fn refutes(&self, assume: Option<Lit>) -> bool
         ensures { IsTrue result ↔ IsRefuted (⟦<Checker as Adds>⟧.lines self.now) assume }
     {
-        for i in 0..self.lines.len() {
+        let mut i = self.lines.len();
+        'lines: while i > 0 {
+            i -= 1;
             if refutes_line(self.lines.at(i), &assume) {
                 return true;
             }

@@ -21,6 +21,7 @@ pub mod Queues
 pub mod Visits
 pub mod Visiting
 pub mod Settling
+pub mod Shorts
 pub mod Putting
 pub mod Basing
 pub mod Requeue

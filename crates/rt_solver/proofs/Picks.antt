@@ -132,12 +132,10 @@ fill-step held new v e b h w l = ap (λ hs. holds hs w) e ∙ elim (bool-cases (
   | inr n ↦ (let d = other-var v w n in get_or-set_other held v w true false d ∙ h w (omega (arith, l, d)))
 ]
 
--- a heap that has grown and was cleared
-pub grown : (old new cleared : List Bool) (vars : ℕ) → new ≡ old ++ replicate (vars - length old) false → cleared ≡ replicate (length new) false → vars ≤ length cleared
-grown old new cleared vars e c =
+-- a heap that has grown
+pub grown : (old new : List Bool) (vars : ℕ) → new ≡ old ++ replicate (vars - length old) false → vars ≤ length new
+grown old new vars e =
     let a = ap length e in
     let b = length-append old (replicate (vars - length old) false) in
     let d = length-replicate (vars - length old) false in
-    let f = ap length c in
-    let g = length-replicate (length new) false in
-    omega (arith, a, b, d, f, g)
+    omega (arith, a, b, d)

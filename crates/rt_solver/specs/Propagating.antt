@@ -1,5 +1,6 @@
 -- What propagation keeps of the first two literals of each clause, and what it does.
 use Rattle.std.specs.Prelude.{◌≡◌, ℕ, ◌/◌, ◌%◌, ◌<◌, Bool, true, false, List, [], ◌∷◌, ◌++◌, length, Some, ◌⊎◌}
+use Rattle.std.specs.List.{All as Each, Contains}
 use Rattle.rt_clause.specs.Literal.{Literal}
 use Rattle.rt_clause.specs.Lists.{has, is_false, line_at, IsMet}
 use Rattle.rt_solver.specs.declared.trail.Step.{Step}
@@ -66,6 +67,11 @@ IsTakenStep clause number old new = (new ≡ old) ⊎ ((l : Literal) × (new ≡
 abbrev pub IsShortAs : Bool → List Literal → List Step → Type 0
 IsShortAs true clause trail = IsBroken (lits trail) clause
 IsShortAs false clause trail = IsWatched [] (lits trail) clause
+
+-- the numbers are those of clauses, and each clause of fewer than two literals has its number there
+pub record AreShort (clauses : List (List Literal)) (numbers : List ℕ) : Type 0 where
+  pub within : Each (λ i. i < length clauses) numbers
+  pub all : (i : ℕ) → i < length clauses → length (line_at clauses i) < 2 → Contains numbers i
 
 -- the literal of the watch has this list
 pub record IsWatchOf (clauses : List (List Literal)) (w k : ℕ) : Type 0 where

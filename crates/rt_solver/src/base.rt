@@ -7,7 +7,7 @@ ghost use Rattle.rt_solver.specs.Search.{KeepsModels};
 ghost use Rattle.rt_solver.specs.Same.{IsSame, AreSame, IsSpread};
 ghost use Rattle.rt_solver.specs.Solving.{reach, width};
 ghost use Rattle.rt_solver.specs.Watching.{list_at};
-ghost use Rattle.rt_solver.specs.Propagating.{AreWatchedBefore, IsQueued, IsPropagated, IsConflict, IsDone, AreListed, HasLists};
+ghost use Rattle.rt_solver.specs.Propagating.{AreWatchedBefore, IsQueued, IsPropagated, IsConflict, IsDone, AreListed, AreShort, HasLists};
 
 use crate::clause::Clause;
 use crate::propagate::{propagate, settle};
@@ -37,10 +37,13 @@ pub(crate) fn reach(least: usize, lits: &[Lit]) -> usize
 
 /// The lines, and the solver's own copy of each, in which two literals are watched. Contracts see
 /// the lines and the copies.
+///
+/// The numbers of the copies with fewer than two literals are in `short`.
 #[derive(Drop)]
 pub(crate) struct Base<L: Lines + Drop> {
     lines: L,
     clauses: Vec<Clause>,
+    short: Vec<usize>,
     watches: Watches,
     vars: usize,
 }
@@ -57,7 +60,7 @@ impl<L: Lines + Drop> Model for Base<L> {
 
     ghost view = { λ b. (b.lines, b.clauses.items) };
 
-    ghost invariant = { λ b. IsBased (L.lines b.lines) b.clauses.items b.watches b.vars };
+    ghost invariant = { λ b. IsBased (L.lines b.lines) b.clauses.items b.watches b.vars b.short.items };
 }
 
 // Hands a line to the lines, which take it.
@@ -75,16 +78,20 @@ fn accept<L: Lines>(lines: &mut L, lits: &[Lit], hints: &[usize]) -> Result<(), 
     Ok(())
 }
 
-// Puts a clause at the end, for which there is room, and watches its first two literals.
-fn put(clauses: &mut Vec<Clause>, watches: &mut Watches, clause: Clause)
+// Puts a clause at the end, for which there is room, and watches its first two literals, or notes
+// that it is short.
+fn put(clauses: &mut Vec<Clause>, short: &mut Vec<usize>, watches: &mut Watches, clause: Clause)
     requires room { vec_len clauses.old < vec_capacity clauses.old }
+    requires short_room { vec_len short.old < vec_capacity short.old }
     requires few { vec_len clauses.old < 2 ^ 62 }
     requires count { 2 * vec_len clauses.old + 2 ≤ watches.old.count }
     requires listed { AreListed clauses.old.items watches.old }
+    requires short { AreShort clauses.old.items short.old.items }
     requires spread { IsSpread clause }
     requires wide { HasLists watches.old clause }
     ensures items { clauses.new.items ≡ clauses.old.items ++ clause ∷ [] }
     ensures listed { AreListed clauses.new.items watches.new }
+    ensures short { AreShort clauses.new.items short.new.items }
 {
     let number = clauses.len();
     match clause.lits() {
@@ -93,22 +100,33 @@ fn put(clauses: &mut Vec<Clause>, watches: &mut Watches, clause: Clause)
             watches.join(Watch::second(number), key(*second));
             clauses.push_reserved(clause);
         }
-        _ => clauses.push_reserved(clause),
+        _ => {
+            short.push_reserved(number);
+            clauses.push_reserved(clause);
+        }
     }
 }
 
 // Makes room for one clause more, over variables below a bound.
-fn make_room(clauses: &mut Vec<Clause>, watches: &mut Watches, vars: usize) -> Result<(), NoMemory>
+fn make_room(
+    clauses: &mut Vec<Clause>,
+    short: &mut Vec<usize>,
+    watches: &mut Watches,
+    vars: usize,
+) -> Result<(), NoMemory>
     requires vars { vars ≤ 2 ^ 62 }
     requires few { vec_len clauses.old < 2 ^ 62 }
     ensures items { clauses.new.items ≡ clauses.old.items }
+    ensures short { short.new.items ≡ short.old.items }
     ensures kept { (k : ℕ) → list_at watches.new.lists k ≡ list_at watches.old.lists k }
     ensures longer { length watches.old.lists ≤ length watches.new.lists }
     ensures room { OnOk result (vec_len clauses.new < vec_capacity clauses.new) }
+    ensures short_room { OnOk result (vec_len short.new < vec_capacity short.new) }
     ensures count { OnOk result (2 * vec_len clauses.new + 2 ≤ watches.new.count) }
     ensures wide { OnOk result (2 * vars + 1 ≤ length watches.new.lists) }
 {
     clauses.reserve(1)?;
+    short.reserve(1)?;
     watches.grow(2 * vars + 1, 2 * clauses.len() + 2)
 }
 
@@ -120,6 +138,7 @@ impl<L: Lines + Drop> Base<L> {
         Base {
             lines,
             clauses: Vec::new(alloc),
+            short: Vec::new(alloc),
             watches: Watches::new(alloc),
             vars: 0,
         }
@@ -163,9 +182,14 @@ impl<L: Lines + Drop> Base<L> {
     {
         let clause = Clause::of(alloc, lits)?;
         let vars = reach(self.vars, lits);
-        make_room(&mut self.clauses, &mut self.watches, vars)?;
+        make_room(&mut self.clauses, &mut self.short, &mut self.watches, vars)?;
         self.lines.add(lits)?;
-        put(&mut self.clauses, &mut self.watches, clause);
+        put(
+            &mut self.clauses,
+            &mut self.short,
+            &mut self.watches,
+            clause,
+        );
         self.vars = vars;
         Ok(())
     }
@@ -189,9 +213,14 @@ impl<L: Lines + Drop> Base<L> {
         ensures err_derived { OnErr result (L.derived self.new.0 ≡ L.derived self.old.0) }
     {
         let vars = reach(self.vars, lits);
-        make_room(&mut self.clauses, &mut self.watches, vars)?;
+        make_room(&mut self.clauses, &mut self.short, &mut self.watches, vars)?;
         accept(&mut self.lines, lits, hints)?;
-        put(&mut self.clauses, &mut self.watches, clause);
+        put(
+            &mut self.clauses,
+            &mut self.short,
+            &mut self.watches,
+            clause,
+        );
         self.vars = vars;
         Ok(())
     }
@@ -223,7 +252,7 @@ impl<L: Lines + Drop> Base<L> {
         ensures before { AreWatchedBefore self.new.1 trail.new.steps }
         ensures done { MatchOption result (IsDone (L.lines self.new.0) self.new.1 trail.new.steps) (λ i. IsConflict (L.lines self.new.0) trail.new.steps i) }
     {
-        if let Some(i) = settle(self.clauses.as_slice(), trail) {
+        if let Some(i) = settle(self.clauses.as_slice(), self.short.as_slice(), trail) {
             return Some(i);
         }
         propagate(&mut self.clauses, &mut self.watches, trail, 0)

@@ -1,4 +1,4 @@
-ghost use Rattle.std.specs.Prelude.{◌≡◌, ℕ, ◌<◌, ◌≤◌, ◌+◌, List, ◌∷◌, [], length, true, false, IfOk, OnOk, Option, MatchOption, IsTrue, ◌↔◌, ◌⊎◌};
+ghost use Rattle.std.specs.Prelude.{◌≡◌, ℕ, ◌<◌, ◌≤◌, ◌+◌, List, ◌∷◌, [], length, true, false, IfOk, IfSome, OnOk, Option, MatchOption, IsTrue, ◌↔◌, ◌⊎◌};
 ghost use Rattle.rt_clause.specs.Lists.{has, line_at};
 ghost use Rattle.rt_clause.specs.Literal.{Literal};
 ghost use Rattle.rt_solver.specs.declared.trail.Step.{Step};
@@ -15,6 +15,12 @@ use crate::trail::{Step, Trail, Why};
 use crate::walk::Walk;
 use rt_clause::{Lines, Lit};
 use rt_value::NoMemory;
+
+// How many lines deep the search for what is implied goes.
+const DEPTH: usize = 6;
+
+// How many literals it looks at.
+const FUEL: usize = 128;
 
 // Resolves with the line that a marked step rests on.
 fn visit<L: Lines + Drop>(base: &Base<L>, step: Step, walk: &mut Walk) -> Result<(), NoMemory>
@@ -81,19 +87,72 @@ fn seek<L: Lines + Drop>(
     Ok(None)
 }
 
-// Whether each literal of a line is marked, or got its value before the first decision.
-fn is_known(line: &[Lit], trail: &Trail, marks: &Marks) -> bool
-    requires below { IsBelow trail.now.vars line.now }
+// The line that a variable's value rests on, where it is neither decided nor assumed.
+fn reason<L: Lines + Drop>(base: &Base<L>, trail: &Trail, v: usize) -> Option<usize>
+    requires { v < trail.now.vars }
+    ensures { IfSome result (λ r. r < length (L.lines base.now.0)) }
+{
+    match trail.why(v) {
+        Some(Why::Line(r)) => { if r < base.len() { Some(r) } else { None } }
+        _ => None,
+    }
+}
+
+// Whether the literals of a line imply that of the variable `own`: each other one is marked, got its
+// value before the first decision, or is implied in turn by the line that it rests on, down to a
+// depth. Each literal that is looked at takes one from the fuel.
+fn is_known<L: Lines + Drop>(
+    base: &Base<L>,
+    trail: &Trail,
+    marks: &Marks,
+    line: &[Lit],
+    own: usize,
+    depth: usize,
+    fuel: &mut usize,
+) -> bool
+    requires line { IsBelow trail.now.vars line.now }
+    requires below { AreBelow trail.now.vars (L.lines base.now.0) }
     requires marks { length marks.now.marks ≡ trail.now.vars }
 {
     for l in line {
+        if *fuel == 0 {
+            return false;
+        }
+        *fuel -= 1;
         let lit = *l;
         let v = lit.var();
-        if !marks.is(v) && !trail.is_early(v) {
+        if v == own || marks.is(v) || trail.is_early(v) {
+            continue;
+        }
+        if depth == 0 {
             return false;
+        }
+        match reason(base, trail, v) {
+            None => return false,
+            Some(r) => {
+                if !is_known(base, trail, marks, base.at(r), v, depth - 1, fuel) {
+                    return false;
+                }
+            }
         }
     }
     true
+}
+
+// Whether the other marked literals imply that of a variable, as far as a short search shows.
+fn is_implied<L: Lines + Drop>(
+    base: &Base<L>,
+    trail: &Trail,
+    marks: &Marks,
+    line: usize,
+    own: usize,
+) -> bool
+    requires line { line < length (L.lines base.now.0) }
+    requires below { AreBelow trail.now.vars (L.lines base.now.0) }
+    requires marks { length marks.now.marks ≡ trail.now.vars }
+{
+    let mut fuel = FUEL;
+    is_known(base, trail, marks, base.at(line), own, DEPTH, &mut fuel)
 }
 
 // Whether the literal of the step at a place is found: the step is marked, and a decision or one of
@@ -123,7 +182,7 @@ fn stays<L: Lines + Drop>(
             marked
                 && lit.var() < first
                 && trail.root() < place
-                && !is_known(base.at(r), trail, &walk.marks)
+                && !is_implied(base, trail, &walk.marks, r, lit.var())
         }
         Why::Assumed => false,
     }

@@ -30,6 +30,15 @@ impl Model for Pick {
     ghost invariant = { λ p. p.bound ≤ length p.heap };
 }
 
+// Takes all variables out of a heap where its bound falls.
+fn lower(heap: &mut Heap, falls: bool)
+    ensures { length heap.new ≡ length heap.old }
+{
+    if falls {
+        heap.clear();
+    }
+}
+
 // Puts the variables below a bound into a heap.
 fn fill(heap: &mut Heap, bound: usize)
     requires { bound ≤ length heap.old }
@@ -86,18 +95,18 @@ impl Pick {
         }
     }
 
-    /// Begins a search over so many variables.
+    /// Begins a search over so many variables. Where the bound does not fall, the heap stays, and
+    /// only what was taken out is put in again.
     pub(crate) fn begin(&mut self, vars: usize, bound: usize) -> Result<(), NoMemory>
         requires { bound ≤ vars }
         ensures bound { OnOk result (self.new.bound ≡ bound) }
         ensures offered { OnOk result ((steps : List Step) → IsOffered self.new steps) }
     {
-        self.bound = 0;
-        self.next = bound;
         self.heap.grow(vars)?;
-        self.heap.clear();
+        lower(&mut self.heap, bound < self.bound);
         fill(&mut self.heap, bound);
         self.bound = bound;
+        self.next = bound;
         Ok(())
     }
 

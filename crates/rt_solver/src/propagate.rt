@@ -4,7 +4,7 @@ ghost use Rattle.rt_solver.specs.Trail.{lits, IsApart, oldest};
 ghost use Rattle.rt_solver.specs.Looking.{IsBelow, AreBelow};
 ghost use Rattle.rt_solver.specs.Same.{AreSame};
 ghost use Rattle.rt_solver.specs.Watching.{list_at};
-ghost use Rattle.rt_solver.specs.Propagating.{IsWatched, AreWatchedBefore, IsQueued, IsPropagated, AreListed, IsConflict, IsTakenStep, IsShortAs};
+ghost use Rattle.rt_solver.specs.Propagating.{IsWatched, AreWatchedBefore, IsQueued, IsPropagated, AreListed, AreShort, IsConflict, IsTakenStep, IsShortAs};
 
 use crate::clause::Clause;
 use crate::trail::{Step, Trail, Why};
@@ -112,8 +112,9 @@ fn is_broken(clause: &[Lit], trail: &mut Trail, number: usize) -> bool
 }
 
 /// Takes the literals of the clauses of one literal as steps, and names the empty clause, or a
-/// clause of one literal that is false.
-pub(crate) fn settle(clauses: &[Clause], trail: &mut Trail) -> Option<usize>
+/// clause of one literal that is false. All such clauses are among the short ones.
+pub(crate) fn settle(clauses: &[Clause], short: &[usize], trail: &mut Trail) -> Option<usize>
+    requires short { AreShort clauses.now short.now }
     requires below { AreBelow trail.old.vars clauses.now }
     requires apart { IsApart trail.old.vars trail.old.steps }
     ensures vars { trail.new.vars ≡ trail.old.vars }
@@ -121,10 +122,11 @@ pub(crate) fn settle(clauses: &[Clause], trail: &mut Trail) -> Option<usize>
     ensures steps { IsPropagated clauses.now trail.old.steps trail.new.steps }
     ensures settled { MatchOption result ((i : ℕ) → i < length clauses.now → IsWatched [] (lits trail.new.steps) (line_at clauses.now i)) (λ i. IsConflict clauses.now trail.new.steps i) }
 {
-    for i in 0..clauses.len() {
-        let clause = &clauses[i];
-        if is_broken(clause.lits(), trail, i) {
-            return Some(i);
+    for n in short {
+        let number = *n;
+        let clause = &clauses[number];
+        if is_broken(clause.lits(), trail, number) {
+            return Some(number);
         }
     }
     None

@@ -126,6 +126,19 @@ impl Trail {
         self.places[v] < self.root
     }
 
+    /// Why a variable has its value, where it has one.
+    pub(crate) fn why(&self, v: usize) -> Option<Why>
+        requires { v < self.now.vars }
+    {
+        let place = self.places[v];
+        if place < self.steps.len() {
+            let step = self.steps[place];
+            Some(step.why)
+        } else {
+            None
+        }
+    }
+
     /// The step at a place, counted from the oldest.
     pub fn at(&self, i: usize) -> Step
         requires { i < length self.now.steps }

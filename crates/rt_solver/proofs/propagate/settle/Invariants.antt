@@ -1,13 +1,13 @@
-use Rattle.std.proofs.Common.{◌≡◌, ℕ, ◌<◌, []}
-use Rattle.rt_clause.specs.Lists.{line_at}
-use Rattle.rt_solver.specs.Trail.{lits, IsApart}
-use Rattle.rt_solver.specs.Propagating.{IsWatched, IsPropagated}
+use Rattle.std.proofs.Common.{◌≡◌}
+use Rattle.rt_solver.specs.Trail.{IsApart}
+use Rattle.rt_solver.specs.Propagating.{IsPropagated}
+use Rattle.rt_solver.proofs.Settling.{AreSettled}
 use Rattle.rt_solver.proofs.propagate.settle.Given as goal
 
-abbrev pub invariant-loop-i : goal.invariant-loop-i
-invariant-loop-i l = record {
+abbrev pub invariant-loop-n : goal.invariant-loop-n
+invariant-loop-n l = record {
   vars : l.trail.vars ≡ l.fn.trail.vars;
   apart : IsApart l.trail.vars l.trail.steps;
   steps : IsPropagated l.clauses l.fn.trail.steps l.trail.steps;
-  settled : (i : ℕ) → i < l.i → IsWatched [] (lits l.trail.steps) (line_at l.clauses i);
+  settled : AreSettled l.clauses l.short l.n-index l.trail.steps;
 }

@@ -7,5 +7,5 @@ put-requires-clause-wide g c = has-lists c.self.inside.vars c.reach-vars.result 
 
 pub invariant_of-self-2 : goal.invariant_of-self-2
 invariant_of-self-2 g c =
-    based-push (g.L.Adds.lines c.self.inside.lines) (g.L.Adds.lines c.add.new.self) c.self.inside.clauses.items c.put.new.clauses.items c.self.inside.watches c.put.new.watches c.self.inside.vars c.reach-vars.result c.args.lits.now c.in_ok-clause.clause
-    c.self.invariant c.in_ok-add.ensures.lines (c.put.ensures.items ∙ ap (λ xs. xs ++ c.in_ok-clause.clause ∷ []) c.in_ok-make_room.ensures.items) c.in_ok-clause.ensures.same c.put.ensures.listed c.reach-vars.ensures.is (c.reach-vars.ensures.few c.self.invariant.few)
+    based-push (g.L.Adds.lines c.self.inside.lines) (g.L.Adds.lines c.add.new.self) c.self.inside.clauses.items c.put.new.clauses.items c.self.inside.watches c.put.new.watches c.self.inside.vars c.reach-vars.result c.self.inside.short.items c.put.new.short.items c.args.lits.now c.in_ok-clause.clause
+    c.self.invariant c.in_ok-add.ensures.lines (c.put.ensures.items ∙ ap (λ xs. xs ++ c.in_ok-clause.clause ∷ []) c.in_ok-make_room.ensures.items) c.in_ok-clause.ensures.same c.put.ensures.listed c.put.ensures.short c.reach-vars.ensures.is (c.reach-vars.ensures.few c.self.invariant.few)

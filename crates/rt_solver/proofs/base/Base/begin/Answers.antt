@@ -4,6 +4,7 @@ use Rattle.rt_clause.specs.Lists.{line_at}
 use Rattle.rt_solver.specs.Trail.{lits}
 use Rattle.rt_solver.specs.Propagating.{IsPropagated, IsWatched, IsQueued}
 use Rattle.rt_solver.proofs.Queues.{propagated-same, propagated-trans, all-trans, before-none}
+use Rattle.rt_solver.proofs.Shorts.{short-same}
 use Rattle.rt_solver.proofs.Rounds.{done-of}
 use Rattle.rt_solver.proofs.Settling.{begun-queue, undecided-grown}
 use Rattle.rt_solver.proofs.Walks.{oldest-none}
@@ -24,6 +25,15 @@ propagate-requires-clause-queued g c =
     subst P (sym (ap lits (oldest-none c.settle.new.trail.steps)))
     (begun-queue c.self.inside.clauses.items c.settle.new.trail.steps (undecided-grown c.as_slice.result.now c.args.trail.now.steps c.settle.new.trail.steps c.settle.ensures.steps c.requires.undecided)
     (subst Q c.as_slice.ensures.value c.in_default.ensures.settled))
+
+pub invariant_of-self : goal.invariant_of-self
+invariant_of-self g c = record {
+  same = all-trans (g.L.Adds.lines c.self.inside.lines) c.self.inside.clauses.items c.propagate.new.clauses.items c.self.invariant.same c.propagate.ensures.same;
+  listed = c.propagate.ensures.listed;
+  brief = short-same c.self.inside.clauses.items c.propagate.new.clauses.items c.self.inside.short.items c.propagate.ensures.same c.self.invariant.listed.spread c.self.invariant.brief;
+  wide = c.self.invariant.wide;
+  few = c.self.invariant.few;
+}
 
 pub returns-clause-steps : goal.returns-clause-steps
 returns-clause-steps g c =

@@ -2,8 +2,18 @@ use Rattle.std.proofs.Common.{ap, subst, List}
 use Rattle.rt_clause.specs.Literal.{Literal}
 use Rattle.rt_solver.specs.Propagating.{IsPropagated}
 use Rattle.rt_solver.proofs.Queues.{propagated-same, all-trans}
+use Rattle.rt_solver.proofs.Shorts.{short-same}
 use Rattle.rt_solver.proofs.Rounds.{done-of}
 use Rattle.rt_solver.proofs.base.Base.propagate.Goals as goal
+
+pub invariant_of-self : goal.invariant_of-self
+invariant_of-self g c = record {
+  same = all-trans (g.L.Adds.lines c.self.inside.lines) c.self.inside.clauses.items c.propagate.new.clauses.items c.self.invariant.same c.propagate.ensures.same;
+  listed = c.propagate.ensures.listed;
+  brief = short-same c.self.inside.clauses.items c.propagate.new.clauses.items c.self.inside.short.items c.propagate.ensures.same c.self.invariant.listed.spread c.self.invariant.brief;
+  wide = c.self.invariant.wide;
+  few = c.self.invariant.few;
+}
 
 pub returns-clause-steps : goal.returns-clause-steps
 returns-clause-steps g c =
