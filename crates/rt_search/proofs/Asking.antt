@@ -1,5 +1,5 @@
 -- One question for an earlier row: what the lines say before the call of solve, and after.
-use Rattle.std.proofs.Common.{◌≡◌, ℕ, ◌+◌, ◌-◌, ◌*◌, ◌<◌, ◌≤◌, Bool, true, List, [], ◌∷◌, ◌++◌, take, length, refl, sym, ap, subst, inl, inr, Some, arith}
+use Rattle.std.proofs.Common.{◌≡◌, ℕ, ◌+◌, ◌-◌, ◌*◌, ◌<◌, ◌≤◌, Bool, true, false, List, [], ◌∷◌, ◌++◌, length, slice_index_or, refl, sym, ap, subst, ◌∙◌, inl, inr, Some, arith}
 use Rattle.std.proofs.Math.Nat.{mul-le-mul_left}
 use Rattle.rt_value.specs.Keep.{size}
 use Rattle.rt_clause.specs.Literal.{Literal}
@@ -10,17 +10,16 @@ use Rattle.rt_clause.specs.Gates.{gate}
 use Rattle.rt_clause.proofs.Literals.{has-cases}
 use Rattle.rt_clause.proofs.Extending.{extends-gate, model-older}
 use Rattle.rt_formula.specs.Shared.{Shared}
-use Rattle.rt_solver.specs.Answers.{IsModelled}
 use Rattle.rt_totalizer.specs.Outputs.{CountsFirst, first_at}
 use Rattle.rt_totalizer.proofs.Rows.{cell-has}
 use Rattle.rt_totalizer.proofs.Totals.{kept-size}
 use Rattle.rt_search.specs.Aimed.{IsAimed}
-use Rattle.rt_search.specs.Attempts.{IsGrown}
+use Rattle.rt_search.specs.Attempts.{IsAnswered, IsGrown}
 use Rattle.rt_search.specs.Leading.{IsLeading}
 use Rattle.rt_search.specs.Order.{IsNext}
 use Rattle.rt_search.proofs.Aiming.{aimed-extends, model-sought}
 use Rattle.rt_search.proofs.Keeps.{kept-some}
-use Rattle.rt_search.proofs.Leading.{IsAsked, KeepsNone, asked-begun, asked-on, asked-model, model-asked, none-refuted, none-here, leading-next}
+use Rattle.rt_search.proofs.Leading.{IsAsked, asked-begun, asked-on, asked-model, model-asked, leading-next, leading-refuted}
 
 -- the next kept row is one of those that the best choice keeps
 pub kept-within : (d : Shared) (goal : ℕ) (cone : List Bool) (lines : List (List Literal)) (best : List Bool) (place kept row : ℕ) (held : Literal) → IsLeading d goal cone lines best place kept held → IsNext best place row → row < d.rows → kept + 1 ≤ size best
@@ -52,85 +51,76 @@ firsts-on rows upto next next' lines new more firsts w e c = record {
   means = λ p h bools m. (let M : List (List Literal) → Type 0 = λ ls. IsModel ls bools in c.means p h bools (model-older lines more bools (subst M e m)));
 }
 
+-- what is known between two questions: the rows below a place are settled
+pub record IsSettled (d : Shared) (goal : ℕ) (cone : List Bool) (lines firsts : List (List Literal)) (upto next : ℕ) (best : List Bool) (place kept : ℕ) (held : Literal) : Type 0 where
+  pub aimed : IsAimed d goal cone lines next
+  pub firsts_are : CountsFirst d.rows upto next lines firsts
+  pub leading : IsLeading d goal cone lines best place kept held
+  pub low : held.var < next
+
 -- the lines with the literal of a question
-pub given-aimed : (d : Shared) (goal : ℕ) (cone : List Bool) (lines given firsts : List (List Literal)) (upto next : ℕ) (best : List Bool) (place kept row : ℕ) (held earlier asked : Literal) → IsAimed d goal cone lines next → CountsFirst d.rows upto next lines firsts
-    → IsLeading d goal cone lines best place kept held → IsNext best place row → row < d.rows → held.var < next → size best < upto → earlier ≡ first_at firsts row (kept + 1) → asked.var ≡ next → given ≡ lines ++ gate asked (held ∷ earlier ∷ [])
-    → IsAimed d goal cone given (next + 1)
-given-aimed d goal cone lines given firsts upto next best place kept row held earlier asked h c l n r low room ee av ge =
-    let k = kept-within d goal cone lines best place kept row held l n r in
-    let here : row ≤ d.rows = omega (arith, r) in
-    let long = c.each row here in
+pub given-aimed : (d : Shared) (goal : ℕ) (cone : List Bool) (lines given firsts : List (List Literal)) (upto next : ℕ) (best : List Bool) (place kept end : ℕ) (held earlier asked : Literal) → IsSettled d goal cone lines firsts upto next best place kept held
+    → kept + 1 ≤ upto → end ≤ d.rows → earlier ≡ first_at firsts end (kept + 1) → asked.var ≡ next → given ≡ lines ++ gate asked (held ∷ earlier ∷ []) → IsAimed d goal cone given (next + 1)
+given-aimed d goal cone lines given firsts upto next best place kept end held earlier asked h k r ee av ge =
+    let long = h.firsts_are.each end r in
     let L : Literal → Type 0 = λ x. x.var < next in
-    let el = subst L (sym ee) (c.low row here (first_at firsts row (kept + 1)) (cell-has (line_at firsts row) (kept + 1) (omega (arith, long, k, room)))) in
-    both-aimed d goal cone lines given next held earlier asked h av low el ge
+    let el = subst L (sym ee) (h.firsts_are.low end r (first_at firsts end (kept + 1)) (cell-has (line_at firsts end) (kept + 1) (omega (arith, long, k)))) in
+    both-aimed d goal cone lines given next held earlier asked h.aimed av h.low el ge
 
 -- what is known after a question
-pub record HasAsked (d : Shared) (goal : ℕ) (cone : List Bool) (lines firsts : List (List Literal)) (upto next : ℕ) (best : List Bool) (place kept row : ℕ) (held asked : Literal) : Type 0 where
+pub record HasAsked (d : Shared) (goal : ℕ) (cone : List Bool) (lines firsts : List (List Literal)) (upto next : ℕ) (best : List Bool) (place kept end : ℕ) (held asked : Literal) : Type 0 where
   pub aimed : IsAimed d goal cone lines next
   pub firsts_are : CountsFirst d.rows upto next lines firsts
-  pub question : IsAsked d goal cone lines best place kept row held asked
+  pub question : IsAsked d goal cone lines best place kept end held asked
+  pub low : held.var < next
+  pub asked_low : asked.var < next
 
-pub has-asked : (d : Shared) (goal : ℕ) (cone : List Bool) (lines given new firsts : List (List Literal)) (upto next : ℕ) (best : List Bool) (place kept row : ℕ) (held earlier asked : Literal)
-    → IsAimed d goal cone lines next → CountsFirst d.rows upto next lines firsts → IsLeading d goal cone lines best place kept held → IsNext best place row → row < d.rows → held.var < next → size best < upto
-    → earlier ≡ first_at firsts row (kept + 1) → asked.var ≡ next → given ≡ lines ++ gate asked (held ∷ earlier ∷ []) → IsGrown given new (Some asked) (next + 1)
-    → HasAsked d goal cone new firsts upto (next + 1) best place kept row held asked
-has-asked d goal cone lines given new firsts upto next best place kept row held earlier asked h c l n r low room ee av ge s =
-    let k = kept-within d goal cone lines best place kept row held l n r in
+pub has-asked : (d : Shared) (goal : ℕ) (cone : List Bool) (lines given new firsts : List (List Literal)) (upto next : ℕ) (best : List Bool) (place kept row end : ℕ) (held earlier asked : Literal) → IsSettled d goal cone lines firsts upto next best place kept held → size best < upto
+    → IsNext best place row → row < d.rows → place ≤ end → end ≤ row → earlier ≡ first_at firsts end (kept + 1) → asked.var ≡ next → given ≡ lines ++ gate asked (held ∷ earlier ∷ []) → IsGrown given new (Some asked) (next + 1)
+    → HasAsked d goal cone new firsts upto (next + 1) best place kept end held asked
+has-asked d goal cone lines given new firsts upto next best place kept row end held earlier asked h room n r from to ee av ge s =
+    let k = kept-within d goal cone lines best place kept row held h.leading n r in
     let most : kept + 1 ≤ upto = omega (arith, k, room) in
-    let here : row ≤ d.rows = omega (arith, r) in
-    let aimed = given-aimed d goal cone lines given firsts upto next best place kept row held earlier asked h c l n r low room ee av ge in
+    let here : end ≤ d.rows = omega (arith, r, to) in
+    let low = h.low in
     record {
-      aimed = s.aims d goal cone (omega (arith, av)) aimed;
-      firsts_are = firsts-on d.rows upto (next + 1) (next + 1) given new _ firsts (omega arith) s.lines (firsts-on d.rows upto next (next + 1) lines given _ firsts (omega arith) ge c);
-      question = asked-on d goal cone given new _ best place kept row held asked s.lines (asked-begun d goal cone lines given firsts upto next best place kept row held earlier asked l n here c most ee ge);
+      aimed = s.aims d goal cone (omega (arith, av)) (given-aimed d goal cone lines given firsts upto next best place kept end held earlier asked h most here ee av ge);
+      firsts_are = firsts-on d.rows upto (next + 1) (next + 1) given new _ firsts (omega arith) s.lines (firsts-on d.rows upto next (next + 1) lines given _ firsts (omega arith) ge h.firsts_are);
+      question = asked-on d goal cone given new _ best place kept end held asked s.lines
+          (asked-begun d goal cone lines given firsts upto next best place kept end held earlier asked h.leading from (λ v a b. n.bare v a (omega (arith, b, to))) here h.firsts_are most ee ge);
+      low = omega (arith, low);
+      asked_low = omega (arith, av);
     }
 
--- a model is an earlier choice of as many rows
-pub earlier-found : (d : Shared) (goal : ℕ) (cone : List Bool) (new firsts : List (List Literal)) (upto next rows : ℕ) (best : List Bool) (place kept row row' : ℕ) (held asked : Literal) (bools mid : List Bool) → rows ≡ d.rows
-    → HasAsked d goal cone new firsts upto next best place kept row held asked → (rows ≤ length bools) × IsModelled new (Some asked) (length bools) bools → mid ≡ take rows bools → IsNext mid place row' → IsLeading d goal cone new mid place kept asked × (row' < row)
-earlier-found d goal cone new firsts upto next rows best place kept row row' held asked bools mid e h q k n =
-    let g = model-sought d goal cone new (Some asked) next (length bools) rows bools mid e q.0 k h.aimed q.1 in
-    asked-model d goal cone new best place kept row row' held asked mid g h.question (model-asked d goal cone new best place kept row (length bools) rows held asked bools mid e q.0 k h.question q.1) n
+-- its answer is an earlier choice of as many rows
+pub earlier-found : (d : Shared) (goal : ℕ) (cone : List Bool) (new firsts : List (List Literal)) (upto next rows : ℕ) (best : List Bool) (place kept end row : ℕ) (held asked : Literal) (mid : List Bool) → rows ≡ d.rows
+    → HasAsked d goal cone new firsts upto next best place kept end held asked → IsAnswered new asked rows (Some mid) → IsNext mid place row → IsSettled d goal cone new firsts upto next mid place kept asked × (row < end)
+earlier-found d goal cone new firsts upto next rows best place kept end row held asked mid e h q n =
+    let g = model-sought d goal cone new (Some asked) next (length q.0) rows q.0 mid e q.1 q.3 h.aimed q.2 in
+    let m = asked-model d goal cone new best place kept end row held asked mid g h.question (model-asked d goal cone new best place kept end (length q.0) rows held asked q.0 mid e q.1 q.3 h.question q.2) n in
+    (record { aimed = h.aimed; firsts_are = h.firsts_are; leading = m.0; low = h.asked_low }, m.1)
 
--- no choice keeps an earlier row, so that the next row of the best is settled
-pub record IsSettled (d : Shared) (goal : ℕ) (cone : List Bool) (lines firsts : List (List Literal)) (upto next : ℕ) (best : List Bool) (place kept row : ℕ) (held : Literal) : Type 0 where
-  pub aimed : IsAimed d goal cone lines next
-  pub firsts_are : CountsFirst d.rows upto next lines firsts
-  pub leading : IsLeading d goal cone lines best place kept held
-  pub none : KeepsNone d goal cone leading.value kept row
-  pub low : held.var < next
-
-pub settled-refuted : (d : Shared) (goal : ℕ) (cone : List Bool) (lines firsts : List (List Literal)) (upto next : ℕ) (best : List Bool) (place kept row : ℕ) (held asked : Literal) → HasAsked d goal cone lines firsts upto next best place kept row held asked → held.var < next
-    → IsRefuted lines (Some asked) → IsSettled d goal cone lines firsts upto next best place kept row held
-settled-refuted d goal cone lines firsts upto next best place kept row held asked h low r = record {
+-- or that there is none, so that the rows before the end are settled
+pub none-earlier : (d : Shared) (goal : ℕ) (cone : List Bool) (lines firsts : List (List Literal)) (upto next : ℕ) (best : List Bool) (place kept end : ℕ) (held asked : Literal) → HasAsked d goal cone lines firsts upto next best place kept end held asked → IsRefuted lines (Some asked)
+    → IsSettled d goal cone lines firsts upto next best end kept held
+none-earlier d goal cone lines firsts upto next best place kept end held asked h r = record {
   aimed = h.aimed;
   firsts_are = h.firsts_are;
-  leading = h.question.leading;
-  none = none-refuted d goal cone lines next best place kept row held asked h.aimed h.question r;
-  low = low;
+  leading = leading-refuted d goal cone lines next best place kept end held asked h.aimed h.question r;
+  low = h.low;
 }
 
-pub settled-here : (d : Shared) (goal : ℕ) (cone : List Bool) (lines firsts : List (List Literal)) (upto next : ℕ) (best : List Bool) (place kept row : ℕ) (held : Literal) → IsAimed d goal cone lines next → CountsFirst d.rows upto next lines firsts
-    → IsLeading d goal cone lines best place kept held → held.var < next → row ≡ place → IsSettled d goal cone lines firsts upto next best place kept row held
-settled-here d goal cone lines firsts upto next best place kept row held a c l low e =
-    let S : ℕ → Type 0 = λ r. IsSettled d goal cone lines firsts upto next best place kept r held in
-    subst S (sym e) (record { aimed = a; firsts_are = c; leading = l; none = none-here d goal cone lines best place kept held l; low = low })
-
--- one place more
-pub record HasNext (d : Shared) (goal : ℕ) (cone : List Bool) (lines firsts : List (List Literal)) (upto next : ℕ) (best : List Bool) (place kept : ℕ) (held : Literal) : Type 0 where
-  pub aimed : IsAimed d goal cone lines next
-  pub firsts_are : CountsFirst d.rows upto next lines firsts
-  pub leading : IsLeading d goal cone lines best place kept held
-  pub low : held.var < next
-
-pub has-next : (d : Shared) (goal : ℕ) (cone : List Bool) (lines new firsts : List (List Literal)) (upto next : ℕ) (best : List Bool) (place kept row : ℕ) (held x out : Literal) → IsSettled d goal cone lines firsts upto next best place kept row held → IsNext best place row → row < d.rows
-    → x.var ≡ row → x.on ≡ true → out.var ≡ next → new ≡ lines ++ gate out (held ∷ x ∷ []) → HasNext d goal cone new firsts upto (next + 1) best (row + 1) (kept + 1) out
-has-next d goal cone lines new firsts upto next best place kept row held x out s n r xv xo ov e =
-    let w = s.aimed.wide in
+-- a row that the best keeps is settled
+pub row-settled : (d : Shared) (goal : ℕ) (cone : List Bool) (lines new firsts : List (List Literal)) (upto next : ℕ) (best : List Bool) (place kept row : ℕ) (held x out : Literal) → IsSettled d goal cone lines firsts upto next best place kept held → IsNext best place row → row < d.rows → place ≡ row
+    → x.var ≡ row → x.on ≡ true → out.var ≡ next → new ≡ lines ++ gate out (held ∷ x ∷ []) → IsSettled d goal cone new firsts upto (next + 1) best (place + 1) (kept + 1) out
+row-settled d goal cone lines new firsts upto next best place kept row held x out h n r p xv xo ov e =
+    let w = h.aimed.wide in
+    let t = h.leading.best_is.0 in
+    let here = ap (λ i. slice_index_or best i false) p ∙ n.kept (omega (arith, r, t)) in
     record {
-      aimed = both-aimed d goal cone lines new next held x out s.aimed ov s.low (omega (arith, xv, r, w)) e;
-      firsts_are = firsts-on d.rows upto next (next + 1) lines new _ firsts (omega arith) e s.firsts_are;
-      leading = leading-next d goal cone lines new best place kept row held x out s.leading n r s.none xv xo e;
+      aimed = both-aimed d goal cone lines new next held x out h.aimed ov h.low (omega (arith, xv, r, w)) e;
+      firsts_are = firsts-on d.rows upto next (next + 1) lines new _ firsts (omega arith) e h.firsts_are;
+      leading = leading-next d goal cone lines new best place kept held x out h.leading here (omega (arith, p, r)) (xv ∙ sym p) xo e;
       low = omega (arith, ov);
     }
 

@@ -30,16 +30,6 @@ told-model old new lines assume next rows first budget bools r h = (
   record { each = refl; model = h.model; assumed = h.assumed },
 )
 
--- a search without a budget
-pub told-free : (old new : List (List Literal)) (assume : Option Literal) (next rows : ℕ) (budget : Option ℕ) (found : Found) → rows ≤ next → IsFound old new assume next (variables old assume next) None found → IsTold old new assume next rows budget found
-told-free old new assume next rows budget (Model bools) r h = told-model old new old assume next rows next budget bools r h
-told-free old new assume next rows budget Refuted r h = h
-told-free old new assume next rows budget (Spent list) r h = absurd h
-
--- one that did not spend its budget
-pub told-first : (old new : List (List Literal)) (assume : Option Literal) (next rows : ℕ) (budget : Option ℕ) (bools : List Bool) → rows ≤ next → IsModelled new assume (variables old assume next) bools → IsTold old new assume next rows budget (Model bools)
-told-first old new assume next rows budget bools r h = told-model old new old assume next rows next budget bools r h
-
 -- the search over the rows
 pub told-second : (old mid new : List (List Literal)) (fo fn : List Bool) (assume : Option Literal) (next rows : ℕ) (budget : Option ℕ) (found : Found) → rows ≤ next → IsGrown old mid assume next → HasSearched mid new fo fn assume rows (variables mid assume rows)
     → IsFound mid new assume rows (variables mid assume rows) budget found → IsTold old new assume next rows budget found

@@ -64,6 +64,10 @@ bare-of p q xs ys a h v l r = elim (bool-cases (slice_index_or xs v false)) [
   | inr y ↦ y
 ]
 
+-- one place that is left out
+pub bare-one : (p : ℕ) (xs : List Bool) → slice_index_or xs p false ≡ false → IsBare p (p + 1) xs
+bare-one p xs h v l r = let q : v ≡ p = omega (arith, l, r) in ap (λ i. slice_index_or xs i false) q ∙ h
+
 -- where all rows that are kept are below a place, none is from there on
 pub rest-bare : (p : ℕ) (xs : List Bool) → size xs ≤ kept_below p xs → IsBare p (length xs) xs
 rest-bare p xs h = let s = kept-size xs in bare-of p (length xs) xs xs (λ v l. refl) (omega (arith, h, s))

@@ -1,5 +1,5 @@
 -- How far a choice of the fewest rows is known to be the first of them.
-use Rattle.std.proofs.Common.{◌≡◌, ℕ, suc, ◌+◌, ◌<◌, ◌≤◌, nat_lt, nat_le, Bool, true, false, cond, not, ◌&&◌, inl, inr, List, [], ◌∷◌, ◌++◌, take, length, slice_index_or, refl, sym, ap, subst, ◌∙◌, Some, arith, rules}
+use Rattle.std.proofs.Common.{◌≡◌, ℕ, suc, ◌+◌, ◌<◌, ◌≤◌, nat_lt, nat_le, Bool, true, false, not, ◌&&◌, inl, inr, List, [], ◌∷◌, ◌++◌, take, length, slice_index_or, refl, sym, ap, subst, ◌∙◌, Some, arith, rules}
 use Rattle.std.specs.Bool.{beq}
 use Rattle.rt_value.specs.Keep.{size}
 use Rattle.rt_clause.specs.Literal.{Literal}
@@ -20,7 +20,7 @@ use Rattle.rt_search.specs.Order.{ComesBefore, IsBare, IsNext}
 use Rattle.rt_search.specs.Leading.{AllFew, HasValue, IsLeading}
 use Rattle.rt_search.specs.Aimed.{IsAimed, IsCounted, fewer_than}
 use Rattle.rt_search.proofs.Aiming.{fewer-means, refuted-false, lt-not-le}
-use Rattle.rt_search.proofs.Keeps.{kept-none, kept-on, kept-off, kept-some, bare-of, before-place, before-from, before-more, before-all, before-later}
+use Rattle.rt_search.proofs.Keeps.{kept-none, kept-on, kept-some, bare-of, before-place, before-from, before-more, before-all, before-later}
 use Rattle.rt_search.proofs.Taking.{take-index, take-length}
 
 pub clash : {b : Bool} → b ≡ true → b ≡ false → ⊥
@@ -133,30 +133,30 @@ row-value d lines row l r v o keep bools k a m =
       beq-true true = refl
       beq-true false = refl
 
--- the question whether a row before the next one can be kept: the literal that is assumed
-pub record IsAsked (d : Shared) (goal : ℕ) (cone : List Bool) (lines : List (List Literal)) (best : List Bool) (place kept row : ℕ) (held asked : Literal) : Type 0 where
+-- the question whether one more of the rows before an end is kept: the literal that is assumed
+pub record IsAsked (d : Shared) (goal : ℕ) (cone : List Bool) (lines : List (List Literal)) (best : List Bool) (place kept end : ℕ) (held asked : Literal) : Type 0 where
   pub leading : IsLeading d goal cone lines best place kept held
-  pub next_is : IsNext best place row
-  pub within : row ≤ d.rows
-  pub asked_is : HasValue d lines asked (λ s. leading.value s && nat_le (kept + 1) (kept_below row s))
+  pub from : place ≤ end
+  pub bare : IsBare place end best
+  pub asked_is : HasValue d lines asked (λ s. leading.value s && nat_le (kept + 1) (kept_below end s))
 
-pub asked-begun : (d : Shared) (goal : ℕ) (cone : List Bool) (lines new firsts : List (List Literal)) (upto next : ℕ) (best : List Bool) (place kept row : ℕ) (held earlier asked : Literal) → IsLeading d goal cone lines best place kept held → IsNext best place row → row ≤ d.rows
-    → CountsFirst d.rows upto next lines firsts → kept + 1 ≤ upto → earlier ≡ first_at firsts row (kept + 1) → new ≡ lines ++ gate asked (held ∷ earlier ∷ []) → IsAsked d goal cone new best place kept row held asked
+pub asked-begun : (d : Shared) (goal : ℕ) (cone : List Bool) (lines new firsts : List (List Literal)) (upto next : ℕ) (best : List Bool) (place kept end : ℕ) (held earlier asked : Literal) → IsLeading d goal cone lines best place kept held → place ≤ end → IsBare place end best → end ≤ d.rows
+    → CountsFirst d.rows upto next lines firsts → kept + 1 ≤ upto → earlier ≡ first_at firsts end (kept + 1) → new ≡ lines ++ gate asked (held ∷ earlier ∷ []) → IsAsked d goal cone new best place kept end held asked
 unfolding leading-on
-asked-begun d goal cone lines new firsts upto next best place kept row held earlier asked l n r c w e g = record {
+asked-begun d goal cone lines new firsts upto next best place kept end held earlier asked l f b r c w e g = record {
   leading = leading-on d goal cone lines new (gate asked (held ∷ earlier ∷ [])) best place kept held g l;
-  next_is = n;
-  within = r;
-  asked_is = both-value d lines new held earlier asked l.value (λ s. nat_le (kept + 1) (kept_below row s)) g l.held_is (earlier-value d lines firsts upto next row (kept + 1) earlier c r w e);
+  from = f;
+  bare = b;
+  asked_is = both-value d lines new held earlier asked l.value (λ s. nat_le (kept + 1) (kept_below end s)) g l.held_is (earlier-value d lines firsts upto next end (kept + 1) earlier c r w e);
 }
 
-pub asked-on : (d : Shared) (goal : ℕ) (cone : List Bool) (lines new more : List (List Literal)) (best : List Bool) (place kept row : ℕ) (held asked : Literal) → new ≡ lines ++ more → IsAsked d goal cone lines best place kept row held asked → IsAsked d goal cone new best place kept row held asked
+pub asked-on : (d : Shared) (goal : ℕ) (cone : List Bool) (lines new more : List (List Literal)) (best : List Bool) (place kept end : ℕ) (held asked : Literal) → new ≡ lines ++ more → IsAsked d goal cone lines best place kept end held asked → IsAsked d goal cone new best place kept end held asked
 unfolding leading-on
-asked-on d goal cone lines new more best place kept row held asked e q = record {
+asked-on d goal cone lines new more best place kept end held asked e q = record {
   leading = leading-on d goal cone lines new more best place kept held e q.leading;
-  next_is = q.next_is;
-  within = q.within;
-  asked_is = value-on d lines new more asked (λ s. q.leading.value s && nat_le (kept + 1) (kept_below row s)) e q.asked_is;
+  from = q.from;
+  bare = q.bare;
+  asked_is = value-on d lines new more asked (λ s. q.leading.value s && nat_le (kept + 1) (kept_below end s)) e q.asked_is;
 }
 
 -- a choice with at least so many of the first rows
@@ -164,134 +164,97 @@ le-of : (a b : ℕ) → nat_le a b ≡ true → a ≤ b
 le-of a b h = search rules
 
 -- a model keeps an earlier row: it is the best from now on
-pub asked-model : (d : Shared) (goal : ℕ) (cone : List Bool) (lines : List (List Literal)) (best : List Bool) (place kept row row' : ℕ) (held asked : Literal) (mid : List Bool) → IsSought d goal cone mid
-    → (q : IsAsked d goal cone lines best place kept row held asked) → (q.leading.value mid && nat_le (kept + 1) (kept_below row mid)) ≡ true → IsNext mid place row' → IsLeading d goal cone lines mid place kept asked × (row' < row)
-asked-model d goal cone lines best place kept row row' held asked mid g q t n = (
+pub asked-model : (d : Shared) (goal : ℕ) (cone : List Bool) (lines : List (List Literal)) (best : List Bool) (place kept end row : ℕ) (held asked : Literal) (mid : List Bool) → IsSought d goal cone mid
+    → (q : IsAsked d goal cone lines best place kept end held asked) → (q.leading.value mid && nat_le (kept + 1) (kept_below end mid)) ≡ true → IsNext mid place row → IsLeading d goal cone lines mid place kept asked × (row < end)
+asked-model d goal cone lines best place kept end row held asked mid g q t n = (
   record {
     best_is = g;
     fewest = λ other o. (let a = l.fewest other o in let b = l.few mid g both.0 in omega (arith, a, b));
-    value = λ s. l.value s && nat_le (kept + 1) (kept_below row s);
+    value = λ s. l.value s && nat_le (kept + 1) (kept_below end s);
     held_is = q.asked_is;
     kept_is = l.kept_is ∙ sym (kept-agrees place mid best like);
-    few = λ s o v. (let a = l.few s o (and-both (l.value s) (nat_le (kept + 1) (kept_below row s)) v).0 in let b = l.fewest mid g in omega (arith, a, b));
-    alike = λ s o v i b. l.alike s o (and-both (l.value s) (nat_le (kept + 1) (kept_below row s)) v).0 i b ∙ sym (like i b);
-    rivals = λ s o e b. rival s o e (before-later place row s mid best from like bare more b);
+    few = λ s o v. (let a = l.few s o (and-both (l.value s) (nat_le (kept + 1) (kept_below end s)) v).0 in let b = l.fewest mid g in omega (arith, a, b));
+    alike = λ s o v i b. l.alike s o (and-both (l.value s) (nat_le (kept + 1) (kept_below end s)) v).0 i b ∙ sym (like i b);
+    rivals = λ s o e b. rival s o e (before-later place end s mid best q.from like q.bare more b);
   },
   sooner,
 ) where
   l : IsLeading d goal cone lines best place kept held
   l = q.leading
 
-  both : (l.value mid ≡ true) × (nat_le (kept + 1) (kept_below row mid) ≡ true)
-  both = and-both (l.value mid) (nat_le (kept + 1) (kept_below row mid)) t
+  both : (l.value mid ≡ true) × (nat_le (kept + 1) (kept_below end mid) ≡ true)
+  both = and-both (l.value mid) (nat_le (kept + 1) (kept_below end mid)) t
 
   like : AgreeBelow place mid best
   like = l.alike mid g both.0
 
-  from : place ≤ row
-  from = q.next_is.from
+  more : kept_below place mid < kept_below end mid
+  more = let a = le-of (kept + 1) (kept_below end mid) both.1 in let k = l.kept_is in let s = kept-agrees place mid best like in omega (arith, a, k, s)
 
-  bare : IsBare place row best
-  bare = q.next_is.bare
-
-  more : kept_below place mid < kept_below row mid
-  more = let a = le-of (kept + 1) (kept_below row mid) both.1 in let k = l.kept_is in let s = kept-agrees place mid best like in omega (arith, a, k, s)
-
-  sooner : row' < row
-  sooner = elim (bool-cases (nat_lt row' row)) [
+  sooner : row < end
+  sooner = elim (bool-cases (nat_lt row end)) [
     | inl y ↦ search rules
-    | inr y ↦ absurd (let h : row ≤ row' = search rules in let e = kept-none place row mid from (λ v a b. n.bare v a (omega (arith, b, h))) in omega (arith, e, more))
+    | inr y ↦ absurd (let h : end ≤ row = search rules in let e = kept-none place end mid q.from (λ v a b. n.bare v a (omega (arith, b, h))) in omega (arith, e, more))
   ]
 
   true-both : (x y : Bool) → x ≡ true → y ≡ true → (x && y) ≡ true
   true-both x y h i = ap (λ b. b && y) h ∙ i
 
-  rival : (s : List Bool) → IsSought d goal cone s → size s ≡ size mid → (b : ComesBefore s best) × (b.place < row) → (l.value s && nat_le (kept + 1) (kept_below row s)) ≡ true
+  rival : (s : List Bool) → IsSought d goal cone s → size s ≡ size mid → (b : ComesBefore s best) × (b.place < end) → (l.value s && nat_le (kept + 1) (kept_below end s)) ≡ true
   rival s o e b =
       let x = l.fewest mid g in
       let y = l.few mid g both.0 in
       let v = l.rivals s o (omega (arith, e, x, y)) b.0 in
       let a = l.alike s o v in
       let k = l.kept_is in
-      let m = kept-some place b.0.place row s best a (before-from place s best a b.0) b.1 b.0.keeps in
-      true-both (l.value s) (nat_le (kept + 1) (kept_below row s)) v (le-true (kept + 1) (kept_below row s) (omega (arith, m, k)))
+      let m = kept-some place b.0.place end s best a (before-from place s best a b.0) b.1 b.0.keeps in
+      true-both (l.value s) (nat_le (kept + 1) (kept_below end s)) v (le-true (kept + 1) (kept_below end s) (omega (arith, m, k)))
 
--- no goal keeps an earlier row
-abbrev pub KeepsNone : Shared → ℕ → List Bool → (List Bool → Bool) → ℕ → ℕ → Type 0
-KeepsNone d goal cone value kept row = (s : List Bool) → IsSought d goal cone s → value s ≡ true → kept_below row s < kept + 1
+-- where no row from the place to an end is kept, by the best or by a choice that makes the held literal
+-- true, these rows are settled too
+unfoldable pub leading-moved : (d : Shared) (goal : ℕ) (cone : List Bool) (lines : List (List Literal)) (best : List Bool) (place kept end : ℕ) (held : Literal) → (l : IsLeading d goal cone lines best place kept held) → place ≤ end → IsBare place end best
+    → ((s : List Bool) → IsSought d goal cone s → l.value s ≡ true → IsBare place end s) → IsLeading d goal cone lines best end kept held
+leading-moved d goal cone lines best place kept end held l f b none = record {
+  best_is = l.best_is;
+  fewest = l.fewest;
+  value = l.value;
+  held_is = l.held_is;
+  kept_is = l.kept_is ∙ sym (kept-none place end best f b);
+  few = l.few;
+  alike = λ s g v i h. elim (bool-cases (nat_lt i place)) [
+    | inl y ↦ l.alike s g v i (search rules)
+    | inr y ↦ (let p : place ≤ i = search rules in none s g v i p h ∙ sym (b i p h))
+  ];
+  rivals = l.rivals;
+}
 
--- so the next row of the best is the next one of the first
-unfoldable pub leading-settled : (d : Shared) (goal : ℕ) (cone : List Bool) (lines : List (List Literal)) (best : List Bool) (place kept row : ℕ) (held both : Literal) → (l : IsLeading d goal cone lines best place kept held) → IsNext best place row → row < d.rows
-    → KeepsNone d goal cone l.value kept row → HasValue d lines both (λ s. l.value s && slice_index_or s row false) → IsLeading d goal cone lines best (row + 1) (kept + 1) both
-leading-settled d goal cone lines best place kept row held both l n r none h = record {
+-- where the best keeps the row at the place, so does the first
+unfoldable pub leading-kept : (d : Shared) (goal : ℕ) (cone : List Bool) (lines : List (List Literal)) (best : List Bool) (row kept : ℕ) (held both : Literal) → (l : IsLeading d goal cone lines best row kept held) → slice_index_or best row false ≡ true
+    → HasValue d lines both (λ s. l.value s && slice_index_or s row false) → IsLeading d goal cone lines best (row + 1) (kept + 1) both
+leading-kept d goal cone lines best row kept held both l here h = record {
   best_is = l.best_is;
   fewest = l.fewest;
   value = λ s. l.value s && slice_index_or s row false;
   held_is = h;
-  kept_is = counted;
+  kept_is = (let k = l.kept_is in let o = kept-on row best here in let c = ap (λ i. kept_below i best) (let s : suc row ≡ row + 1 = omega arith in s) in omega (arith, k, o, c));
   few = λ s g v. l.few s g (and-both (l.value s) (slice_index_or s row false) v).0;
-  alike = λ s g v. like s g (and-both (l.value s) (slice_index_or s row false) v);
-  rivals = λ s g q b. rival s g b (l.rivals s g q b);
+  alike = λ s g v. (let w = and-both (l.value s) (slice_index_or s row false) v in one-more row s best (l.alike s g w.0) (w.1 ∙ sym here));
+  rivals = λ s g q b. (let v = l.rivals s g q b in ap (λ y. y && slice_index_or s row false) v ∙ keeps s g b v);
 } where
-  here : slice_index_or best row false ≡ true
-  here = let t = l.best_is.0 in n.kept (omega (arith, r, t))
-
-  counted : kept + 1 ≡ kept_below (row + 1) best
-  counted =
-      let k = l.kept_is in
-      let b = kept-none place row best n.from n.bare in
-      let o : kept_below (suc row) best ≡ kept_below row best + 1 = ap (λ y. cond y (kept_below row best + 1) (kept_below row best)) here in
-      let s : row + 1 ≡ suc row = omega arith in
-      let c = ap (λ i. kept_below i best) s in
-      omega (arith, k, b, o, c)
-
-  bare : (s : List Bool) → IsSought d goal cone s → l.value s ≡ true → IsBare place row s
-  bare s g v = let a = none s g v in let k = l.kept_is in bare-of place row s best (l.alike s g v) (omega (arith, a, k))
-
-  below : (s : List Bool) → IsSought d goal cone s → l.value s ≡ true → AgreeBelow row s best
-  below s g v i h = elim (bool-cases (nat_lt i place)) [
-    | inl y ↦ l.alike s g v i (search rules)
-    | inr y ↦ (let b : place ≤ i = search rules in bare s g v i b h ∙ sym (n.bare i b h))
-  ]
-
-  like : (s : List Bool) → IsSought d goal cone s → (l.value s ≡ true) × (slice_index_or s row false ≡ true) → AgreeBelow (row + 1) s best
-  like s g v i h = elim (bool-cases (nat_lt i row)) [
-    | inl y ↦ below s g v.0 i (search rules)
-    | inr y ↦ (let b : row ≤ i = search rules in let q : i ≡ row = omega (arith, b, h) in
-        ap (λ j. slice_index_or s j false) q ∙ v.1 ∙ sym (ap (λ j. slice_index_or best j false) q ∙ here))
-  ]
-
   keeps : (s : List Bool) → IsSought d goal cone s → ComesBefore s best → l.value s ≡ true → slice_index_or s row false ≡ true
   keeps s g b v =
-      let f = before-from row s best (below s g v) b in
+      let f = before-from row s best (l.alike s g v) b in
       elim (bool-cases (nat_lt row b.place)) [
         | inl y ↦ b.same row (search rules) ∙ here
         | inr y ↦ absurd (let h : b.place ≤ row = search rules in let q : b.place ≡ row = omega (arith, h, f) in clash (ap (λ j. slice_index_or best j false) q ∙ here) b.leaves)
       ]
 
-  rival : (s : List Bool) → IsSought d goal cone s → ComesBefore s best → l.value s ≡ true → (l.value s && slice_index_or s row false) ≡ true
-  rival s g b v = ap (λ y. y && slice_index_or s row false) v ∙ keeps s g b v
-
-pub leading-next : (d : Shared) (goal : ℕ) (cone : List Bool) (lines new : List (List Literal)) (best : List Bool) (place kept row : ℕ) (held x both : Literal) → (l : IsLeading d goal cone lines best place kept held) → IsNext best place row → row < d.rows
-    → KeepsNone d goal cone l.value kept row → x.var ≡ row → x.on ≡ true → new ≡ lines ++ gate both (held ∷ x ∷ []) → IsLeading d goal cone new best (row + 1) (kept + 1) both
+pub leading-next : (d : Shared) (goal : ℕ) (cone : List Bool) (lines new : List (List Literal)) (best : List Bool) (row kept : ℕ) (held x both : Literal) → IsLeading d goal cone lines best row kept held → slice_index_or best row false ≡ true → row < d.rows
+    → x.var ≡ row → x.on ≡ true → new ≡ lines ++ gate both (held ∷ x ∷ []) → IsLeading d goal cone new best (row + 1) (kept + 1) both
 unfolding leading-on
-leading-next d goal cone lines new best place kept row held x both l n r none xv xo e =
-    leading-settled d goal cone new best place kept row held both (leading-on d goal cone lines new (gate both (held ∷ x ∷ [])) best place kept held e l) n r none
+leading-next d goal cone lines new best row kept held x both l here r xv xo e =
+    leading-kept d goal cone new best row kept held both (leading-on d goal cone lines new (gate both (held ∷ x ∷ [])) best row kept held e l) here
     (both-value d lines new held x both l.value (λ s. slice_index_or s row false) e l.held_is (row-value d lines row x r xv xo))
-
--- where a place is left out by the best and by each choice that makes the held literal true
-unfoldable pub leading-out : (d : Shared) (goal : ℕ) (cone : List Bool) (lines : List (List Literal)) (best : List Bool) (place kept : ℕ) (held : Literal) → (l : IsLeading d goal cone lines best place kept held) → slice_index_or best place false ≡ false
-    → ((s : List Bool) → IsSought d goal cone s → l.value s ≡ true → slice_index_or s place false ≡ false) → IsLeading d goal cone lines best (place + 1) kept held
-leading-out d goal cone lines best place kept held l b out = record {
-  best_is = l.best_is;
-  fewest = l.fewest;
-  value = l.value;
-  held_is = l.held_is;
-  kept_is = l.kept_is ∙ sym (kept-off place best b) ∙ ap (λ i. kept_below i best) (let s : suc place ≡ place + 1 = omega arith in s);
-  few = l.few;
-  alike = λ s g v. one-more place s best (l.alike s g v) (out s g v ∙ sym b);
-  rivals = l.rivals;
-}
 
 -- where a choice that makes the held literal true keeps a place that the best leaves out
 unfoldable pub leading-found : (d : Shared) (goal : ℕ) (cone : List Bool) (lines : List (List Literal)) (best : List Bool) (place kept : ℕ) (held asked : Literal) (mid : List Bool) → (l : IsLeading d goal cone lines best place kept held) → slice_index_or best place false ≡ false
@@ -328,26 +291,30 @@ leading-found d goal cone lines best place kept held asked mid l b h g t = recor
       let q : f.0.place ≡ place = omega (arith, a, z) in
       ap (λ c. c && slice_index_or s place false) v ∙ ap (λ i. slice_index_or s i false) (sym q) ∙ f.0.keeps
 
--- where nothing is to be asked
-pub none-here : (d : Shared) (goal : ℕ) (cone : List Bool) (lines : List (List Literal)) (best : List Bool) (place kept : ℕ) (held : Literal) → (l : IsLeading d goal cone lines best place kept held) → KeepsNone d goal cone l.value kept place
-none-here d goal cone lines best place kept held l s g v = let k = l.kept_is in let a = kept-agrees place s best (l.alike s g v) in omega (arith, k, a)
+-- where the lines refute the question, the rows before its end are settled
+pub leading-refuted : (d : Shared) (goal : ℕ) (cone : List Bool) (lines : List (List Literal)) (next : ℕ) (best : List Bool) (place kept end : ℕ) (held asked : Literal) → IsAimed d goal cone lines next → IsAsked d goal cone lines best place kept end held asked → IsRefuted lines (Some asked)
+    → IsLeading d goal cone lines best end kept held
+leading-refuted d goal cone lines next best place kept end held asked h q r = leading-moved d goal cone lines best place kept end held l q.from q.bare bare where
+  l : IsLeading d goal cone lines best place kept held
+  l = q.leading
 
--- where the lines refute
-pub none-refuted : (d : Shared) (goal : ℕ) (cone : List Bool) (lines : List (List Literal)) (next : ℕ) (best : List Bool) (place kept row : ℕ) (held asked : Literal) → IsAimed d goal cone lines next → (q : IsAsked d goal cone lines best place kept row held asked) → IsRefuted lines (Some asked)
-    → KeepsNone d goal cone q.leading.value kept row
-none-refuted d goal cone lines next best place kept row held asked h q r s g v = elim (bool-cases (nat_lt (kept_below row s) (kept + 1))) [
-  | inl y ↦ search rules
-  | inr y ↦ absurd (
-      let b : kept + 1 ≤ kept_below row s = search rules in
-      let x = h.complete s g in
-      refuted-false lines (Some asked) x.0 r x.3 (q.asked_is s x.0 g.0 x.2 x.3 ∙ ap (λ z. z && nat_le (kept + 1) (kept_below row s)) v ∙ le-true (kept + 1) (kept_below row s) b))
-]
+  none : (s : List Bool) → IsSought d goal cone s → l.value s ≡ true → kept_below end s < kept + 1
+  none s g v = elim (bool-cases (nat_lt (kept_below end s) (kept + 1))) [
+    | inl y ↦ search rules
+    | inr y ↦ absurd (
+        let b : kept + 1 ≤ kept_below end s = search rules in
+        let x = h.complete s g in
+        refuted-false lines (Some asked) x.0 r x.3 (q.asked_is s x.0 g.0 x.2 x.3 ∙ ap (λ z. z && nat_le (kept + 1) (kept_below end s)) v ∙ le-true (kept + 1) (kept_below end s) b))
+  ]
+
+  bare : (s : List Bool) → IsSought d goal cone s → l.value s ≡ true → IsBare place end s
+  bare s g v = let a = none s g v in let k = l.kept_is in bare-of place end s best (l.alike s g v) (omega (arith, a, k))
 
 -- the rows of a model of the question
-pub model-asked : (d : Shared) (goal : ℕ) (cone : List Bool) (lines : List (List Literal)) (best : List Bool) (place kept row m rows : ℕ) (held asked : Literal) (bools mid : List Bool) → rows ≡ d.rows → rows ≤ length bools → mid ≡ take rows bools
-    → (q : IsAsked d goal cone lines best place kept row held asked) → IsModelled lines (Some asked) m bools → (q.leading.value mid && nat_le (kept + 1) (kept_below row mid)) ≡ true
-model-asked d goal cone lines best place kept row m rows held asked bools mid e w k q h =
-    let V : List Bool → Type 0 = λ s. (q.leading.value s && nat_le (kept + 1) (kept_below row s)) ≡ true in
+pub model-asked : (d : Shared) (goal : ℕ) (cone : List Bool) (lines : List (List Literal)) (best : List Bool) (place kept end m rows : ℕ) (held asked : Literal) (bools mid : List Bool) → rows ≡ d.rows → rows ≤ length bools → mid ≡ take rows bools
+    → (q : IsAsked d goal cone lines best place kept end held asked) → IsModelled lines (Some asked) m bools → (q.leading.value mid && nat_le (kept + 1) (kept_below end mid)) ≡ true
+model-asked d goal cone lines best place kept end m rows held asked bools mid e w k q h =
+    let V : List Bool → Type 0 = λ s. (q.leading.value s && nat_le (kept + 1) (kept_below end s)) ≡ true in
     let L : ℕ → Type 0 = λ n. n ≤ length bools in
     let at : take rows bools ≡ take d.rows bools = ap (λ n. take n bools) e in
     subst V (sym (k ∙ at)) (sym (q.asked_is (take d.rows bools) bools (take-length d.rows bools (subst L e w)) (take-index d.rows bools) h.model) ∙ h.assumed)

@@ -27,8 +27,8 @@ use Rattle.rt_search.specs.Widened.{widened}
 use Rattle.rt_search.proofs.Aiming.{determined-less, model-sought, refuted-false, variables-le}
 use Rattle.rt_search.proofs.Apart.{fresh-apart}
 use Rattle.rt_search.proofs.Asking.{both-aimed}
-use Rattle.rt_search.proofs.Keeps.{rest-bare}
-use Rattle.rt_search.proofs.Leading.{both-value, leading-first, leading-found, leading-on, leading-out, leading-settled, none-here, row-value, value-on}
+use Rattle.rt_search.proofs.Keeps.{bare-one, rest-bare}
+use Rattle.rt_search.proofs.Leading.{both-value, leading-first, leading-found, leading-kept, leading-moved, leading-on, row-value, value-on}
 use Rattle.rt_search.proofs.Nogoods.{any-append, clause-agrees, each-line, fresh-some, inside-fresh, line-true, met-without}
 use Rattle.rt_search.proofs.Taking.{take-index, take-length}
 
@@ -89,17 +89,6 @@ placed-all d goal cone lines next best place held left p w h =
       bare = rest-bare place best (omega (arith, h, k, n));
       kept = λ b. absurd (omega (arith, b));
     }) (omega (arith, t))
-
--- all places are settled
-pub placed-end : (d : Shared) (goal : ℕ) (cone : List Bool) (lines : List (List Literal)) (next : ℕ) (best : List Bool) (place : ℕ) (held : Literal) (left : List Literal) → IsPlaced d goal cone lines next best place held left → place ≡ d.rows → IsLeast (IsSought d goal cone) best
-placed-end d goal cone lines next best place held left p e =
-    let t = p.leading.best_is.0 in
-    leading-first d goal cone lines best place p.kept place held p.leading (record {
-      from = omega arith;
-      within = omega (arith, e, t);
-      bare = λ v a b. absurd (omega (arith, a, b));
-      kept = λ b. absurd (omega (arith, b, e, t));
-    }) (omega (arith, e))
 
 -- the lines with the literal that is asked
 pub record IsTried (d : Shared) (goal : ℕ) (cone : List Bool) (lines : List (List Literal)) (next : ℕ) (best : List Bool) (place : ℕ) (held asked : Literal) (left left' : List Literal) : Type 0 where
@@ -228,22 +217,18 @@ tried-on d goal cone given new next best place held asked left left' t s =
 -- the best choice keeps the place
 pub placed-kept : (d : Shared) (goal : ℕ) (cone : List Bool) (lines : List (List Literal)) (next : ℕ) (best : List Bool) (place : ℕ) (held asked : Literal) (left left' : List Literal) → IsTried d goal cone lines next best place held asked left left' → slice_index_or best place false ≡ true
     → IsPlaced d goal cone lines next best (place + 1) asked left'
-unfolding leading-settled
-placed-kept d goal cone lines next best place held asked left left' t b =
-    let e = t.leading.best_is.0 in
-    let w = t.within in
-    record {
-      aimed = t.aimed;
-      kept = t.kept + 1;
-      count = (let n = t.count in let m = t.more_left in omega (arith, n, m));
-      leading = leading-settled d goal cone lines best place t.kept place held asked t.leading
-          (record { from = omega arith; within = omega (arith, e, w); bare = λ v x y. absurd (omega (arith, x, y)); kept = λ h. b }) w (none-here d goal cone lines best place t.kept held t.leading) t.asked_is;
-      low = t.asked_low;
-      are_left = t.are_left;
-      kept_left = t.kept_left;
-      holds = t.holds;
-      leaves = t.leaves;
-    }
+unfolding leading-kept
+placed-kept d goal cone lines next best place held asked left left' t b = record {
+  aimed = t.aimed;
+  kept = t.kept + 1;
+  count = (let n = t.count in let m = t.more_left in omega (arith, n, m));
+  leading = leading-kept d goal cone lines best place t.kept held asked t.leading b t.asked_is;
+  low = t.asked_low;
+  are_left = t.are_left;
+  kept_left = t.kept_left;
+  holds = t.holds;
+  leaves = t.leaves;
+}
 
 -- a model keeps it: it is the best from now on
 pub placed-model : (d : Shared) (goal : ℕ) (cone : List Bool) (new : List (List Literal)) (next rows : ℕ) (best : List Bool) (place : ℕ) (held asked : Literal) (left left' : List Literal) (bools mid : List Bool) → rows ≡ d.rows → IsTried d goal cone new next best place held asked left left'
@@ -273,12 +258,12 @@ placed-model d goal cone new next rows best place held asked left left' bools mi
 -- no choice keeps it
 pub placed-out : (d : Shared) (goal : ℕ) (cone : List Bool) (lines : List (List Literal)) (next : ℕ) (best : List Bool) (place : ℕ) (held asked : Literal) (left left' : List Literal) → IsTried d goal cone lines next best place held asked left left' → slice_index_or best place false ≡ false
     → IsRefuted lines (Some asked) → IsPlaced d goal cone lines next best (place + 1) held left
-unfolding leading-out
+unfolding leading-moved
 placed-out d goal cone lines next best place held asked left left' t b r = record {
   aimed = t.aimed;
   kept = t.kept;
   count = t.count;
-  leading = leading-out d goal cone lines best place t.kept held t.leading b out;
+  leading = leading-moved d goal cone lines best place t.kept (place + 1) held t.leading (omega arith) (bare-one place best b) (λ s g v. bare-one place s (out s g v));
   low = t.low;
   are_left = record { once = t.was_left.once; each = λ l g. (let w = t.was_left.each l g in omega (arith, w)) };
   kept_left = t.was_kept;
@@ -296,12 +281,12 @@ placed-out d goal cone lines next best place held asked left left' t b r = recor
 -- a place outside of the cone is left out by each
 pub placed-outside : (d : Shared) (goal : ℕ) (cone : List Bool) (lines : List (List Literal)) (next : ℕ) (best : List Bool) (place : ℕ) (held : Literal) (left : List Literal) → IsPlaced d goal cone lines next best place held left → place < d.rows → bool_at cone place ≡ false
     → IsPlaced d goal cone lines next best (place + 1) held left
-unfolding leading-out
+unfolding leading-moved
 placed-outside d goal cone lines next best place held left p r o = record {
   aimed = p.aimed;
   kept = p.kept;
   count = p.count;
-  leading = leading-out d goal cone lines best place p.kept held p.leading (p.leading.best_is.2 place r o) (λ s g v. g.2 place r o);
+  leading = leading-moved d goal cone lines best place p.kept (place + 1) held p.leading (omega arith) (bare-one place best (p.leading.best_is.2 place r o)) (λ s g v. bare-one place s (g.2 place r o));
   low = p.low;
   are_left = record { once = p.are_left.once; each = λ l g. (let w = p.are_left.each l g in omega (arith, w)) };
   kept_left = p.kept_left;

@@ -1,5 +1,5 @@
 -- The first Bools of a list.
-use Rattle.std.proofs.Common.{◌≡◌, ℕ, zero, suc, ◌<◌, ◌≤◌, Bool, false, List, [], ◌∷◌, ◌++◌, take, length, slice_index_or, refl, ap, arith}
+use Rattle.std.proofs.Common.{◌≡◌, ℕ, zero, suc, ◌<◌, ◌≤◌, Bool, false, List, [], ◌∷◌, take, length, slice_index_or, refl, arith}
 
 pub take-index : (n : ℕ) (xs : List Bool) (v : ℕ) → v < n → slice_index_or (take n xs) v false ≡ slice_index_or xs v false
 take-index zero xs v h = absurd (omega arith)
@@ -11,8 +11,3 @@ pub take-length : (n : ℕ) (xs : List Bool) → n ≤ length xs → length (tak
 take-length zero xs h = refl
 take-length (suc n) [] h = absurd (omega arith)
 take-length (suc n) (x ∷ xs) h = let r = take-length n xs (omega arith) in grind (arith, r)
-
-pub take-next : (n : ℕ) (xs : List Bool) → n < length xs → take (suc n) xs ≡ take n xs ++ slice_index_or xs n false ∷ []
-take-next n [] h = absurd (omega arith)
-take-next zero (x ∷ xs) h = refl
-take-next (suc n) (x ∷ xs) h = ap (λ (ys : List Bool). x ∷ ys) (take-next n xs (omega arith))

@@ -1,5 +1,5 @@
 -- What a search over the lines finds, with clauses over all variables or over the rows.
-use Rattle.std.specs.Prelude.{◌≡◌, ℕ, ◌<◌, ◌≤◌, Bool, List, ◌++◌, length, Option, IfSome, IsSomeAnd}
+use Rattle.std.specs.Prelude.{◌≡◌, ℕ, ◌<◌, ◌≤◌, Bool, List, ◌++◌, take, length, Option, Some, None, IfSome, IsSomeAnd}
 use Rattle.rt_clause.specs.Literal.{Literal}
 use Rattle.rt_clause.specs.Refuting.{IsRefuted}
 use Rattle.rt_formula.specs.Shared.{Shared}
@@ -27,3 +27,9 @@ abbrev pub IsTold : List (List Literal) → List (List Literal) → Option Liter
 IsTold old new assume next rows budget (Model bools) = (rows ≤ length bools) × IsModelled new assume (length bools) bools
 IsTold old new assume next rows budget Refuted = IsRefuted new assume
 IsTold old new assume next rows budget (Spent list) = IsSomeAnd budget (λ b. IsGivenUp old new assume next rows b list)
+
+-- a choice of the rows is those of a model at which the literal is true; without one, the lines
+-- refute the literal
+abbrev pub IsAnswered : List (List Literal) → Literal → ℕ → Option (List Bool) → Type 0
+IsAnswered lines asked rows (Some keep) = (bools : List Bool) × (rows ≤ length bools) × IsModelled lines (Some asked) (length bools) bools × (keep ≡ take rows bools)
+IsAnswered lines asked rows None = IsRefuted lines (Some asked)

@@ -1,7 +1,8 @@
-ghost use Rattle.std.specs.Prelude.{◌≡◌, ◌≤◌, ◌<◌, ◌^◌, IfOk, length};
+ghost use Rattle.std.specs.Prelude.{◌≡◌, ◌≤◌, ◌<◌, ◌^◌, Some, IfOk, length};
 ghost use Rattle.rt_value.specs.Keep.{size};
 ghost use Rattle.rt_totalizer.specs.Outputs.{CountsFirst};
 ghost use Rattle.rt_search.specs.Aimed.{IsAimed};
+ghost use Rattle.rt_search.specs.Attempts.{IsAnswered, IsGrown};
 ghost use Rattle.rt_search.specs.Leading.{IsLeading};
 ghost use Rattle.rt_search.specs.Least.{IsLeast};
 ghost use Rattle.rt_search.specs.Order.{IsNext};
@@ -31,10 +32,39 @@ fn next_kept(keep: &Keep, place: usize) -> usize
     keep.len()
 }
 
+// Asks for a choice of the rows at which a literal is true.
+fn ask(
+    alloc: Global,
+    solver: &mut Solver<Counted>,
+    asked: Lit,
+    rows: usize,
+    next: usize,
+) -> Result<Option<Keep>, NoMemory>
+    requires rows { rows ≤ next }
+    ensures grown { IfOk result (λ _. IsGrown solver.old.0.lines solver.new.0.lines (Some asked) next) }
+    ensures answered { IfOk result (IsAnswered solver.new.0.lines asked rows) }
+{
+    match attempt(solver, &Some(asked), rows, next, None)? {
+        Found::Model(model) => {
+            let keep = rows_of(alloc, &model, rows)?;
+            Ok(Some(keep))
+        }
+        Found::Refuted => {
+            if !solver.lines().refutes(Some(asked)) {
+                unreachable!();
+            }
+            Ok(None)
+        }
+        Found::Spent(_) => unreachable!(),
+    }
+}
+
 /// Goes on from a choice of the fewest rows to the first of them in the order of rows. Every row
 /// below `place` is settled, and `kept` of them are kept; `held` says so, and that no more rows are
-/// kept than in the best choice. Each round asks for one that keeps one more of the rows before the
-/// next row of the best: a model is the best from then on, and a refutation settles that row.
+/// kept than in the best choice. Each round asks for one that keeps one more of the rows before
+/// `end`, which is at most `row`, the next one that the best keeps. A model is the best from then on,
+/// and half of the rows before its next one are asked about; a refutation settles those before `end`,
+/// and then all up to `row` are asked about, since mostly there is no other choice.
 pub(crate) fn by_cells(
     alloc: Global,
     solver: &mut Solver<Counted>,
@@ -62,33 +92,31 @@ pub(crate) fn by_cells(
     let mut place = 0;
     let mut kept = 0;
     let mut row = next_kept(&best, place);
+    let mut end = row;
     'first: loop {
         if row >= rows {
             return Ok(best);
         }
-        if place < row {
-            let earlier = counter.at_least(kept + 1, row);
-            let asked = both(alloc, held, earlier, next, solver)?;
+        if place == row {
+            held = both(alloc, held, Lit::of(row, true), next, solver)?;
             next += 1;
-            match attempt(solver, &Some(asked), rows, next, None)? {
-                Found::Model(model) => {
-                    best = rows_of(alloc, &model, rows)?;
-                    held = asked;
-                    row = next_kept(&best, place);
-                    continue;
-                }
-                Found::Refuted => {
-                    if !solver.lines().refutes(Some(asked)) {
-                        unreachable!();
-                    }
-                }
-                Found::Spent(_) => unreachable!(),
-            }
+            place += 1;
+            kept += 1;
+            row = next_kept(&best, place);
+            end = row;
+            continue;
         }
-        held = both(alloc, held, Lit::of(row, true), next, solver)?;
+        let earlier = counter.at_least(kept + 1, end);
+        let asked = both(alloc, held, earlier, next, solver)?;
         next += 1;
-        place = row + 1;
-        kept += 1;
-        row = next_kept(&best, place);
+        if let Some(keep) = ask(alloc, solver, asked, rows, next)? {
+            best = keep;
+            held = asked;
+            row = next_kept(&best, place);
+            end = row - (row - place) / 2;
+            continue;
+        }
+        place = end;
+        end = row;
     }
 }

@@ -1,20 +1,18 @@
-use Rattle.std.proofs.Common.{◌≡◌, ◌<◌, ◌+◌, ◌-◌, ◌*◌, ◌^◌, length}
+use Rattle.std.proofs.Common.{◌≡◌, ◌≤◌, ◌<◌, ◌+◌, ◌-◌, ◌*◌, ◌^◌, length}
 use Rattle.rt_value.specs.Keep.{size}
-use Rattle.rt_totalizer.specs.Outputs.{CountsFirst}
-use Rattle.rt_search.specs.Aimed.{IsAimed}
 use Rattle.rt_search.specs.Order.{IsNext}
-use Rattle.rt_search.specs.Leading.{IsLeading}
+use Rattle.rt_search.proofs.Asking.{IsSettled}
 use Rattle.rt_search.proofs.by_cells.by_cells.Given as goal
 
 abbrev pub invariant-first : goal.invariant-first
 invariant-first l = record {
   rows : l.rows ≡ l.fn.dag.rows;
   small : l.rows < 2 ^ 61;
-  aimed : IsAimed l.fn.dag l.fn.goal l.fn.cone l.solver.0.lines l.next;
-  firsts : CountsFirst l.fn.dag.rows (length l.counter.outs) l.next l.solver.0.lines l.counter.firsts;
-  leading : IsLeading l.fn.dag l.fn.goal l.fn.cone l.solver.0.lines l.best l.place l.kept l.held;
+  settled : IsSettled l.fn.dag l.fn.goal l.fn.cone l.solver.0.lines l.counter.firsts (length l.counter.outs) l.next l.best l.place l.kept l.held;
   next_is : IsNext l.best l.place l.row;
-  low : l.held.var < l.next;
+  from : l.place ≤ l.end;
+  within : l.end ≤ l.row;
+  ahead : l.place < l.row → l.place < l.end;
   room : size l.best < length l.counter.outs;
 }
 
