@@ -1,16 +1,18 @@
-//! Measures a search: how many nodes the formula of the counterexamples has, how many rows can matter
-//! to it, into how many clauses it is written, and how many conflicts the search has. A line comes as
-//! soon as its part is done, so that a reader of the lines can take the times. The words are those of
+//! Measures a search: how many rows each query answers with over all given rows, how many nodes the
+//! formula of the counterexamples has, how many rows can matter to it, into how many clauses it is
+//! written, and how many conflicts the search has. A line comes as soon as its part is done, so that
+//! a reader of the lines can take the times. The words are those of
 //! `ratest`, and so is the status where an input is refused.
 #![tactic(auto)]
 
 use rt_annot::goal;
+use rt_eval::answers;
 use rt_formula::Dag;
 use rt_io::{RealFiles, RealSink, Sink, write_text};
 use rt_rules::cone;
 use rt_search::smallest_counted;
 use rt_top::{Input, Outcome, read_input};
-use rt_value::{List, Txt};
+use rt_value::{Keep, List, Txt};
 use std::alloc::Global;
 use std::env;
 use std::process::ExitCode;
@@ -37,6 +39,11 @@ fn say<S: Sink>(alloc: Global, out: &mut S, name: &str, number: u64) -> Result<(
 fn measure<S: Sink>(alloc: Global, input: &Input, out: &mut S) -> Result<(), Outcome> {
     let schema = input.schema();
     let given = input.given();
+    let all = Keep::all(alloc, given.total(), true)?;
+    let left = answers(alloc, input.left(), given, &all)?;
+    say(alloc, out, "left", left.as_slice().len() as u64)?;
+    let right = answers(alloc, input.right(), given, &all)?;
+    say(alloc, out, "right", right.as_slice().len() as u64)?;
     let mut dag = Dag::new(alloc, given.total())?;
     let aim = goal(alloc, &mut dag, schema, given, input.left(), input.right())?;
     say(alloc, out, "nodes", dag.len() as u64)?;

@@ -17,6 +17,8 @@ mod formulas;
 #[cfg(test)]
 mod heap;
 #[cfg(test)]
+mod recorded;
+#[cfg(test)]
 mod search;
 #[cfg(test)]
 mod solver;

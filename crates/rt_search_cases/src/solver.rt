@@ -1,6 +1,7 @@
 ghost use Rattle.std.specs.Prelude.{◌<◌};
 
-use rt_clause::{Adds, Lit};
+use crate::recorded::Recorded;
+use rt_clause::{Adds, Lines, Lit};
 use rt_derive::Checker;
 use rt_solver::{Found, Order, Solver};
 use std::alloc::Global;
@@ -67,9 +68,9 @@ enum Holes {
 }
 
 // One pigeon more than there are holes, each in a hole, and no two in one.
-fn add_pigeons(
+fn add_pigeons<L: Lines + Drop>(
     alloc: Global,
-    solver: &mut Solver<Checker>,
+    solver: &mut Solver<L>,
     count: usize,
     holes: Holes,
 ) -> Result<(), Fail>
@@ -91,21 +92,29 @@ fn add_pigeons(
     Ok(())
 }
 
+// The clause that spends the budget stands after the 22 given lines, and stays there.
 #[test]
 fn four_pigeons_in_three_holes(rt: HostRuntime) -> Result<(), Fail> {
-    let mut solver = solver(rt.alloc());
+    let mut solver = Solver::new(rt.alloc(), Recorded::new(rt.alloc()));
     add_pigeons(rt.alloc(), &mut solver, 3, Holes::Three)?;
+    assert_eq!(rt; solver.lines().len(), 22);
     match solver.solve(None, 12, Some(1), Order::Free)? {
-        Found::Spent(list) => assert_eq!(rt; list.len(), 1),
+        Found::Spent(list) => {
+            assert_eq!(rt; list.len(), 1);
+            let learned = list.as_slice()[0].as_slice();
+            assert_eq!(rt; solver.lines().len(), 23);
+            assert!(rt; solver.lines().has(22, learned));
+            assert!(rt;
+                matches!(
+                    &solver.solve(None, 12, Some(4096), Order::Free)?,
+                    Found::Refuted
+                )
+            );
+            assert!(rt; solver.lines().refutes(None));
+            assert!(rt; solver.lines().has(22, learned));
+        }
         _ => assert!(rt; false, "the budget is spent"),
     }
-    assert!(rt;
-        matches!(
-            &solver.solve(None, 12, Some(4096), Order::Free)?,
-            Found::Refuted
-        )
-    );
-    assert!(rt; solver.lines().refutes(None));
     Ok(())
 }
 
