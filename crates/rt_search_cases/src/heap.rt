@@ -68,12 +68,12 @@ fn the_greatest_counter_comes_first(rt: HostRuntime) -> Result<(), Fail> {
     Ok(())
 }
 
-// Twenty times a sixteenth is more than twice as much.
+// Forty times a thirty-second part is more than twice as much.
 #[test]
 fn later_raises_count_for_more(rt: HostRuntime) -> Result<(), Fail> {
     let mut heap = full(rt.alloc(), 5)?;
     raise(&mut heap, 2, 2);
-    for _ in 0..20 {
+    for _ in 0..40 {
         heap.age();
     }
     heap.raise(4);
