@@ -57,6 +57,44 @@ fn a_row_has_one_node(rt: HostRuntime) -> Result<(), Fail> {
     Ok(())
 }
 
+// Of children that come one after another and are an `all` over the same first child, that child is
+// written once.
+#[test]
+fn a_run_shares_its_first_child(rt: HostRuntime) -> Result<(), Fail> {
+    let mut dag = Dag::new(rt.alloc(), 5)?;
+    let mut rows = Vec::new(rt.alloc());
+    for row in 0..5 {
+        assert!(rt; row < dag.rows());
+        rows.push(dag.row(row)?)?;
+    }
+    assert_eq!(rt; rows.len(), 5);
+    let [s, t, u, v, w] = [rows[0], rows[1], rows[2], rows[3], rows[4]];
+    let mut gates = Vec::new(rt.alloc());
+    for children in [
+        [s, t].as_slice(),
+        [s, u, v].as_slice(),
+        [s, w].as_slice(),
+        [v, w].as_slice(),
+    ] {
+        assert!(rt; children.iter().all(|child| child.number() < dag.len()));
+        gates.push(dag.all(children)?)?;
+    }
+    assert_eq!(rt; gates.len(), 4);
+    let [st, suv, sw, vw] = [gates[0], gates[1], gates[2], gates[3]];
+    let n = dag.len();
+    for (children, node, len) in [
+        ([st, vw].as_slice(), n, n + 1),
+        ([u, st, suv, sw, vw].as_slice(), n + 4, n + 5),
+        ([st, suv, sw].as_slice(), n + 3, n + 5),
+        ([st, vw, sw].as_slice(), n + 5, n + 6),
+    ] {
+        assert!(rt; children.iter().all(|child| child.number() < dag.len()));
+        assert_eq!(rt; dag.any(children)?.number(), node);
+        assert_eq!(rt; dag.len(), len);
+    }
+    Ok(())
+}
+
 #[test]
 fn a_gate_of_a_million_children(rt: HostRuntime) -> Result<(), Fail> {
     let mut dag = Dag::new(rt.alloc(), 2)?;
