@@ -3,6 +3,8 @@ use Rattle.std.proofs.Common.{◌≡◌, ℕ, zero, suc, ◌+◌, ◌<◌, add-o
 use mathlib.Core.Path.{fun_ext}
 use Rattle.std.specs.Option.{unwrap_or}
 use Rattle.std.proofs.lemmas.List.{length-map, length-set}
+use Rattle.rt_value.specs.declared.value.Value.TheVariants.{Null}
+use Rattle.rt_value.specs.Value.{value_eq}
 use Rattle.rt_schema.specs.Given.{Rows, Tables}
 use Rattle.rt_schema.specs.Kept.{kept}
 use Rattle.rt_algebra.specs.Answer.{answer_by}
@@ -12,8 +14,12 @@ use Rattle.rt_formula.specs.Shared.{Shared, IsGrown}
 use Rattle.rt_formula.specs.Groups.{group_at}
 use Rattle.rt_annot.specs.declared.known.Found.{Found}
 use Rattle.rt_annot.specs.Stays.{StaysQuery}
-use Rattle.rt_annot.specs.Known.{IsOver, Tells, IsKnown, AreKnown, AreClosed}
-use Rattle.rt_annot.proofs.Growing.{longer, nodes_stay, any_stays, gate_stays, node_stays}
+use Rattle.rt_annot.specs.Annotated.{SameRows}
+use Rattle.rt_annot.specs.Known.{IsOver, Tells, IsKnown, AreKnown, AreClosed, exists_test, first_of, has_first}
+use Rattle.rt_annot.proofs.Alike.{same_some_no, same_some_yes}
+use Rattle.rt_annot.proofs.Growing.{longer, nodes_stay, any_stays, gate_stays, node_as, node_stays}
+use Rattle.rt_annot.proofs.Layers.{gate_as}
+use Rattle.rt_annot.proofs.SameRows.{any_is}
 
 pub over_stays : {old now : Shared} {f : Found} → IsGrown old now → IsOver old f → IsOver now f
 over_stays {old} {now} {f} g o = record {
@@ -32,6 +38,14 @@ tells_stay {old} {now} {f} g t = record {
 
 pub tells_as : {d : Shared} {f : Found} {answer : List Bool → Rows} (other : List Bool → Rows) → ((s : List Bool) → answer s ≡ other s) → Tells d f answer → Tells d f other
 tells_as {d} {f} {answer} other h t = let e : answer ≡ other = fun_ext h in let P : (List Bool → Rows) → Type 0 = Tells d f in subst P e t
+
+pub tells_same : {d : Shared} {f : Found} {answer : List Bool → Rows} (other : List Bool → Rows) → ((s : List Bool) → SameRows (answer s) (other s)) → Tells d f answer → Tells d f other
+tells_same {d} {f} {answer} other h t = record {
+  over = t.over;
+  exists = gate_as (exists_test other) (λ s. same_some_yes (answer s) (other s) (h s)) (λ s. same_some_no (answer s) (other s) (h s)) t.exists;
+  null = node_as (λ s. has_first Null (other s)) (λ s. any_is (λ r. value_eq Null (first_of r)) (answer s) (other s) (h s)) t.null;
+  firsts = λ x s. t.firsts x s ∙ any_is (λ r. value_eq x (first_of r)) (answer s) (other s) (h s);
+}
 
 pub known_stay : {old now : Shared} {given : Tables} {qs : List Query} {fs : List (Option Found)} → IsGrown old now → AreKnown old given qs fs → AreKnown now given qs fs
 known_stay g a = record {

@@ -26,8 +26,9 @@ use Rattle.rt_annot.specs.Entries.{Formula, Test, Entry, is_no, rows_at, selecte
 use Rattle.rt_annot.proofs.Exact.{yes_and, no_and, yes_or, no_or, append_exact, select_exact, project_exact, any_exact, not_any, member_yes, member_no, stands_exact}
 use Rattle.rt_formula.specs.declared.noted.Noted.{Noted}
 use Rattle.rt_annot.specs.declared.gate.Gate.{Gate}
-use Rattle.rt_annot.specs.Annotated.{formula, entry_of, entries_of, AreNodes, IsNode, IsGate, Mean, Reads, Gives, Choosing, yes_of, no_of, yes_when, no_when, test_all, test_any, standing_test, missing_test, projected_rows}
+use Rattle.rt_annot.specs.Annotated.{formula, entry_of, entries_of, AreMerged, AreNodes, IsNode, IsGate, Mean, Reads, Gives, Choosing, yes_of, no_of, yes_when, no_when, test_all, test_any, standing_test, missing_test, projected_rows}
 use Rattle.rt_annot.specs.Known.{exists_test, among_test}
+use Rattle.rt_annot.proofs.Alike.{same_append, same_except, same_intersect, same_map, same_member_no, same_member_yes, same_some_yes}
 use Rattle.rt_annot.proofs.Growing.{grown_trans, node_as, noted_stay, entries_stay}
 use Rattle.rt_annot.proofs.Walking.{noted_push, entry_is, projected_same, projected_below}
 use mathlib.Core.Path.{fun_ext}
@@ -211,36 +212,62 @@ module _ (given : Tables) (env : Env) where
   pub or_gate : {d : Shared} {g : Gate} (p : Pred) (ps : List Pred) → p ≡ w.Or ps → IsGate d g (test_any ps given env) → IsGate d g (yes_when p given env, no_when p given env)
   or_gate p ps q i = outcome p (λ s. any_of (map (pred_by wrapped) ps) (kept given s) env) (λ s. at_or (kept given s) env ps q) (λ s. refl) (λ s. refl) i
 
+missing_rows : (s : List Bool) (es ds : List Entry) → rows_at s (selected es (missing_test ds)) ≡ filter (λ r. not (has_row (rows_at s ds) r)) (rows_at s es)
+missing_rows s es ds = select_exact s es (missing_test ds) (λ r. not (has_row (rows_at s ds) r)) (λ r. ap not (stands_exact s ds r))
+
+standing_rows : (s : List Bool) (es ds : List Entry) → rows_at s (selected es (standing_test ds)) ≡ filter (has_row (rows_at s ds)) (rows_at s es)
+standing_rows s es ds = select_exact s es (standing_test ds) (has_row (rows_at s ds)) (λ r. stands_exact s ds r)
+
 -- noted rows that give an answer
 pub gives_as : {d : Shared} {ns : List Noted} {f : List Bool → Rows} (h : List Bool → Rows) → ((s : List Bool) → f s ≡ h s) → Gives d ns f → Gives d ns h
-gives_as h e i = record { below = i.below; same = λ s. i.same s ∙ e s }
+gives_as h e i = record { below = i.below; same = λ s r. i.same s r ∙ ap (λ rows. has_row rows r) (e s) }
 
 pub gives_same : {d : Shared} {ms ns : List Noted} {f : List Bool → Rows} → ms ≡ ns → Gives d ns f → Gives d ms f
 gives_same {d} {ms} {ns} {f} e i = let P : List Noted → Type 0 = λ xs. Gives d xs f in subst P (sym e) i
 
 pub gives_stay : {old now : Shared} {ns : List Noted} {f : List Bool → Rows} → IsGrown old now → Gives old ns f → Gives now ns f
-gives_stay {old} {now} {ns} g i = record { below = noted_stay g ns i.below; same = λ s. ap (rows_at s) (entries_stay g ns i.below) ∙ i.same s }
+gives_stay {old} {now} {ns} g i = record { below = noted_stay g ns i.below; same = λ s r. ap (λ es. has_row (rows_at s es) r) (entries_stay g ns i.below) ∙ i.same s r }
 
 pub gives_of : {d : Shared} {ns : List Noted} (es : List Entry) → Reads d ns es → Gives d ns (λ s. rows_at s es)
-gives_of es i = record { below = i.below; same = λ s. ap (rows_at s) i.same }
+gives_of es i = record { below = i.below; same = λ s r. ap (λ es. has_row (rows_at s es) r) i.same }
 
 pub gives_append : {d : Shared} {ms ns : List Noted} {f h : List Bool → Rows} → Gives d ms f → Gives d ns h → Gives d (ms ++ ns) (λ s. f s ++ h s)
-gives_append {d} {ms} {ns} i j = record {
+gives_append {d} {ms} {ns} {f} {h} i j = record {
   below = All-append (λ (m : Noted). m.node < length d.entries) ms ns i.below j.below;
-  same = λ s. ap (rows_at s) (map-append (entry_of d) ms ns) ∙ append_exact s (entries_of d ms) (entries_of d ns) ∙ ap₂ ◌++◌ (i.same s) (j.same s);
+  same = λ s r. ap (λ rows. has_row rows r) (ap (rows_at s) (map-append (entry_of d) ms ns) ∙ append_exact s (entries_of d ms) (entries_of d ns))
+      ∙ same_append (rows_at s (entries_of d ms)) (f s) (rows_at s (entries_of d ns)) (h s) (i.same s) (j.same s) r;
 }
 
 pub gives_projected : {d : Shared} {ns : List Noted} {f : List Bool → Rows} (es : List Expr) (env : Env) → Gives d ns f → Gives d (projected_rows ns es env) (λ s. map (λ r. row_by wrapped es (r ∷ env)) (f s))
-gives_projected {d} {ns} es env i = record {
-  below = projected_below d ns es env i.below;
-  same = λ s. ap (rows_at s) (projected_same d ns es env) ∙ project_exact s (entries_of d ns) (λ r. row_by wrapped es (r ∷ env)) ∙ ap (map (λ r. row_by wrapped es (r ∷ env))) (i.same s);
+gives_projected {d} {ns} {f} es env i =
+    let values = λ (r : List Value). row_by wrapped es (r ∷ env) in
+    record {
+      below = projected_below d ns es env i.below;
+      same = λ s r. ap (λ rows. has_row rows r) (ap (rows_at s) (projected_same d ns es env) ∙ project_exact s (entries_of d ns) values)
+          ∙ same_map values (rows_at s (entries_of d ns)) (f s) (i.same s) r;
+    }
+
+pub gives_merged : {old now : Shared} {ns out : List Noted} {f : List Bool → Rows} → AreMerged now out (entries_of old ns) → Gives old ns f → Gives now out f
+gives_merged {old} {now} {ns} {out} m i = record {
+  below = m.below;
+  same = λ s r. sym (stands_exact s (entries_of now out) r) ∙ m.same r s ∙ stands_exact s (entries_of old ns) r ∙ i.same s r;
 }
 
-pub missing_rows : (s : List Bool) (es ds : List Entry) → rows_at s (selected es (missing_test ds)) ≡ filter (λ r. not (has_row (rows_at s ds) r)) (rows_at s es)
-missing_rows s es ds = select_exact s es (missing_test ds) (λ r. not (has_row (rows_at s ds) r)) (λ r. ap not (stands_exact s ds r))
+pub gives_except : {d now : Shared} {ms ns out : List Noted} {f h : List Bool → Rows} → Gives d ms f → Gives d ns h → Reads now out (selected (entries_of d ms) (missing_test (entries_of d ns)))
+    → Gives now out (λ s. filter (λ r. not (has_row (h s) r)) (f s))
+gives_except {d} {now} {ms} {ns} {out} {f} {h} i j k = record {
+  below = k.below;
+  same = λ s r. ap (λ rows. has_row rows r) (ap (rows_at s) k.same ∙ missing_rows s (entries_of d ms) (entries_of d ns))
+      ∙ same_except (rows_at s (entries_of d ms)) (f s) (rows_at s (entries_of d ns)) (h s) (i.same s) (j.same s) r;
+}
 
-pub standing_rows : (s : List Bool) (es ds : List Entry) → rows_at s (selected es (standing_test ds)) ≡ filter (has_row (rows_at s ds)) (rows_at s es)
-standing_rows s es ds = select_exact s es (standing_test ds) (has_row (rows_at s ds)) (λ r. stands_exact s ds r)
+pub gives_intersect : {d now : Shared} {ms ns out : List Noted} {f h : List Bool → Rows} → Gives d ms f → Gives d ns h → Reads now out (selected (entries_of d ms) (standing_test (entries_of d ns)))
+    → Gives now out (λ s. filter (has_row (h s)) (f s))
+gives_intersect {d} {now} {ms} {ns} {out} {f} {h} i j k = record {
+  below = k.below;
+  same = λ s r. ap (λ rows. has_row rows r) (ap (rows_at s) k.same ∙ standing_rows s (entries_of d ms) (entries_of d ns))
+      ∙ same_intersect (rows_at s (entries_of d ms)) (f s) (rows_at s (entries_of d ns)) (h s) (i.same s) (j.same s) r;
+}
 
 -- the next entry is chosen, or never comes
 module _ {old now next : Shared} {out : List Noted} {rest more whole : List Entry} (r : List Value) (f : Formula) (a : Choosing old now out rest whole) (c : rest ≡ (r, f) ∷ more) (g : IsGrown now next) where
@@ -283,10 +310,10 @@ module _ (given : Tables) (env : Env) where
 -- annotated rows of a query that has some, and of one that has a value among them
 pub exists_of : {d e : Shared} {g : Gate} {ns : List Noted} {answer : List Bool → Rows} → Gives d ns answer → IsGate e g (any_entry (entries_of d ns), λ s. not (any_entry (entries_of d ns) s)) → IsGate e g (exists_test answer)
 exists_of {d} {e} {g} {ns} {answer} rows i =
-    let yes : (s : List Bool) → any_entry (entries_of d ns) s ≡ is_yes (some_truth (answer s)) = λ s. any_exact s (entries_of d ns) ∙ ap (λ r. is_yes (some_truth r)) (rows.same s) in
+    let yes : (s : List Bool) → any_entry (entries_of d ns) s ≡ is_yes (some_truth (answer s)) = λ s. any_exact s (entries_of d ns) ∙ same_some_yes (rows_at s (entries_of d ns)) (answer s) (rows.same s) in
     gate_as (exists_test answer) yes (λ s. ap not (yes s) ∙ not_any s (answer s)) i
 
 pub member_of : {d e : Shared} {g : Gate} {ns : List Noted} {answer : List Bool → Rows} (x : Value) → Gives d ns answer → IsGate e g (member_test x (entries_of d ns)) → IsGate e g (among_test x answer)
 member_of {d} {e} {g} {ns} {answer} x rows i = gate_as (among_test x answer)
-    (λ s. member_yes s x (entries_of d ns) ∙ ap (λ r. is_yes (member_truth x r)) (rows.same s))
-    (λ s. member_no s x (entries_of d ns) ∙ ap (λ r. is_no (member_truth x r)) (rows.same s)) i
+    (λ s. member_yes s x (entries_of d ns) ∙ same_member_yes (rows_at s (entries_of d ns)) (answer s) (rows.same s) x)
+    (λ s. member_no s x (entries_of d ns) ∙ same_member_no (rows_at s (entries_of d ns)) (answer s) (rows.same s) x) i

@@ -5,6 +5,8 @@ pub mod Layers
 pub mod Maps
 pub mod Merged
 pub mod SameRows
+pub mod Alike
+pub mod Distinct
 pub mod Exact
 pub mod Joining
 pub mod Knowing

@@ -28,7 +28,7 @@ module _ (ns : List Noted) (i : ℕ) (n : Noted) (l : i < length ns) (e : n ≡ 
       or_false true = refl
       or_false false = refl
 
-none_stands : (d : Shared) (s : List Bool) (r : List Value) (ns : List Noted) → noted_in r ns ≡ false → stands (entries_of d ns) r s ≡ false
+pub none_stands : (d : Shared) (s : List Bool) (r : List Value) (ns : List Noted) → noted_in r ns ≡ false → stands (entries_of d ns) r s ≡ false
 none_stands d s r [] h = refl
 none_stands d s r (n ∷ ns) h = go (row_eq r n.row) h (none_stands d s r ns) where
   go : (b : Bool) → (b || noted_in r ns) ≡ false → (noted_in r ns ≡ false → stands (entries_of d ns) r s ≡ false) → ((b && val d s n.node) || stands (entries_of d ns) r s) ≡ false

@@ -1,11 +1,13 @@
 -- The members of a product, their rows, and those that a condition leaves.
 use Rattle.std.proofs.Common.{◌≡◌, ℕ, zero, suc, ◌+◌, ◌<◌, Bool, List, [], ◌∷◌, ◌++◌, length, map, take, get_or, sym, subst, ap, ap₂, arith, refl, ◌∙◌}
+use mathlib.Core.Path.{fun_ext}
 use Rattle.std.proofs.lemmas.List.{map-append, append-nil, take_more}
 use Rattle.std.proofs.lemmas.List.Elements.{All-append}
 use Rattle.std.specs.List.{filter}
+use Rattle.rt_value.specs.declared.value.Value.{Value}
 use Rattle.rt_schema.specs.Given.{Rows, Tables}
 use Rattle.rt_schema.specs.Kept.{kept}
-use Rattle.rt_algebra.specs.Answer.{join_each, pairs, product_after, answer_by}
+use Rattle.rt_algebra.specs.Answer.{has_row, join_each, pairs, product_after, answer_by}
 use Rattle.rt_algebra.specs.Expression.{Env, wrapped}
 use Rattle.rt_algebra.specs.Join.{product_rows}
 use Rattle.rt_algebra.specs.declared.query.Pred.{Pred}
@@ -18,6 +20,7 @@ use Rattle.rt_annot.specs.Entries.{rows_at, selected}
 use Rattle.rt_annot.specs.Annotated.{entries_of, AreNoted, Gives, Reads, Choosing, test_under, yes_when}
 use Rattle.rt_annot.specs.Joints.{joint_entries, AreJoints, product_joints, unit_joints, member_rows, AreMembers, GiveEach, Makes}
 use Rattle.rt_annot.specs.Narrowed.{IsNarrowed}
+use Rattle.rt_annot.proofs.Alike.{same_filter, same_product}
 use Rattle.rt_annot.proofs.Exact.{select_exact}
 use Rattle.rt_annot.proofs.Growing.{noted_stay, entries_stay}
 use Rattle.rt_annot.proofs.Layers.{at_product}
@@ -29,11 +32,11 @@ pub choosing_rows : {old now : Shared} {out : List Noted} {joints chosen : List 
     → Gives now out (λ s. filter (λ r. yes_when p given (r ∷ env) s) (rows s))
 choosing_rows {old} {now} {out} {joints} {chosen} {members} {rows} p given env e a n m = record {
   below = a.below;
-  same = λ s. ap (rows_at s) (sym (append-nil (entries_of now out))) ∙ a.same s
-      ∙ select_exact s (joint_entries old chosen) (test_under p given env) (λ r. yes_when p given (r ∷ env) s) (λ r. refl)
-      ∙ ap (λ (js : List Joint). filter (λ r. yes_when p given (r ∷ env) s) (rows_at s (joint_entries old js))) e
-      ∙ n.same old s (kept given s)
-      ∙ ap (filter (λ r. yes_when p given (r ∷ env) s)) (m.same s);
+  same = λ s r. ap (λ xs. has_row xs r) (ap (rows_at s) (sym (append-nil (entries_of now out))) ∙ a.same s
+      ∙ select_exact s (joint_entries old chosen) (test_under p given env) (λ x. yes_when p given (x ∷ env) s) (λ x. refl)
+      ∙ ap (λ (js : List Joint). filter (λ x. yes_when p given (x ∷ env) s) (rows_at s (joint_entries old js))) e
+      ∙ n.same old s (kept given s))
+      ∙ same_filter (λ x. yes_when p given (x ∷ env) s) (product_rows ([] ∷ []) (member_rows old s members)) (rows s) (m.same s) r;
 }
 
 -- the rows of a product
@@ -41,7 +44,7 @@ pub whole_rows : {d now : Shared} {out : List Noted} {joints : List Joint} {memb
     → Reads now out (joint_entries d joints) → joints ≡ product_joints unit_joints members → Makes d members rows → Gives now out rows
 whole_rows {d} {now} {out} {joints} {members} i e m = record {
   below = i.below;
-  same = λ s. ap (rows_at s) (i.same ∙ ap (joint_entries d) e) ∙ whole_exact d s members ∙ m.same s;
+  same = λ s r. ap (λ xs. has_row xs r) (ap (rows_at s) (i.same ∙ ap (joint_entries d) e) ∙ whole_exact d s members) ∙ m.same s r;
 }
 
 pub whole_joints : (d : Shared) {joints : List Joint} (members : List (List Noted)) → joints ≡ product_joints unit_joints members → AreMembers d members → AreJoints d joints
@@ -60,9 +63,10 @@ product_of (q ∷ qs) front db env = product_of qs (pairs front (answer_by wrapp
 
 pub makes_product : {d : Shared} {members : List (List Noted)} (given : Tables) (env : Env) (q : Query) (qs : List Query) → q ≡ v.Product qs
     → GiveEach d members (λ s. map (λ q. answer_by wrapped q (kept given s) env) qs) → Makes d members (λ s. answer_by wrapped q (kept given s) env)
-makes_product given env q qs e g = record {
+makes_product {d} {members} given env q qs e g = record {
   below = g.below;
-  same = λ s. ap (λ (rows : List Rows). product_rows ([] ∷ []) rows) (g.same s) ∙ product_of qs ([] ∷ []) (kept given s) env ∙ sym (at_product (kept given s) env qs e);
+  same = λ s r. same_product (member_rows d s members) (map (λ q. answer_by wrapped q (kept given s) env) qs) (g.same s) ([] ∷ []) ([] ∷ []) (λ x. refl) r
+      ∙ ap (λ rows. has_row rows r) (product_of qs ([] ∷ []) (kept given s) env ∙ sym (at_product (kept given s) env qs e));
 }
 
 -- one member alone
@@ -79,7 +83,7 @@ pairs_once rs = append-nil _ ∙ go rs where
 pub makes_single : {d : Shared} {members : List (List Noted)} {ns : List Noted} {rows : List Bool → Rows} → members ≡ ns ∷ [] → Gives d ns rows → Makes d members rows
 makes_single {d} {members} {ns} e i = members_same e (record {
   below = one_member d ns i.below;
-  same = λ s. pairs_once (rows_at s (entries_of d ns)) ∙ i.same s;
+  same = λ s r. ap (λ xs. has_row xs r) (pairs_once (rows_at s (entries_of d ns))) ∙ i.same s r;
 })
 
 -- the rows of one more query
@@ -94,8 +98,10 @@ module _ {old now : Shared} (g : IsGrown old now) where
       let P : List (List Noted) → Type 0 = λ ms. GiveEach now ms others in
       subst P (sym e) (record {
         below = All-append (AreNoted now) members (ns ∷ []) (λ k f l. noted_stay g (get_or members k f) (each.below k f l)) (one_member now ns i.below);
-        same = λ s. map-append (λ (ms : List Noted). rows_at s (entries_of now ms)) members (ns ∷ [])
-            ∙ ap₂ (λ (xs : List Rows) (x : Rows). xs ++ (x ∷ [])) (member_rows_stay s members each.below ∙ each.same s) (i.same s) ∙ sym (h s);
+        same = λ s. ap (map has_row) (map-append (λ (ms : List Noted). rows_at s (entries_of now ms)) members (ns ∷ []))
+            ∙ map-append has_row (member_rows now s members) (rows_at s (entries_of now ns) ∷ [])
+            ∙ ap₂ (λ (xs : List (List Value → Bool)) (x : List Value → Bool). xs ++ (x ∷ [])) (ap (map has_row) (member_rows_stay s members each.below) ∙ each.same s) (fun_ext (i.same s))
+            ∙ sym (map-append has_row (answers s) (rows s ∷ [])) ∙ ap (map has_row) (sym (h s));
       })
 
 pub answers_more : (given : Tables) (env : Env) (qs : List Query) (i : ℕ) (q : Query) → i < length qs → q ≡ get_or qs i q → (s : List Bool)

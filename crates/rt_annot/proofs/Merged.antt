@@ -21,7 +21,7 @@ use Rattle.rt_formula.specs.Shared.{Shared, IsGrown, val}
 use Rattle.rt_formula.proofs.Meaning.{val-grown}
 use Rattle.rt_annot.specs.Entries.{Entry, rows_at, stands}
 use Rattle.rt_annot.proofs.Exact.{stands_exact}
-use Rattle.rt_annot.specs.Annotated.{AreNodes, IsNode}
+use Rattle.rt_annot.specs.Annotated.{AreNodes, IsNode, SameRows}
 use Rattle.rt_annot.specs.Ann.{Mapped, AreOf, IsMerged, Losing, node_at, node_value, rows_of, lost}
 use Rattle.rt_annot.proofs.Growing.{grown_trans, any_stays, nodes_stay}
 
@@ -59,9 +59,9 @@ merged_below d a es m o k p l =
     (m.found q.0 q.1 (lookup_from_place (eq_by_cmp_equiv row_cmp_total) a k q.0 q.1 (IsDistinct-from_sorted row_cmp (keys_of a) o) (slice_get-get_or a k p l))).below
 
 -- the rows whose node is true are the answer
-pub annotated_rows : (d : Shared) (a : Mapped) (es : List Entry) (rows : List Bool → Rows) → IsMerged d a es → ((s : List Bool) → rows_at s es ≡ rows s) → Sorted a
+pub annotated_rows : (d : Shared) (a : Mapped) (es : List Entry) (rows : List Bool → Rows) → IsMerged d a es → ((s : List Bool) → SameRows (rows_at s es) (rows s)) → Sorted a
     → (s : List Bool) (r : List Value) → has_row (rows_of d s a) r ≡ has_row (rows s) r
-annotated_rows d a es rows m h o s r = rows_value d s r a o ∙ merged_value d a es m s r ∙ stands_exact s es r ∙ ap (λ xs. has_row xs r) (h s)
+annotated_rows d a es rows m h o s r = rows_value d s r a o ∙ merged_value d a es m s r ∙ stands_exact s es r ∙ h s r
 
 -- the lost rows
 not_both : (a b : Bool) → (not a || not b) ≡ not (a && b)

@@ -1,16 +1,16 @@
 -- What nodes and noted rows mean: formulas on the Keep.
-use Rattle.std.specs.Prelude.{◌≡◌, ℕ, ◌<◌, ◌+◌, Bool, false, not, List, [], ◌∷◌, ◌++◌, map, length}
-use Rattle.std.specs.List.{All as Each, list_any}
+use Rattle.std.specs.Prelude.{◌≡◌, ℕ, ◌<◌, ◌+◌, nat_eq, Bool, false, not, List, [], ◌∷◌, ◌++◌, map, length}
+use Rattle.std.specs.List.{All as Each, IsDistinct, list_any}
 use Rattle.rt_schema.specs.Kept.{kept}
 use Rattle.rt_value.specs.declared.value.Value.{Value}
 use Rattle.rt_value.specs.Row.{row_eq}
 use Rattle.rt_algebra.specs.Expression.{wrapped, Env, row_by}
 use Rattle.rt_algebra.specs.declared.expr.Expr.{Expr}
 use Rattle.rt_schema.specs.Given.{Rows, Tables}
-use Rattle.rt_algebra.specs.Answer.{is_yes, cell_truth, pred_by, all_of, any_of}
+use Rattle.rt_algebra.specs.Answer.{is_yes, cell_truth, has_row, pred_by, all_of, any_of}
 use Rattle.rt_algebra.specs.declared.query.Pred.{Pred}
 use Rattle.rt_formula.specs.Shared.{Shared, IsGrown, val, bool_at}
-use Rattle.rt_formula.specs.Groups.{nodes_where}
+use Rattle.rt_formula.specs.Groups.{Grouped, group_at, nodes_where}
 use Rattle.rt_annot.specs.Entries.{Formula, Test, Entry, is_no, rows_at, stands}
 use Rattle.rt_formula.specs.declared.noted.Noted.{Noted}
 use Rattle.rt_annot.specs.declared.gate.Gate.{Gate}
@@ -77,10 +77,14 @@ yes_of ps given env = map (λ p. yes_when p given env) ps
 abbrev pub no_of : List Pred → Tables → Env → List Formula
 no_of ps given env = map (λ p. no_when p given env) ps
 
--- at every Keep the noted rows whose node is true are these rows, in order
+-- each row of either list stands in the other
+abbrev pub SameRows : Rows → Rows → Type 0
+SameRows xs ys = (r : List Value) → has_row xs r ≡ has_row ys r
+
+-- at every Keep the noted rows whose node is true are the same as these
 pub record Gives (d : Shared) (ns : List Noted) (rows : List Bool → Rows) : Type 0 where
   pub below : AreNoted d ns
-  pub same : (s : List Bool) → rows_at s (entries_of d ns) ≡ rows s
+  pub same : (s : List Bool) → SameRows (rows_at s (entries_of d ns)) (rows s)
 
 -- the rows that were chosen so far, and the entries that are still to come
 pub record Choosing (old now : Shared) (out : List Noted) (rest whole : List Entry) : Type 0 where
@@ -122,3 +126,17 @@ pub record Along (old now : Shared) (out : List Noted) (rest whole : List Entry)
 -- whether the row is noted
 abbrev pub noted_in : List Value → List Noted → Bool
 noted_in r ns = list_any (λ n. row_eq r n.row) ns
+
+-- the noted rows are those of the entries, each once, and each node says where its row stands
+pub record AreMerged (d : Shared) (out : List Noted) (es : List Entry) : Type 0 where
+  pub below : AreNoted d out
+  pub same : (r : List Value) (s : List Bool) → stands (entries_of d out) r s ≡ stands es r s
+  pub once : IsDistinct row_eq (map (λ n. n.row) out)
+
+-- the rows that are noted in `seen` are merged
+pub record Collecting (old now : Shared) (known : Grouped) (out ns seen : List Noted) : Type 0 where
+  pub grown : IsGrown old now
+  pub nodes : Each (λ n. IsNode now n.node (stands (entries_of old ns) n.row)) out
+  pub once : IsDistinct row_eq (map (λ n. n.row) out)
+  pub rows : (r : List Value) → noted_in r out ≡ noted_in r seen
+  pub absent : (r : List Value) → nat_eq (length (group_at known r)) 0 ≡ not (noted_in r out)

@@ -2,12 +2,13 @@
 use Rattle.std.specs.Prelude.{◌≡◌, Bool, List, [], ◌∷◌, ◌++◌, map}
 use Rattle.std.specs.List.{All as Each, list_all}
 use Rattle.rt_schema.specs.Given.{Rows}
+use Rattle.rt_algebra.specs.Answer.{has_row}
 use Rattle.rt_algebra.specs.Join.{product_rows}
 use Rattle.rt_formula.specs.Shared.{Shared, val}
 use Rattle.rt_formula.specs.declared.noted.Noted.{Noted}
 use Rattle.rt_annot.specs.declared.joint.Joint.{Joint}
 use Rattle.rt_annot.specs.Entries.{Entry, rows_at}
-use Rattle.rt_annot.specs.Annotated.{AreNodes, AreNoted, entries_of}
+use Rattle.rt_annot.specs.Annotated.{AreNodes, AreNoted, SameRows, entries_of}
 
 -- there where all of its nodes are true
 abbrev pub joint_entry : Shared → Joint → Entry
@@ -44,12 +45,12 @@ member_rows d s members = map (λ ns. rows_at s (entries_of d ns)) members
 abbrev pub AreMembers : Shared → List (List Noted) → Type 0
 AreMembers d members = Each (AreNoted d) members
 
--- at every choice these are the rows of the members
+-- at every choice the members have the same rows as these
 pub record GiveEach (d : Shared) (members : List (List Noted)) (answers : List Bool → List Rows) : Type 0 where
   pub below : AreMembers d members
-  pub same : (s : List Bool) → member_rows d s members ≡ answers s
+  pub same : (s : List Bool) → map has_row (member_rows d s members) ≡ map has_row (answers s)
 
--- at every choice these are the rows of their product
+-- at every choice their product has the same rows as these
 pub record Makes (d : Shared) (members : List (List Noted)) (rows : List Bool → Rows) : Type 0 where
   pub below : AreMembers d members
-  pub same : (s : List Bool) → product_rows ([] ∷ []) (member_rows d s members) ≡ rows s
+  pub same : (s : List Bool) → SameRows (product_rows ([] ∷ []) (member_rows d s members)) (rows s)

@@ -15,7 +15,7 @@ use crate::gate::is_never;
 use crate::join::narrowed;
 use crate::joint::{Joint, meeting, noted, product};
 use crate::known::Found;
-use crate::rows::{appended, projected, table};
+use crate::rows::{appended, merged, projected, table};
 use crate::sets::{common, difference};
 use rt_algebra::{Pred, Query};
 use rt_formula::{Dag, Noted};
@@ -149,7 +149,8 @@ pub fn annotated(
         }
         Query::Project(a, items) => {
             let rows = annotated(alloc, dag, tables, queries, founds, a.get(), env)?;
-            let out = projected(alloc, rows.as_slice(), items.as_slice(), env)?;
+            let projected = projected(alloc, rows.as_slice(), items.as_slice(), env)?;
+            let out = merged(alloc, dag, projected.as_slice())?;
             Ok(out)
         }
         Query::Product(qs) => {

@@ -3,10 +3,10 @@ ghost use Rattle.std.specs.Prelude.{◌≡◌, ◌∷◌, ◌++◌, ◌+◌, ◌
 ghost use Rattle.rt_algebra.specs.Expression.{wrapped, row_by};
 ghost use Rattle.rt_schema.specs.Given.{places, base_of};
 ghost use Rattle.rt_formula.specs.Shared.{IsGrown};
-ghost use Rattle.rt_annot.specs.Annotated.{Reads, placed, projected_rows};
+ghost use Rattle.rt_annot.specs.Annotated.{AreMerged, AreNoted, Reads, entries_of, placed, projected_rows};
 
 use rt_algebra::{Expr, row, scope};
-use rt_formula::{Dag, Noted};
+use rt_formula::{Dag, Groups, Noted};
 use rt_value::{List, NoMemory, Row};
 use std::alloc::Global;
 
@@ -110,6 +110,26 @@ pub fn projected(
         let row = values_under(alloc, &noted.row, items, &*env)?;
         let node = noted.node;
         out.push(Noted { row, node })?;
+    }
+    Ok(out)
+}
+
+/// Each row once, in the order of their first coming, where one of its nodes is true.
+pub fn merged(alloc: Global, dag: &mut Dag, rows: &[Noted]) -> Result<List<Noted>, NoMemory>
+    requires { AreNoted dag.old rows.now }
+    ensures grown { IsGrown dag.old dag.new }
+    ensures merged { IfOk result (λ out. AreMerged dag.new out (entries_of dag.old rows.now)) }
+{
+    let groups = Groups::of(alloc, rows)?;
+    let mut known = Groups::new(alloc);
+    let mut out = List::new(alloc);
+    for noted in rows {
+        if known.get(&noted.row).is_empty() {
+            known.put(noted)?;
+            let node = dag.any(groups.get(&noted.row))?;
+            let row = noted.row.copy(alloc)?;
+            out.push(Noted { row, node })?;
+        }
     }
     Ok(out)
 }

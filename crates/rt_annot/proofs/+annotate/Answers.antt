@@ -1,9 +1,8 @@
-use Rattle.std.proofs.Common.{◌∙◌, ap, ap₂, sym, not, Option, None, get_or, List, Bool, map, drop, ◌+◌, Bor, ◌∷◌, ◌++◌, ◌&&◌, refl, []}
+use Rattle.std.proofs.Common.{◌∙◌, ap, ap₂, sym, Option, None, get_or, List, Bool, map, Bor, ◌∷◌, ◌++◌, ◌&&◌, refl, []}
 use Rattle.std.proofs.lemmas.List.{take_all}
 use Rattle.std.specs.List.{filter, list_all}
 use Rattle.rt_formula.specs.Shared.{val}
 use Rattle.rt_value.specs.declared.value.Value.{Value}
-use Rattle.rt_schema.specs.Given.{Rows}
 use Rattle.rt_algebra.specs.Answer.{answer_by, has_row}
 use Rattle.rt_algebra.specs.Expression.{wrapped, Env, row_by}
 use Rattle.rt_algebra.specs.declared.query.Pred.TheVariants as w
@@ -16,10 +15,11 @@ use Rattle.rt_annot.specs.Joints.{joint_entries}
 use Rattle.rt_annot.proofs.Exact.{table_exact}
 use Rattle.rt_annot.specs.declared.known.Found.{Found}
 use Rattle.rt_annot.specs.Known.{AreKnown}
-use Rattle.rt_annot.proofs.Knowing.{known_stay, known_at, known_set, tells_stay, tells_under}
+use Rattle.rt_annot.proofs.Knowing.{known_stay, known_at, known_set, tells_same, tells_stay, tells_under}
 use Rattle.rt_annot.proofs.Growing.{grown_trans, all_stays, mean_stays, node_as}
-use Rattle.rt_annot.proofs.Walking.{next_is, table_entries}
-use Rattle.rt_annot.proofs.Layers.{at_table, at_select, at_project, at_union, at_except, at_intersect, mean_push, mean_as, yes_more, no_more, all_gate, any_gate, all_stops, any_stops, and_gate, or_gate, exists_gate, member_gate, exists_of, member_of, gives_as, gives_same, gives_stay, gives_of, gives_append, gives_projected, missing_rows, standing_rows, choose, leave_out, choosing_at}
+use Rattle.rt_annot.proofs.Distinct.{noted_at}
+use Rattle.rt_annot.proofs.Walking.{next_is, projected_below, table_entries}
+use Rattle.rt_annot.proofs.Layers.{at_table, at_select, at_project, at_union, at_except, at_intersect, mean_push, mean_as, yes_more, no_more, all_gate, any_gate, all_stops, any_stops, and_gate, or_gate, exists_gate, member_gate, exists_of, member_of, gives_as, gives_same, gives_stay, gives_of, gives_append, gives_projected, gives_merged, gives_except, gives_intersect, choose, leave_out, choosing_at}
 use Rattle.rt_annot.proofs.Joining.{joint_below}
 use Rattle.rt_annot.proofs.Members.{choosing_rows, whole_rows, whole_joints, members_same, members_below, makes_product, makes_single, give_push, answers_more}
 use Rattle.rt_annot.proofs.+annotate.Goals as goal
@@ -44,7 +44,17 @@ evaluate::annotated-returns-in_ok-out-in-Project-clause-gives t c =
     let rows = gives_same c.as_slice-in-Project.ensures (gives_as (λ s. answer_by wrapped a (kept g s) e) (λ s. ap (λ q. answer_by wrapped q (kept g s) e) c.get-in-Project.ensures) c.in_ok-rows-in-Project.ensures.gives) in
     gives_as (λ s. answer_by wrapped c.args.q.now (kept g s) e)
     (λ s. ap (λ es. map (λ r. row_by wrapped es (r ∷ e)) (answer_by wrapped a (kept g s) e)) c.as_slice-in-Project-2.ensures ∙ sym (at_project (kept g s) e a c.in-Project.items c.in-Project.is))
-    (gives_same c.in_ok-out-in-Project.ensures (gives_projected c.as_slice-in-Project-2.result.now e rows))
+    (gives_merged c.in_ok-out-in-Project.ensures.merged (gives_same (c.as_slice-in-Project-3.ensures ∙ c.in_ok-projected-in-Project.ensures) (gives_projected c.as_slice-in-Project-2.result.now e rows)))
+
+pub evaluate::annotated-merged-requires : goal.evaluate::annotated-merged-requires
+evaluate::annotated-merged-requires t c = noted_at c.annotated.new.dag (c.as_slice-in-Project-3.ensures ∙ c.in_ok-projected-in-Project.ensures)
+    (projected_below c.annotated.new.dag c.as_slice-in-Project.result.now c.as_slice-in-Project-2.result.now (scope_of c.args.env.now) (noted_at c.annotated.new.dag c.as_slice-in-Project.ensures c.in_ok-rows-in-Project.ensures.gives.below))
+
+pub evaluate::annotated-returns-in_err-out-in-Project-clause-known : goal.evaluate::annotated-returns-in_err-out-in-Project-clause-known
+evaluate::annotated-returns-in_err-out-in-Project-clause-known t c = known_stay c.merged.ensures.grown c.annotated.ensures.known
+
+pub evaluate::annotated-returns-in_ok-out-in-Project-clause-known : goal.evaluate::annotated-returns-in_ok-out-in-Project-clause-known
+evaluate::annotated-returns-in_ok-out-in-Project-clause-known t c = known_stay c.merged.ensures.grown c.annotated.ensures.known
 
 pub evaluate::annotated-returns-in_ok-out-in-Union-clause-gives : goal.evaluate::annotated-returns-in_ok-out-in-Union-clause-gives
 evaluate::annotated-returns-in_ok-out-in-Union-clause-gives t c =
@@ -65,8 +75,7 @@ evaluate::annotated-returns-in_ok-out-in-Except-clause-gives t c =
     let first = gives_same c.as_slice-in-Except.ensures (gives_stay c.annotated-in-Except-2.ensures.grown (gives_as (λ s. answer_by wrapped a (kept g s) e) (λ s. ap (λ q. answer_by wrapped q (kept g s) e) c.get-in-Except.ensures) c.in_ok-first-in-Except.ensures.gives)) in
     let second = gives_same c.as_slice-in-Except-2.ensures (gives_as (λ s. answer_by wrapped b (kept g s) e) (λ s. ap (λ q. answer_by wrapped q (kept g s) e) c.get-in-Except-2.ensures) c.in_ok-second-in-Except.ensures.gives) in
     gives_as (λ s. answer_by wrapped c.args.q.now (kept g s) e)
-    (λ s. missing_rows s (entries_of c.annotated-in-Except-2.new.dag c.as_slice-in-Except.result.now) (entries_of c.annotated-in-Except-2.new.dag c.as_slice-in-Except-2.result.now) ∙ ap₂ (λ (xs ys : Rows). filter (λ r. not (has_row ys r)) xs) (first.same s) (second.same s) ∙ sym (at_except (kept g s) e a b c.in-Except.is))
-    (gives_of _ c.in_ok-out-in-Except.ensures.reads)
+    (λ s. sym (at_except (kept g s) e a b c.in-Except.is)) (gives_except first second c.in_ok-out-in-Except.ensures.reads)
 
 pub evaluate::annotated-returns-in_ok-out-in-Intersect-clause-gives : goal.evaluate::annotated-returns-in_ok-out-in-Intersect-clause-gives
 evaluate::annotated-returns-in_ok-out-in-Intersect-clause-gives t c =
@@ -77,8 +86,7 @@ evaluate::annotated-returns-in_ok-out-in-Intersect-clause-gives t c =
     let first = gives_same c.as_slice-in-Intersect.ensures (gives_stay c.annotated-in-Intersect-2.ensures.grown (gives_as (λ s. answer_by wrapped a (kept g s) e) (λ s. ap (λ q. answer_by wrapped q (kept g s) e) c.get-in-Intersect.ensures) c.in_ok-first-in-Intersect.ensures.gives)) in
     let second = gives_same c.as_slice-in-Intersect-2.ensures (gives_as (λ s. answer_by wrapped b (kept g s) e) (λ s. ap (λ q. answer_by wrapped q (kept g s) e) c.get-in-Intersect-2.ensures) c.in_ok-second-in-Intersect.ensures.gives) in
     gives_as (λ s. answer_by wrapped c.args.q.now (kept g s) e)
-    (λ s. standing_rows s (entries_of c.annotated-in-Intersect-2.new.dag c.as_slice-in-Intersect.result.now) (entries_of c.annotated-in-Intersect-2.new.dag c.as_slice-in-Intersect-2.result.now) ∙ ap₂ (λ (xs ys : Rows). filter (has_row ys) xs) (first.same s) (second.same s) ∙ sym (at_intersect (kept g s) e a b c.in-Intersect.is))
-    (gives_of _ c.in_ok-out-in-Intersect.ensures.reads)
+    (λ s. sym (at_intersect (kept g s) e a b c.in-Intersect.is)) (gives_intersect first second c.in_ok-out-in-Intersect.ensures.reads)
 
 pub evaluate::annotated-returns-in_ok-out-in-Select-clause-gives : goal.evaluate::annotated-returns-in_ok-out-in-Select-clause-gives
 evaluate::annotated-returns-in_ok-out-in-Select-clause-gives t c =
@@ -306,6 +314,11 @@ conditions::has_value-returns-in_err-gate-in-None-clause-known t c = known_stay 
 
 pub conditions::has_value-returns-in_ok-gate-in-None-clause-known : goal.conditions::has_value-returns-in_ok-gate-in-None-clause-known
 conditions::has_value-returns-in_ok-gate-in-None-clause-known t c = known_stay c.member-in-None.ensures.grown c.annotated.ensures.known
+
+pub conditions::newly-returns-clause-tells : goal.conditions::newly-returns-clause-tells
+conditions::newly-returns-clause-tells t c =
+    tells_same (λ s. answer_by wrapped c.args.q.now (kept c.args.tables.now s) [])
+    (λ s r. ap (λ ns. has_row (rows_at s (entries_of c.annotated.new.dag ns)) r) c.as_slice.ensures ∙ c.in_ok-rows.ensures.gives.same s r) c.in_ok-found.ensures.tells
 
 pub conditions::newly-returns-clause-known : goal.conditions::newly-returns-clause-known
 conditions::newly-returns-clause-known t c = known_stay c.of.ensures.grown c.annotated.ensures.known

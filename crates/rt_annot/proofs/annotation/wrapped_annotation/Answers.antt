@@ -1,5 +1,5 @@
 use Rattle.std.proofs.Common.{◌∙◌, ap, sym, []}
-use Rattle.rt_algebra.specs.Answer.{answer_by}
+use Rattle.rt_algebra.specs.Answer.{answer_by, has_row}
 use Rattle.rt_algebra.specs.Expression.{wrapped}
 use Rattle.rt_schema.specs.Kept.{kept}
 use Rattle.rt_annot.specs.Entries.{rows_at}
@@ -17,7 +17,7 @@ returns-clause-nodes c = merged_below _ _ _ c.in_ok-ann.ensures.merged c.len-len
 pub returns-clause-rows : goal.returns-clause-rows
 returns-clause-rows c =
     annotated_rows _ c.in_ok-ann.ann _ (λ s. answer_by wrapped c.args.query.now (kept c.args.tables.now s) []) c.in_ok-ann.ensures.merged
-    (λ s. ap (λ ns. rows_at s (entries_of c.annotated.new.dag ns)) c.as_slice.ensures ∙ c.in_ok-rows.ensures.gives.same s) c.len-len.ensures.sorted
+    (λ s r. ap (λ ns. has_row (rows_at s (entries_of c.annotated.new.dag ns)) r) c.as_slice.ensures ∙ c.in_ok-rows.ensures.gives.same s r) c.len-len.ensures.sorted
 
 pub returns-clause-entries : goal.returns-clause-entries
 returns-clause-entries c keep r = sym (rows_value c.merged.new.dag keep r c.in_ok-ann.ann c.len-len.ensures.sorted) ∙ returns-clause-rows c keep r
