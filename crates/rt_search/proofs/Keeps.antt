@@ -68,6 +68,13 @@ bare-of p q xs ys a h v l r = elim (bool-cases (slice_index_or xs v false)) [
 pub bare-one : (p : ℕ) (xs : List Bool) → slice_index_or xs p false ≡ false → IsBare p (p + 1) xs
 bare-one p xs h v l r = let q : v ≡ p = omega (arith, l, r) in ap (λ i. slice_index_or xs i false) q ∙ h
 
+-- two choices that agree up to a place and keep no row from there to another agree up to that one
+pub agree-bare : (p q : ℕ) (xs ys : List Bool) → AgreeBelow p xs ys → IsBare p q xs → IsBare p q ys → AgreeBelow q xs ys
+agree-bare p q xs ys a b c v h = elim (bool-cases (nat_lt v p)) [
+  | inl y ↦ a v (search rules)
+  | inr y ↦ (let l : p ≤ v = search rules in b v l h ∙ sym (c v l h))
+]
+
 -- where all rows that are kept are below a place, none is from there on
 pub rest-bare : (p : ℕ) (xs : List Bool) → size xs ≤ kept_below p xs → IsBare p (length xs) xs
 rest-bare p xs h = let s = kept-size xs in bare-of p (length xs) xs xs (λ v l. refl) (omega (arith, h, s))
@@ -115,6 +122,15 @@ before-from p keep other a b = elim (bool-cases (nat_lt b.place p)) [
   | inl y ↦ absurd (let h : b.place < p = search rules in clash b.keeps (a b.place h ∙ b.leaves))
   | inr y ↦ search rules
 ]
+
+-- and where the other one keeps that place, it does too
+pub before-keeps : (p : ℕ) (keep other : List Bool) → AgreeBelow p keep other → slice_index_or other p false ≡ true → ComesBefore keep other → slice_index_or keep p false ≡ true
+before-keeps p keep other a here b =
+    let f = before-from p keep other a b in
+    elim (bool-cases (nat_lt p b.place)) [
+      | inl y ↦ b.same p (search rules) ∙ here
+      | inr y ↦ absurd (let h : b.place ≤ p = search rules in let q : b.place ≡ p = omega (arith, h, f) in clash (ap (λ i. slice_index_or other i false) q ∙ here) b.leaves)
+    ]
 
 -- where two agree up to a place and the other one keeps no row from there on, the one has more rows
 pub before-more : (p : ℕ) (keep other : List Bool) → length keep ≡ length other → AgreeBelow p keep other → p ≤ length other → IsBare p (length other) other → ComesBefore keep other → size other < size keep

@@ -20,7 +20,7 @@ use Rattle.rt_search.specs.Order.{ComesBefore, IsBare, IsNext}
 use Rattle.rt_search.specs.Leading.{AllFew, HasValue, IsLeading}
 use Rattle.rt_search.specs.Aimed.{IsAimed, IsCounted, fewer_than}
 use Rattle.rt_search.proofs.Aiming.{fewer-means, refuted-false, lt-not-le}
-use Rattle.rt_search.proofs.Keeps.{kept-none, kept-on, kept-some, bare-of, before-place, before-from, before-more, before-all, before-later}
+use Rattle.rt_search.proofs.Keeps.{kept-none, kept-on, kept-some, agree-bare, bare-of, before-place, before-from, before-keeps, before-more, before-all, before-later}
 use Rattle.rt_search.proofs.Taking.{take-index, take-length}
 
 pub clash : {b : Bool} → b ≡ true → b ≡ false → ⊥
@@ -221,10 +221,7 @@ leading-moved d goal cone lines best place kept end held l f b none = record {
   held_is = l.held_is;
   kept_is = l.kept_is ∙ sym (kept-none place end best f b);
   few = l.few;
-  alike = λ s g v i h. elim (bool-cases (nat_lt i place)) [
-    | inl y ↦ l.alike s g v i (search rules)
-    | inr y ↦ (let p : place ≤ i = search rules in none s g v i p h ∙ sym (b i p h))
-  ];
+  alike = λ s g v. agree-bare place end s best (l.alike s g v) (none s g v) b;
   rivals = l.rivals;
 }
 
@@ -239,15 +236,8 @@ leading-kept d goal cone lines best row kept held both l here h = record {
   kept_is = (let k = l.kept_is in let o = kept-on row best here in let c = ap (λ i. kept_below i best) (let s : suc row ≡ row + 1 = omega arith in s) in omega (arith, k, o, c));
   few = λ s g v. l.few s g (and-both (l.value s) (slice_index_or s row false) v).0;
   alike = λ s g v. (let w = and-both (l.value s) (slice_index_or s row false) v in one-more row s best (l.alike s g w.0) (w.1 ∙ sym here));
-  rivals = λ s g q b. (let v = l.rivals s g q b in ap (λ y. y && slice_index_or s row false) v ∙ keeps s g b v);
-} where
-  keeps : (s : List Bool) → IsSought d goal cone s → ComesBefore s best → l.value s ≡ true → slice_index_or s row false ≡ true
-  keeps s g b v =
-      let f = before-from row s best (l.alike s g v) b in
-      elim (bool-cases (nat_lt row b.place)) [
-        | inl y ↦ b.same row (search rules) ∙ here
-        | inr y ↦ absurd (let h : b.place ≤ row = search rules in let q : b.place ≡ row = omega (arith, h, f) in clash (ap (λ j. slice_index_or best j false) q ∙ here) b.leaves)
-      ]
+  rivals = λ s g q b. (let v = l.rivals s g q b in ap (λ y. y && slice_index_or s row false) v ∙ before-keeps row s best (l.alike s g v) here b);
+}
 
 pub leading-next : (d : Shared) (goal : ℕ) (cone : List Bool) (lines new : List (List Literal)) (best : List Bool) (row kept : ℕ) (held x both : Literal) → IsLeading d goal cone lines best row kept held → slice_index_or best row false ≡ true → row < d.rows
     → x.var ≡ row → x.on ≡ true → new ≡ lines ++ gate both (held ∷ x ∷ []) → IsLeading d goal cone new best (row + 1) (kept + 1) both
