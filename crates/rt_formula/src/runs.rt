@@ -10,7 +10,7 @@ use crate::entry::{Entry, Node};
 use rt_value::{List, NoMemory};
 use std::alloc::Global;
 
-/// Nodes at the front of a list that are two or more, each an `all` over the same first child.
+/// Nodes at the front of a list that are three or more, each an `all` over the same first child.
 #[derive(Clone, Copy)]
 struct Run {
     first: Node,
@@ -61,7 +61,7 @@ fn run_at_front(dag: &Dag, of: &[Node]) -> Option<Run>
     };
     let first = first_of(dag, *child)?;
     let length = length_over(dag, first, of);
-    if length < 2 {
+    if length < 3 {
         return None;
     }
     Some(Run { first, length })
