@@ -13,7 +13,7 @@ use crate::smaller::smaller;
 use rt_clause::Named;
 use rt_formula::{Dag, Node};
 use rt_solver::{Found, Solver};
-use rt_totalizer::count;
+use rt_totalizer::count_among;
 use rt_value::{Keep, NoMemory};
 use std::alloc::Global;
 
@@ -50,7 +50,7 @@ fn within(
             let model = rows_of(alloc, &model, rows)?;
             let best = smaller(dag, goal, cone, model)?;
             let upto = one_above(best.size(), rows);
-            let counter = count(alloc, upto, &mut named, solver)?;
+            let counter = count_among(alloc, cone, upto, &mut named, solver)?;
             lower(
                 alloc, solver, dag, goal, cone, named, &counter, best, budget,
             )

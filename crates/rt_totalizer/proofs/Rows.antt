@@ -3,7 +3,7 @@ use Rattle.std.proofs.Common.{◌≡◌, ℕ, zero, suc, ◌+◌, ◌-◌, ◌<�
 use Rattle.std.specs.Bool.{beq}
 use Rattle.rt_clause.specs.Literal.{Literal}
 use Rattle.rt_clause.specs.Lists.{has, IsBelow}
-use Rattle.rt_clause.specs.Models.{lit_true}
+use Rattle.rt_clause.specs.Models.{lit_true, IsModel}
 use Rattle.rt_clause.proofs.Bools.{bool-cases}
 use Rattle.rt_clause.proofs.Literals.{has-head, has-tail, has-cases, has-append_cases}
 use Rattle.rt_clause.proofs.Extending.{extends-none, extends-on, model-older}
@@ -96,6 +96,15 @@ row-same row old n lines new m now k l r c more b low le = record {
       let P : ℕ → Type 0 = λ j. lit_true bools l ≡ nat_le j (kept_below (suc row) bools) in
       each-cell (λ j x. lit_true bools x ≡ nat_le j (kept_below (suc row) bools)) new l (r.means bools holds h)
       (subst P (sym c) (ap (lit_true bools) le ∙ h k b ∙ le-false k (kept_below row bools) (omega (arith, few, more)) ∙ sym (le-false k (kept_below (suc row) bools) (omega (arith, few', more)))));
+}
+
+-- over a row that no model keeps all cells stay
+pub row-out : (row : ℕ) (old : List Literal) (n : ℕ) (lines : List (List Literal)) → IsBelow n old → ((bools : List Bool) → IsModel lines bools → slice_index_or bools row false ≡ false)
+    → IsRowOf row old n lines old n lines
+row-out row old n lines low out = record {
+  low = low;
+  over = extends-none lines n;
+  means = λ bools m h k b. h k b ∙ sym (ap (λ x. nat_le k (cond x (kept_below row bools + 1) (kept_below row bools))) (out bools m));
 }
 
 -- one more cell

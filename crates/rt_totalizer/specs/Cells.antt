@@ -21,6 +21,10 @@ kept_below (suc i) bools = cond (slice_index_or bools i false) (kept_below i boo
 abbrev pub AreCells : List Literal → ℕ → List Bool → Type 0
 AreCells cells i bools = (k : ℕ) → k < length cells → lit_true bools (cell_at cells k) ≡ nat_le k (kept_below i bools)
 
+-- in each model a row that is not among these is not kept
+abbrev pub IsLeftOut : List Bool → ℕ → List (List Literal) → Type 0
+IsLeftOut among row lines = slice_index_or among row false ≡ false → (bools : List Bool) → IsModel lines bools → slice_index_or bools row false ≡ false
+
 -- the lines go on so that the new cells count one row more than the old ones
 pub record IsRowOf (row : ℕ) (old : List Literal) (n : ℕ) (lines_old : List (List Literal)) (new : List Literal) (m : ℕ) (lines_new : List (List Literal)) : Type 0 where
   pub low : IsBelow m new

@@ -1,10 +1,10 @@
 ghost use Rattle.std.specs.Prelude.{◌≡◌, ◌≤◌, ◌<◌, ◌^◌, IfOk, length};
 ghost use Rattle.rt_clause.specs.Lists.{IsBelow};
-ghost use Rattle.rt_totalizer.specs.Cells.{cell_at, IsRowOf};
+ghost use Rattle.rt_totalizer.specs.Cells.{cell_at, IsLeftOut, IsRowOf};
 
 use crate::cell::cell;
 use rt_clause::{Adds, Lit, LitList};
-use rt_value::{List, NoMemory};
+use rt_value::{Keep, List, NoMemory};
 use std::alloc::Global;
 
 pub(crate) const MOST_VARIABLES: usize = 1 << 61;
@@ -24,12 +24,7 @@ fn at(cells: &LitList, k: usize) -> Lit
 }
 
 /// The cells with one more row. Those of more rows than there are so far stay as they were.
-pub(crate) fn with_row<A: Adds>(
-    alloc: Global,
-    row: usize,
-    old: &Cells,
-    to: &mut A,
-) -> Result<Cells, NoMemory>
+fn with_row<A: Adds>(alloc: Global, row: usize, old: &Cells, to: &mut A) -> Result<Cells, NoMemory>
     requires row { row < old.now.next }
     requires some { 0 < length old.now.list }
     requires low { IsBelow old.now.next old.now.list }
@@ -56,4 +51,28 @@ pub(crate) fn with_row<A: Adds>(
         next += 1;
     }
     Ok(Cells { list, next })
+}
+
+/// The cells after one more row. Where it is left out they stay as they were.
+pub(crate) fn after_row<A: Adds>(
+    alloc: Global,
+    among: &Keep,
+    row: usize,
+    old: Cells,
+    to: &mut A,
+) -> Result<Cells, NoMemory>
+    requires among { row < length among.now }
+    requires out { IsLeftOut among.now row (A.lines to.old) }
+    requires row { row < old.next }
+    requires some { 0 < length old.list }
+    requires low { IsBelow old.next old.list }
+    requires few { old.next ≤ 2 ^ 61 }
+    ensures len { IfOk result (λ new. length new.list ≡ length old.list) }
+    ensures few { IfOk result (λ new. new.next ≤ 2 ^ 61) }
+    ensures row { IfOk result (λ new. IsRowOf row old.list old.next (A.lines to.old) new.list new.next (A.lines to.new)) }
+{
+    if !among.is(row) {
+        return Ok(old);
+    }
+    with_row(alloc, row, &old, to)
 }

@@ -1,13 +1,13 @@
-ghost use Rattle.std.specs.Prelude.{◌≡◌, ◌≤◌, ◌<◌, ◌∷◌, IfOk, OnErr, length};
+ghost use Rattle.std.specs.Prelude.{◌≡◌, ℕ, ◌≤◌, ◌<◌, ◌∷◌, IfOk, OnErr, length};
 ghost use Rattle.rt_clause.specs.Literal.{Literal};
 ghost use Rattle.rt_clause.specs.Lists.{AreBelow, IsBelow, line_at};
 ghost use Rattle.rt_clause.specs.Gates.{Extends};
-ghost use Rattle.rt_totalizer.specs.Cells.{first_cells};
+ghost use Rattle.rt_totalizer.specs.Cells.{first_cells, IsLeftOut};
 ghost use Rattle.rt_totalizer.specs.Outputs.{CountsFirst, CountsRows, first_at};
 
-use crate::cells::{Cells, MOST_VARIABLES, with_row};
+use crate::cells::{Cells, MOST_VARIABLES, after_row};
 use rt_clause::{Adds, Lit, LitList, Named, gate};
-use rt_value::{List, NoMemory};
+use rt_value::{Keep, List, NoMemory};
 use std::alloc::Global;
 
 /// The literals of a counter: the j-th output, counted from 1, is true exactly where at least j rows
@@ -74,6 +74,32 @@ pub fn count<A: Adds>(
     ensures firsts { IfOk result (λ o. CountsFirst named.old.rows upto named.new.next (A.lines to.new) o.firsts) }
     ensures err { OnErr result (named.new ≡ named.old) }
 {
+    let all = Keep::all(alloc, named.rows(), true)?;
+    count_among(alloc, &all, upto, named, to)
+}
+
+/// As `count`, where the clauses so far leave all rows out but some: only these take variables and
+/// clauses.
+pub fn count_among<A: Adds>(
+    alloc: Global,
+    among: &Keep,
+    upto: usize,
+    named: &mut Named,
+    to: &mut A,
+) -> Result<Outputs, NoMemory>
+    requires long { length among.now ≡ named.old.rows }
+    requires out { (row : ℕ) → row < named.old.rows → IsLeftOut among.now row (A.lines to.old) }
+    requires upto { upto ≤ named.old.rows }
+    requires below { AreBelow named.old.next (A.lines to.old) }
+    ensures rows { named.new.rows ≡ named.old.rows }
+    ensures goal { named.new.goal ≡ named.old.goal }
+    ensures len { IfOk result (λ o. length o.outs ≡ upto) }
+    ensures low { IfOk result (λ o. IsBelow named.new.next o.outs) }
+    ensures extends { IfOk result (λ _. Extends (A.lines to.old) named.old.next (A.lines to.new) named.new.next) }
+    ensures counts { IfOk result (λ o. CountsRows named.old.rows (A.lines to.new) o.outs) }
+    ensures firsts { IfOk result (λ o. CountsFirst named.old.rows upto named.new.next (A.lines to.new) o.firsts) }
+    ensures err { OnErr result (named.new ≡ named.old) }
+{
     let start = named.next();
     if start >= MOST_VARIABLES {
         return Err(NoMemory);
@@ -87,7 +113,7 @@ pub fn count<A: Adds>(
     let mut firsts: List<LitList> = List::new(alloc);
     firsts.push(List::from_slice(alloc, cells.list.as_slice())?)?;
     for row in 0..named.rows() {
-        cells = with_row(alloc, row, &cells, to)?;
+        cells = after_row(alloc, among, row, cells, to)?;
         firsts.push(List::from_slice(alloc, cells.list.as_slice())?)?;
     }
     let outs = rest(alloc, &cells.list)?;

@@ -10,4 +10,4 @@ mod cell;
 mod cells;
 mod counter;
 
-pub use counter::{Outputs, count};
+pub use counter::{Outputs, count, count_among};

@@ -1,4 +1,4 @@
-use Rattle.std.proofs.Common.{◌<◌, ◌∙◌, None, sym, subst, arith}
+use Rattle.std.proofs.Common.{◌<◌, ◌∙◌, None, refl, sym, subst, arith}
 use Rattle.rt_clause.specs.Refuting.{IsRefuted}
 use Rattle.rt_solver.specs.declared.solver.Found.{Found}
 use Rattle.rt_derive.specs.declared.checker.Checker.{Checker}
@@ -8,15 +8,21 @@ use Rattle.rt_search.proofs.Attempts.{aimed-grown}
 use Rattle.rt_search.proofs.Rounds.{none-spent}
 use Rattle.rt_search.proofs.search.within.Goals as goal
 
-pub count-requires-clause-below : goal.count-requires-clause-below
-count-requires-clause-below c =
+pub count_among-requires-clause-below : goal.count_among-requires-clause-below
+count_among-requires-clause-below c =
     let a = c.requires.aimed in
     (aimed-grown c.args.dag.now c.args.goal c.args.cone.now _ _ None c.args.named.next c.next.result c.next.ensures tt a c.in_ok-model.ensures.grown).below
+
+pub count_among-requires-clause-out : goal.count_among-requires-clause-out
+count_among-requires-clause-out c row below off bools m =
+    let r = c.requires.rows in
+    let a = aimed-grown c.args.dag.now c.args.goal c.args.cone.now _ _ None c.args.named.next c.next.result c.next.ensures tt c.requires.aimed c.in_ok-model.ensures.grown in
+    (a.sound bools bools (λ v h. refl) m).1 row (omega (arith, below, r)) off
 
 pub lower-requires-clause-aimed : goal.lower-requires-clause-aimed
 lower-requires-clause-aimed c =
     let a = c.requires.aimed in
-    aimed-extends c.args.dag.now c.args.goal c.args.cone.now _ _ c.args.named.next c.count.new.named.next
+    aimed-extends c.args.dag.now c.args.goal c.args.cone.now _ _ c.args.named.next c.count_among.new.named.next
     (aimed-grown c.args.dag.now c.args.goal c.args.cone.now _ _ None c.args.named.next c.next.result c.next.ensures tt a c.in_ok-model.ensures.grown) c.in_ok-counter-in-Model.ensures.extends
 
 pub lower-requires-clause-counted : goal.lower-requires-clause-counted

@@ -1,7 +1,7 @@
 use Rattle.std.proofs.Common.{◌≡◌, ◌+◌, ◌≤◌, ◌^◌, length}
 use Rattle.rt_totalizer.specs.Outputs.{CountsFirst}
 use Rattle.rt_totalizer.proofs.Totals.{IsCounter}
-use Rattle.rt_totalizer.proofs.counter.count.Given as goal
+use Rattle.rt_totalizer.proofs.counter.count_among.Given as goal
 
 abbrev pub invariant-loop-row : goal.invariant-loop-row
 invariant-loop-row g l = record {
