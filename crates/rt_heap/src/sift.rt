@@ -49,7 +49,8 @@ fn first_below(order: &Order, counters: &[u64], place: usize, count: usize) -> u
     }
 }
 
-/// Moves the first variable down while one of those below it, up to a count, comes before it.
+/// Moves the first variable to where it belongs among those up to a count: down to the end of the
+/// path of those that come first, and from there up, since it mostly belongs near the end.
 pub(crate) fn sift_down(order: &mut Order, counters: &[u64], count: usize)
     requires within { count ≤ length order.old }
     requires counted { length order.old ≤ length counters.now }
@@ -58,10 +59,10 @@ pub(crate) fn sift_down(order: &mut Order, counters: &[u64], count: usize)
     let mut place = 0;
     while place < count / 2 {
         let below = first_below(order, counters, place, count);
-        if !is_before(order, counters, below, place) {
-            break;
-        }
         order.swap(place, below);
         place = below;
+    }
+    if place < count {
+        sift_up(order, counters, place);
     }
 }
