@@ -1,6 +1,6 @@
 //! Set operators.
 
-ghost use Rattle.std.specs.Prelude.{◌≡◌, ◌++◌, IfOk};
+ghost use Rattle.std.specs.Prelude.{◌≡◌, IfOk};
 ghost use Rattle.rt_resolve.specs.Relations as spec;
 ghost use Rattle.rt_scope.specs.Fault.{is_memory};
 ghost use Rattle.rt_value.specs.Gives.{Gives};
@@ -19,38 +19,40 @@ fn wider(alloc: Global, column: &Column, other: &Column) -> Result<Column, NoMem
     Ok(wider)
 }
 
-// The columns of two operands, after those so far.
-fn widened(
-    alloc: Global,
-    so_far: List<Column>,
-    columns: &[Column],
-    others: &[Column],
-) -> Result<List<Column>, NoMemory>
-    ensures { IfOk result (λ all. all ≡ so_far ++ spec.widened columns.now others.now) }
+// The columns of two operands, as many as the shorter one has.
+fn widened(alloc: Global, columns: &[Column], others: &[Column]) -> Result<List<Column>, NoMemory>
+    ensures { IfOk result (λ all. all ≡ spec.widened columns.now others.now) }
 {
-    match columns {
-        [] => Ok(so_far),
-        [column, columns @ ..] => match others {
-            [] => Ok(so_far),
-            [other, others @ ..] => {
-                let mut all = so_far;
-                all.push(wider(alloc, column, other)?)?;
-                widened(alloc, all, columns, others)
-            }
-        },
+    let mut all = List::new(alloc);
+    let mut left = columns;
+    let mut right = others;
+    'columns: while let [column, left_rest @ ..] = left {
+        let [other, right_rest @ ..] = right else {
+            return Ok(all);
+        };
+        all.push(wider(alloc, column, other)?)?;
+        left = left_rest;
+        right = right_rest;
     }
+    Ok(all)
 }
 
 fn same_kinds(columns: &[Column], others: &[Column]) -> bool
     ensures { result ≡ spec.same_kinds columns.now others.now }
 {
-    match columns {
-        [] => true,
-        [column, columns @ ..] => match others {
-            [] => true,
-            [other, others @ ..] => column.kind == other.kind && same_kinds(columns, others),
-        },
+    let mut left = columns;
+    let mut right = others;
+    'columns: while let [column, left_rest @ ..] = left {
+        let [other, right_rest @ ..] = right else {
+            return true;
+        };
+        if column.kind != other.kind {
+            return false;
+        }
+        left = left_rest;
+        right = right_rest;
     }
+    true
 }
 
 // The columns of two operands under a set operator.
@@ -67,7 +69,7 @@ fn united_columns(
     if !same_kinds(columns, others) {
         return Err(NameFault::TypeMismatch);
     }
-    Ok(widened(alloc, List::new(alloc), columns, others)?)
+    Ok(widened(alloc, columns, others)?)
 }
 
 /// INTERSECT.

@@ -8,13 +8,19 @@ use rt_scope::NameFault;
 fn same_kinds(kinds: &[ColKind], others: &[ColKind]) -> bool
     ensures { result ≡ same_kinds kinds.now others.now }
 {
-    match kinds {
-        [] => others.is_empty(),
-        [kind, kinds @ ..] => match others {
-            [] => false,
-            [other, others @ ..] => *kind == *other && same_kinds(kinds, others),
-        },
+    let mut left = kinds;
+    let mut right = others;
+    'kinds: while let [kind, left_rest @ ..] = left {
+        let [other, right_rest @ ..] = right else {
+            return false;
+        };
+        if *kind != *other {
+            return false;
+        }
+        left = left_rest;
+        right = right_rest;
     }
+    right.is_empty()
 }
 
 /// Whether two queries have the same number of columns, and columns of the same kinds.

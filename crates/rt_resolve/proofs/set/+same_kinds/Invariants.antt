@@ -1,5 +1,0 @@
-use Rattle.std.proofs.Common.{length}
-use Rattle.rt_resolve.proofs.set.+same_kinds.Given as goal
-
-abbrev pub decreases-same_kinds : goal.decreases-same_kinds
-decreases-same_kinds l = length l.columns.now
