@@ -5,12 +5,12 @@ use Rattle.std.proofs.lemmas.List.{length-map}
 use Rattle.rt_algebra.specs.Typed.{IsTypedOf, are_columns}
 use Rattle.rt_algebra.specs.declared.typed.Typed.{Typed}
 use Rattle.rt_resolve.specs.Chains.{chain, lowered}
-use Rattle.rt_resolve.specs.Relations.{Tables, typed_of}
-use Rattle.rt_resolve.specs.declared.relation.Relation.{Relation}
+use Rattle.rt_relation.specs.Relations.{Tables, typed_of}
+use Rattle.rt_relation.specs.declared.relation.Relation.{Relation}
 use Rattle.rt_resolve.proofs.Inductive.{chain-typed}
-use Rattle.rt_resolve.proofs.Sets.{IsTypedRelation}
+use Rattle.rt_relation.proofs.Sets.{IsTypedRelation}
 use Rattle.rt_resolve.proofs.Shaped.{kind-self}
-use Rattle.rt_resolve.proofs.Sources.{tables_of}
+use Rattle.rt_relation.proofs.Sources.{tables_of}
 use Rattle.rt_scope.specs.Fault.{is_memory}
 use Rattle.rt_scope.specs.declared.column.Column.{Column}
 use Rattle.rt_scope.specs.declared.fault.NameFault.{NameFault}

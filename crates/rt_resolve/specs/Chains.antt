@@ -3,29 +3,23 @@
 --
 -- The walk goes from the left and the first fault ends it. The trees reach themselves, so each word
 -- is said for one layer, with the meanings of its parts, and folded over the tree.
-use Rattle.std.specs.Prelude.{ℕ, ◌+◌, Bool, length, drop, is_some, List, [], ◌∷◌, ◌++◌, map, Option, Some, None, Result, Ok, Err, if◌then◌else◌, Vec}
-use Rattle.std.specs.Borrow.{Bor}
-use Rattle.std.specs.declared.alloc.Global.{Global}
+use Rattle.std.specs.Prelude.{ℕ, Bool, length, drop, List, [], ◌∷◌, Option, Some, None, Result, Ok}
 use Rattle.rt_algebra.specs.declared.query.Pred.{Pred}
 use Rattle.rt_algebra.specs.declared.query.Pred.TheVariants as p
-use Rattle.rt_algebra.specs.declared.query.Query.{Query}
-use Rattle.rt_algebra.specs.declared.query.Query.TheVariants as q
 use Rattle.rt_algebra.specs.declared.typed.Typed.{Typed}
-use Rattle.rt_resolve.specs.Conditions.{all_of, any_of, between_test, comparison, list_test, member, null_test, one_more, only}
-use Rattle.rt_resolve.specs.Relations.{Tables, alias_or, intersected, table_named, typed_of, united}
-use Rattle.rt_resolve.specs.declared.condition.Members.{Members}
-use Rattle.rt_resolve.specs.declared.from.FromClause.{FromClause}
-use Rattle.rt_resolve.specs.declared.relation.Relation.{Relation}
-use Rattle.rt_resolve.specs.declared.relation.TableRef.{TableRef}
+use Rattle.rt_relation.specs.Conditions.{all_of, any_of, between_test, comparison, list_test, member, null_test, one_more, only}
+use Rattle.rt_relation.specs.Relations.{Tables, alias_or, intersected, table_named, typed_of, united}
+use Rattle.rt_relation.specs.Sources.{no_sources, select_of, with_base, with_cond}
+use Rattle.rt_relation.specs.declared.condition.Members.{Members}
+use Rattle.rt_relation.specs.declared.from.FromClause.{FromClause}
+use Rattle.rt_relation.specs.declared.relation.Relation.{Relation}
+use Rattle.rt_relation.specs.declared.relation.TableRef.{TableRef}
 use Rattle.rt_scope.specs.Compare.{negated}
 use Rattle.rt_scope.specs.Fault.{◌>>=◌}
-use Rattle.rt_scope.specs.Lookup.{Scopes, source_named}
+use Rattle.rt_scope.specs.Lookup.{Scopes}
 use Rattle.rt_scope.specs.Select.{select_list}
 use Rattle.rt_scope.specs.Sums.{is_odd, sum}
 use Rattle.rt_scope.specs.declared.fault.NameFault.{NameFault}
-use Rattle.rt_scope.specs.declared.fault.NameFault.TheVariants as fault
-use Rattle.rt_scope.specs.declared.select.SelectList.{SelectList}
-use Rattle.rt_scope.specs.declared.source.Source.{Source as Seen}
 use Rattle.rt_tree.specs.declared.tree.Sql.{Sql}
 use Rattle.rt_tree.specs.declared.tree.Sum.{Sum}
 use Rattle.rt_tree.specs.declared.tree.Atom.{Atom}
@@ -66,11 +60,6 @@ JoinOf = FromClause → ℕ → Tables → Scopes → Result FromClause NameFaul
 abbrev pub SourceOf : Type 0
 SourceOf = FromClause → Tables → Scopes → Result FromClause NameFault
 
--- the scopes behind the references of a vector
-abbrev pub scopes_in : Result (Vec (Bor (List Seen)) Global) NameFault → Result Scopes NameFault
-scopes_in (Ok v) = Ok (map (λ s. s.now) v.items)
-scopes_in (Err e) = Err e
-
 -- ---- conditions
 
 -- IN with a query, whose walk comes after that of the expression
@@ -107,30 +96,16 @@ abbrev pub base_step : Base-F Condition BaseOf JoinOf Meaning Meaning LinkOf Con
 base_step (open_.Named n a) db scopes = table_named n.text (alias_or a n.text) 0 db
 base_step (open_.Sub of a) db scopes = of db scopes >>= λ t. Ok (record { name = a.name.text; relation = t })
 
-abbrev pub no_sources : FromClause
-no_sources = record { sources = []; queries = []; conds = []; width = 0 }
-
--- no two sources of a SELECT have the same name
-abbrev pub with_base : FromClause → TableRef → Result FromClause NameFault
-with_base from b =
-    if is_some (source_named b.name from.sources) then Err (fault.DuplicateAlias b.name)
-    else Ok (record {
-      sources = from.sources ++ record { name = b.name; columns = b.relation.columns; start = from.width } ∷ [];
-      queries = from.queries ++ b.relation.query ∷ [];
-      conds = from.conds;
-      width = from.width + length b.relation.columns;
-    })
-
-abbrev pub with_cond : FromClause → Pred → FromClause
-with_cond from c = record from { conds = from.conds ++ c ∷ [] }
-
 -- ON sees the sources from number `own` on, and the scopes around the SELECT
 abbrev pub with_on : FromClause → ℕ → Condition → Tables → Scopes → Result FromClause NameFault
 with_on from own c db scopes = c db (drop own from.sources ∷ scopes) >>= λ cond. Ok (with_cond from cond)
 
+abbrev pub joined_on : FromClause → ℕ → BaseOf → Condition → Tables → Scopes → Result FromClause NameFault
+joined_on from own b c db scopes = b db scopes >>= λ t. with_base from t >>= λ more. with_on more own c db scopes
+
 abbrev pub join_step : Join-F Condition BaseOf JoinOf Meaning Meaning LinkOf Condition Condition Meaning LinkOf Condition Meaning SourceOf → JoinOf
-join_step (open_.Plain b c) from own db scopes = b db scopes >>= λ t. with_base from t >>= λ more. with_on more own c db scopes
-join_step (open_.Inner b c) from own db scopes = b db scopes >>= λ t. with_base from t >>= λ more. with_on more own c db scopes
+join_step (open_.Plain b c) from own db scopes = joined_on from own b c db scopes
+join_step (open_.Inner b c) from own db scopes = joined_on from own b c db scopes
 join_step (open_.Cross b) from own db scopes = b db scopes >>= λ t. with_base from t
 
 abbrev pub joined_all : FromClause → ℕ → List JoinOf → Tables → Scopes → Result FromClause NameFault
@@ -150,20 +125,6 @@ sources_all from (s ∷ ss) db scopes = s from db scopes >>= λ more. sources_al
 abbrev pub where_on : FromClause → Option Condition → Tables → Scopes → Result FromClause NameFault
 where_on from None db scopes = Ok from
 where_on from (Some c) db scopes = c db (from.sources ∷ scopes) >>= λ cond. Ok (with_cond from cond)
-
--- one source is itself
-abbrev pub product_of : List Query → Query
-product_of [] = q.Product []
-product_of (a ∷ []) = a
-product_of (a ∷ b ∷ rest) = q.Product (a ∷ b ∷ rest)
-
--- no condition is no selection
-abbrev pub selected : Query → List Pred → Query
-selected of [] = of
-selected of (c ∷ cs) = q.Select of (all_of (c ∷ cs))
-
-abbrev pub select_of : FromClause → SelectList → Relation
-select_of from list = record { query = q.Project (selected (product_of from.queries) from.conds) list.exprs; columns = list.columns }
 
 abbrev pub pick_step : Pick-F Condition BaseOf JoinOf Meaning Meaning LinkOf Condition Condition Meaning LinkOf Condition Meaning SourceOf → Meaning
 pick_step r db scopes =

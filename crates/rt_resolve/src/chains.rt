@@ -6,15 +6,12 @@ ghost use Rattle.rt_scope.specs.Fault.{is_memory};
 ghost use Rattle.rt_scope.specs.Select as select_spec;
 ghost use Rattle.rt_value.specs.Gives.{Gives};
 
-use crate::block::select_of;
-use crate::condition::{
-    Members, all_of, any_of, between_test, comparison, list_test, member, null_test, one_more, only,
-};
-use crate::from::{FromClause, inner, no_sources, visible, with_base, with_cond};
-use crate::relation::{Relation, TableRef};
-use crate::set::{intersected, united};
-use crate::table::{alias_or, table_named};
 use rt_algebra::Pred;
+use rt_relation::{
+    FromClause, Members, Relation, TableRef, alias_or, all_of, any_of, between_test, comparison,
+    inner, intersected, list_test, member, no_sources, null_test, one_more, only, select_of,
+    table_named, united, visible, with_base, with_cond,
+};
 use rt_schema::Table;
 use rt_scope::{NameFault, SelectList, Source, negated, select_list, sum};
 use rt_tree::{
@@ -182,17 +179,17 @@ fn join(
     match of {
         Join::Plain(b, c) => {
             let next = base(alloc, tables, b, scopes)?;
-            let more = with_base(from, next)?;
+            let more = with_base(alloc, from, next)?;
             on(alloc, tables, more, own, c, scopes)
         }
         Join::Inner(b, c) => {
             let next = base(alloc, tables, b, scopes)?;
-            let more = with_base(from, next)?;
+            let more = with_base(alloc, from, next)?;
             on(alloc, tables, more, own, c, scopes)
         }
         Join::Cross(b) => {
             let next = base(alloc, tables, b, scopes)?;
-            with_base(from, next)
+            with_base(alloc, from, next)
         }
     }
 }
@@ -227,7 +224,7 @@ fn source(
 {
     let own = from.sources.len();
     let head = base(alloc, tables, &of.head, scopes)?;
-    let more = with_base(from, head)?;
+    let more = with_base(alloc, from, head)?;
     joins(alloc, tables, more, own, of.joins.as_slice(), scopes)
 }
 

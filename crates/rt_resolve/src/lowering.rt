@@ -5,8 +5,8 @@ ghost use Rattle.rt_scope.specs.Fault.{is_memory};
 ghost use Rattle.rt_value.specs.Gives.{Gives};
 
 use crate::chains::chain;
-use crate::relation::typed_of;
 use rt_algebra::Typed;
+use rt_relation::typed_of;
 use rt_schema::{Schema, Table};
 use rt_scope::{NameFault, Source};
 use rt_tree::Sql;

@@ -1,6 +1,7 @@
 pub mod Comparing
 pub mod Listing
 pub mod More
+pub mod Naming
 pub mod Standing
 pub mod Steps
 pub mod Summing

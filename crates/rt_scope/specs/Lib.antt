@@ -1,5 +1,6 @@
 pub mod Compare
 pub mod Fault
 pub mod Lookup
+pub mod Names
 pub mod Select
 pub mod Sums

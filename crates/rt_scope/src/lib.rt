@@ -11,6 +11,7 @@ mod lookup;
 mod scalar;
 mod select;
 mod source;
+mod sources;
 mod sums;
 
 pub use column::Column;
@@ -20,4 +21,5 @@ pub use lookup::{Found, Seen, after, find_column, find_qualified};
 pub use scalar::Scalar;
 pub use select::{SelectList, select_list};
 pub use source::{Source, source_named};
+pub use sources::Sources;
 pub use sums::{Factors, Terms, sum};

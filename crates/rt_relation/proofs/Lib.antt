@@ -1,0 +1,4 @@
+pub mod More
+pub mod Sets
+pub mod Sources
+pub mod Tested

@@ -1,0 +1,4 @@
+pub mod Alone
+pub mod Conditions
+pub mod Relations
+pub mod Sources

@@ -1,0 +1,166 @@
+//! Conditions without a subquery, and lists of conditions.
+
+ghost use Rattle.std.specs.Prelude.{◌≡◌, Ok, map, IfOk};
+ghost use Rattle.rt_relation.specs.Conditions as spec;
+ghost use Rattle.rt_scope.specs.Fault.{is_memory};
+ghost use Rattle.rt_value.specs.Gives.{Gives};
+
+use crate::alone::alone;
+use crate::relation::Relation;
+use rt_algebra::Pred;
+use rt_scope::{NameFault, Scalar, Source, comparable, compared, list_items, negated, sum};
+use rt_tree::{Op as OpTree, Sum};
+use rt_value::{Boxed, List, NoMemory, Op};
+use std::alloc::Global;
+
+/// The members of an AND or an OR so far.
+#[derive(Drop)]
+pub struct Members {
+    pub conds: List<Pred>,
+}
+
+/// The members with one more.
+pub fn one_more(so_far: Members, cond: Pred) -> Result<Members, NoMemory>
+    ensures { IfOk result (λ more. more ≡ spec.one_more so_far cond) }
+{
+    let mut conds = so_far.conds;
+    conds.push(cond)?;
+    Ok(Members { conds })
+}
+
+/// The condition alone.
+pub fn only(alloc: Global, cond: Pred) -> Result<Members, NoMemory>
+    ensures { IfOk result (λ all. all ≡ spec.only cond) }
+{
+    let mut conds = List::new(alloc);
+    conds.push(cond)?;
+    Ok(Members { conds })
+}
+
+/// One condition itself, or AND of more.
+#[tactic(auto, using(crate::proofs::More::all_of_more))]
+pub fn all_of(conds: List<Pred>) -> Pred
+    ensures { result ≡ spec.all_of conds }
+{
+    match alone(conds) {
+        Ok(cond) => cond,
+        Err(conds) => Pred::And(conds),
+    }
+}
+
+/// One condition itself, or OR of more.
+#[tactic(auto, using(crate::proofs::More::any_of_more))]
+pub fn any_of(conds: List<Pred>) -> Pred
+    ensures { result ≡ spec.any_of conds }
+{
+    match alone(conds) {
+        Ok(cond) => cond,
+        Err(conds) => Pred::Or(conds),
+    }
+}
+
+fn op_of(op: OpTree) -> Op
+    ensures { result ≡ spec.op_of op }
+{
+    match op {
+        OpTree::Eq => Op::Eq,
+        OpTree::Ne => Op::Ne,
+        OpTree::Lt => Op::Lt,
+        OpTree::Le => Op::Le,
+        OpTree::Gt => Op::Gt,
+        OpTree::Ge => Op::Ge,
+    }
+}
+
+/// A comparison of two sums.
+pub fn comparison(
+    alloc: Global,
+    a: &Sum,
+    op: OpTree,
+    b: &Sum,
+    scopes: &[&[Source]],
+) -> Result<Pred, NameFault>
+    ensures { Gives is_memory result (spec.comparison a.now op b.now (map (λ s. s.now) scopes.now)) }
+{
+    let x = sum(alloc, a, scopes)?;
+    let y = sum(alloc, b, scopes)?;
+    compared(op_of(op), x, y)
+}
+
+/// IS NULL.
+pub fn null_test(alloc: Global, a: &Sum, not: bool, scopes: &[&[Source]]) -> Result<Pred, NameFault>
+    ensures { Gives is_memory result (spec.null_test a.now not (map (λ s. s.now) scopes.now)) }
+{
+    let x = sum(alloc, a, scopes)?;
+    negated(alloc, not, Pred::IsNull(x.expr))
+}
+
+/// IN with a list.
+pub fn list_test(
+    alloc: Global,
+    a: &Sum,
+    not: bool,
+    head: &Sum,
+    tail: &[Sum],
+    scopes: &[&[Source]],
+) -> Result<Pred, NameFault>
+    ensures { Gives is_memory result (spec.list_test a.now not head.now tail.now (map (λ s. s.now) scopes.now)) }
+{
+    let x = sum(alloc, a, scopes)?;
+    let items = list_items(alloc, x.kind, head, tail, scopes)?;
+    negated(alloc, not, Pred::OneOf(x.expr, items))
+}
+
+fn both(alloc: Global, low: Pred, high: Pred) -> Result<Pred, NoMemory>
+    ensures { IfOk result (λ c. c ≡ spec.both low high) }
+{
+    let mut conds = List::new(alloc);
+    conds.push(low)?;
+    conds.push(high)?;
+    Ok(Pred::And(conds))
+}
+
+// The first with the third, then the second, which is the same, with the last.
+fn between(alloc: Global, x: Scalar, again: Scalar, y: Scalar, z: Scalar) -> Result<Pred, NameFault>
+    requires { again ≡ x }
+    ensures { Gives is_memory result (spec.between x y z) }
+{
+    let low = compared(Op::Ge, x, y)?;
+    let high = compared(Op::Le, again, z)?;
+    Ok(both(alloc, low, high)?)
+}
+
+/// BETWEEN. The first sum stands in both comparisons, so it is lowered twice.
+pub fn between_test(
+    alloc: Global,
+    a: &Sum,
+    not: bool,
+    b: &Sum,
+    c: &Sum,
+    scopes: &[&[Source]],
+) -> Result<Pred, NameFault>
+    ensures { Gives is_memory result (spec.between_test a.now not b.now c.now (map (λ s. s.now) scopes.now)) }
+{
+    let x = sum(alloc, a, scopes)?;
+    let again = sum(alloc, a, scopes)?;
+    let y = sum(alloc, b, scopes)?;
+    let z = sum(alloc, c, scopes)?;
+    let within = between(alloc, x, again, y, z)?;
+    negated(alloc, not, within)
+}
+
+/// IN with a query.
+pub fn member(alloc: Global, x: Scalar, of: Relation) -> Result<Pred, NameFault>
+    ensures { Gives is_memory result (spec.member x of) }
+{
+    match of.columns.as_slice() {
+        [only] => {
+            if comparable(x.kind, Some(only.kind)) {
+                Ok(Pred::Member(x.expr, Boxed::new(alloc, of.query)?))
+            } else {
+                Err(NameFault::TypeMismatch)
+            }
+        }
+        _ => Err(NameFault::Columns),
+    }
+}

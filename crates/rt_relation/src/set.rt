@@ -1,0 +1,101 @@
+//! Set operators.
+
+ghost use Rattle.std.specs.Prelude.{◌≡◌, IfOk};
+ghost use Rattle.rt_relation.specs.Relations as spec;
+ghost use Rattle.rt_scope.specs.Fault.{is_memory};
+ghost use Rattle.rt_value.specs.Gives.{Gives};
+
+use crate::relation::Relation;
+use rt_algebra::Query;
+use rt_scope::{Column, NameFault};
+use rt_value::{Boxed, List, NoMemory};
+use std::alloc::Global;
+
+fn wider(alloc: Global, column: &Column, other: &Column) -> Result<Column, NoMemory>
+    ensures { IfOk result (λ c. c ≡ spec.wider column.now other.now) }
+{
+    let mut wider = column.copy(alloc)?;
+    wider.bound = column.bound.max(other.bound);
+    Ok(wider)
+}
+
+// The columns of two operands, as many as the shorter one has.
+fn widened(alloc: Global, columns: &[Column], others: &[Column]) -> Result<List<Column>, NoMemory>
+    ensures { IfOk result (λ all. all ≡ spec.widened columns.now others.now) }
+{
+    let mut all = List::new(alloc);
+    let mut left = columns;
+    let mut right = others;
+    'columns: while let [column, left_rest @ ..] = left {
+        let [other, right_rest @ ..] = right else {
+            return Ok(all);
+        };
+        all.push(wider(alloc, column, other)?)?;
+        left = left_rest;
+        right = right_rest;
+    }
+    Ok(all)
+}
+
+fn same_kinds(columns: &[Column], others: &[Column]) -> bool
+    ensures { result ≡ spec.same_kinds columns.now others.now }
+{
+    let mut left = columns;
+    let mut right = others;
+    'columns: while let [column, left_rest @ ..] = left {
+        let [other, right_rest @ ..] = right else {
+            return true;
+        };
+        if column.kind != other.kind {
+            return false;
+        }
+        left = left_rest;
+        right = right_rest;
+    }
+    true
+}
+
+// The columns of two operands under a set operator.
+fn united_columns(
+    alloc: Global,
+    columns: &[Column],
+    others: &[Column],
+) -> Result<List<Column>, NameFault>
+    ensures { Gives is_memory result (spec.united_columns columns.now others.now) }
+{
+    if columns.len() != others.len() {
+        return Err(NameFault::Columns);
+    }
+    if !same_kinds(columns, others) {
+        return Err(NameFault::TypeMismatch);
+    }
+    Ok(widened(alloc, columns, others)?)
+}
+
+/// INTERSECT.
+pub fn intersected(alloc: Global, t: Relation, u: Relation) -> Result<Relation, NameFault>
+    ensures { Gives is_memory result (spec.intersected t u) }
+{
+    let columns = united_columns(alloc, t.columns.as_slice(), u.columns.as_slice())?;
+    let a = Boxed::new(alloc, t.query)?;
+    let b = Boxed::new(alloc, u.query)?;
+    Ok(Relation {
+        query: Query::Intersect(a, b),
+        columns,
+    })
+}
+
+/// EXCEPT or UNION.
+pub fn united(alloc: Global, except: bool, t: Relation, u: Relation) -> Result<Relation, NameFault>
+    ensures { Gives is_memory result (spec.united except t u) }
+{
+    let columns = united_columns(alloc, t.columns.as_slice(), u.columns.as_slice())?;
+    let a = Boxed::new(alloc, t.query)?;
+    let b = Boxed::new(alloc, u.query)?;
+    let query = if except {
+        Query::Except(a, b)
+    } else {
+        Query::Union(a, b)
+    };
+    Ok(Relation { query, columns })
+}

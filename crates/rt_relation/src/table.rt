@@ -1,0 +1,74 @@
+//! Tables of the schema.
+
+ghost use Rattle.std.specs.Prelude.{◌≡◌, IfOk};
+ghost use Rattle.rt_relation.specs.Relations as spec;
+ghost use Rattle.rt_scope.specs.Fault.{is_memory};
+ghost use Rattle.rt_value.specs.Gives.{Gives};
+
+use crate::relation::{Relation, TableRef};
+use rt_algebra::Query;
+use rt_schema::{ColKind, Column as TableColumn, Table};
+use rt_scope::{Column, NameFault, after};
+use rt_tree::Alias;
+use rt_value::{List, NoMemory, Txt};
+use std::alloc::Global;
+
+fn table_column(alloc: Global, column: &TableColumn) -> Result<Column, NoMemory>
+    ensures { IfOk result (λ c. c ≡ spec.table_column column.now) }
+{
+    let bound = match column.kind {
+        ColKind::Whole => 9_223_372_036_854_775_808,
+        ColKind::Text => 0,
+    };
+    Ok(Column {
+        name: Some(column.name.copy(alloc)?),
+        kind: column.kind,
+        bound,
+    })
+}
+
+fn table_columns(alloc: Global, columns: &[TableColumn]) -> Result<List<Column>, NoMemory>
+    ensures { IfOk result (λ all. all ≡ spec.table_columns columns.now) }
+{
+    let mut all = List::new(alloc);
+    for column in columns {
+        all.push(table_column(alloc, column)?)?;
+    }
+    Ok(all)
+}
+
+/// The table of this name, under its own name in the query. The first of the tables has the number
+/// `first`.
+pub fn table_named(
+    alloc: Global,
+    table: &Txt,
+    name: Txt,
+    first: usize,
+    tables: &[Table],
+) -> Result<TableRef, NameFault>
+    ensures { Gives is_memory result (spec.table_named table.now name first tables.now) }
+{
+    let mut at = first;
+    for next in tables {
+        if next.name == *table {
+            let columns = table_columns(alloc, next.columns.as_slice())?;
+            let query = Query::Table(at);
+            return Ok(TableRef {
+                name,
+                relation: Relation { query, columns },
+            });
+        }
+        at = after(at)?;
+    }
+    Err(NameFault::UnknownTable(table.copy(alloc)?))
+}
+
+/// An alias, or else the table's name.
+pub fn alias_or(alloc: Global, alias: &Option<Alias>, name: &Txt) -> Result<Txt, NoMemory>
+    ensures { IfOk result (λ own. own ≡ spec.alias_or alias.now name.now) }
+{
+    match alias {
+        Some(alias) => alias.name.text.copy(alloc),
+        None => name.copy(alloc),
+    }
+}
