@@ -60,16 +60,38 @@ fn names_of(alloc: Global, columns: &[Column]) -> Result<List<Option<Txt>>, NoMe
     Ok(names)
 }
 
+// The kinds, bounds and names of columns.
+#[derive(Drop)]
+struct Heads {
+    kinds: List<ColKind>,
+    bounds: List<u128>,
+    names: List<Option<Txt>>,
+}
+
+fn heads_of(alloc: Global, columns: &[Column]) -> Result<Heads, NoMemory>
+    ensures { IfOk result (λ heads. heads ≡ record { kinds = map (λ c. c.kind) columns.now; bounds = map (λ c. c.bound) columns.now; names = map (λ c. c.name) columns.now }) }
+{
+    let kinds = kinds_of(alloc, columns)?;
+    let bounds = bounds_of(alloc, columns)?;
+    let names = names_of(alloc, columns)?;
+    Ok(Heads {
+        kinds,
+        bounds,
+        names,
+    })
+}
+
 /// The query with the kinds, bounds and names of its columns.
 pub fn typed_of(alloc: Global, relation: Relation) -> Result<Typed, NoMemory>
     ensures { IfOk result (λ typed. typed ≡ spec.typed_of relation) }
 {
-    let Relation { query, columns } = relation;
-    let kinds = kinds_of(alloc, columns.as_slice())?;
-    let bounds = bounds_of(alloc, columns.as_slice())?;
-    let names = names_of(alloc, columns.as_slice())?;
+    let Heads {
+        kinds,
+        bounds,
+        names,
+    } = heads_of(alloc, relation.columns.as_slice())?;
     Ok(Typed {
-        query,
+        query: relation.query,
         kinds,
         bounds,
         names,

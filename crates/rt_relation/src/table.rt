@@ -37,6 +37,17 @@ fn table_columns(alloc: Global, columns: &[TableColumn]) -> Result<List<Column>,
     Ok(all)
 }
 
+fn table_ref(alloc: Global, name: Txt, at: usize, table: &Table) -> Result<TableRef, NoMemory>
+    ensures { IfOk result (λ t. t ≡ spec.table_ref name at table.now) }
+{
+    let columns = table_columns(alloc, table.columns.as_slice())?;
+    let query = Query::Table(at);
+    Ok(TableRef {
+        name,
+        relation: Relation { query, columns },
+    })
+}
+
 /// The table of this name, under its own name in the query. The first of the tables has the number
 /// `first`.
 pub fn table_named(
@@ -51,12 +62,7 @@ pub fn table_named(
     let mut at = first;
     for next in tables {
         if next.name == *table {
-            let columns = table_columns(alloc, next.columns.as_slice())?;
-            let query = Query::Table(at);
-            return Ok(TableRef {
-                name,
-                relation: Relation { query, columns },
-            });
+            return Ok(table_ref(alloc, name, at, next)?);
         }
         at = after(at)?;
     }
