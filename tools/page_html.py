@@ -42,7 +42,7 @@ def page(title, answers):
 <meta charset="utf-8">
 <meta name="viewport" content="width=device-width, initial-scale=1">
 <meta name="color-scheme" content="light dark">
-<title>{shown(title)}: {summary}</title>
+<title>{shown(title)}, {summary}</title>
 <link rel="icon" href="data:,">
 <style>
 {style}</style>
