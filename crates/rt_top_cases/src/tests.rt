@@ -8,6 +8,7 @@ use std::test::Fail;
 mod annotated;
 mod choices;
 mod compared;
+mod failing;
 mod generated;
 mod nodes;
 mod refused;

@@ -23,9 +23,10 @@ pub(super) const ONE: &str =
     "SELECT s.name FROM student s, reg r WHERE s.name = r.name AND r.dept = 'CS' EXCEPT SELECT s.name FROM student s, reg r1, reg r2 WHERE s.name = r1.name AND s.name = r2.name AND r1.course <> r2.course AND r1.dept = 'CS' AND r2.dept = 'CS'";
 
 /// The students with a course of CS.
-const SOME: &str = "SELECT s.name FROM student s, reg r WHERE s.name = r.name AND r.dept = 'CS'";
+pub(super) const SOME: &str =
+    "SELECT s.name FROM student s, reg r WHERE s.name = r.name AND r.dept = 'CS'";
 
-const MARY: &str =
+pub(super) const MARY: &str =
     "witness: 3\nstudent 1: 'Mary', 'CS'\nreg 1: 'Mary', 216, 'CS', 100\nreg 2: 'Mary', 230, 'CS', 75\nonly query 1: 0\nonly query 2: 1\n  'Mary'\nboth: 0\n";
 
 pub(super) const ABC: &str =
