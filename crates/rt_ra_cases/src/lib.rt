@@ -1,0 +1,7 @@
+//! The tests of algebra texts: what is read, and what is refused.
+//!
+//! They stand in a crate of their own, since a crate with tests is proved twice.
+#![tactic(auto)]
+
+#[cfg(test)]
+mod reads;

@@ -1,0 +1,84 @@
+use rt_ra_tree::{RaFault, parse_ra};
+use rt_token::tokens;
+use std::alloc::Global;
+
+#[derive(Clone, Copy, PartialEq, Eq, Debug)]
+enum Told {
+    Formed,
+    Deep,
+    Syntax(usize),
+    Other,
+}
+
+fn answer_of(alloc: Global, text: &str) -> Told {
+    let Ok(tokens) = tokens(alloc, text.as_bytes()) else {
+        return Told::Other;
+    };
+    match parse_ra(alloc, tokens.as_slice()) {
+        Ok(_) => Told::Formed,
+        Err(RaFault::TooDeep) => Told::Deep,
+        Err(RaFault::Syntax(at)) => Told::Syntax(at),
+        Err(_) => Told::Other,
+    }
+}
+
+// The word of an operator that isn't reserved is a name where no parenthesis follows it, and so is
+// a quoted one always.
+#[test]
+fn reads_each_rule(rt: HostRuntime) {
+    for text in [
+        "u;",
+        "\"u\"",
+        "select(t, a = -1 AND b IS NOT NULL AND 2 <> b)",
+        "select(t, a <= b AND a IS NULL AND 'x' < a)",
+        "PROJECT(rename(t, (semi, \"semi\")), (a))",
+        "rename(t, (divide, \"join\"))",
+        "divide",
+        "semi(semi, \"join\")",
+        "cross(anti(a, b), leftjoin(join(c, d), divide(e, f)))",
+        "union(except(a, b), intersect(c, d));",
+    ] {
+        assert_eq!(rt; answer_of(rt.alloc(), text), Told::Formed, "{text}");
+    }
+}
+
+#[test]
+fn refuses_other_texts(rt: HostRuntime) {
+    for (text, at) in [
+        ("", 0usize),
+        ("join", 0),
+        ("\"semi\"(t, u)", 6),
+        ("semi(t)", 6),
+        ("project(t, ())", 12),
+        ("select(t, a = - 'x')", 16),
+        ("select(t, a = 1 OR a = 2)", 16),
+        ("t;;", 2),
+    ] {
+        assert_eq!(rt; answer_of(rt.alloc(), text), Told::Syntax(at), "{text}");
+    }
+}
+
+// 64 open parentheses, and 8 words whose operators repeat their operands, are not too deep.
+#[test]
+fn refuses_what_is_too_deep(rt: HostRuntime) {
+    for (text, wanted) in [
+        (
+            "((((((((((((((((((((((((((((((((((((((((((((((((((((((((((((((((",
+            Told::Syntax(0),
+        ),
+        (
+            "(((((((((((((((((((((((((((((((((((((((((((((((((((((((((((((((((",
+            Told::Deep,
+        ),
+        (
+            "divide divide divide divide leftjoin leftjoin leftjoin leftjoin \"divide\" u",
+            Told::Syntax(7),
+        ),
+        (
+            "divide divide divide divide leftjoin leftjoin leftjoin leftjoin divide u",
+            Told::Deep,
+        ),
+    ] {
+        assert_eq!(rt; answer_of(rt.alloc(), text), wanted, "{text}");
+    }
+}
