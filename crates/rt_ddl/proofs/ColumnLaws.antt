@@ -1,10 +1,9 @@
 -- Names, kinds and the rules of a column: each reader keeps to the spelling.
-use Rattle.std.proofs.Common.{◌≡◌, ◌∙◌, ◌≤◌, ◌<◌, ◌+◌, sym, ap, subst, ℕ, ℤ, List, [], ◌∷◌, ◌++◌, length, refl, Bool, true, false, Option, Some, None, append_assoc, arith, ◌==◌}
+use Rattle.std.proofs.Common.{◌≡◌, ◌≤◌, ◌<◌, ◌+◌, ap, ℕ, ℤ, List, [], ◌∷◌, ◌++◌, length, refl, true, false, Option, Some, None, arith}
 use Rattle.std.specs.Prelude.{codes}
 use Rattle.std.specs.List.{flat_map}
-use Rattle.rt_grammar.specs.Readers.{Parser, alternative, both, done, lead, lead_word, list_of, made, no_other, optional, paren, read_name, starts, word_alternative}
+use Rattle.rt_grammar.specs.Readers.{Parser, both, done, lead, lead_word, list_of, made, no_other, optional, paren, read_name, starts}
 use Rattle.rt_grammar.specs.Terminals.{Kinds, code, front, in_paren, maybe}
-use Rattle.rt_grammar.specs.declared.fixed.Fixed.{Fixed}
 use Rattle.rt_grammar.specs.declared.fixed.Fixed.TheVariants as fixed
 use Rattle.rt_grammar.specs.declared.terminal.Name.{Name}
 use Rattle.rt_grammar.specs.declared.terminal.Terminal.TheVariants as terminal

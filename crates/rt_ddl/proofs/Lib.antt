@@ -1,6 +1,9 @@
 pub mod ColumnLaws
+pub mod MatchLemmas
+pub mod PlaceLemmas
 pub mod ReadLemmas
 pub mod SoundLemmas
 pub mod TextLaws
 pub mod TreeLemmas
+pub mod TwiceLemmas
 pub mod WholeLemmas

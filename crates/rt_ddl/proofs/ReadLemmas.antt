@@ -1,7 +1,5 @@
 -- The answers of reading a schema.
-use Rattle.std.proofs.Common.{◌≡◌, ◌∙◌, sym, ap, subst, ℕ, List, [], ◌∷◌, Bool, true, false, refl, Option, Some, None, Result, Ok, Err, cond}
-use Rattle.rt_grammar.specs.Places.{IsPlace}
-use Rattle.rt_grammar.proofs.ManyLemmas.{some-is}
+use Rattle.std.proofs.Common.{◌≡◌, ◌∙◌, sym, subst, ℕ, List, [], ◌∷◌, Bool, true, false, refl, Option, Some, None, Ok, Err}
 use Rattle.rt_schema.specs.declared.table.Table.{Table}
 use Rattle.rt_token.specs.Lexed.{Text, lexed}
 use Rattle.rt_token.specs.Layout.{is_memory as lex_memory}
@@ -10,9 +8,9 @@ use Rattle.rt_token.specs.declared.fault.LexFault.TheVariants as lex
 use Rattle.rt_ddl.specs.LexFaults.{of_lex}
 use Rattle.rt_token.specs.declared.token.Token.{Token}
 use Rattle.rt_value.specs.Gives.{Gives}
-use Rattle.rt_ddl.specs.Meaning.{excess_of, fault_of, given, is_memory, is_ruled, is_wide, mismatched, most, named, or_else, schema_of, table_excess, tables_excess, tables_of, tables_twice, tables_unknown, unless}
+use Rattle.rt_ddl.specs.Meaning.{fault_of, given, is_memory, is_ruled, is_wide, mismatched, named, or_else, schema_of, table_excess, tables_excess, tables_of, tables_twice, tables_unknown, unless}
 use Rattle.rt_ddl.specs.Parts.{table_texts}
-use Rattle.rt_ddl.specs.Read.{Answer, HasTree, IsAnswer, TreeAnswer}
+use Rattle.rt_ddl.specs.Read.{Answer, IsAnswer, TreeAnswer}
 use Rattle.rt_ddl.specs.Spelled.{IsTreeOf}
 use Rattle.rt_ddl.specs.declared.fault.SchemaFault.{SchemaFault}
 use Rattle.rt_ddl.specs.declared.fault.SchemaFault.TheVariants as fault

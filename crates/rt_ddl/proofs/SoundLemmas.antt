@@ -1,15 +1,14 @@
 -- Where no name is unknown and all foreign keys match, the tables are a schema.
-use Rattle.std.proofs.Common.{◌≡◌, ◌∙◌, ◌≤◌, ◌<◌, ◌+◌, sym, ap, subst, ℕ, zero, suc, List, [], ◌∷◌, ◌++◌, length, refl, Bool, true, false, Option, Some, None, cond, arith, map}
-use Rattle.std.specs.Prelude.{◌&&◌, ◌||◌, bytes_eq, nat_lt, slice_get, IsTrue}
-use Rattle.std.specs.List.{flat_map, list_all, list_any}
+use Rattle.std.proofs.Common.{◌≡◌, ◌<◌, sym, subst, ℕ, suc, List, [], ◌∷◌, ◌++◌, length, refl, Bool, true, false, Option, Some, None, cond, arith, map}
+use Rattle.std.specs.Prelude.{◌&&◌, ◌||◌, bytes_eq, nat_lt, IsTrue}
+use Rattle.std.specs.List.{flat_map, list_all}
 use Rattle.std.proofs.lemmas.Bool.Decides.{nat_tests}
 use Rattle.rt_grammar.specs.Terminals.{Word}
-use Rattle.rt_schema.specs.Schema.{foreign_sound, is_sound, rule_sound, table_sound}
-use Rattle.rt_schema.specs.declared.table.Column.{Column}
+use Rattle.rt_schema.specs.Schema.{is_sound, rule_sound, table_sound}
 use Rattle.rt_schema.specs.declared.table.Rule.{Rule}
 use Rattle.rt_schema.specs.declared.table.Rule.TheVariants as made
 use Rattle.rt_schema.specs.declared.table.Table.{Table}
-use Rattle.rt_ddl.specs.Meaning.{column_at, columns_at, columns_of, has_column, key_matches, keys_match, mismatch, mismatched, missing, or_else, part_rules, parts_unknown, part_unknown, rule_unknown, rules_made, table_of, tables_of, tables_unknown, target_unknown, table_named, unknown_column}
+use Rattle.rt_ddl.specs.Meaning.{column_at, columns_at, columns_of, has_column, key_matches, keys_match, mismatch, mismatched, missing, or_else, part_rules, parts_unknown, part_unknown, rule_unknown, rules_made, table_of, tables_of, tables_unknown, unknown_column}
 use Rattle.rt_ddl.specs.declared.parts.Part.{Part}
 use Rattle.rt_ddl.specs.declared.parts.Part.TheVariants as part
 use Rattle.rt_ddl.specs.declared.parts.RuleText.{RuleText}
@@ -137,7 +136,7 @@ tables-made all (t ∷ ts) u m =
     let k = both-none (mismatch (tables_of all) (table_of all t)) (mismatched (tables_of all) (map (table_of all) ts)) m in
     and-intro (table_sound (tables_of all) (table_of all t)) _ (table-made all (tables_of all) t h.0 (if-none (keys_match (tables_of all) (table_of all t)) t.name k.0)) (tables-made all ts h.1 k.1)
 
-pub sound_tables : (ts : List TableText) (tables : List Table) → tables ≡ tables_of ts → tables_unknown ts ts ≡ None → mismatched tables tables ≡ None → IsTrue (is_sound tables)
+pub sound_tables : (ts : List TableText) (tables : List Table) → tables ≡ tables_of ts → tables_unknown ts ts ≡ None → mismatched (tables_of ts) (tables_of ts) ≡ None → IsTrue (is_sound tables)
 sound_tables ts tables e u m =
     subst (λ (tables : List Table). IsTrue (is_sound tables)) (sym e)
-    (subst IsTrue (sym (tables-made ts ts u (subst (λ (tables : List Table). mismatched tables tables ≡ None) e m))) refl)
+    (subst IsTrue (sym (tables-made ts ts u m)) refl)

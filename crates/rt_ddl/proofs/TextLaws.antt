@@ -1,20 +1,19 @@
 -- Rules of tables, tables and the whole text: each reader keeps to the spelling.
-use Rattle.std.proofs.Common.{◌≡◌, ◌∙◌, ◌≤◌, ◌<◌, ◌+◌, sym, ap, subst, ℕ, List, [], ◌∷◌, ◌++◌, length, refl, Bool, true, false, Option, Some, None, append_assoc, arith, ◌==◌, length-append}
+use Rattle.std.proofs.Common.{◌≡◌, ◌∙◌, ◌≤◌, ◌<◌, ◌+◌, sym, ap, subst, ℕ, List, [], ◌∷◌, ◌++◌, length, refl, Bool, true, false, Option, Some, None, arith, length-append}
 use Rattle.std.specs.Prelude.{codes}
 use Rattle.std.specs.List.{flat_map}
-use Rattle.rt_grammar.specs.Readers.{Parser, alternative, both, either, lead, lead_word, list_of, made, no_other, paren, read_end, read_name, starts, step_when}
+use Rattle.rt_grammar.specs.Readers.{Parser, both, either, lead, lead_word, list_of, made, no_other, read_end, read_name}
 use Rattle.rt_grammar.specs.Terminals.{Kinds, code, flag, front, in_paren, maybe}
 use Rattle.rt_grammar.specs.declared.fixed.Fixed.TheVariants as fixed
 use Rattle.rt_grammar.specs.declared.terminal.Name.{Name}
-use Rattle.rt_grammar.specs.declared.terminal.Terminal.{Terminal}
 use Rattle.rt_grammar.specs.declared.terminal.Terminal.TheVariants as terminal
 use Rattle.rt_grammar.proofs.EndLaws.{end-reads, end-sound}
 use Rattle.rt_grammar.proofs.FrontLemmas.{other-nat}
-use Rattle.rt_grammar.proofs.Laws.{Lawful, Sound, alternative-sound, both-law, either-sound, lead-law, lead-word-sound, loose, made-after, made-law, made-sound, no-other-sound, weaker}
+use Rattle.rt_grammar.proofs.Laws.{Sound, alternative-sound, both-law, either-sound, lead-law, lead-word-sound, loose, made-after, made-sound, no-other-sound}
 use Rattle.rt_grammar.proofs.ListLaws.{StepLaw, after-law, follows, list-law, list-reads, when-law}
 use Rattle.rt_grammar.proofs.ManyLemmas.{bind-some, some-is}
 use Rattle.rt_ddl.specs.Reads.{create_of, create_step, foreign_of, is_if, is_table_rule, item_step, read_column, read_constraint, read_create, read_creates, read_foreign, read_item, read_items, read_made, read_maybe_names, read_names, read_table_rule, read_text, rule_of, starts_more}
-use Rattle.rt_ddl.specs.Spelled.{if_not_exists, more, plain_word, spelled, spelled_column, spelled_constraint, spelled_create, spelled_item, spelled_name, spelled_names, spelled_table_rule}
+use Rattle.rt_ddl.specs.Spelled.{if_not_exists, more, spelled, spelled_column, spelled_constraint, spelled_create, spelled_item, spelled_name, spelled_names, spelled_table_rule}
 use Rattle.rt_ddl.specs.declared.tree.Create.{Create}
 use Rattle.rt_ddl.specs.declared.tree.Item.{Item}
 use Rattle.rt_ddl.specs.declared.tree.Item.TheVariants as item

@@ -1,5 +1,5 @@
 -- From terminals to tokens: the tree that they spell, and that there is no other.
-use Rattle.std.proofs.Common.{◌≡◌, ◌∙◌, sym, ap, subst, true, refl, List, Some, None, Option, Result, Ok, Err, map}
+use Rattle.std.proofs.Common.{◌≡◌, ◌∙◌, sym, ap, subst, true, List, Some, None, Result, Ok, Err, map}
 use Rattle.rt_grammar.specs.Reads.{Answers}
 use Rattle.rt_grammar.specs.Terminals.{Kinds}
 use Rattle.rt_grammar.specs.Words.{all_formed, kind_of, kinds, marks}

@@ -1,5 +1,5 @@
 -- The tree that is read is the one that the tokens have, and so the answer is what the text makes.
-use Rattle.std.proofs.Common.{◌≡◌, ◌∙◌, ap, subst, ℕ, List, refl, Option, Some, None, Result, Ok, Err}
+use Rattle.std.proofs.Common.{◌≡◌, ◌∙◌, ap, subst, ℕ, List, refl, Option, Some, None, Ok, Err}
 use Rattle.std.specs.Option.{option_and_then}
 use Rattle.rt_grammar.specs.Terminals.{Kinds}
 use Rattle.rt_grammar.specs.Words.{kinds, marks}
@@ -11,7 +11,7 @@ use Rattle.rt_value.specs.Gives.{Gives}
 use Rattle.rt_ddl.specs.Meaning.{is_memory}
 use Rattle.rt_ddl.specs.Read.{Answer, HasTree, IsAnswer}
 use Rattle.rt_ddl.specs.Reads.{read_text}
-use Rattle.rt_ddl.specs.Spelled.{IsTreeOf, spelled}
+use Rattle.rt_ddl.specs.Spelled.{IsTreeOf}
 use Rattle.rt_ddl.specs.Trees.{TreeRead}
 use Rattle.rt_ddl.specs.Whole.{of_tokens, of_tree, placeless, schema_read, tree_read}
 use Rattle.rt_ddl.specs.declared.fault.SchemaFault.TheVariants as fault

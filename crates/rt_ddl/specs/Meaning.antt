@@ -3,7 +3,7 @@
 -- The faults come in four classes, one after the other over the whole text: a name that stands
 -- twice, a name that is unknown, a foreign key whose columns do not match, and an excess. In a class
 -- the first place in text order decides.
-use Rattle.std.specs.Prelude.{ℕ, zero, suc, ◌+◌, Bool, true, false, if◌then◌else◌, List, [], ◌∷◌, ◌++◌, count_by, length, map, Option, Some, None, Result, Ok, Err, bytes_eq, nat_lt, slice_get}
+use Rattle.std.specs.Prelude.{ℕ, suc, Bool, true, false, if◌then◌else◌, List, [], ◌∷◌, ◌++◌, count_by, length, map, Option, Some, None, Result, Ok, Err, bytes_eq, nat_lt, slice_get}
 use Rattle.std.specs.List.{flat_map, list_all, list_any}
 use Rattle.rt_grammar.specs.Terminals.{Word}
 use Rattle.rt_schema.specs.Schema.{foreign_sound}

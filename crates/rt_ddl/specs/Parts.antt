@@ -3,7 +3,7 @@
 --
 -- IF NOT EXISTS, the number after CHAR or VARCHAR, the rule NULL and the names of constraints have
 -- no effect. A rule that stands with a column is the rule over this one column.
-use Rattle.std.specs.Prelude.{Bool, true, false, List, [], ◌∷◌, ◌++◌, map, Option, Some, None, option_map}
+use Rattle.std.specs.Prelude.{true, false, List, [], ◌∷◌, ◌++◌, map, Option, Some, None, option_map}
 use Rattle.std.specs.List.{flat_map}
 use Rattle.rt_grammar.specs.Terminals.{Word}
 use Rattle.rt_grammar.specs.declared.terminal.Name.{Name}
@@ -15,7 +15,6 @@ use Rattle.rt_ddl.specs.declared.parts.RuleText.{RuleText}
 use Rattle.rt_ddl.specs.declared.parts.RuleText.TheVariants as rule
 use Rattle.rt_ddl.specs.declared.parts.TableText.{TableText}
 use Rattle.rt_ddl.specs.declared.tree.Column.{Column}
-use Rattle.rt_ddl.specs.declared.tree.ColumnConstraint.{ColumnConstraint}
 use Rattle.rt_ddl.specs.declared.tree.ColumnRule.{ColumnRule}
 use Rattle.rt_ddl.specs.declared.tree.ColumnRule.TheVariants as column_rule
 use Rattle.rt_ddl.specs.declared.tree.Create.{Create}

@@ -1,9 +1,9 @@
 -- The grammar of schema texts, as readers of terminals from the left.
 --
 -- Contracts of private functions alone cite them: what a schema text is, `Spelled` says.
-use Rattle.std.specs.Prelude.{◌==◌, ◌&&◌, ◌||◌, ℤ, Bool, true, false, if◌then◌else◌, List, [], ◌∷◌, Option, Some, None, codes}
-use Rattle.rt_grammar.specs.Readers.{Parser, Step, ◌>>=◌, after_word, alternative, both, done, either, lead, lead_word, list_of, made, no_other, optional, paren, read_end, read_name, starts, step_after, step_when, word_alternative}
-use Rattle.rt_grammar.specs.Terminals.{Kinds, code, front, tail_of}
+use Rattle.std.specs.Prelude.{◌&&◌, ◌||◌, ℤ, Bool, true, false, List, [], ◌∷◌, Option, Some, None, codes}
+use Rattle.rt_grammar.specs.Readers.{Parser, Step, ◌>>=◌, alternative, both, done, either, lead, lead_word, list_of, made, no_other, optional, paren, read_end, read_name, starts, step_after, step_when, word_alternative}
+use Rattle.rt_grammar.specs.Terminals.{Kinds, tail_of}
 use Rattle.rt_grammar.specs.declared.fixed.Fixed.TheVariants as fixed
 use Rattle.rt_grammar.specs.declared.terminal.Name.{Name}
 use Rattle.rt_grammar.specs.declared.terminal.Terminal.TheVariants as terminal
@@ -64,13 +64,16 @@ references_of x = column_rule.References x.0 x.1
 unfoldable pub read_references : Parser (Name × Option Name)
 read_references = both read_name (optional (starts fixed.Left) (paren read_name))
 
+abbrev pub read_other_column_rule : Parser ColumnRule
+read_other_column_rule =
+    alternative fixed.Unique (made (λ u. column_rule.Unique) done)
+    (alternative fixed.References (made references_of read_references) no_other)
+
 unfoldable pub read_column_rule : Parser ColumnRule
 read_column_rule =
     alternative fixed.Not (made (λ u. column_rule.NotNull) (lead fixed.Null done))
     (alternative fixed.Null (made (λ u. column_rule.Null) done)
-    (alternative fixed.Primary (made (λ u. column_rule.PrimaryKey) (lead_word (codes "key") done))
-    (alternative fixed.Unique (made (λ u. column_rule.Unique) done)
-    (alternative fixed.References (made references_of read_references) no_other))))
+    (alternative fixed.Primary (made (λ u. column_rule.PrimaryKey) (lead_word (codes "key") done)) read_other_column_rule))
 
 unfoldable pub read_constraint : Parser (Option Name)
 read_constraint = optional (starts fixed.Constraint) (lead fixed.Constraint read_name)

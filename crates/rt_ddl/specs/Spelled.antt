@@ -1,6 +1,6 @@
 -- The tokens of a schema text's tree (ISO/IEC 9075-2, table definition; the grammar stands at the
 -- types of the tree).
-use Rattle.std.specs.Prelude.{◌≡◌, ℕ, ℤ, Bool, true, false, List, [], ◌∷◌, ◌++◌, map, Option, Some, None, codes}
+use Rattle.std.specs.Prelude.{◌≡◌, ℤ, Bool, true, false, List, [], ◌∷◌, ◌++◌, map, codes}
 use Rattle.std.specs.List.{flat_map}
 use Rattle.rt_grammar.specs.Terminals.{Kinds, Word, flag, in_paren, maybe}
 use Rattle.rt_grammar.specs.Words.{all_formed, kind_of, kinds}

@@ -1,85 +1,32 @@
 //! The tables and rules that the texts make.
 
-ghost use Rattle.std.specs.Prelude.{◌≡◌, ◌++◌, ◌≤◌, IfOk, OnOk, length, map, option_map};
+ghost use Rattle.std.specs.Prelude.{◌≡◌, ◌++◌, ◌∷◌, [], IfOk, OnOk, map, option_map};
 ghost use Rattle.std.specs.List.{flat_map};
 ghost use Rattle.rt_ddl.specs.Meaning as spec;
+ghost use Rattle.rt_ddl.specs.declared.parts.RuleText.TheVariants as told;
 ghost use Rattle.rt_schema.specs.declared.table.Rule.TheVariants as made;
 
-use crate::parts::{Part, RuleText, TableText};
-use crate::unknown::table_named;
-use rt_schema::{Column, Foreign, Rule, Table};
+use crate::known::{KnownTable, columns_of};
+use crate::known_tables::KnownTables;
+use crate::parts::{Part, RuleText};
+use rt_schema::{Foreign, Rule, Table};
 use rt_value::{List, NoMemory, Txt};
 use std::alloc::Global;
 
-// The place of the column of this name, or the number of columns.
-fn column_at(columns: &[Column], name: &Txt) -> usize
-    ensures place { result ≡ spec.column_at columns.now name.now }
-{
-    let mut at = 0;
-    for column in columns {
-        if *column.name.as_str() == *name.as_str() {
-            return at;
-        }
-        at += 1;
-    }
-    at
-}
-
-fn columns_at(alloc: Global, columns: &[Column], names: &[Txt]) -> Result<List<usize>, NoMemory>
-    ensures { IfOk result (λ places. places ≡ spec.columns_at columns.now names.now) }
+fn columns_at(alloc: Global, table: &KnownTable, names: &[Txt]) -> Result<List<usize>, NoMemory>
+    ensures { IfOk result (λ places. places ≡ spec.columns_at (spec.columns_of table.now.parts) names.now) }
 {
     let mut places = List::new(alloc);
     for name in names {
-        places.push(column_at(columns, name))?;
+        places.push(table.column_at(name))?;
     }
     Ok(places)
-}
-
-fn table_at(tables: &[TableText], name: &Txt) -> usize
-    ensures place { result ≡ spec.table_at tables.now name.now }
-{
-    let mut at = 0;
-    for table in tables {
-        if *table.name.as_str() == *name.as_str() {
-            return at;
-        }
-        at += 1;
-    }
-    at
-}
-
-fn columns_of(alloc: Global, parts: &[Part]) -> Result<List<Column>, NoMemory>
-    ensures { IfOk result (λ columns. columns ≡ spec.columns_of parts.now) }
-{
-    let mut columns = List::new(alloc);
-    for part in parts {
-        if let Part::Column(column) = part {
-            let name = column.name.copy(alloc)?;
-            columns.push(Column {
-                name,
-                kind: column.kind,
-            })?;
-        }
-    }
-    Ok(columns)
-}
-
-// The columns of the primary key.
-fn primary_of(parts: &[Part]) -> &[Txt]
-    ensures { result.now ≡ spec.primary_of parts.now }
-{
-    for part in parts {
-        if let Part::Rule(_, RuleText::PrimaryKey(columns)) = part {
-            return columns.as_slice();
-        }
-    }
-    &[]
 }
 
 // The places of the referenced columns.
 fn target(
     alloc: Global,
-    table: Option<&TableText>,
+    table: Option<&KnownTable>,
     to: &Option<List<Txt>>,
 ) -> Result<List<usize>, NoMemory>
     ensures { IfOk result (λ places. places ≡ spec.target (option_map (λ t. t.now) table.entry) to.now) }
@@ -87,14 +34,9 @@ fn target(
     let Some(table) = table else {
         return Ok(List::new(alloc));
     };
-    let columns = columns_of(alloc, table.parts.as_slice())?;
     match to {
-        Some(to) => columns_at(alloc, columns.as_slice(), to.as_slice()),
-        None => columns_at(
-            alloc,
-            columns.as_slice(),
-            primary_of(table.parts.as_slice()),
-        ),
+        Some(to) => columns_at(alloc, table, to.as_slice()),
+        None => columns_at(alloc, table, table.primary()),
     }
 }
 
@@ -108,32 +50,58 @@ fn push_not_null(rules: &mut List<Rule>, columns: &[usize]) -> Result<(), NoMemo
     Ok(())
 }
 
+// Puts a primary key and that its columns are NOT NULL at the end of the rules.
+fn push_primary(
+    alloc: Global,
+    rules: &mut List<Rule>,
+    table: &KnownTable,
+    names: &[Txt],
+) -> Result<(), NoMemory>
+    ensures { let places = spec.columns_at (spec.columns_of table.now.parts) names.now in OnOk result (rules.new ≡ rules.old ++ made.Key places ∷ map (λ c. made.NotNull c) places) }
+{
+    rules.push(Rule::Key(columns_at(alloc, table, names)?))?;
+    let not_null = columns_at(alloc, table, names)?;
+    push_not_null(rules, not_null.as_slice())
+}
+
+fn foreign_of(
+    alloc: Global,
+    tables: &KnownTables,
+    table: &KnownTable,
+    from: &[Txt],
+    name: &Txt,
+    to: &Option<List<Txt>>,
+) -> Result<Rule, NoMemory>
+    ensures { IfOk result (λ key. key ∷ [] ≡ spec.rules_made tables.now (spec.columns_of table.now.parts) (told.Foreign from.now name.now to.now)) }
+{
+    let table_at = tables.place(name);
+    let to = target(alloc, tables.named(name), to)?;
+    let from = columns_at(alloc, table, from)?;
+    Ok(Rule::Foreign(Foreign {
+        from,
+        table: table_at,
+        to,
+    }))
+}
+
 // Puts what a rule's text makes at the end of the rules.
 fn push_rule(
     alloc: Global,
     rules: &mut List<Rule>,
-    tables: &[TableText],
-    columns: &[Column],
+    tables: &KnownTables,
+    table: &KnownTable,
     rule: &RuleText,
 ) -> Result<(), NoMemory>
-    ensures { OnOk result (rules.new ≡ rules.old ++ spec.rules_made tables.now columns.now rule.now) }
+    ensures { OnOk result (rules.new ≡ rules.old ++ spec.rules_made tables.now (spec.columns_of table.now.parts) rule.now) }
 {
     match rule {
-        RuleText::NotNull(column) => rules.push(Rule::NotNull(column_at(columns, column))),
-        RuleText::PrimaryKey(names) => {
-            let key = columns_at(alloc, columns, names.as_slice())?;
-            let not_null = columns_at(alloc, columns, names.as_slice())?;
-            rules.push(Rule::Key(key))?;
-            push_not_null(rules, not_null.as_slice())
-        }
+        RuleText::NotNull(column) => rules.push(Rule::NotNull(table.column_at(column))),
+        RuleText::PrimaryKey(names) => push_primary(alloc, rules, table, names.as_slice()),
         RuleText::Unique(names) => {
-            rules.push(Rule::Key(columns_at(alloc, columns, names.as_slice())?))
+            rules.push(Rule::Key(columns_at(alloc, table, names.as_slice())?))
         }
         RuleText::Foreign(from, name, to) => {
-            let from = columns_at(alloc, columns, from.as_slice())?;
-            let to = target(alloc, table_named(tables, name), to)?;
-            let table = table_at(tables, name);
-            rules.push(Rule::Foreign(Foreign { from, table, to }))
+            rules.push(foreign_of(alloc, tables, table, from.as_slice(), name, to)?)
         }
     }
 }
@@ -143,31 +111,30 @@ fn push_rules(
     alloc: Global,
     rules: &mut List<Rule>,
     of_table: bool,
-    tables: &[TableText],
-    columns: &[Column],
-    parts: &[Part],
+    tables: &KnownTables,
+    table: &KnownTable,
 ) -> Result<(), NoMemory>
-    ensures { OnOk result (rules.new ≡ rules.old ++ flat_map (spec.part_rules of_table tables.now columns.now) parts.now) }
+    ensures { OnOk result (rules.new ≡ rules.old ++ flat_map (spec.part_rules of_table tables.now (spec.columns_of table.now.parts)) table.now.parts) }
 {
+    let parts = table.parts();
     for part in parts {
         if let Part::Rule(alone, rule) = part {
             if *alone == of_table {
-                push_rule(alloc, rules, tables, columns, rule)?;
+                push_rule(alloc, rules, tables, table, rule)?;
             }
         }
     }
     Ok(())
 }
 
-fn table_of(alloc: Global, tables: &[TableText], text: &TableText) -> Result<Table, NoMemory>
-    ensures { IfOk result (λ t. t ≡ spec.table_of tables.now text.now) }
+fn table_of(alloc: Global, tables: &KnownTables, table: &KnownTable) -> Result<Table, NoMemory>
+    ensures { IfOk result (λ t. t ≡ spec.table_of tables.now table.now) }
 {
-    let parts = text.parts.as_slice();
-    let name = text.name.copy(alloc)?;
-    let columns = columns_of(alloc, parts)?;
+    let name = table.name().copy(alloc)?;
+    let columns = columns_of(alloc, table.parts())?;
     let mut rules = List::new(alloc);
-    push_rules(alloc, &mut rules, false, tables, columns.as_slice(), parts)?;
-    push_rules(alloc, &mut rules, true, tables, columns.as_slice(), parts)?;
+    push_rules(alloc, &mut rules, false, tables, table)?;
+    push_rules(alloc, &mut rules, true, tables, table)?;
     Ok(Table {
         name,
         columns,
@@ -176,11 +143,11 @@ fn table_of(alloc: Global, tables: &[TableText], text: &TableText) -> Result<Tab
 }
 
 /// The tables that the texts make, where no name stands twice or is unknown.
-pub fn tables_of(alloc: Global, texts: &[TableText]) -> Result<List<Table>, NoMemory>
+pub fn tables_of(alloc: Global, texts: &KnownTables) -> Result<List<Table>, NoMemory>
     ensures { IfOk result (λ tables. tables ≡ spec.tables_of texts.now) }
 {
     let mut tables = List::new(alloc);
-    for text in texts {
+    for text in texts.as_slice() {
         tables.push(table_of(alloc, texts, text)?)?;
     }
     Ok(tables)

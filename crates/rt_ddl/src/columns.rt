@@ -132,6 +132,20 @@ fn references<'t>(
     Ok(((table, column), rest))
 }
 
+fn other_column_rule<'t>(
+    alloc: Global,
+    terminals: &'t [Terminal],
+) -> Result<(ColumnRule, &'t [Terminal]), ReadFault>
+    ensures { Reads result (spec.read_other_column_rule terminals.now) }
+{
+    if let Some(rest) = after(terminals, Fixed::Unique) {
+        return Ok((ColumnRule::Unique, rest));
+    }
+    let rest = expect(terminals, Fixed::References)?;
+    let ((table, column), rest) = references(alloc, rest)?;
+    Ok((ColumnRule::References(table, column), rest))
+}
+
 #[tactic(auto, unfolding(crate::specs::Reads::read_column_rule))]
 fn column_rule<'t>(
     alloc: Global,
@@ -148,12 +162,7 @@ fn column_rule<'t>(
     if let Some(rest) = after(terminals, Fixed::Primary) {
         return Ok((ColumnRule::PrimaryKey, expect_word(rest, "key")?));
     }
-    if let Some(rest) = after(terminals, Fixed::Unique) {
-        return Ok((ColumnRule::Unique, rest));
-    }
-    let rest = expect(terminals, Fixed::References)?;
-    let ((table, column), rest) = references(alloc, rest)?;
-    Ok((ColumnRule::References(table, column), rest))
+    other_column_rule(alloc, terminals)
 }
 
 /// CONSTRAINT and a name, if they stand there.

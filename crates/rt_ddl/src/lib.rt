@@ -8,7 +8,11 @@
 mod build;
 mod columns;
 mod fault;
+mod known;
+mod known_tables;
 mod limits;
+mod matches;
+mod name_list;
 mod parts;
 mod reader;
 mod tables;

@@ -11,8 +11,9 @@ ghost use Rattle.rt_value.specs.Gives.{Gives};
 
 use crate::build::tables_of;
 use crate::fault::SchemaFault;
-use crate::limits::{check_limits, mismatched};
-use crate::parts::TableText;
+use crate::known_tables::KnownTables;
+use crate::limits::check_limits;
+use crate::matches::mismatched;
 use crate::tables::text;
 use crate::texts::table_texts;
 use crate::tree::SchemaText;
@@ -32,28 +33,28 @@ fn tree(alloc: Global, tokens: &[Token]) -> Result<SchemaText, ReadFault>
 
 // The schema that the texts make, or their first fault.
 #[tactic(auto, using(crate::proofs::SoundLemmas::sound_tables))]
-fn schema(alloc: Global, texts: &[TableText]) -> Result<Schema, SchemaFault>
+fn schema(alloc: Global, texts: &KnownTables) -> Result<Schema, SchemaFault>
     ensures { Gives is_memory result (schema_of texts.now) }
 {
-    if let Some(name) = tables_twice(texts) {
+    if let Some(name) = tables_twice(alloc, texts.as_slice())? {
         return Err(SchemaFault::DuplicateName(name.copy(alloc)?));
     }
     if let Some(name) = tables_unknown(texts) {
         return Err(SchemaFault::UnknownName(name.copy(alloc)?));
     }
-    let tables = tables_of(alloc, texts)?;
-    if let Some(name) = mismatched(tables.as_slice()) {
+    if let Some(name) = mismatched(texts) {
         return Err(SchemaFault::KeyTypes(name.copy(alloc)?));
     }
+    let tables = tables_of(alloc, texts)?;
     check_limits(alloc, tables.as_slice())?;
     Ok(Schema::new(tables))
 }
 
-fn made(alloc: Global, tree: SchemaText) -> Result<Schema, SchemaFault>
-    ensures { Gives is_memory result (schema_of (spec.table_texts tree)) }
+fn made(alloc: Global, tree: &SchemaText) -> Result<Schema, SchemaFault>
+    ensures { Gives is_memory result (schema_of (spec.table_texts tree.now)) }
 {
-    let texts = table_texts(alloc, &tree)?;
-    schema(alloc, texts.as_slice())
+    let texts = table_texts(alloc, tree)?;
+    schema(alloc, &texts)
 }
 
 /// Reads the CREATE TABLE statements of a text.
@@ -64,7 +65,7 @@ pub fn read_schema(alloc: Global, text: &[u8]) -> Result<Schema, SchemaFault>
 {
     let tokens = tokens(alloc, text)?;
     match tree(alloc, tokens.as_slice()) {
-        Ok(tree) => made(alloc, tree),
+        Ok(tree) => made(alloc, &tree),
         Err(ReadFault::Syntax(left)) => {
             Err(SchemaFault::Syntax(syntax_place(tokens.as_slice(), left)))
         }

@@ -1,8 +1,8 @@
 //! Reading rules of a table, tables and the whole text.
 
-ghost use Rattle.std.specs.Prelude.{◌≡◌};
+ghost use Rattle.std.specs.Prelude.{◌≡◌, codes};
 ghost use Rattle.rt_ddl.specs.Reads as spec;
-ghost use Rattle.rt_grammar.specs.Readers.{lead, list_of};
+ghost use Rattle.rt_grammar.specs.Readers.{lead, lead_word, list_of, made as made_spec};
 ghost use Rattle.rt_grammar.specs.Reads.{Answers, Reads};
 ghost use Rattle.rt_grammar.specs.declared.fixed.Fixed.TheVariants as fixed;
 
@@ -12,7 +12,7 @@ use rt_grammar::{Fixed, Name, ReadFault, Terminal, after, end, expect, expect_wo
 use rt_value::List;
 use std::alloc::Global;
 
-// What follows FOREIGN KEY.
+// What follows the words FOREIGN KEY.
 #[tactic(auto, unfolding(crate::specs::Reads::read_foreign))]
 fn foreign<'t>(
     alloc: Global,
@@ -27,6 +27,26 @@ fn foreign<'t>(
     Ok(((from, (table, to)), rest))
 }
 
+// Names after the word KEY.
+fn key_names<'t>(
+    alloc: Global,
+    terminals: &'t [Terminal],
+) -> Result<(Names, &'t [Terminal]), ReadFault>
+    ensures { Reads result (lead_word (codes "key") spec.read_names terminals.now) }
+{
+    names(alloc, expect_word(terminals, "key")?)
+}
+
+// A foreign key from the word KEY on.
+fn key_foreign<'t>(
+    alloc: Global,
+    terminals: &'t [Terminal],
+) -> Result<((Names, (Name, Option<Names>)), &'t [Terminal]), ReadFault>
+    ensures { Reads result (lead_word (codes "key") spec.read_foreign terminals.now) }
+{
+    foreign(alloc, expect_word(terminals, "key")?)
+}
+
 #[tactic(auto, unfolding(crate::specs::Reads::read_table_rule))]
 fn table_rule<'t>(
     alloc: Global,
@@ -35,7 +55,7 @@ fn table_rule<'t>(
     ensures { Reads result (spec.read_table_rule terminals.now) }
 {
     if let Some(rest) = after(terminals, Fixed::Primary) {
-        let (columns, rest) = names(alloc, expect_word(rest, "key")?)?;
+        let (columns, rest) = key_names(alloc, rest)?;
         return Ok((TableRule::PrimaryKey(columns), rest));
     }
     if let Some(rest) = after(terminals, Fixed::Unique) {
@@ -43,7 +63,7 @@ fn table_rule<'t>(
         return Ok((TableRule::Unique(columns), rest));
     }
     let rest = expect(terminals, Fixed::Foreign)?;
-    let ((from, (table, to)), rest) = foreign(alloc, expect_word(rest, "key")?)?;
+    let ((from, (table, to)), rest) = key_foreign(alloc, rest)?;
     Ok((TableRule::Foreign(from, table, to), rest))
 }
 
@@ -120,6 +140,25 @@ fn is_if(terminals: &[Terminal]) -> bool
     }
 }
 
+fn created<'t>(
+    alloc: Global,
+    if_not_exists: bool,
+    terminals: &'t [Terminal],
+) -> Result<(Create, &'t [Terminal]), ReadFault>
+    ensures { Reads result (made_spec (spec.create_of if_not_exists) spec.read_made terminals.now) }
+{
+    let ((name, (head, tail)), rest) = made(alloc, terminals)?;
+    Ok((
+        Create {
+            if_not_exists,
+            name,
+            head,
+            tail,
+        },
+        rest,
+    ))
+}
+
 #[tactic(auto, unfolding(crate::specs::Reads::read_create))]
 fn create<'t>(
     alloc: Global,
@@ -131,29 +170,9 @@ fn create<'t>(
     if is_if(rest) {
         let rest = expect_word(rest, "if")?;
         let rest = expect(expect(rest, Fixed::Not)?, Fixed::Exists)?;
-        let ((name, (head, tail)), rest) = made(alloc, rest)?;
-        let if_not_exists = true;
-        return Ok((
-            Create {
-                if_not_exists,
-                name,
-                head,
-                tail,
-            },
-            rest,
-        ));
+        return created(alloc, true, rest);
     }
-    let ((name, (head, tail)), rest) = made(alloc, rest)?;
-    let if_not_exists = false;
-    Ok((
-        Create {
-            if_not_exists,
-            name,
-            head,
-            tail,
-        },
-        rest,
-    ))
+    created(alloc, false, rest)
 }
 
 // Whether another table follows a semicolon.

@@ -4,6 +4,8 @@ ghost use Rattle.std.specs.Prelude.{◌≡◌, ◌++◌, ◌∷◌, [], IfOk, On
 ghost use Rattle.std.specs.List.{flat_map};
 ghost use Rattle.rt_ddl.specs.Parts as spec;
 
+use crate::known::KnownTable;
+use crate::known_tables::KnownTables;
 use crate::parts::{Part, RuleText, TableText};
 use crate::tree::{
     Column, ColumnConstraint, ColumnRule, Create, Item, KindWord, Names, SchemaText, TableRule,
@@ -145,23 +147,30 @@ fn table_text(alloc: Global, create: &Create) -> Result<TableText, NoMemory>
     Ok(TableText { name, parts })
 }
 
-fn created(alloc: Global, head: &Create, tail: &[Create]) -> Result<List<TableText>, NoMemory>
+fn known_table(alloc: Global, create: &Create) -> Result<KnownTable, NoMemory>
+    ensures { IfOk result (λ t. t ≡ spec.table_text create.now) }
+{
+    let text = table_text(alloc, create)?;
+    KnownTable::of(alloc, text)
+}
+
+fn created(alloc: Global, head: &Create, tail: &[Create]) -> Result<KnownTables, NoMemory>
     ensures { IfOk result (λ ts. ts ≡ spec.table_text head.now ∷ map spec.table_text tail.now) }
 {
-    let mut tables = List::new(alloc);
-    tables.push(table_text(alloc, head)?)?;
+    let none = KnownTables::new(alloc);
+    let mut tables = none.with(alloc, known_table(alloc, head)?)?;
     for create in tail {
-        tables.push(table_text(alloc, create)?)?;
+        tables = tables.with(alloc, known_table(alloc, create)?)?;
     }
     Ok(tables)
 }
 
 /// The tables of a text, in text order.
-pub fn table_texts(alloc: Global, text: &SchemaText) -> Result<List<TableText>, NoMemory>
+pub fn table_texts(alloc: Global, text: &SchemaText) -> Result<KnownTables, NoMemory>
     ensures { IfOk result (λ ts. ts ≡ spec.table_texts text.now) }
 {
     match text {
-        SchemaText::Empty => Ok(List::new(alloc)),
+        SchemaText::Empty => Ok(KnownTables::new(alloc)),
         SchemaText::Creates(head, tail, _) => created(alloc, head, tail.as_slice()),
     }
 }

@@ -1,137 +1,135 @@
 //! The first name that stands twice.
 
-ghost use Rattle.std.specs.Prelude.{◌≡◌, [], option_map};
+ghost use Rattle.std.specs.Prelude.{◌≡◌, ◌++◌, ◌∷◌, [], IfOk, option_map};
 ghost use Rattle.rt_ddl.specs.Meaning as spec;
+ghost use Rattle.rt_ddl.specs.Places.{column_names};
 
-use crate::parts::{Part, RuleText, TableText};
-use rt_value::{List, Txt};
+use crate::known::{KnownTable, has_primary};
+use crate::name_list::NameList;
+use crate::parts::{Part, RuleText};
+use rt_value::{List, NoMemory, Txt};
+use std::alloc::Global;
 
-fn has_name(names: &[Txt], name: &Txt) -> bool
-    ensures { result ≡ spec.has_name names.now name.now }
+fn name_twice(alloc: Global, names: &[Txt]) -> Result<Option<&Txt>, NoMemory>
+    ensures { IfOk result (λ twice. option_map (λ name. name.now) twice ≡ spec.name_twice [] names.now) }
 {
-    names.iter().any(|other| *other.as_str() == *name.as_str())
-}
-
-fn is_column(name: &Txt, part: &Part) -> bool
-    ensures { result ≡ spec.is_column name.now part.now }
-{
-    match part {
-        Part::Column(column) => *column.name.as_str() == *name.as_str(),
-        Part::Rule(_, _) => false,
-    }
-}
-
-pub fn has_column(parts: &[Part], name: &Txt) -> bool
-    ensures { result ≡ spec.has_column parts.now name.now }
-{
-    parts.iter().any(|part| is_column(name, part))
-}
-
-fn is_primary(part: &Part) -> bool
-    ensures { result ≡ spec.is_primary part.now }
-{
-    match part {
-        Part::Rule(_, RuleText::PrimaryKey(_)) => true,
-        _ => false,
-    }
-}
-
-pub fn has_primary(parts: &[Part]) -> bool
-    ensures { result ≡ spec.has_primary parts.now }
-{
-    parts.iter().any(|part| is_primary(part))
-}
-
-fn has_table(tables: &[TableText], name: &Txt) -> bool
-    ensures { result ≡ spec.has_table tables.now name.now }
-{
-    tables
-        .iter()
-        .any(|table| *table.name.as_str() == *name.as_str())
-}
-
-fn name_twice(names: &[Txt]) -> Option<&Txt>
-    ensures { option_map (λ name. name.now) result ≡ spec.name_twice [] names.now }
-{
-    for (at, name) in names.iter().enumerate() {
-        if has_name(&names[..at], name) {
-            return Some(name);
+    let mut before = NameList::new(alloc);
+    for name in names {
+        if before.has(name) {
+            return Ok(Some(name));
         }
+        before = before.with(alloc, name)?;
     }
-    None
+    Ok(None)
 }
 
-fn maybe_twice(names: &Option<List<Txt>>) -> Option<&Txt>
-    ensures { option_map (λ name. name.now) result ≡ spec.maybe_twice names.now }
+fn maybe_twice(alloc: Global, names: &Option<List<Txt>>) -> Result<Option<&Txt>, NoMemory>
+    ensures { IfOk result (λ twice. option_map (λ name. name.now) twice ≡ spec.maybe_twice names.now) }
 {
     match names {
-        Some(names) => name_twice(names.as_slice()),
-        None => None,
+        Some(names) => name_twice(alloc, names.as_slice()),
+        None => Ok(None),
     }
 }
 
-fn rule_twice<'t>(table: &'t Txt, before: &[Part], rule: &'t RuleText) -> Option<&'t Txt>
-    ensures { option_map (λ name. name.now) result ≡ spec.rule_twice table.now before.now rule.now }
+fn key_twice<'t>(
+    alloc: Global,
+    from: &'t [Txt],
+    to: &'t Option<List<Txt>>,
+) -> Result<Option<&'t Txt>, NoMemory>
+    ensures { IfOk result (λ twice. option_map (λ name. name.now) twice ≡ spec.or_else (spec.name_twice [] from.now) (spec.maybe_twice to.now)) }
+{
+    match name_twice(alloc, from)? {
+        Some(name) => Ok(Some(name)),
+        None => maybe_twice(alloc, to),
+    }
+}
+
+fn rule_twice<'t>(
+    alloc: Global,
+    table: &'t Txt,
+    before: &[Part],
+    rule: &'t RuleText,
+) -> Result<Option<&'t Txt>, NoMemory>
+    ensures { IfOk result (λ twice. option_map (λ name. name.now) twice ≡ spec.rule_twice table.now before.now rule.now) }
 {
     match rule {
-        RuleText::NotNull(_) => None,
+        RuleText::NotNull(_) => Ok(None),
         RuleText::PrimaryKey(columns) => {
             if has_primary(before) {
-                return Some(table);
+                return Ok(Some(table));
             }
-            name_twice(columns.as_slice())
+            name_twice(alloc, columns.as_slice())
         }
-        RuleText::Unique(columns) => name_twice(columns.as_slice()),
-        RuleText::Foreign(from, _, to) => match name_twice(from.as_slice()) {
-            Some(name) => Some(name),
-            None => maybe_twice(to),
-        },
+        RuleText::Unique(columns) => name_twice(alloc, columns.as_slice()),
+        RuleText::Foreign(from, _, to) => key_twice(alloc, from.as_slice(), to),
     }
 }
 
-fn part_twice<'t>(table: &'t Txt, before: &[Part], part: &'t Part) -> Option<&'t Txt>
-    ensures { option_map (λ name. name.now) result ≡ spec.part_twice table.now before.now part.now }
+fn part_twice<'t>(
+    alloc: Global,
+    table: &'t Txt,
+    before: &[Part],
+    columns: &NameList,
+    part: &'t Part,
+) -> Result<Option<&'t Txt>, NoMemory>
+    requires { columns.now ≡ column_names before.now }
+    ensures { IfOk result (λ twice. option_map (λ name. name.now) twice ≡ spec.part_twice table.now before.now part.now) }
 {
     match part {
         Part::Column(column) => {
-            if has_column(before, &column.name) {
-                Some(&column.name)
+            if columns.has(&column.name) {
+                Ok(Some(&column.name))
             } else {
-                None
+                Ok(None)
             }
         }
-        Part::Rule(_, rule) => rule_twice(table, before, rule),
+        Part::Rule(_, rule) => rule_twice(alloc, table, before, rule),
     }
 }
 
-fn parts_twice<'t>(table: &'t Txt, parts: &'t [Part]) -> Option<&'t Txt>
-    ensures { option_map (λ name. name.now) result ≡ spec.parts_twice table.now [] parts.now }
+// The names with that of the part at the end, if it is a column.
+fn with_part(alloc: Global, columns: NameList, part: &Part) -> Result<NameList, NoMemory>
+    ensures { IfOk result (λ more. more ≡ columns ++ column_names (part.now ∷ [])) }
 {
+    match part {
+        Part::Column(column) => columns.with(alloc, &column.name),
+        Part::Rule(_, _) => Ok(columns),
+    }
+}
+
+fn parts_twice<'t>(
+    alloc: Global,
+    table: &'t Txt,
+    parts: &'t [Part],
+) -> Result<Option<&'t Txt>, NoMemory>
+    ensures { IfOk result (λ twice. option_map (λ name. name.now) twice ≡ spec.parts_twice table.now [] parts.now) }
+{
+    let mut columns = NameList::new(alloc);
     for (at, part) in parts.iter().enumerate() {
-        if let Some(name) = part_twice(table, &parts[..at], part) {
-            return Some(name);
+        if let Some(name) = part_twice(alloc, table, &parts[..at], &columns, part)? {
+            return Ok(Some(name));
         }
+        columns = with_part(alloc, columns, part)?;
     }
-    None
-}
-
-fn table_twice<'t>(before: &[TableText], table: &'t TableText) -> Option<&'t Txt>
-    ensures { option_map (λ name. name.now) result ≡ spec.table_twice before.now table.now }
-{
-    if has_table(before, &table.name) {
-        return Some(&table.name);
-    }
-    parts_twice(&table.name, table.parts.as_slice())
+    Ok(None)
 }
 
 /// The first name that stands twice, or the table of the first primary key that is a second one.
-pub fn tables_twice(tables: &[TableText]) -> Option<&Txt>
-    ensures { option_map (λ name. name.now) result ≡ spec.tables_twice [] tables.now }
+pub fn tables_twice(alloc: Global, tables: &[KnownTable]) -> Result<Option<&Txt>, NoMemory>
+    ensures { IfOk result (λ twice. option_map (λ name. name.now) twice ≡ spec.tables_twice [] tables.now) }
 {
-    for (at, table) in tables.iter().enumerate() {
-        if let Some(name) = table_twice(&tables[..at], table) {
-            return Some(name);
+    let mut names = NameList::new(alloc);
+    for table in tables {
+        let name = table.name();
+        if names.has(name) {
+            return Ok(Some(name));
         }
+        let parts = table.parts();
+        if let Some(twice) = parts_twice(alloc, name, parts)? {
+            return Ok(Some(twice));
+        }
+        names = names.with(alloc, name)?;
     }
-    None
+    Ok(None)
 }

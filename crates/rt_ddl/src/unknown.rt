@@ -3,16 +3,17 @@
 ghost use Rattle.std.specs.Prelude.{◌≡◌, option_map};
 ghost use Rattle.rt_ddl.specs.Meaning as spec;
 
-use crate::parts::{Part, RuleText, TableText};
-use crate::twice::{has_column, has_primary};
+use crate::known::KnownTable;
+use crate::known_tables::KnownTables;
+use crate::parts::{Part, RuleText};
 use rt_value::{List, Txt};
 
 // The name, where no column has it.
 #[tactic(auto, unfolding(crate::specs::Meaning::unknown_column))]
-fn unknown_column<'t>(parts: &[Part], name: &'t Txt) -> Option<&'t Txt>
-    ensures { option_map (λ name. name.now) result ≡ spec.unknown_column parts.now name.now }
+fn unknown_column<'t>(table: &KnownTable, name: &'t Txt) -> Option<&'t Txt>
+    ensures { option_map (λ name. name.now) result ≡ spec.unknown_column table.now.parts name.now }
 {
-    if has_column(parts, name) {
+    if table.has_column(name) {
         None
     } else {
         Some(name)
@@ -20,24 +21,12 @@ fn unknown_column<'t>(parts: &[Part], name: &'t Txt) -> Option<&'t Txt>
 }
 
 // The first of the names that no column has.
-fn missing<'t>(parts: &[Part], names: &'t [Txt]) -> Option<&'t Txt>
-    ensures { option_map (λ name. name.now) result ≡ spec.missing parts.now names.now }
+fn missing<'t>(table: &KnownTable, names: &'t [Txt]) -> Option<&'t Txt>
+    ensures { option_map (λ name. name.now) result ≡ spec.missing table.now.parts names.now }
 {
     for name in names {
-        if let Some(name) = unknown_column(parts, name) {
+        if let Some(name) = unknown_column(table, name) {
             return Some(name);
-        }
-    }
-    None
-}
-
-/// The table of this name.
-pub fn table_named<'t>(tables: &'t [TableText], name: &Txt) -> Option<&'t TableText>
-    ensures { option_map (λ table. table.now) result ≡ spec.table_named tables.now name.now }
-{
-    for table in tables {
-        if *table.name.as_str() == *name.as_str() {
-            return Some(table);
         }
     }
     None
@@ -45,7 +34,7 @@ pub fn table_named<'t>(tables: &'t [TableText], name: &Txt) -> Option<&'t TableT
 
 fn target_unknown<'t>(
     name: &'t Txt,
-    table: Option<&TableText>,
+    table: Option<&KnownTable>,
     to: &'t Option<List<Txt>>,
 ) -> Option<&'t Txt>
     ensures { option_map (λ n. n.now) result ≡ spec.target_unknown name.now (option_map (λ t. t.now) table.entry) to.now }
@@ -54,9 +43,9 @@ fn target_unknown<'t>(
         return Some(name);
     };
     match to {
-        Some(to) => missing(table.parts.as_slice(), to.as_slice()),
+        Some(to) => missing(table, to.as_slice()),
         None => {
-            if has_primary(table.parts.as_slice()) {
+            if table.has_primary() {
                 None
             } else {
                 Some(name)
@@ -65,26 +54,27 @@ fn target_unknown<'t>(
     }
 }
 
-fn rule_unknown<'t>(tables: &[TableText], parts: &[Part], rule: &'t RuleText) -> Option<&'t Txt>
-    ensures { option_map (λ name. name.now) result ≡ spec.rule_unknown tables.now parts.now rule.now }
+fn rule_unknown<'t>(tables: &KnownTables, table: &KnownTable, rule: &'t RuleText) -> Option<&'t Txt>
+    ensures { option_map (λ name. name.now) result ≡ spec.rule_unknown tables.now table.now.parts rule.now }
 {
     match rule {
-        RuleText::NotNull(column) => unknown_column(parts, column),
-        RuleText::PrimaryKey(columns) => missing(parts, columns.as_slice()),
-        RuleText::Unique(columns) => missing(parts, columns.as_slice()),
-        RuleText::Foreign(from, table, to) => match missing(parts, from.as_slice()) {
-            Some(name) => Some(name),
-            None => target_unknown(table, table_named(tables, table), to),
+        RuleText::NotNull(column) => unknown_column(table, column),
+        RuleText::PrimaryKey(columns) => missing(table, columns.as_slice()),
+        RuleText::Unique(columns) => missing(table, columns.as_slice()),
+        RuleText::Foreign(from, name, to) => match missing(table, from.as_slice()) {
+            Some(column) => Some(column),
+            None => target_unknown(name, tables.named(name), to),
         },
     }
 }
 
-fn parts_unknown<'t>(tables: &[TableText], parts: &'t [Part]) -> Option<&'t Txt>
-    ensures { option_map (λ name. name.now) result ≡ spec.parts_unknown tables.now parts.now parts.now }
+fn parts_unknown<'t>(tables: &KnownTables, table: &'t KnownTable) -> Option<&'t Txt>
+    ensures { option_map (λ name. name.now) result ≡ spec.parts_unknown tables.now table.now.parts table.now.parts }
 {
+    let parts = table.parts();
     for part in parts {
         if let Part::Rule(_, rule) = part {
-            if let Some(name) = rule_unknown(tables, parts, rule) {
+            if let Some(name) = rule_unknown(tables, table, rule) {
                 return Some(name);
             }
         }
@@ -93,11 +83,11 @@ fn parts_unknown<'t>(tables: &[TableText], parts: &'t [Part]) -> Option<&'t Txt>
 }
 
 /// The first name of a rule that is unknown, or the table without a primary key that is meant.
-pub fn tables_unknown(tables: &[TableText]) -> Option<&Txt>
+pub fn tables_unknown(tables: &KnownTables) -> Option<&Txt>
     ensures { option_map (λ name. name.now) result ≡ spec.tables_unknown tables.now tables.now }
 {
-    for table in tables {
-        if let Some(name) = parts_unknown(tables, table.parts.as_slice()) {
+    for table in tables.as_slice() {
+        if let Some(name) = parts_unknown(tables, table) {
             return Some(name);
         }
     }

@@ -1,4 +1,4 @@
-use Rattle.std.proofs.Common.{◌≡◌, ◌++◌, drop, map}
+use Rattle.std.proofs.Common.{◌≡◌, ◌++◌, drop}
 use Rattle.rt_ddl.specs.Parts.{names_of, texts_of}
 use Rattle.rt_ddl.proofs.texts.names_of.Given as goal
 

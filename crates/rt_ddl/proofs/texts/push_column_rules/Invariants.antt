@@ -1,4 +1,4 @@
-use Rattle.std.proofs.Common.{◌≡◌, ◌++◌, drop, map}
+use Rattle.std.proofs.Common.{◌≡◌, ◌++◌, drop}
 use Rattle.std.specs.List.{flat_map}
 use Rattle.rt_ddl.specs.Parts.{column_rule_parts}
 use Rattle.rt_ddl.proofs.texts.push_column_rules.Given as goal

@@ -1,4 +1,4 @@
-use Rattle.std.proofs.Common.{◌≡◌, ◌++◌, drop, map}
+use Rattle.std.proofs.Common.{◌≡◌, ◌++◌, drop}
 use Rattle.std.specs.List.{flat_map}
 use Rattle.rt_ddl.specs.Parts.{item_parts}
 use Rattle.rt_ddl.proofs.texts.table_text.Given as goal
