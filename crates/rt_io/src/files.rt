@@ -65,6 +65,7 @@ pub trait Files {
         ensures taken { taken self.new ≡ 0 }
         ensures has { has self.new ≡ has self.old }
         ensures held { held self.new ≡ held self.old }
+        ensures calm { OnOk result ((other : List ℕ) → faults self.new other ≡ faults self.old other) }
         ensures rises { OnlyRises name.now (faults self.old) (faults self.new) };
 
     /// Puts the next bytes of the current file in front and answers how many these are. 0 is the
@@ -81,6 +82,7 @@ pub trait Files {
         ensures current { current self.new ≡ current self.old }
         ensures has { has self.new ≡ has self.old }
         ensures held { held self.new ≡ held self.old }
+        ensures calm { OnOk result ((name : List ℕ) → faults self.new name ≡ faults self.old name) }
         ensures same { (name : List ℕ) → current self.old ≢ Some name → faults self.new name ≡ faults self.old name }
         ensures rises { NoneFell (faults self.old) (faults self.new) };
 }
@@ -106,6 +108,7 @@ pub fn read_file<F: Files>(
     ensures longer { IsErrOf result ReadFail.TooLong → IsTrue F.tells → max < length (F.held files.old name.now) }
     ensures has { F.has files.new ≡ F.has files.old }
     ensures held { F.held files.new ≡ F.held files.old }
+    ensures calm { OnOk result ((other : List ℕ) → F.faults files.new other ≡ F.faults files.old other) }
     ensures rises { OnlyRises name.now (F.faults files.old) (F.faults files.new) }
 {
     match files.begin(name) {

@@ -42,7 +42,7 @@ pub struct MemFiles {
 }
 
 impl MemFiles {
-    ghost use Rattle.rt_io.specs.MemFiles.{has_of, held_of, current_of, faults_of, piece_of, failing_begins, failing_reads, SameFiles, SameSettings};
+    ghost use Rattle.rt_io.specs.MemFiles.{has_of, held_of, current_of, left_of, taken_of, faults_of, piece_of, failing_begins, failing_reads, SameFiles, SameSettings};
 
     pub fn new(alloc: Global) -> MemFiles
         ensures has { (name : List ℕ) → has_of result name ≡ false }
@@ -71,6 +71,9 @@ impl MemFiles {
         ensures others_has { (other : List ℕ) → other ≢ name.now → has_of self.new other ≡ has_of self.old other }
         ensures others { (other : List ℕ) → other ≢ name.now → held_of self.new other ≡ held_of self.old other }
         ensures err { OnErr result (held_of self.new ≡ held_of self.old) }
+        ensures current { current_of self.new ≡ current_of self.old }
+        ensures left { left_of self.new ≡ left_of self.old }
+        ensures taken { taken_of self.new ≡ taken_of self.old }
         ensures faults { faults_of self.new ≡ faults_of self.old }
         ensures settings { SameSettings self.old self.new }
     {
@@ -163,6 +166,7 @@ impl Files for MemFiles {
         ensures taken { taken_of self.new ≡ 0 }
         ensures has { has_of self.new ≡ has_of self.old }
         ensures held { held_of self.new ≡ held_of self.old }
+        ensures calm { OnOk result ((other : List ℕ) → faults_of self.new other ≡ faults_of self.old other) }
         ensures rises { OnlyRises name.now (faults_of self.old) (faults_of self.new) }
     {
         self.current = None;
@@ -210,6 +214,7 @@ impl Files for MemFiles {
         ensures current { current_of self.new ≡ current_of self.old }
         ensures has { has_of self.new ≡ has_of self.old }
         ensures held { held_of self.new ≡ held_of self.old }
+        ensures calm { OnOk result ((name : List ℕ) → faults_of self.new name ≡ faults_of self.old name) }
         ensures same { (name : List ℕ) → current_of self.old ≢ Some name → faults_of self.new name ≡ faults_of self.old name }
         ensures rises { NoneFell (faults_of self.old) (faults_of self.new) }
     {

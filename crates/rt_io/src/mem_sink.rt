@@ -1,4 +1,4 @@
-ghost use Rattle.std.specs.Prelude.{◌≡◌, ◌<◌, ◌≤◌, ◌++◌, [], true, min, length, take, Some, None, IfOk, OnOk, OnErr, IsErrOf, IsTrue};
+ghost use Rattle.std.specs.Prelude.{◌≡◌, ◌<◌, ◌≤◌, ◌-◌, ◌^◌, ◌++◌, [], true, min, length, take, Some, None, IfOk, OnOk, OnErr, IsErrOf, IsTrue};
 ghost use Rattle.rt_io.specs.Edge.{Rose};
 
 use crate::{Sink, SinkFail};
@@ -20,6 +20,7 @@ impl MemSink {
         ensures contents { held_of result ≡ [] }
         ensures faults { faults_of result ≡ 0 }
         ensures room { room_of result ≡ None }
+        ensures piece { piece_of result ≡ 2 ^ 64 - 1 }
     {
         MemSink {
             held: Vec::new(alloc),
@@ -78,7 +79,8 @@ impl Sink for MemSink {
 
     fn write(&mut self, bytes: &[u8]) -> Result<usize, SinkFail>
         ensures takes { IfOk result (λ n. n ≡ takes self.old (length bytes.now)) }
-        ensures full { IsErrOf result SinkFail.Failed → takes self.old (length bytes.now) ≡ 0 }
+        ensures some { IfOk result (λ n. 0 < length bytes.now → 0 < n) }
+        ensures full { IsErrOf result SinkFail.Failed → (takes self.old (length bytes.now) ≡ 0) × (0 < length bytes.now) }
         ensures room { room_of self.new ≡ room_of self.old }
         ensures piece { piece_of self.new ≡ piece_of self.old }
         // The clauses of `Sink`.
@@ -86,6 +88,7 @@ impl Sink for MemSink {
         ensures ok { IfOk result (λ n. IsTrue true → held_of self.new ≡ held_of self.old ++ take n bytes.now) }
         ensures err { OnErr result (IsTrue true → held_of self.new ≡ held_of self.old) }
         ensures none { IfOk result (λ n. n ≡ 0 → 0 < length bytes.now → Rose (faults_of self.old) (faults_of self.new)) }
+        ensures calm { IfOk result (λ n. 0 < n → faults_of self.new ≡ faults_of self.old) }
         ensures failed { IsErrOf result SinkFail.Failed → Rose (faults_of self.old) (faults_of self.new) }
         ensures rises { faults_of self.old ≤ faults_of self.new }
     {

@@ -29,6 +29,7 @@ pub trait Sink {
         ensures ok { IfOk result (λ n. IsTrue tells → contents self.new ≡ contents self.old ++ take n bytes.now) }
         ensures err { OnErr result (IsTrue tells → contents self.new ≡ contents self.old) }
         ensures none { IfOk result (λ n. n ≡ 0 → 0 < length bytes.now → Rose (faults self.old) (faults self.new)) }
+        ensures calm { IfOk result (λ n. 0 < n → faults self.new ≡ faults self.old) }
         ensures failed { IsErrOf result SinkFail.Failed → Rose (faults self.old) (faults self.new) }
         ensures rises { faults self.old ≤ faults self.new };
 }
@@ -37,6 +38,7 @@ pub trait Sink {
 pub fn write_text<S: Sink>(sink: &mut S, bytes: &[u8]) -> Result<(), SinkFail>
     ensures ok { OnOk result (IsTrue S.tells → S.contents sink.new ≡ S.contents sink.old ++ bytes.now) }
     ensures err { OnErr result (IsTrue S.tells → AddsPrefix (S.contents sink.old) (S.contents sink.new) bytes.now) }
+    ensures calm { OnOk result (S.faults sink.new ≡ S.faults sink.old) }
     ensures failed { IsErrOf result SinkFail.Failed → Rose (S.faults sink.old) (S.faults sink.new) }
     ensures rises { S.faults sink.old ≤ S.faults sink.new }
 {

@@ -1,4 +1,4 @@
-use Rattle.std.proofs.Common.{◌≡◌, ◌+◌, ◌-◌, ◌≤◌, ◌++◌, IsTrue, Some, length}
+use Rattle.std.proofs.Common.{◌≡◌, ◌+◌, ◌-◌, ◌≤◌, ◌++◌, ℕ, List, IsTrue, Some, length}
 use Rattle.rt_io.specs.Edge.{OnlyRises}
 use Rattle.rt_io.proofs.files.read_file.Given as goal
 
@@ -11,6 +11,7 @@ invariant-reads g l = record {
   within : length l.bytes ≤ l.max + 1;
   has : g.F.Files.has l.files ≡ g.F.Files.has l.fn.files;
   held : g.F.Files.held l.files ≡ g.F.Files.held l.fn.files;
+  calm : (other : List ℕ) → g.F.Files.faults l.files other ≡ g.F.Files.faults l.fn.files other;
   rises : OnlyRises l.name (g.F.Files.faults l.fn.files) (g.F.Files.faults l.files);
 }
 
