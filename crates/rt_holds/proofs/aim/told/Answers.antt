@@ -1,0 +1,12 @@
+use Rattle.std.proofs.Common.{◌∙◌, ap, not}
+use Rattle.rt_formula.proofs.Meaning.{val-grown}
+use Rattle.rt_annot.proofs.Merged.{value_stays}
+use Rattle.rt_holds.proofs.Nodes.{both_of, if_ok}
+use Rattle.rt_holds.proofs.aim.told.Goals as goal
+
+pub returns-clause-means : goal.returns-clause-means
+returns-clause-means c = if_ok _ _ c.all.result (λ n means keep. means keep ∙ both_of _ _ _ _
+    (val-grown c.annotate-2.new.dag c.not.new.self c.in_ok-absent.ensures.grown keep c.node_of-there.result c.node_of-there.ensures.below
+    ∙ c.node_of-there.ensures.means keep ∙ value_stays c.annotate-2.ensures.grown c.in_ok-first.first c.args.row.now c.in_ok-first.ensures.nodes keep
+    ∙ c.in_ok-first.ensures.entries keep c.args.row.now)
+    (c.in_ok-absent.ensures.means keep ∙ ap not (c.node_of-elsewhere.ensures.means keep ∙ c.in_ok-second.ensures.entries keep c.args.row.now))) c.all.ensures.means
