@@ -140,6 +140,6 @@ pub fn smallest(
     requires budget { IfSome budget (λ b. 1 ≤ b) }
     ensures { IfOk result (IsBest dag.now goal budget) }
 {
-    let mut solver = Solver::new(alloc, Counted::new(alloc));
-    search(alloc, &mut solver, dag, goal, cone, budget)
+    let found = smallest_counted(alloc, dag, goal, cone, budget)?;
+    Ok(found.best)
 }

@@ -1,59 +1,48 @@
-use rt_formula::{Dag, Node};
-use rt_value::Keep;
-use std::alloc::Global;
-use std::process::Abort;
+use crate::drawing::{Drawing, Step};
 use std::test::Fail;
-
-// The values of a node of two rows at none, the first, both, and the second.
-fn values(rt: &impl Abort, alloc: Global, dag: &Dag, node: Node) -> Result<[bool; 4], Fail> {
-    assert!(rt; node.number() < dag.len() && dag.rows() == 2);
-    let mut keep = Keep::all(alloc, 2, false)?;
-    let none = dag.value(node, &keep)?;
-    keep.set(0, true);
-    let first = dag.value(node, &keep)?;
-    keep.set(1, true);
-    let both = dag.value(node, &keep)?;
-    keep.set(0, false);
-    let second = dag.value(node, &keep)?;
-    Ok([none, first, both, second])
-}
 
 #[test]
 fn a_row_or_its_negation(rt: HostRuntime) -> Result<(), Fail> {
-    let mut dag = Dag::new(rt.alloc(), 2)?;
-    let row = dag.row(0)?;
-    let not_row = dag.not(row)?;
-    assert!(rt; row.number() < dag.len() && not_row.number() < dag.len());
-    let either = dag.any(&[row, not_row])?;
-    assert_eq!(rt; values(&rt, rt.alloc(), &dag, either)?, [true; 4]);
-    assert_eq!(rt;
-        values(&rt, rt.alloc(), &dag, row)?,
-        [false, true, true, false]
-    );
+    let mut drawing = Drawing::new(rt.alloc(), 2)?;
+    let either = drawing.draw_all(&[Step::Row(0), Step::Not(0), Step::Any(&[0, 1])])?;
+    let choices: [(&[usize], bool); 4] = [
+        (&[], false),
+        (&[0], true),
+        (&[0, 1], true),
+        (&[1], false),
+    ];
+    for (kept, first) in choices {
+        assert!(rt; drawing.value(either, kept)?);
+        assert_eq!(rt; drawing.value(0, kept)?, first);
+    }
     Ok(())
 }
 
 #[test]
 fn gates_that_are_no_gates(rt: HostRuntime) -> Result<(), Fail> {
-    let mut dag = Dag::new(rt.alloc(), 2)?;
-    let (yes, no) = (dag.yes(), dag.no());
-    assert_eq!(rt; dag.any(&[])?, no);
-    assert_eq!(rt; dag.all(&[])?, yes);
-    let row = dag.row(0)?;
-    assert!(rt; row.number() < dag.len() && yes.number() < dag.len());
-    assert_eq!(rt; dag.all(&[yes, row, row])?, row);
-    assert!(rt; no.number() < dag.len());
-    assert_eq!(rt; dag.not(no)?, yes);
+    let mut drawing = Drawing::new(rt.alloc(), 2)?;
+    drawing.draw_all(&[
+        Step::Yes,
+        Step::No,
+        Step::Any(&[]),
+        Step::All(&[]),
+        Step::Row(0),
+        Step::All(&[0, 4, 4]),
+        Step::Not(1),
+    ])?;
+    for (gate, same) in [(2, 1), (3, 0), (5, 4), (6, 0)] {
+        assert_eq!(rt; drawing.number(gate), drawing.number(same));
+    }
     Ok(())
 }
 
 #[test]
 fn a_row_has_one_node(rt: HostRuntime) -> Result<(), Fail> {
-    let mut dag = Dag::new(rt.alloc(), 2)?;
-    let before = dag.len();
-    let first = dag.row(1)?;
-    assert_eq!(rt; dag.row(1)?, first);
-    assert!(rt; dag.len() <= before + 1);
+    let mut drawing = Drawing::new(rt.alloc(), 2)?;
+    let before = drawing.len();
+    drawing.draw_all(&[Step::Row(1), Step::Row(1)])?;
+    assert_eq!(rt; drawing.number(0), drawing.number(1));
+    assert!(rt; drawing.len() <= before + 1);
     Ok(())
 }
 
@@ -61,57 +50,40 @@ fn a_row_has_one_node(rt: HostRuntime) -> Result<(), Fail> {
 // written once.
 #[test]
 fn a_run_shares_its_first_child(rt: HostRuntime) -> Result<(), Fail> {
-    let mut dag = Dag::new(rt.alloc(), 5)?;
-    let mut rows = Vec::new(rt.alloc());
-    for row in 0..5 {
-        assert!(rt; row < dag.rows());
-        rows.push(dag.row(row)?)?;
-    }
-    assert_eq!(rt; rows.len(), 5);
-    let [s, t, u, v, w] = [rows[0], rows[1], rows[2], rows[3], rows[4]];
-    let mut gates = Vec::new(rt.alloc());
-    for children in [
-        [s, t].as_slice(),
-        [s, u, v].as_slice(),
-        [s, w].as_slice(),
-        [v, w].as_slice(),
-    ] {
-        assert!(rt; children.iter().all(|child| child.number() < dag.len()));
-        gates.push(dag.all(children)?)?;
-    }
-    assert_eq!(rt; gates.len(), 4);
-    let [st, suv, sw, vw] = [gates[0], gates[1], gates[2], gates[3]];
-    let n = dag.len();
-    for (children, node, len) in [
-        ([st, vw].as_slice(), n, n + 1),
-        ([u, st, suv, sw, vw].as_slice(), n + 4, n + 5),
-        ([st, suv, sw].as_slice(), n + 3, n + 5),
-        ([st, vw, sw].as_slice(), n + 5, n + 6),
-    ] {
-        assert!(rt; children.iter().all(|child| child.number() < dag.len()));
-        assert_eq!(rt; dag.any(children)?.number(), node);
-        assert_eq!(rt; dag.len(), len);
+    let mut drawing = Drawing::new(rt.alloc(), 5)?;
+    // The rows s, t, u, v and w, and the gates st, suv, sw and vw.
+    drawing.draw_all(&[
+        Step::Row(0),
+        Step::Row(1),
+        Step::Row(2),
+        Step::Row(3),
+        Step::Row(4),
+        Step::All(&[0, 1]),
+        Step::All(&[0, 2, 3]),
+        Step::All(&[0, 4]),
+        Step::All(&[3, 4]),
+    ])?;
+    let n = drawing.len();
+    let gates: [(&[usize], usize, usize); 4] = [
+        (&[5, 8], 0, 1),
+        (&[2, 5, 6, 7, 8], 4, 5),
+        (&[5, 6, 7], 3, 5),
+        (&[5, 8, 7], 5, 6),
+    ];
+    for (children, node, len) in gates {
+        let gate = drawing.draw(Step::Any(children))?;
+        assert_eq!(rt; drawing.number(gate), n + node);
+        assert_eq!(rt; drawing.len(), n + len);
     }
     Ok(())
 }
 
 #[test]
 fn a_gate_of_a_million_children(rt: HostRuntime) -> Result<(), Fail> {
-    let mut dag = Dag::new(rt.alloc(), 2)?;
-    let mut node = dag.row(0)?;
-    let mut children = Vec::new(rt.alloc());
-    for _ in 0..1_000_000 {
-        assert!(rt; dag.rows() == 2 && node.number() < dag.len());
-        let other = dag.row(1)?;
-        assert!(rt; node.number() < dag.len());
-        let either = dag.any(&[node, other])?;
-        children.push(either)?;
-        assert!(rt; either.number() < dag.len());
-        node = dag.not(either)?;
-    }
-    assert!(rt; children.iter().all(|child| child.number() < dag.len()));
-    let before = dag.len();
-    let gate = dag.all(&children)?;
-    assert!(rt; gate.number() == before && dag.len() == before + 1);
+    let mut drawing = Drawing::new(rt.alloc(), 2)?;
+    let children = drawing.ladder(1_000_000)?;
+    let before = drawing.len();
+    let gate = drawing.draw(Step::All(&children))?;
+    assert!(rt; drawing.number(gate) == before && drawing.len() == before + 1);
     Ok(())
 }

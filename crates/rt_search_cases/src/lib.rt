@@ -11,6 +11,8 @@ mod clauses;
 #[cfg(test)]
 mod counter;
 #[cfg(test)]
+mod drawing;
+#[cfg(test)]
 mod encoded;
 #[cfg(test)]
 mod formulas;

@@ -1,12 +1,12 @@
-ghost use Rattle.std.specs.Prelude.{◌<◌, ◌≤◌, IfSome, length};
+ghost use Rattle.std.specs.Prelude.{◌<◌};
 
+use crate::drawing::{Drawing, Step};
 use rt_clause::{Adds, Lit, Named};
 use rt_derive::Checker;
-use rt_formula::{Dag, Node};
-use rt_search::{Best, Searched, smallest_counted};
+use rt_search::Best;
 use rt_solver::{Found, Order, Solver};
 use rt_totalizer::count;
-use rt_value::{Keep, NoMemory};
+use rt_value::NoMemory;
 use std::alloc::Global;
 use std::process::Abort;
 use std::test::Fail;
@@ -42,21 +42,10 @@ fn outputs_of_three_rows(rt: HostRuntime) -> Result<(), Fail> {
     Ok(())
 }
 
-// What the search finds where each row is in the cone.
-fn search(alloc: Global, dag: &Dag, goal: Node, budget: Option<u64>) -> Result<Searched, NoMemory>
-    requires goal { goal < length dag.now.entries }
-    requires budget { IfSome budget (λ b. 1 ≤ b) }
-{
-    let all = Keep::all(alloc, dag.rows(), true)?;
-    smallest_counted(alloc, dag, goal, &all, budget)
-}
-
-// The least choice, and None where the goal is true nowhere.
-fn least(rt: &impl Abort, alloc: Global, dag: &Dag, goal: Node) -> Result<Option<Keep>, Fail>
-    requires { goal < length dag.now.entries }
-{
-    match search(alloc, dag, goal, None)?.best {
-        Best::Least(keep) => Ok(Some(keep)),
+// How many rows the least choice has, and None where the goal is true nowhere.
+fn least_size(rt: &impl Abort, drawing: &Drawing, goal: usize) -> Result<Option<usize>, Fail> {
+    match drawing.search(goal, None)?.best {
+        Best::Least(keep) => Ok(Some(keep.size())),
         Best::Never => Ok(None),
         Best::Spent(_) => {
             assert!(rt; false, "there is no budget");
@@ -65,50 +54,28 @@ fn least(rt: &impl Abort, alloc: Global, dag: &Dag, goal: Node) -> Result<Option
     }
 }
 
-// How many rows it has.
-fn least_size(rt: &impl Abort, alloc: Global, dag: &Dag, goal: Node) -> Result<Option<usize>, Fail>
-    requires { goal < length dag.now.entries }
-{
-    match least(rt, alloc, dag, goal)? {
-        Some(keep) => Ok(Some(keep.size())),
-        None => Ok(None),
-    }
-}
-
 #[test]
 fn goals_over_two_rows(rt: HostRuntime) -> Result<(), Fail> {
-    let alloc = rt.alloc();
-    let mut dag = Dag::new(alloc, 2)?;
-    let first = dag.row(0)?;
-    assert!(rt; first.number() < dag.len() && dag.rows() == 2);
-    let second = dag.row(1)?;
-    assert!(rt; first.number() < dag.len() && second.number() < dag.len());
-    let either = dag.any(&[first, second])?;
-    assert!(rt; first.number() < dag.len());
-    let not_first = dag.not(first)?;
-    assert!(rt; first.number() < dag.len() && not_first.number() < dag.len());
-    let nowhere = dag.all(&[first, not_first])?;
-    let everywhere = dag.yes();
-    for (goal, size) in [(either, Some(1)), (nowhere, None), (everywhere, Some(0))] {
-        assert!(rt; goal.number() < dag.len());
-        assert_eq!(rt; least_size(&rt, alloc, &dag, goal)?, size);
+    let mut drawing = Drawing::new(rt.alloc(), 2)?;
+    drawing.draw_all(&[
+        Step::Row(0),
+        Step::Row(1),
+        Step::Any(&[0, 1]),
+        Step::Not(0),
+        Step::All(&[0, 3]),
+        Step::Yes,
+    ])?;
+    for (goal, size) in [(2, Some(1)), (4, None), (5, Some(0))] {
+        assert_eq!(rt; least_size(&rt, &drawing, goal)?, size);
     }
     Ok(())
 }
 
 // Whether the least choice keeps just the first and the last of four rows.
-fn keeps_the_outer(
-    alloc: Global,
-    dag: &Dag,
-    goal: Node,
-    budget: Option<u64>,
-) -> Result<bool, NoMemory>
-    requires goal { goal < length dag.now.entries }
-    requires budget { IfSome budget (λ b. 1 ≤ b) }
-{
-    match search(alloc, dag, goal, budget)?.best {
-        Best::Least(keep) => Ok(keep.as_slice() == [true, false, false, true].as_slice()),
-        _ => Ok(false),
+fn keeps_the_outer(best: &Best) -> bool {
+    match best {
+        Best::Least(keep) => keep.as_slice() == [true, false, false, true].as_slice(),
+        _ => false,
     }
 }
 
@@ -117,22 +84,19 @@ fn keeps_the_outer(
 // could not.
 #[test]
 fn first_of_two_pairs(rt: HostRuntime) -> Result<(), Fail> {
-    let alloc = rt.alloc();
-    let mut dag = Dag::new(alloc, 4)?;
-    let mut rows = Vec::new(alloc);
-    for i in 0..4 {
-        assert!(rt; dag.rows() == 4);
-        rows.push(dag.row(i)?)?;
-    }
-    assert!(rt; rows.len() == 4 && rows.iter().all(|row| row.number() < dag.len()));
-    let outer = dag.all(&[rows[0], rows[3]])?;
-    assert!(rt; rows.len() == 4 && rows.iter().all(|row| row.number() < dag.len()));
-    let inner = dag.all(&[rows[1], rows[2]])?;
-    assert!(rt; outer.number() < dag.len() && inner.number() < dag.len());
-    let goal = dag.any(&[inner, outer])?;
-    assert!(rt; goal.number() < dag.len());
+    let mut drawing = Drawing::new(rt.alloc(), 4)?;
+    let goal = drawing.draw_all(&[
+        Step::Row(0),
+        Step::Row(1),
+        Step::Row(2),
+        Step::Row(3),
+        Step::All(&[0, 3]),
+        Step::All(&[1, 2]),
+        Step::Any(&[5, 4]),
+    ])?;
     for budget in [None, Some(15), Some(16)] {
-        assert!(rt; keeps_the_outer(alloc, &dag, goal, budget)?);
+        let found = drawing.search(goal, budget)?;
+        assert!(rt; keeps_the_outer(&found.best));
     }
     Ok(())
 }
@@ -152,49 +116,47 @@ fn is_spent_by_one_clause(best: &Best) -> bool {
 // search with all variables, and the other one that of the search with the rows.
 #[test]
 fn a_budget_of_one(rt: HostRuntime) -> Result<(), Fail> {
-    let alloc = rt.alloc();
-    let mut dag = Dag::new(alloc, 4)?;
-    let mut parts = Vec::new(alloc);
-    for pair in 0..2 {
-        assert!(rt; dag.rows() == 4);
-        let first = dag.row(2 * pair)?;
-        assert!(rt; dag.rows() == 4);
-        let second = dag.row(2 * pair + 1)?;
-        assert!(rt; first.number() < dag.len() && second.number() < dag.len());
-        parts.push(dag.any(&[first, second])?)?;
-        assert!(rt; second.number() < dag.len());
-        let not_second = dag.not(second)?;
-        assert!(rt; first.number() < dag.len() && not_second.number() < dag.len());
-        parts.push(dag.any(&[first, not_second])?)?;
-    }
-    assert!(rt; parts.iter().all(|part| part.number() < dag.len()));
-    let goal = dag.all(&parts)?;
-    assert!(rt; goal.number() < dag.len());
-    let found = search(alloc, &dag, goal, Some(1))?;
+    let mut drawing = Drawing::new(rt.alloc(), 4)?;
+    let goal = drawing.draw_all(&[
+        Step::Row(0),
+        Step::Row(1),
+        Step::Any(&[0, 1]),
+        Step::Not(1),
+        Step::Any(&[0, 3]),
+        Step::Row(2),
+        Step::Row(3),
+        Step::Any(&[5, 6]),
+        Step::Not(6),
+        Step::Any(&[5, 8]),
+        Step::All(&[2, 4, 7, 9]),
+    ])?;
+    let found = drawing.search(goal, Some(1))?;
     assert!(rt; is_spent_by_one_clause(&found.best));
     Ok(())
+}
+
+// Any of the five rows of a group.
+fn any_of_five(drawing: &mut Drawing, group: usize) -> Result<usize, NoMemory>
+    requires { group < 20 }
+{
+    let mut rows = [0; 5];
+    for row in 0..5 {
+        rows[row] = drawing.draw(Step::Row(5 * group + row))?;
+    }
+    drawing.draw(Step::Any(&rows))
 }
 
 // One row of each of twenty groups of five: clauses over all variables refute the bound in about as
 // many conflicts as there are groups, where clauses over rows would be some hundred thousand.
 #[test]
 fn twenty_groups_of_five(rt: HostRuntime) -> Result<(), Fail> {
-    let alloc = rt.alloc();
-    let mut dag = Dag::new(alloc, 100)?;
-    let mut groups = Vec::new(alloc);
+    let mut drawing = Drawing::new(rt.alloc(), 100)?;
+    let mut groups = [0; 20];
     for group in 0..20 {
-        let mut rows = Vec::new(alloc);
-        for row in 0..5 {
-            assert!(rt; dag.rows() == 100);
-            rows.push(dag.row(5 * group + row)?)?;
-        }
-        assert!(rt; rows.iter().all(|row| row.number() < dag.len()));
-        groups.push(dag.any(&rows)?)?;
+        groups[group] = any_of_five(&mut drawing, group)?;
     }
-    assert!(rt; groups.iter().all(|group| group.number() < dag.len()));
-    let goal = dag.all(&groups)?;
-    assert!(rt; goal.number() < dag.len());
-    let found = search(alloc, &dag, goal, None)?;
+    let goal = drawing.draw(Step::All(&groups))?;
+    let found = drawing.search(goal, None)?;
     assert!(rt; found.conflicts < 2_000);
     Ok(())
 }
@@ -202,16 +164,12 @@ fn twenty_groups_of_five(rt: HostRuntime) -> Result<(), Fail> {
 // The counter goes up to 400, and has 720,200 cells.
 #[test]
 fn every_fifth_of_two_thousand_rows(rt: HostRuntime) -> Result<(), Fail> {
-    let alloc = rt.alloc();
-    let mut dag = Dag::new(alloc, 2_000)?;
-    let mut fifth = Vec::new(alloc);
+    let mut drawing = Drawing::new(rt.alloc(), 2_000)?;
+    let mut fifth = [0; 400];
     for i in 0..400 {
-        assert!(rt; dag.rows() == 2_000);
-        fifth.push(dag.row(5 * i)?)?;
+        fifth[i] = drawing.draw(Step::Row(5 * i))?;
     }
-    assert!(rt; fifth.iter().all(|row| row.number() < dag.len()));
-    let goal = dag.all(&fifth)?;
-    assert!(rt; goal.number() < dag.len());
-    assert_eq!(rt; least_size(&rt, alloc, &dag, goal)?, Some(400));
+    let goal = drawing.draw(Step::All(&fifth))?;
+    assert_eq!(rt; least_size(&rt, &drawing, goal)?, Some(400));
     Ok(())
 }
