@@ -8,21 +8,32 @@
 use rt_annot::goal;
 use rt_eval::answers;
 use rt_formula::Dag;
-use rt_io::{RealFiles, RealSink, Sink, write_text};
+use rt_io::{RealFiles, RealSink, Sink, SinkFail, write_text};
 use rt_rules::cone;
 use rt_search::smallest_counted;
 use rt_top::{Input, Outcome, read_input};
 use rt_value::{Keep, List, Txt};
 use std::alloc::Global;
-use std::env;
 use std::process::ExitCode;
+use std::{env, io};
 
-fn words(rt: &HostRuntime) -> Option<List<Txt>> {
+/// The words after the program's name. A word that isn't UTF-8 is an error.
+fn words(rt: &HostRuntime) -> io::Result<List<Txt>> {
     let mut words = List::new(rt.alloc());
-    for word in env::args(rt).ok()?.skip(1) {
-        words.push(Txt::from_string(word)).ok()?;
+    for word in env::args(rt)?.skip(1) {
+        if words.push(Txt::from_string(word)).is_err() {
+            return Err(io::Error::from(io::ErrorKind::OutOfMemory));
+        }
     }
-    Some(words)
+    Ok(words)
+}
+
+/// The status where there are no words.
+fn refused(error: &io::Error) -> u8 {
+    if error.kind() == io::ErrorKind::OutOfMemory {
+        return Outcome::NoMemory.status();
+    }
+    Outcome::Usage.status()
 }
 
 fn say<S: Sink>(alloc: Global, out: &mut S, name: &str, number: u64) -> Result<(), Outcome> {
@@ -31,7 +42,8 @@ fn say<S: Sink>(alloc: Global, out: &mut S, name: &str, number: u64) -> Result<(
     };
     match write_text(out, line.as_bytes()) {
         Ok(()) => Ok(()),
-        Err(_) => Err(Outcome::WriteFault),
+        Err(SinkFail::Failed) => Err(Outcome::WriteFault),
+        Err(SinkFail::NoMemory) => Err(Outcome::NoMemory),
     }
 }
 
@@ -66,8 +78,9 @@ fn read_and_measure<S: Sink>(
 
 fn main(rt: HostRuntime) -> ExitCode {
     let mut out = RealSink::new(rt.stdout());
-    let Some(words) = words(&rt) else {
-        return ExitCode::from(Outcome::NoMemory.status());
+    let words = match words(&rt) {
+        Ok(words) => words,
+        Err(error) => return ExitCode::from(refused(&error)),
     };
     let alloc = rt.alloc();
     let mut files = RealFiles::new(rt);

@@ -1,13 +1,12 @@
 -- At most one choice is a smallest counterexample, so a call has one answer.
-use Rattle.std.proofs.Common.{◌≡◌, ◌⊎◌, ◌≤◌, ℕ, Bool, true, false, List, Ok, inl, inr, refl, sym, ap, subst, ◌∙◌, arith}
-use Rattle.rt_value.specs.Keep.{size}
+use Rattle.std.proofs.Common.{◌≡◌, ℕ, Bool, true, false, List, Ok, inl, inr, refl, sym, ap, subst, ◌∙◌, arith}
 use Rattle.rt_search.specs.declared.best.Best.{Best}
 use Rattle.rt_search.specs.declared.best.Best.TheVariants.{Least, Never, Spent}
 use Rattle.rt_search.proofs.Keeps.{either-before}
 use Rattle.rt_top.specs.declared.outcome.Outcome.{Outcome}
 use Rattle.rt_top.specs.declared.outcome.Outcome.TheVariants as outcome
 use Rattle.rt_top.specs.Accepted.{Accepted}
-use Rattle.rt_top.specs.Answers.{Call, IsRead, Says}
+use Rattle.rt_top.specs.Answers.{Call, IsRead, IsTextOf}
 use Rattle.rt_top.specs.Judged.{judged}
 use Rattle.rt_top.specs.One.{AreAlike, IsDecided, IsFinal}
 use Rattle.rt_top.specs.Smallest.{Agrees, IsFirst, IsSmallest, IsVerdict}
@@ -47,7 +46,7 @@ same-input a b h input other r s =
     let e : Ok input ≡ Ok other = sym (r.told h.told) ∙ same ∙ s.told h.told_too in
     cc
 
-pub answer-one : (a b : Call) → AreAlike a b → (o p : Outcome) → IsDecided o → IsDecided p → (said told : List ℕ) → Says a o said → Says b p told → (o ≡ p) × (said ≡ told)
+pub answer-one : (a b : Call) → AreAlike a b → (o p : Outcome) → IsDecided o → IsDecided p → (said told : List ℕ) → IsTextOf a o said → IsTextOf b p told → (o ≡ p) × (said ≡ told)
 answer-one a b h outcome.Agree outcome.Agree d e said told x y =
     let same = same-input a b h x.0 y.0 x.1 y.1 in (refl, x.3 ∙ ap agree_of same ∙ sym y.3)
 answer-one a b h outcome.Agree (outcome.Witness t) d e said told x y =

@@ -24,6 +24,7 @@ use Rattle.rt_top.specs.Faults.{lex_outcome, load_outcome, name_outcome, schema_
 use Rattle.rt_top.specs.Judged.{Holding, text_of}
 use Rattle.rt_top.specs.Placed.{Parts, IsPlaceless, Placed, PlacedIn, Stands}
 use Rattle.rt_top.specs.Source.{Text}
+use Rattle.rt_top.specs.Steps.{Seen, TextStops}
 
 ok_and : {T E : Type 0} (P : T → Type 0) (r : Result T E) (x : T) → r ≡ Ok x → P x → IsOkAnd r P
 ok_and {T = T} {E = E} P r x is p = subst (λ (q : Result T E). IsOkAnd q P) (sym is) p
@@ -86,6 +87,17 @@ placeless_load p load.BadHeader texts = always (texts p)
 placeless_load p (load.FieldCount n) texts = always (texts p)
 placeless_load p (load.BadInteger n c) texts = always (texts p)
 placeless_load p (load.BadText n c) texts = always (texts p)
+
+pub placeless_text : (s : Seen) (name : Text) (p : Part) (o : Outcome) → TextStops s name p o → IsPlaceless o
+placeless_text s name p outcome.Agree stop texts = tt
+placeless_text s name p (outcome.Witness keep) stop texts = tt
+placeless_text s name p outcome.Usage stop texts = tt
+placeless_text s name p (outcome.Refused q fault) stop texts = absurd stop
+placeless_text s name p (outcome.Spent spent) stop texts = tt
+placeless_text s name p (outcome.Limit l) stop texts = tt
+placeless_text s name p (outcome.ReadFault q) stop texts = tt
+placeless_text s name p outcome.WriteFault stop texts = tt
+placeless_text s name p outcome.NoMemory stop texts = tt
 
 -- ---- from a text to the texts
 

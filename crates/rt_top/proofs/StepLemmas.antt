@@ -41,9 +41,9 @@ use Rattle.rt_top.specs.declared.source.Paths.{Paths}
 use Rattle.rt_top.specs.declared.source.Source.{Source}
 use Rattle.rt_top.specs.declared.source.Source.TheVariants.{Files}
 use Rattle.rt_top.specs.Faults.{excess_limit, lex_outcome, load_outcome, name_outcome, or_outcome, schema_outcome, sql_outcome}
-use Rattle.rt_top.specs.Judged.{Data, Holding, Reaches, data_judged, input_judged, most_bytes, query_judged, right_judged, then_read, query_of, query_of_tokens, query_of_tree, schema_of, text_of}
+use Rattle.rt_top.specs.Judged.{Data, Holding, Reaches, data_judged, input_judged, most_bytes, query_judged, right_judged, then_read, query_of, query_of_tokens, query_of_tree, file_text, schema_of, text_of}
 use Rattle.rt_top.specs.Source.{IsKnown, file_name, file_of, source_of}
-use Rattle.rt_top.specs.Steps.{Failed, IsLong, IsLongFor, Refuses, Seen, seen, Stops, of_contents}
+use Rattle.rt_top.specs.Steps.{Failed, IsLong, IsLongFor, Refuses, Seen, seen, Stops, TextStops, of_contents}
 
 pub then_ok : {T U E : Type 0} (r : Result T E) (x : T) (f : T → Result U E) (y : Result U E) → r ≡ Ok x → f x ≡ y → then_read r f ≡ y
 then_ok r x f y p q = rw p q
@@ -157,6 +157,23 @@ failed_at s paths p name is rose = subst (Failed s) (sym is) rose
 
 pub long_at : (s : Seen) (paths : Paths) (p : Part) (name : List ℕ) → file_name paths p ≡ Some name → s.current ≡ Some name → s.taken ≡ most_bytes + 1 → IsLong s (file_of (Files paths) p)
 long_at s paths p name is current taken = subst (IsLong s) (sym is) (current, taken)
+
+-- what stops the reading of a file stops that of its part
+pub text_stops : (s : Seen) (paths : Paths) (p : Part) (name : List ℕ) (o : Outcome) → file_name paths p ≡ Some name → TextStops s name p o
+    → Stops s (Files paths) (file_text p s.held (file_name paths p)) (λ q. q ≡ p) o
+text_stops s paths p name outcome.Agree is stop = stop
+text_stops s paths p name (outcome.Witness keep) is stop = stop
+text_stops s paths p name outcome.Usage is stop = stop
+text_stops s paths p name (outcome.Refused q fault) is stop = absurd stop
+text_stops s paths p name (outcome.Spent spent) is stop = stop
+text_stops s paths p name (outcome.Limit l) is stop = (
+  subst (λ (x : Limit). IsLongFor s (Files paths) x) (sym stop.0) (subst (IsLong s) (sym is) stop.1),
+  λ t. ap (file_text p s.held) is ∙ stop.2 t ∙ ap (λ (x : Limit). Err (outcome.Limit x)) (sym stop.0),
+)
+text_stops s paths p name (outcome.ReadFault q) is stop =
+    (subst (λ (x : Part). Failed s (file_name paths x)) (sym stop.0) (subst (Failed s) (sym is) stop.1), λ t. stop.0)
+text_stops s paths p name outcome.WriteFault is stop = stop
+text_stops s paths p name outcome.NoMemory is stop = tt
 
 long_on : (tells : Bool) (held held' : Holding) (before mid after : List ℕ → ℕ) (current : Option (List ℕ)) (taken : ℕ) (o : Option (List ℕ))
     → IsLong (seen tells held' mid after current taken) o → IsLong (seen tells held before after current taken) o

@@ -13,15 +13,16 @@ use Rattle.rt_top.specs.declared.part.Part.{Part}
 use Rattle.rt_top.specs.declared.part.Part.TheVariants.{Schema, Table, Query1, Query2, Queries}
 use Rattle.rt_top.specs.declared.place.Place.{Place}
 use Rattle.rt_top.specs.declared.place.Place.TheVariants as at
-use Rattle.rt_top.specs.Accepted.{Accepted, HasOptions}
+use Rattle.rt_top.specs.Accepted.{Accepted, HasOptions, IsAccepted}
 use Rattle.rt_top.specs.declared.source.Source.{Source}
 use Rattle.rt_top.specs.Source.{IsKnown, source_of}
 use Rattle.rt_words.specs.Command.{command}
 use Rattle.rt_words.specs.Ranges.{Command}
-use Rattle.rt_top.specs.Judged.{Holding, command_judged, input_judged, judged, schema_judged, HasTable, IsNamed, Reaches, TableReached}
+use Rattle.rt_top.specs.Judged.{Holding, command_judged, input_judged, judged, schema_judged, text_of, HasTable, IsNamed, Reaches, TableReached}
+use Rattle.rt_top.specs.Placed.{Placed}
 use Rattle.rt_top.specs.Steps.{IsLongFor, Stops}
 use Rattle.rt_top.specs.Texts.{place}
-use Rattle.rt_top.specs.Answers.{Call, HasRoom, IsVerdict, SpentRow, YieldsTo, Log, NoFileRose, NoSinkRose, ReadFaultAt, ReadFaultRow, Row, IfText, Said, Spoke, Stop, at_place, Judges, PlacedRow, Says, IsRead, IsTold}
+use Rattle.rt_top.specs.Answers.{Call, HasRoom, IsVerdictOrMemory, SpentRow, YieldsTo, Log, NoFileRose, NoSinkRose, ReadFaultAt, ReadFaultRow, Row, IfText, WritesAll, Writes, Stop, at_place, Judges, PlacedRow, IsTextOf, IsRead, IsTold}
 
 -- ---- from the reading of the files to the rows
 
@@ -37,21 +38,30 @@ judged-command c k e = ap (command_judged c.files.held) e
 known : (c : Call) (k : Command) → command c.words ≡ Some k → IsTold c → IsKnown c.files.tells (source_of k)
 known c k e told = told k e
 
-pub stop_row : (c : Call) (k : Command) (o : Outcome) → command c.words ≡ Some k
-    → Stops c.files (source_of k) (input_judged c.files.held k) (Reaches (source_of k) c.files.held) o → Stop c o
-stop_row c k outcome.Agree e stop = stop
-stop_row c k (outcome.Witness keep) e stop = stop
-stop_row c k outcome.Usage e stop = absurd stop
-stop_row c k (outcome.Refused part fault) e stop = (is_some _ k e, stop.0, λ t. judged-command c k e ∙ stop.1 (known c k e t))
-stop_row c k (outcome.Spent s) e stop = stop
-stop_row c k (outcome.Limit l) e stop = (some_and (λ k. IsLongFor c.files (source_of k) l) _ k e stop.0, λ t. judged-command c k e ∙ stop.1 (known c k e t))
-stop_row c k (outcome.ReadFault part) e stop = some_and (ReadFaultAt c.files part) _ k e (record { failed = stop.0; reached = stop.1 })
-stop_row c k outcome.WriteFault e stop = stop
-stop_row c k outcome.NoMemory e stop = tt
+placed_row : (c : Call) (k : Command) (o : Outcome) → command c.words ≡ Some k
+    → (IsKnown c.files.tells (source_of k) → Placed (text_of (source_of k) c.files.held) o) → PlacedRow c o
+placed_row c k o e placed other is =
+    let same : k ≡ other = let p : Some k ≡ Some other = sym e ∙ is in cc in
+    subst (λ (x : Command). IsKnown c.files.tells (source_of x) → Placed (text_of (source_of x) c.files.held) o) same placed
 
-pub read_row : (c : Call) (k : Command) (input : Accepted) → command c.words ≡ Some k → HasOptions k input
+pub stop_row : (c : Call) (k : Command) (o : Outcome) → command c.words ≡ Some k
+    → Stops c.files (source_of k) (input_judged c.files.held k) (Reaches (source_of k) c.files.held) o
+    → (IsKnown c.files.tells (source_of k) → Placed (text_of (source_of k) c.files.held) o) → Stop c o
+stop_row c k outcome.Agree e stop placed = stop
+stop_row c k (outcome.Witness keep) e stop placed = stop
+stop_row c k outcome.Usage e stop placed = absurd stop
+stop_row c k (outcome.Refused part fault) e stop placed =
+    (is_some _ k e, stop.0, λ t. judged-command c k e ∙ stop.1 (known c k e t), placed_row c k (outcome.Refused part fault) e placed)
+stop_row c k (outcome.Spent s) e stop placed = stop
+stop_row c k (outcome.Limit l) e stop placed = (some_and (λ k. IsLongFor c.files (source_of k) l) _ k e stop.0, λ t. judged-command c k e ∙ stop.1 (known c k e t))
+stop_row c k (outcome.ReadFault part) e stop placed = some_and (ReadFaultAt c.files part) _ k e (record { failed = stop.0; reached = stop.1 })
+stop_row c k outcome.WriteFault e stop placed = stop
+stop_row c k outcome.NoMemory e stop placed = tt
+
+pub read_row : (c : Call) (k : Command) (input : Accepted) → command c.words ≡ Some k → IsAccepted input → HasOptions k input
     → (IsKnown c.files.tells (source_of k) → input_judged c.files.held k ≡ Ok input) → IsRead c input
-read_row c k input e has told = record { options = some_and (λ k. HasOptions k input) _ k e has; told = λ t. judged-command c k e ∙ told (known c k e t) }
+read_row c k input e sound has told =
+    record { sound = sound; options = some_and (λ k. HasOptions k input) _ k e has; told = λ t. judged-command c k e ∙ told (known c k e t) }
 
 -- ---- from the verdict on an input to the rows
 
@@ -66,7 +76,7 @@ verdict_row c input (outcome.ReadFault part) said read judges = absurd judges
 verdict_row c input outcome.WriteFault said read judges = judges
 verdict_row c input outcome.NoMemory said read judges = judges
 
-pub verdict_says : (c : Call) (input : Accepted) (o : Outcome) (said : List ℕ) → IsRead c input → Judges input o said → Says c o said
+pub verdict_says : (c : Call) (input : Accepted) (o : Outcome) (said : List ℕ) → IsRead c input → Judges input o said → IsTextOf c o said
 verdict_says c input outcome.Agree said read judges = (input, read, judges.0, judges.1)
 verdict_says c input (outcome.Witness keep) said read judges = (input, read, judges.0, judges.1)
 verdict_says c input (outcome.Spent s) said read judges = (input, read, judges.0, judges.1, judges.2)
@@ -119,7 +129,7 @@ not_given_up c s input row tells ok room =
     let bound : ForSome other.conflicts (λ b. 2 ^ places other.given.tables ≤ b) = subst HasRoom (sym same) room in
     no_room other.conflicts s.budget (2 ^ places other.given.tables) row.2 row.3.small bound
 
-row_verdict : (c : Call) (o : Outcome) (input : Accepted) → Row c o → IsTold c → NoFileRose c → judged c.words c.files.held ≡ Ok input → HasRoom input → IsVerdict o
+row_verdict : (c : Call) (o : Outcome) (input : Accepted) → Row c o → IsTold c → NoFileRose c → judged c.words c.files.held ≡ Ok input → HasRoom input → IsVerdictOrMemory o
 row_verdict c outcome.Agree input row tells calm ok room = tt
 row_verdict c (outcome.Witness keep) input row tells calm ok room = tt
 row_verdict c outcome.Usage input row tells calm ok room = not_accepted (judged c.words c.files.held) outcome.Usage input (ap (command_judged c.files.held) row) ok
@@ -130,13 +140,13 @@ row_verdict c (outcome.ReadFault part) input row tells calm ok room = no_read_fa
 row_verdict c outcome.WriteFault input row tells calm ok room = row
 row_verdict c outcome.NoMemory input row tells calm ok room = tt
 
-pub gets_verdict : (c : Call) (out err : Log) (o : Outcome) (said : List ℕ) (result : Outcome) (input : Accepted) → Row c o → Spoke out err o said result
-    → IsTold c → NoFileRose c → NoSinkRose out err → judged c.words c.files.held ≡ Ok input → HasRoom input → IsVerdict result
+pub gets_verdict : (c : Call) (out err : Log) (o : Outcome) (said : List ℕ) (result : Outcome) (input : Accepted) → Row c o → Writes out err o said result
+    → IsTold c → NoFileRose c → NoSinkRose out err → judged c.words c.files.held ≡ Ok input → HasRoom input → IsVerdictOrMemory result
 gets_verdict c out err o said result input row spoke tells calm sinks ok room = elim spoke.ends [
-  | inl h ↦ subst IsVerdict (sym h.0) (row_verdict c o input row tells calm ok room)
+  | inl h ↦ subst IsVerdictOrMemory (sym h.0) (row_verdict c o input row tells calm ok room)
   | inr h ↦ elim h [
     | inl f ↦ absurd (no_sink_fault out err (place o) sinks f.1)
-    | inr m ↦ subst IsVerdict (sym m.0) tt
+    | inr m ↦ subst IsVerdictOrMemory (sym m.0) tt
   ]
 ]
 
@@ -157,37 +167,13 @@ row_yields c (outcome.ReadFault part) refusal row tells is = tt
 row_yields c outcome.WriteFault refusal row tells is = tt
 row_yields c outcome.NoMemory refusal row tells is = tt
 
-pub yields : (c : Call) (out err : Log) (o : Outcome) (said : List ℕ) (result refusal : Outcome) → Row c o → Spoke out err o said result
+pub yields : (c : Call) (out err : Log) (o : Outcome) (said : List ℕ) (result refusal : Outcome) → Row c o → Writes out err o said result
     → IsTold c → judged c.words c.files.held ≡ Err refusal → YieldsTo refusal result
 yields c out err o said result refusal row spoke tells is = elim spoke.ends [
   | inl h ↦ subst (YieldsTo refusal) (sym h.0) (row_yields c o refusal row tells is)
   | inr h ↦ elim h [
     | inl f ↦ subst (YieldsTo refusal) (sym f.0) tt
     | inr m ↦ subst (YieldsTo refusal) (sym m.0) tt
-  ]
-]
-
--- ---- the place of a syntax fault
-
--- a verdict has none
-pub placed_verdict : (c : Call) (input : Accepted) (o : Outcome) (said : List ℕ) → Judges input o said → PlacedRow c o
-placed_verdict c input outcome.Agree said judges k is known = tt
-placed_verdict c input (outcome.Witness keep) said judges k is known = tt
-placed_verdict c input (outcome.Spent s) said judges k is known = tt
-placed_verdict c input outcome.Usage said judges k is known = tt
-placed_verdict c input (outcome.Refused part fault) said judges k is known = absurd judges
-placed_verdict c input (outcome.Limit limit) said judges k is known = tt
-placed_verdict c input (outcome.ReadFault part) said judges k is known = tt
-placed_verdict c input outcome.WriteFault said judges k is known = tt
-placed_verdict c input outcome.NoMemory said judges k is known = tt
-
--- nor has a fault of the sink
-pub placed_spoke : (c : Call) (out err : Log) (o : Outcome) (said : List ℕ) (result : Outcome) → Spoke out err o said result → PlacedRow c o → PlacedRow c result
-placed_spoke c out err o said result spoke placed = elim spoke.ends [
-  | inl h ↦ subst (PlacedRow c) (sym h.0) placed
-  | inr h ↦ elim h [
-    | inl f ↦ subst (PlacedRow c) (sym f.0) (λ k is known. tt)
-    | inr m ↦ subst (PlacedRow c) (sym m.0) (λ k is known. tt)
   ]
 ]
 
@@ -205,12 +191,12 @@ if_text outcome.WriteFault P p = tt
 if_text outcome.NoMemory P p = tt
 
 -- what was spoken to the end was said
-pub said_of : (c : Call) (out err : Log) (o : Outcome) (said : List ℕ) (result : Outcome) → Says c o said → Spoke out err o said result → IfText result (Said c result out err)
+pub said_of : (c : Call) (out err : Log) (o : Outcome) (said : List ℕ) (result : Outcome) → IsTextOf c o said → Writes out err o said result → IfText result (WritesAll c result out err)
 said_of c out err o said result says spoke = elim spoke.ends [
-  | inl h ↦ subst (λ (r : Outcome). IfText r (Said c r out err)) (sym h.0) (if_text o (Said c o out err) (record { whole = (said, says, h.1); kept = spoke.kept }))
+  | inl h ↦ subst (λ (r : Outcome). IfText r (WritesAll c r out err)) (sym h.0) (if_text o (WritesAll c o out err) (record { whole = (said, says, h.1); kept = spoke.kept }))
   | inr h ↦ elim h [
-    | inl f ↦ subst (λ (r : Outcome). IfText r (Said c r out err)) (sym f.0) tt
-    | inr m ↦ subst (λ (r : Outcome). IfText r (Said c r out err)) (sym m.0) tt
+    | inl f ↦ subst (λ (r : Outcome). IfText r (WritesAll c r out err)) (sym f.0) tt
+    | inr m ↦ subst (λ (r : Outcome). IfText r (WritesAll c r out err)) (sym m.0) tt
   ]
 ]
 

@@ -2,6 +2,8 @@
 use Rattle.std.specs.Option.{ForSome}
 use Rattle.std.specs.Prelude.{◌≡◌, ℕ, ◌≤◌, ◌^◌, ◌⊎◌, Bool, IsTrue, List, ◌++◌, Option, None, Some, Ok, Err, IsSome, IsSomeAnd, ⊤}
 use Rattle.rt_io.specs.Edge.{Rose, AddsPrefix}
+use Rattle.rt_io.specs.declared.files.Files.{Ghosts as Files}
+use Rattle.rt_io.specs.declared.sink.Sink.{Ghosts as Sinks}
 use Rattle.rt_top.specs.declared.part.Part.{Part}
 use Rattle.rt_top.specs.declared.outcome.Fault.{Fault}
 use Rattle.rt_top.specs.declared.outcome.Limit.{Limit}
@@ -12,13 +14,13 @@ use Rattle.rt_top.specs.declared.place.Place.TheVariants as at
 use Rattle.rt_top.specs.declared.outcome.Spent.{Spent}
 use Rattle.rt_words.specs.Command.{command}
 use Rattle.rt_words.specs.Ranges.{Command}
-use Rattle.rt_top.specs.Accepted.{Accepted, HasOptions}
-use Rattle.rt_top.specs.Judged.{Holding, judged, Reaches, IsNamed, text_of}
+use Rattle.rt_top.specs.Accepted.{Accepted, HasOptions, IsAccepted}
+use Rattle.rt_top.specs.Judged.{judged, Reaches, IsNamed, text_of}
 use Rattle.rt_top.specs.Placed.{Placed}
 use Rattle.rt_top.specs.Smallest.{IsSmallest, Agrees, IsGivenUp}
-use Rattle.rt_top.specs.Source.{IsKnown, file_of, source_of}
+use Rattle.rt_top.specs.Source.{IsKnown, IsMade, file_of, source_of}
 use Rattle.rt_top.specs.Faults.{is_refusal, placeless}
-use Rattle.rt_top.specs.Steps.{Seen, seen, Failed, IsLongFor}
+use Rattle.rt_top.specs.Steps.{Seen, over, Failed, IsLongFor}
 use Rattle.rt_schema.specs.Given.{places}
 use Rattle.rt_top.specs.Texts.{agree_of, place, refusal_text, spent_of, witness_of}
 
@@ -29,16 +31,22 @@ pub record Call : Type 0 where
   pub words : List (List ℕ)
   pub files : Seen
 
-abbrev pub call : List (List ℕ) → Bool → Holding → (List ℕ → ℕ) → (List ℕ → ℕ) → Option (List ℕ) → ℕ → Call
-call words tells held before after current taken = record { words = words; files = seen tells held before after current taken }
+-- the call on these words that found the files as `old` and left them as `new`
+abbrev pub call : {F : Type 0} → Files F → List (List ℕ) → F → F → Call
+call files words old new = record { words = words; files = over files old new }
 
 -- the contents of the command's source are known
 abbrev pub IsTold : Call → Type 0
 IsTold c = ForSome (command c.words) (λ k. IsKnown c.files.tells (source_of k))
 
--- an input that was read in the call: it has the numbers of the command, and where the contents of
--- its source are known, it is the one that is judged
+-- the command asks for a generated input
+abbrev pub IsMadeCall : Option Command → Type 0
+IsMadeCall o = IsSomeAnd o (λ k. IsMade (source_of k))
+
+-- an input that was read in the call: an accepted one with the numbers of the command, and where the
+-- contents of its source are known, the one that is judged
 pub record IsRead (c : Call) (input : Accepted) : Type 0 where
+  pub sound : IsAccepted input
   pub options : IsSomeAnd (command c.words) (λ k. HasOptions k input)
   pub told : IsTold c → judged c.words c.files.held ≡ Ok input
 
@@ -55,9 +63,15 @@ SpentRow c s = (input : Accepted) × IsRead c input × (input.conflicts ≡ Some
 abbrev pub UsageRow : Call → Type 0
 UsageRow c = command c.words ≡ None
 
--- the place of a syntax fault is left open
+-- where the contents of the source are known, a syntax fault stands in the text of its part
+abbrev pub PlacedRow : Call → Outcome → Type 0
+PlacedRow c o = ForSome (command c.words) (λ k. IsKnown c.files.tells (source_of k) → Placed (text_of (source_of k) c.files.held) o)
+
+-- the refusal that is judged; which place of its text a syntax fault names is left open
 abbrev pub RefusedRow : Call → Part → Fault → Type 0
-RefusedRow c part fault = IsSome (command c.words) × IsTrue (is_refusal fault) × (IsTold c → judged c.words c.files.held ≡ Err (outcome.Refused part (placeless fault)))
+RefusedRow c part fault =
+    IsSome (command c.words) × IsTrue (is_refusal fault) × (IsTold c → judged c.words c.files.held ≡ Err (outcome.Refused part (placeless fault)))
+    × PlacedRow c (outcome.Refused part fault)
 
 -- a file is too long where one byte more than it may have was taken
 abbrev pub LimitRow : Call → Limit → Type 0
@@ -71,10 +85,6 @@ pub record ReadFaultAt (s : Seen) (part : Part) (k : Command) : Type 0 where
 abbrev pub ReadFaultRow : Call → Part → Type 0
 ReadFaultRow c part = IsSomeAnd (command c.words) (ReadFaultAt c.files part)
 
--- where the contents of the source are known, a syntax fault stands in the text of its part
-abbrev pub PlacedRow : Call → Outcome → Type 0
-PlacedRow c o = ForSome (command c.words) (λ k. IsKnown c.files.tells (source_of k) → Placed (text_of (source_of k) c.files.held) o)
-
 -- an outcome that its own row allows, what it says of growth left aside
 abbrev pub Row : Call → Outcome → Type 0
 Row c outcome.Agree = AgreeRow c
@@ -86,6 +96,12 @@ Row c (outcome.Limit limit) = LimitRow c limit
 Row c (outcome.ReadFault part) = ReadFaultRow c part
 Row c outcome.WriteFault = ⊥
 Row c outcome.NoMemory = ⊥
+
+-- what stops the reading of the words
+abbrev pub WordsStop : Option Command → Outcome → Type 0
+WordsStop o outcome.Usage = o ≡ None
+WordsStop o outcome.NoMemory = ⊤
+WordsStop o _ = ⊥
 
 -- what stops the reading of an input: its row, or want of memory
 abbrev pub Stop : Call → Outcome → Type 0
@@ -158,11 +174,11 @@ YieldsToWrite refusal outcome.WriteFault = ⊤
 YieldsToWrite refusal o = o ≡ refusal
 
 -- a verdict, or want of memory
-abbrev pub IsVerdict : Outcome → Type 0
-IsVerdict outcome.Agree = ⊤
-IsVerdict (outcome.Witness keep) = ⊤
-IsVerdict outcome.NoMemory = ⊤
-IsVerdict _ = ⊥
+abbrev pub IsVerdictOrMemory : Outcome → Type 0
+IsVerdictOrMemory outcome.Agree = ⊤
+IsVerdictOrMemory (outcome.Witness keep) = ⊤
+IsVerdictOrMemory outcome.NoMemory = ⊤
+IsVerdictOrMemory _ = ⊥
 
 -- no count of a file that the command names rose
 abbrev pub NoFileRose : Call → Type 0
@@ -181,11 +197,11 @@ limit_of None = 0
 limit_of (Some k) = k.work_limit
 
 -- the text of an outcome; a verdict is printed with the input of which it is one
-abbrev pub Says : Call → Outcome → List ℕ → Type 0
-Says c outcome.Agree said = (input : Accepted) × IsRead c input × Agrees input × (said ≡ agree_of input)
-Says c (outcome.Witness keep) said = (input : Accepted) × IsRead c input × IsSmallest input keep × (said ≡ witness_of input keep)
-Says c (outcome.Spent s) said = (input : Accepted) × IsRead c input × (input.conflicts ≡ Some s.budget) × IsGivenUp input s.budget s.best s.least s.nogoods × (said ≡ spent_of input s)
-Says c o said = said ≡ refusal_text (limit_of (command c.words)) o
+abbrev pub IsTextOf : Call → Outcome → List ℕ → Type 0
+IsTextOf c outcome.Agree said = (input : Accepted) × IsRead c input × Agrees input × (said ≡ agree_of input)
+IsTextOf c (outcome.Witness keep) said = (input : Accepted) × IsRead c input × IsSmallest input keep × (said ≡ witness_of input keep)
+IsTextOf c (outcome.Spent s) said = (input : Accepted) × IsRead c input × (input.conflicts ≡ Some s.budget) × IsGivenUp input s.budget s.best s.least s.nogoods × (said ≡ spent_of input s)
+IsTextOf c o said = said ≡ refusal_text (limit_of (command c.words)) o
 
 -- one sink over a call: whether it tells its bytes, these, and its count, before and after
 pub record Log : Type 0 where
@@ -195,16 +211,17 @@ pub record Log : Type 0 where
   pub before : ℕ
   pub after : ℕ
 
-abbrev pub log : Bool → List ℕ → List ℕ → ℕ → ℕ → Log
-log tells old new before after = record { tells = tells; old = old; new = new; before = before; after = after }
+-- the sink that a call found as `old` and left as `new`
+abbrev pub log : {S : Type 0} → Sinks S → S → S → Log
+log sink old new = record { tells = sink.tells; old = sink.contents old; new = sink.contents new; before = sink.faults old; after = sink.faults new }
 
 -- this sink grew by all of a text of the outcome
 abbrev pub GrewByWhole : Call → Outcome → Log → Type 0
-GrewByWhole c o sink = (said : List ℕ) × Says c o said × (IsTrue sink.tells → sink.new ≡ sink.old ++ said)
+GrewByWhole c o sink = (said : List ℕ) × IsTextOf c o said × (IsTrue sink.tells → sink.new ≡ sink.old ++ said)
 
 -- this sink grew by a prefix of a text of the outcome
 abbrev pub GrewByPrefix : Call → Outcome → Log → Type 0
-GrewByPrefix c o sink = (said : List ℕ) × Says c o said × (IsTrue sink.tells → AddsPrefix sink.old sink.new said)
+GrewByPrefix c o sink = (said : List ℕ) × IsTextOf c o said × (IsTrue sink.tells → AddsPrefix sink.old sink.new said)
 
 abbrev pub IsKept : Log → Type 0
 IsKept sink = IsTrue sink.tells → sink.new ≡ sink.old
@@ -219,19 +236,19 @@ other_place at.Out out err = err
 other_place at.Err out err = out
 
 -- the whole text of the outcome went to its sink, and nothing to the other
-pub record Said (c : Call) (o : Outcome) (out err : Log) : Type 0 where
+pub record WritesAll (c : Call) (o : Outcome) (out err : Log) : Type 0 where
   pub whole : GrewByWhole c o (at_place (place o) out err)
   pub kept : IsKept (other_place (place o) out err)
 
 -- a prefix of a text of an outcome that its row allows went to its sink, and nothing to the other
-pub record Begun (c : Call) (out err : Log) (o : Outcome) : Type 0 where
+pub record WritesPart (c : Call) (out err : Log) (o : Outcome) : Type 0 where
   pub row : Row c o
   pub begun : GrewByPrefix c o (at_place (place o) out err)
   pub kept : IsKept (other_place (place o) out err)
 
 -- the same, where that sink failed
-pub record Broke (c : Call) (out err : Log) (o : Outcome) : Type 0 where
-  pub begun : Begun c out err o
+pub record WritesUntilFault (c : Call) (out err : Log) (o : Outcome) : Type 0 where
+  pub begun : WritesPart c out err o
   pub rose : Rose (at_place (place o) out err).before (at_place (place o) out err).after
 
 -- of an outcome that has a text
@@ -241,20 +258,20 @@ IfText outcome.NoMemory P = ⊤
 IfText _ P = P
 
 -- nothing was written
-pub record IsSilent (out err : Log) : Type 0 where
+pub record WritesNothing (out err : Log) : Type 0 where
   pub out_kept : IsKept out
   pub err_kept : IsKept err
 
 -- how the writing of a text ended: all of it was taken, the sink failed, or memory was wanting
-abbrev pub Ends : Log → Outcome → List ℕ → Outcome → Type 0
-Ends sink o said result =
+abbrev pub WritesTo : Log → Outcome → List ℕ → Outcome → Type 0
+WritesTo sink o said result =
     ((result ≡ o) × (IsTrue sink.tells → sink.new ≡ sink.old ++ said))
     ⊎ (((result ≡ outcome.WriteFault) × Rose sink.before sink.after × (IsTrue sink.tells → AddsPrefix sink.old sink.new said))
     ⊎ ((result ≡ outcome.NoMemory) × (IsTrue sink.tells → AddsPrefix sink.old sink.new said)))
 
 -- the same at the sink of an outcome, with nothing at the other
-pub record Spoke (out err : Log) (o : Outcome) (said : List ℕ) (result : Outcome) : Type 0 where
-  pub ends : Ends (at_place (place o) out err) o said result
+pub record Writes (out err : Log) (o : Outcome) (said : List ℕ) (result : Outcome) : Type 0 where
+  pub ends : WritesTo (at_place (place o) out err) o said result
   pub kept : IsKept (other_place (place o) out err)
 
 -- neither sink failed

@@ -5,7 +5,7 @@ use Rattle.rt_search.specs.declared.best.Best.TheVariants.{Least, Never, Spent}
 use Rattle.rt_top.specs.declared.outcome.Outcome.{Outcome}
 use Rattle.rt_top.specs.declared.outcome.Outcome.TheVariants as outcome
 use Rattle.rt_top.specs.Accepted.{Accepted}
-use Rattle.rt_top.specs.Answers.{Call, IsTold, Says}
+use Rattle.rt_top.specs.Answers.{Call, IsTold, IsTextOf}
 use Rattle.rt_top.specs.Smallest.{Agrees, IsSmallest, IsVerdict}
 
 -- a smallest counterexample, or that there is none
@@ -33,4 +33,4 @@ pub record HasOneAnswer : Type 0 where
   pub one : (input : Accepted) (s t : List Bool) → IsSmallest input s → IsSmallest input t → s ≡ t
   pub none : (input : Accepted) (s : List Bool) → IsSmallest input s → Agrees input → ⊥
   pub verdict : (input : Accepted) (a b : Best) → IsFinal a → IsFinal b → IsVerdict input a → IsVerdict input b → a ≡ b
-  pub answer : (a b : Call) → AreAlike a b → (o p : Outcome) → IsDecided o → IsDecided p → (said told : List ℕ) → Says a o said → Says b p told → (o ≡ p) × (said ≡ told)
+  pub answer : (a b : Call) → AreAlike a b → (o p : Outcome) → IsDecided o → IsDecided p → (said told : List ℕ) → IsTextOf a o said → IsTextOf b p told → (o ≡ p) × (said ≡ told)

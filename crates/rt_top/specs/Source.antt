@@ -19,6 +19,13 @@ abbrev pub paths_in : List Text → Paths
 paths_in (s ∷ d ∷ p ∷ q ∷ []) = record { schema = s; dir = d; query1 = p; query2 = q }
 paths_in _ = record { schema = []; dir = []; query1 = []; query2 = [] }
 
+-- the paths of a schema and of the folder of its tables, with no query
+abbrev pub table_paths : Text → Text → Paths
+table_paths schema dir = record { schema = schema; dir = dir; query1 = []; query2 = [] }
+
+abbrev pub tables_in : Text → Text → Source
+tables_in schema dir = Files (table_paths schema dir)
+
 abbrev pub source_from : Option ℕ → List Text → Source
 source_from None paths = Files (paths_in paths)
 source_from (Some n) paths = Made (made n)
@@ -46,6 +53,11 @@ file_of (Made texts) part = None
 abbrev pub IsKnown : Bool → Source → Type 0
 IsKnown tells (Files paths) = IsTrue tells
 IsKnown tells (Made texts) = ⊤
+
+-- it is generated
+abbrev pub IsMade : Source → Type 0
+IsMade (Files paths) = ⊥
+IsMade (Made texts) = ⊤
 
 -- the generated text of a part
 abbrev pub made_part : Texts → Part → Text

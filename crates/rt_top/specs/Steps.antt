@@ -1,14 +1,15 @@
 -- What stops the reading of a command's files.
 use Rattle.std.specs.Prelude.{◌≡◌, ℕ, ◌+◌, Bool, true, false, IsTrue, List, Option, None, Some, Result, Err, ⊤}
 use Rattle.rt_io.specs.Edge.{Rose}
+use Rattle.rt_io.specs.declared.files.Files.{Ghosts}
 use Rattle.rt_top.specs.declared.part.Part.{Part}
 use Rattle.rt_top.specs.declared.outcome.Limit.{Limit}
-use Rattle.rt_top.specs.declared.outcome.Limit.TheVariants as limit
+use Rattle.rt_top.specs.declared.outcome.Limit.TheVariants as limits
 use Rattle.rt_top.specs.declared.outcome.Outcome.{Outcome}
 use Rattle.rt_top.specs.declared.outcome.Outcome.TheVariants as outcome
 use Rattle.rt_top.specs.declared.source.Source.{Source}
 use Rattle.rt_top.specs.Faults.{is_refusal, placeless}
-use Rattle.rt_top.specs.Judged.{Holding, most_bytes}
+use Rattle.rt_top.specs.Judged.{Holding, most_bytes, text_read}
 use Rattle.rt_top.specs.Source.{IsKnown, file_of}
 
 -- what is known of the files over a call: whether they tell their contents, these, the counts of
@@ -24,6 +25,10 @@ pub record Seen : Type 0 where
 abbrev pub seen : Bool → Holding → (List ℕ → ℕ) → (List ℕ → ℕ) → Option (List ℕ) → ℕ → Seen
 seen tells held before after current taken = record { tells = tells; held = held; before = before; after = after; current = current; taken = taken }
 
+-- the same of files that a call found as `old` and left as `new`
+abbrev pub over : {F : Type 0} → Ghosts F → F → F → Seen
+over files old new = seen files.tells (files.held old) (files.faults old) (files.faults new) (files.current new) (files.taken new)
+
 -- the count of this name rose
 abbrev pub Failed : Seen → Option (List ℕ) → Type 0
 Failed s None = ⊥
@@ -36,21 +41,34 @@ IsLong s (Some name) = (s.current ≡ Some name) × (s.taken ≡ most_bytes + 1)
 
 -- what has to be where a limit is passed: a file that is too long was read so far
 abbrev pub IsLongFor : Seen → Source → Limit → Type 0
-IsLongFor s source (limit.TooLong part) = IsLong s (file_of source part)
-IsLongFor s source limit.Tables = ⊤
-IsLongFor s source (limit.Columns table) = ⊤
-IsLongFor s source (limit.Rules table) = ⊤
-IsLongFor s source limit.Rows = ⊤
-IsLongFor s source (limit.Work work) = ⊤
+IsLongFor s source (limits.TooLong part) = IsLong s (file_of source part)
+IsLongFor s source limits.Tables = ⊤
+IsLongFor s source (limits.Columns table) = ⊤
+IsLongFor s source (limits.Rules table) = ⊤
+IsLongFor s source limits.Rows = ⊤
+IsLongFor s source (limits.Work work) = ⊤
+
+-- what stops the reading of one file: its count rose, one byte more than it may have was taken, or
+-- memory was wanting
+abbrev pub TextStops : Seen → List ℕ → Part → Outcome → Type 0
+TextStops s name part outcome.Agree = ⊥
+TextStops s name part (outcome.Witness keep) = ⊥
+TextStops s name part outcome.Usage = ⊥
+TextStops s name part (outcome.Refused p fault) = ⊥
+TextStops s name part (outcome.Spent spent) = ⊥
+TextStops s name part (outcome.Limit limit) = (limit ≡ limits.TooLong part) × IsLong s (Some name) × (IsTrue s.tells → text_read part (s.held name) ≡ Err (outcome.Limit (limits.TooLong part)))
+TextStops s name part (outcome.ReadFault p) = (p ≡ part) × Failed s (Some name)
+TextStops s name part outcome.WriteFault = ⊥
+TextStops s name part outcome.NoMemory = ⊤
 
 -- a limit other than the length of a file
 abbrev pub of_contents : Limit → Bool
-of_contents (limit.TooLong part) = false
-of_contents limit.Tables = true
-of_contents (limit.Columns table) = true
-of_contents (limit.Rules table) = true
-of_contents limit.Rows = true
-of_contents (limit.Work work) = true
+of_contents (limits.TooLong part) = false
+of_contents limits.Tables = true
+of_contents (limits.Columns table) = true
+of_contents (limits.Rules table) = true
+of_contents limits.Rows = true
+of_contents (limits.Work work) = true
 
 -- what stops a step that reads no file: the refusal that is judged, or want of memory
 abbrev pub Refuses : {T : Type 0} → Result T Outcome → Outcome → Type 0

@@ -96,16 +96,30 @@ limit_text most (Rules table) = codes "table " ++ (table ++ codes " has more tha
 limit_text most Rows = codes "more than 2000 rows"
 limit_text most (Work work) = codes "work " ++ (decimal work ++ (codes " is above " ++ decimal most))
 
+-- the line of a refusal, of a limit or of a fault of reading; the other outcomes have none
+abbrev pub refusal_line : ℕ → Outcome → List ℕ
+refusal_line most outcome.Agree = []
+refusal_line most (outcome.Witness keep) = []
+refusal_line most outcome.Usage = []
+refusal_line most (outcome.Refused part fault) = codes "ratest: " ++ (part_text part ++ (codes ": " ++ (fault_text fault ++ codes "\n")))
+refusal_line most (outcome.Spent s) = []
+refusal_line most (outcome.Limit limit) = codes "ratest: limit: " ++ (limit_text most limit ++ codes "\n")
+refusal_line most (outcome.ReadFault part) = codes "ratest: cannot read " ++ (part_text part ++ codes "\n")
+refusal_line most outcome.WriteFault = []
+refusal_line most outcome.NoMemory = []
+
+abbrev pub usage_text : List ℕ
+usage_text = codes "usage: ratest SCHEMA DATADIR QUERY1 QUERY2 [--conflicts N] [--work N]\n       ratest made N [--conflicts N] [--work N]\n"
+
 -- the text of an outcome that is no verdict; a fault of writing and want of memory have none
 abbrev pub refusal_text : ℕ → Outcome → List ℕ
 refusal_text most outcome.Agree = []
 refusal_text most (outcome.Witness keep) = []
-refusal_text most outcome.Usage =
-    codes "usage: ratest SCHEMA DATADIR QUERY1 QUERY2 [--conflicts N] [--work N]\n       ratest made N [--conflicts N] [--work N]\n"
-refusal_text most (outcome.Refused part fault) = codes "ratest: " ++ (part_text part ++ (codes ": " ++ (fault_text fault ++ codes "\n")))
+refusal_text most outcome.Usage = usage_text
+refusal_text most (outcome.Refused part fault) = refusal_line most (outcome.Refused part fault)
 refusal_text most (outcome.Spent s) = []
-refusal_text most (outcome.Limit limit) = codes "ratest: limit: " ++ (limit_text most limit ++ codes "\n")
-refusal_text most (outcome.ReadFault part) = codes "ratest: cannot read " ++ (part_text part ++ codes "\n")
+refusal_text most (outcome.Limit limit) = refusal_line most (outcome.Limit limit)
+refusal_text most (outcome.ReadFault part) = refusal_line most (outcome.ReadFault part)
 refusal_text most outcome.WriteFault = []
 refusal_text most outcome.NoMemory = []
 

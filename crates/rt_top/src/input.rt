@@ -1,6 +1,7 @@
 ghost use Rattle.std.specs.Prelude.{◌≡◌};
 ghost use Rattle.rt_top.specs.Accepted.{IsAccepted};
 
+use crate::tables::Tables;
 use rt_algebra::Typed;
 use rt_schema::{Given, Schema};
 use std::marker::Model;
@@ -33,6 +34,29 @@ impl Model for Input {
 }
 
 impl Input {
+    /// The input of these queries over the rows of the tables; `made` is for a generated one.
+    pub fn new(
+        tables: Tables,
+        left: Typed,
+        right: Typed,
+        conflicts: Option<u64>,
+        work_limit: u64,
+        made: Option<u64>,
+    ) -> Input
+        requires { IsAccepted (record { schema = tables.schema; given = tables.given; left = left; right = right; conflicts = conflicts; work_limit = work_limit; made = made }) }
+        ensures { result ≡ record { schema = tables.schema; given = tables.given; left = left; right = right; conflicts = conflicts; work_limit = work_limit; made = made } }
+    {
+        Input {
+            schema: tables.schema,
+            given: tables.given,
+            left,
+            right,
+            conflicts,
+            work_limit,
+            made,
+        }
+    }
+
     pub fn schema(&self) -> &Schema
         ensures same { result.now ≡ self.now.schema }
         ensures sound { IsAccepted self.now }

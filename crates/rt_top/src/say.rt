@@ -1,6 +1,6 @@
 //! The texts of refusals and faults.
 ghost use Rattle.std.specs.Prelude.{◌≡◌, IfOk, string_bytes};
-ghost use Rattle.rt_top.specs.Texts.{part_text, fault_text, lex_text, limit_text, load_text, name_text, refusal_text, schema_text, sql_text, syntax_text};
+ghost use Rattle.rt_top.specs.Texts.{part_text, fault_text, lex_text, limit_text, load_text, name_text, refusal_line, refusal_text, schema_text, sql_text, syntax_text};
 
 use crate::outcome::{Fault, Limit, Outcome};
 use crate::part::Part;
@@ -31,7 +31,7 @@ fn part_text(alloc: Global, part: &Part) -> Result<String, AllocError>
     }
 }
 
-fn fault_text(alloc: Global, fault: &Fault) -> Result<String, AllocError>
+fn fault_words(alloc: Global, fault: &Fault) -> Result<String, AllocError>
     ensures { IfOk result (λ s. string_bytes s ≡ fault_text fault.now) }
 {
     match fault {
@@ -166,22 +166,40 @@ fn limit_text(alloc: Global, most: u64, limit: &Limit) -> Result<String, AllocEr
     }
 }
 
+/// What is wrong with a text, without a line end; empty for want of memory and for what is a limit.
+pub fn fault_text(alloc: Global, fault: &Fault) -> Result<Bytes, NoMemory>
+    ensures { IfOk result (λ text. text ≡ fault_text fault.now) }
+{
+    let text = fault_words(alloc, fault)?;
+    List::from_slice(alloc, text.as_bytes())
+}
+
+/// The line of a refusal, a limit or a fault of reading; `work_limit` is the one in force. Empty for
+/// every other outcome.
+pub fn refusal_line(alloc: Global, outcome: &Outcome, work_limit: u64) -> Result<Bytes, NoMemory>
+    ensures { IfOk result (λ text. text ≡ refusal_line work_limit outcome.now) }
+{
+    let text = line(alloc, work_limit, outcome)?;
+    List::from_slice(alloc, text.as_bytes())
+}
+
 /// The text of an outcome that is no verdict; `most` is the work limit in force.
 pub(crate) fn refusal_text(alloc: Global, most: u64, outcome: &Outcome) -> Result<Bytes, NoMemory>
     ensures { IfOk result (λ text. text ≡ refusal_text most outcome.now) }
 {
-    let text = line(alloc, most, outcome)?;
-    List::from_slice(alloc, text.as_bytes())
+    match outcome {
+        Outcome::Usage => List::from_slice(alloc, USAGE.as_bytes()),
+        outcome => refusal_line(alloc, outcome, most),
+    }
 }
 
 fn line(alloc: Global, most: u64, outcome: &Outcome) -> Result<String, AllocError>
-    ensures { IfOk result (λ s. string_bytes s ≡ refusal_text most outcome.now) }
+    ensures { IfOk result (λ s. string_bytes s ≡ refusal_line most outcome.now) }
 {
     match outcome {
-        Outcome::Usage => String::from_str(alloc, USAGE),
         Outcome::Refused(part, fault) => {
             let part = part_text(alloc, part)?;
-            let fault = fault_text(alloc, fault)?;
+            let fault = fault_words(alloc, fault)?;
             format!(in alloc; "ratest: {part}: {fault}\n")
         }
         Outcome::Limit(limit) => {
@@ -194,6 +212,7 @@ fn line(alloc: Global, most: u64, outcome: &Outcome) -> Result<String, AllocErro
         }
         Outcome::Agree
         | Outcome::Witness(_)
+        | Outcome::Usage
         | Outcome::Spent(_)
         | Outcome::WriteFault
         | Outcome::NoMemory => Ok(String::new(alloc)),

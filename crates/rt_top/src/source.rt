@@ -1,6 +1,6 @@
 //! Where the texts of a command stand.
 ghost use Rattle.std.specs.Prelude.{◌≡◌, IfOk};
-ghost use Rattle.rt_top.specs.Source.{file_name, made_part, paths_in, source_of, table_file};
+ghost use Rattle.rt_top.specs.Source.{file_name, made_part, paths_in, source_of, table_file, table_paths};
 
 use crate::part::Part;
 use rt_load::{Made, made};
@@ -54,6 +54,18 @@ impl Paths {
                 query2: Txt::of(alloc, "")?,
             }),
         }
+    }
+
+    /// The paths of a command that reads no query.
+    pub(crate) fn of_tables(alloc: Global, schema: &Txt, dir: &Txt) -> Result<Paths, NoMemory>
+        ensures { IfOk result (λ paths. paths ≡ table_paths schema.now dir.now) }
+    {
+        Ok(Paths {
+            schema: schema.copy(alloc)?,
+            dir: dir.copy(alloc)?,
+            query1: Txt::of(alloc, "")?,
+            query2: Txt::of(alloc, "")?,
+        })
     }
 
     /// The name of the file of a part. The comparison of the two queries has none.

@@ -3,7 +3,7 @@ ghost use Rattle.rt_io.specs.Edge.{NoneFell};
 ghost use Rattle.rt_words.specs.Command.{command};
 ghost use Rattle.rt_top.specs.Judged.{judged};
 ghost use Rattle.rt_top.specs.Accepted.{Accepted};
-ghost use Rattle.rt_top.specs.Answers.{call, IsTold, PlacedRow, Row, AgreeRow, WitnessRow, UsageRow, RefusedRow, SpentRow, LimitRow, ReadFaultRow, HasRoom, IfAgree, IfWitness, IfUsage, IfRefused, IfSpent, IfLimit, IfReadFault, IfWriteFault, IfNoMemory, IfText, YieldsTo, YieldsToWrite, IsVerdict, NoFileRose, NoSinkRose, Says, log, Ends, Spoke, Said, Begun, Broke, IsSilent, limit_of};
+ghost use Rattle.rt_top.specs.Answers.{call, log, limit_of, IsTold, IsMadeCall, Row, AgreeRow, WitnessRow, UsageRow, RefusedRow, SpentRow, LimitRow, ReadFaultRow, HasRoom, IfAgree, IfWitness, IfUsage, IfRefused, IfSpent, IfLimit, IfReadFault, IfWriteFault, IfNoMemory, IfText, YieldsTo, YieldsToWrite, IsVerdictOrMemory, NoFileRose, NoSinkRose, IsTextOf, WritesTo, Writes, WritesAll, WritesPart, WritesUntilFault, WritesNothing};
 ghost use Rattle.rt_top.specs.declared.outcome.Outcome.{Outcome};
 ghost use Rattle.rt_top.specs.declared.outcome.Outcome.TheVariants as outcome;
 
@@ -11,7 +11,7 @@ use crate::outcome::Outcome;
 use crate::place::Place;
 use crate::read::read_input;
 use crate::say::refusal_text;
-use crate::verdict::{Answer, verdict};
+use crate::verdicts::{Answer, verdict};
 use rt_io::{Files, Sink, SinkFail, write_text};
 use rt_value::{NoMemory, Txt};
 use rt_words::{WordFault, read_words};
@@ -30,12 +30,9 @@ fn work_limit(alloc: Global, words: &[Txt]) -> Result<u64, NoMemory>
 
 /// What is to be said of a command.
 fn prepare<F: Files>(alloc: Global, words: &[Txt], files: &mut F) -> Result<Answer, NoMemory>
-    ensures row { let c = call words.now F.tells (F.held files.old) (F.faults files.old) (F.faults files.new) (F.current files.new) (F.taken files.new) in
-        IfOk result (λ a. Row c a.outcome) }
-    ensures says { let c = call words.now F.tells (F.held files.old) (F.faults files.old) (F.faults files.new) (F.current files.new) (F.taken files.new) in
-        IfOk result (λ a. Says c a.outcome a.text) }
-    ensures place { let c = call words.now F.tells (F.held files.old) (F.faults files.old) (F.faults files.new) (F.current files.new) (F.taken files.new) in
-        IfOk result (λ a. PlacedRow c a.outcome) }
+    ensures row { IfOk result (λ a. Row (call F.Files words.now files.old files.new) a.outcome) }
+    ensures says { IfOk result (λ a. IsTextOf (call F.Files words.now files.old files.new) a.outcome a.text) }
+    ensures made { IsMadeCall (command words.now) → files.new ≡ files.old }
     ensures held { F.held files.new ≡ F.held files.old }
     ensures rises { NoneFell (F.faults files.old) (F.faults files.new) }
 {
@@ -52,7 +49,7 @@ fn prepare<F: Files>(alloc: Global, words: &[Txt], files: &mut F) -> Result<Answ
 
 /// Writes the text of an answer.
 fn finish<S: Sink>(sink: &mut S, answer: Answer) -> Outcome
-    ensures { Ends (log S.tells (S.contents sink.old) (S.contents sink.new) (S.faults sink.old) (S.faults sink.new)) answer.outcome answer.text result }
+    ensures { WritesTo (log S.Sink sink.old sink.new) answer.outcome answer.text result }
 {
     match write_text(sink, answer.text.as_slice()) {
         Ok(()) => answer.outcome,
@@ -63,9 +60,7 @@ fn finish<S: Sink>(sink: &mut S, answer: Answer) -> Outcome
 
 /// Writes the text of an answer to its sink.
 fn speak<O: Sink, E: Sink>(out: &mut O, err: &mut E, answer: Answer) -> Outcome
-    ensures { Spoke (log O.tells (O.contents out.old) (O.contents out.new) (O.faults out.old) (O.faults out.new))
-        (log E.tells (E.contents err.old) (E.contents err.new) (E.faults err.old) (E.faults err.new))
-        answer.outcome answer.text result }
+    ensures { Writes (log O.Sink out.old out.new) (log E.Sink err.old err.new) answer.outcome answer.text result }
 {
     match answer.outcome.place() {
         Place::Out => finish(out, answer),
@@ -83,52 +78,35 @@ pub fn ratest<F: Files, O: Sink, E: Sink>(
     err: &mut E,
 ) -> Outcome
     // Only where all lawful sub-instances of the input agree.
-    ensures agree { let c = call words.now F.tells (F.held files.old) (F.faults files.old) (F.faults files.new) (F.current files.new) (F.taken files.new) in
-        IfAgree result (AgreeRow c) }
+    ensures agree { IfAgree result (AgreeRow (call F.Files words.now files.old files.new)) }
     // Only where the choice is a smallest counterexample of the input.
-    ensures witness { let c = call words.now F.tells (F.held files.old) (F.faults files.old) (F.faults files.new) (F.current files.new) (F.taken files.new) in
-        IfWitness result (WitnessRow c) }
+    ensures witness { IfWitness result (WitnessRow (call F.Files words.now files.old files.new)) }
     // Only where the words are no command, and there always.
-    ensures usage { let c = call words.now F.tells (F.held files.old) (F.faults files.old) (F.faults files.new) (F.current files.new) (F.taken files.new) in
-        IfUsage result (UsageRow c) }
+    ensures usage { IfUsage result (UsageRow (call F.Files words.now files.old files.new)) }
     ensures usage_exact { command words.now ≡ None → YieldsToWrite outcome.Usage result }
-    // Only where this is the first refusal, and there always.
-    ensures refused { let c = call words.now F.tells (F.held files.old) (F.faults files.old) (F.faults files.new) (F.current files.new) (F.taken files.new) in
-        IfRefused result (RefusedRow c) }
-    // A syntax fault stands at a token of its text, or at the end of the last one.
-    ensures place { let c = call words.now F.tells (F.held files.old) (F.faults files.old) (F.faults files.new) (F.current files.new) (F.taken files.new) in
-        PlacedRow c result }
+    // Only where this is the first refusal, and there always. A syntax fault stands at a token of its
+    // text, or at the end of the last one.
+    ensures refused { IfRefused result (RefusedRow (call F.Files words.now files.old files.new)) }
     // Only where the budget of the command is spent.
-    ensures spent { let c = call words.now F.tells (F.held files.old) (F.faults files.old) (F.faults files.new) (F.current files.new) (F.taken files.new) in
-        IfSpent result (SpentRow c) }
-    ensures limit { let c = call words.now F.tells (F.held files.old) (F.faults files.old) (F.faults files.new) (F.current files.new) (F.taken files.new) in
-        IfLimit result (LimitRow c) }
-    ensures exact { let c = call words.now F.tells (F.held files.old) (F.faults files.old) (F.faults files.new) (F.current files.new) (F.taken files.new) in
-        IsTold c → (refusal : Outcome) → judged words.now (F.held files.old) ≡ Err refusal → YieldsTo refusal result }
+    ensures spent { IfSpent result (SpentRow (call F.Files words.now files.old files.new)) }
+    ensures limit { IfLimit result (LimitRow (call F.Files words.now files.old files.new)) }
+    ensures exact { IsTold (call F.Files words.now files.old files.new) → (refusal : Outcome) → judged words.now (F.held files.old) ≡ Err refusal → YieldsTo refusal result }
     // Only where the count of that part's file rose in this call.
-    ensures read_fault { let c = call words.now F.tells (F.held files.old) (F.faults files.old) (F.faults files.new) (F.current files.new) (F.taken files.new) in
-        IfReadFault result (ReadFaultRow c) }
+    ensures read_fault { IfReadFault result (ReadFaultRow (call F.Files words.now files.old files.new)) }
     // Only where the sink of an outcome that its row allows failed in this call.
-    ensures write_fault { let c = call words.now F.tells (F.held files.old) (F.faults files.old) (F.faults files.new) (F.current files.new) (F.taken files.new) in
-        let o = log O.tells (O.contents out.old) (O.contents out.new) (O.faults out.old) (O.faults out.new) in
-        let e = log E.tells (E.contents err.old) (E.contents err.new) (E.faults err.old) (E.faults err.new) in
-        IfWriteFault result ((allowed : Outcome) × Broke c o e allowed) }
+    ensures write_fault { IfWriteFault result ((allowed : Outcome) × WritesUntilFault (call F.Files words.now files.old files.new) (log O.Sink out.old out.new) (log E.Sink err.old err.new) allowed) }
     // Want of memory may come anywhere; at most a prefix of such a text was written.
-    ensures no_memory { let c = call words.now F.tells (F.held files.old) (F.faults files.old) (F.faults files.new) (F.current files.new) (F.taken files.new) in
-        let o = log O.tells (O.contents out.old) (O.contents out.new) (O.faults out.old) (O.faults out.new) in
-        let e = log E.tells (E.contents err.old) (E.contents err.new) (E.faults err.old) (E.faults err.new) in
-        IfNoMemory result (IsSilent o e ⊎ ((allowed : Outcome) × Begun c o e allowed)) }
+    ensures no_memory { let o = log O.Sink out.old out.new in let e = log E.Sink err.old err.new in
+        IfNoMemory result (WritesNothing o e ⊎ ((allowed : Outcome) × WritesPart (call F.Files words.now files.old files.new) o e allowed)) }
     // The whole text went to its sink, and nothing to the other.
-    ensures said { let c = call words.now F.tells (F.held files.old) (F.faults files.old) (F.faults files.new) (F.current files.new) (F.taken files.new) in
-        let o = log O.tells (O.contents out.old) (O.contents out.new) (O.faults out.old) (O.faults out.new) in
-        let e = log E.tells (E.contents err.old) (E.contents err.new) (E.faults err.old) (E.faults err.new) in
-        IfText result (Said c result o e) }
+    ensures said { IfText result (WritesAll (call F.Files words.now files.old files.new) result (log O.Sink out.old out.new) (log E.Sink err.old err.new)) }
     // An accepted command without a budget, or with one that no search can spend, gets a verdict over
     // files and sinks that don't fail.
-    ensures complete { let c = call words.now F.tells (F.held files.old) (F.faults files.old) (F.faults files.new) (F.current files.new) (F.taken files.new) in
-        let o = log O.tells (O.contents out.old) (O.contents out.new) (O.faults out.old) (O.faults out.new) in
-        let e = log E.tells (E.contents err.old) (E.contents err.new) (E.faults err.old) (E.faults err.new) in
-        IsTold c → NoFileRose c → NoSinkRose o e → (input : Accepted) → judged words.now (F.held files.old) ≡ Ok input → HasRoom input → IsVerdict result }
+    ensures complete { let c = call F.Files words.now files.old files.new in
+        IsTold c → NoFileRose c → NoSinkRose (log O.Sink out.old out.new) (log E.Sink err.old err.new)
+        → (input : Accepted) → judged words.now (F.held files.old) ≡ Ok input → HasRoom input → IsVerdictOrMemory result }
+    // A generated input begins no file.
+    ensures made { IsMadeCall (command words.now) → files.new ≡ files.old }
     ensures held { F.held files.new ≡ F.held files.old }
     ensures rises { NoneFell (F.faults files.old) (F.faults files.new) }
 {

@@ -9,8 +9,10 @@ mod annotated;
 mod choices;
 mod compared;
 mod failing;
+mod first;
 mod generated;
 mod nodes;
+mod parts;
 mod refused;
 mod worked;
 
@@ -115,41 +117,6 @@ fn words_and_options(rt: HostRuntime) -> Result<(), Fail> {
     Ok(())
 }
 
-/// The places that the smallest witness of a command keeps, and none where there is no witness.
-fn witness(alloc: Global, command: &[&str]) -> Result<List<usize>, NoMemory> {
-    let mut none = MemFiles::new(alloc);
-    let (mut out, mut err) = (MemSink::new(alloc), MemSink::new(alloc));
-    let command = words(alloc, command)?;
-    let mut places = List::new(alloc);
-    if let Outcome::Witness(keep) = ratest(
-        alloc,
-        command.as_slice(),
-        &mut none,
-        &mut out,
-        &mut err,
-    ) {
-        for (place, kept) in keep.as_slice().iter().enumerate() {
-            if *kept {
-                places.push(place)?;
-            }
-        }
-    }
-    Ok(places)
-}
-
-/// The third student, and the fifth and the sixth registration: all students come first.
-#[test]
-fn first_of_the_generated(rt: HostRuntime) -> Result<(), Fail> {
-    let alloc = rt.alloc();
-    let small = witness(alloc, &["made", "20"])?;
-    assert_eq!(rt; small.as_slice(), [2, 24, 25].as_slice());
-    let large = witness(alloc, &["made", "400"])?;
-    assert_eq!(rt; large.as_slice(), [2, 404, 405].as_slice());
-    let again = witness(alloc, &["made", "400"])?;
-    assert_eq!(rt; again.as_slice(), large.as_slice());
-    Ok(())
-}
-
 #[test]
 fn faults_of_files_and_sinks(rt: HostRuntime) -> Result<(), Fail> {
     let alloc = rt.alloc();
@@ -215,20 +182,6 @@ fn large_tables(rt: HostRuntime) -> Result<(), Fail> {
     let mut more = files(alloc, schema, &[("d/x.csv", rows.as_str())], left, right)?;
     let limit = "ratest: limit: more than 2000 rows\n";
     assert!(rt; ends(alloc, &mut more, &FOUR, 5, "", limit)?);
-    Ok(())
-}
-
-/// Each row is joined with itself; of the thousand smallest witnesses the first row is printed.
-#[test]
-fn first_of_a_thousand(rt: HostRuntime) -> Result<(), Fail> {
-    let alloc = rt.alloc();
-    let schema = "CREATE TABLE x (a INTEGER); CREATE TABLE y (a INTEGER);";
-    let (left, right) = ("SELECT x.a FROM x, y WHERE x.a = y.a", "SELECT a FROM x");
-    let rows = numbers(alloc, 1000)?;
-    let tables = [("d/x.csv", rows.as_str()), ("d/y.csv", rows.as_str())];
-    let mut files = files(alloc, schema, &tables, left, right)?;
-    let out = "witness: 1\nx 1: 1\nonly query 1: 0\nonly query 2: 1\n  1\nboth: 0\n";
-    assert!(rt; ends(alloc, &mut files, &FOUR, 1, out, "")?);
     Ok(())
 }
 

@@ -8,7 +8,7 @@ pub(super) const SCHOOL: &str = "CREATE TABLE student (name TEXT PRIMARY KEY, ma
     CREATE TABLE reg (name TEXT REFERENCES student, course INTEGER, dept TEXT, grade INTEGER, PRIMARY KEY (name, course));";
 
 /// The same without the foreign key.
-const LOOSE: &str = "CREATE TABLE student (name TEXT PRIMARY KEY, major TEXT);\n\
+pub(super) const LOOSE: &str = "CREATE TABLE student (name TEXT PRIMARY KEY, major TEXT);\n\
     CREATE TABLE reg (name TEXT, course INTEGER, dept TEXT, grade INTEGER, PRIMARY KEY (name, course));";
 
 pub(super) const STUDENT: (&str, &str) = ("d/student.csv", "name,major\nMary,CS\nJohn,ECON\n");
@@ -44,7 +44,7 @@ const MEETS: &str =
     "SELECT x FROM a INTERSECT SELECT x FROM b UNION SELECT x FROM a INTERSECT SELECT x FROM c";
 
 /// Whether each pair of queries ends with its status and writes just its text.
-fn all_end(
+pub(super) fn all_end(
     alloc: Global,
     schema: &str,
     tables: &[(&str, &str)],
@@ -337,52 +337,6 @@ fn sets_and_files(rt: HostRuntime) -> Result<(), Fail> {
                 "SELECT * FROM p WHERE k > 1",
                 1,
                 "witness: 1\np 2: 1, NULL\nonly query 1: 1\n  1, NULL\nonly query 2: 0\nboth: 0\n",
-            ),],
-        )?
-    );
-    Ok(())
-}
-
-/// Of two smallest witnesses the first in the order of rows is printed.
-#[test]
-fn first_of_two(rt: HostRuntime) -> Result<(), Fail> {
-    let alloc = rt.alloc();
-    assert!(rt;
-        all_end(
-            alloc,
-            "CREATE TABLE d (a INTEGER);",
-            &[("d/d.csv", "a\n5\n5\n")],
-            &[(
-                "SELECT a FROM d",
-                "SELECT a FROM d WHERE a <> 5",
-                1,
-                "witness: 1\nd 1: 5\nonly query 1: 1\n  5\nonly query 2: 0\nboth: 0\n",
-            ),],
-        )?
-    );
-    assert!(rt;
-        all_end(
-            alloc,
-            SCHEMA,
-            &[TABLE],
-            &[(
-                ALL,
-                "SELECT * FROM t WHERE a > 3",
-                1,
-                "witness: 1\nt 2: 2, 20\nonly query 1: 1\n  2, 20\nonly query 2: 0\nboth: 0\n",
-            ),],
-        )?
-    );
-    assert!(rt;
-        all_end(
-            alloc,
-            LOOSE,
-            &[STUDENT, REG],
-            &[(
-                "SELECT s.name FROM student s WHERE EXISTS (SELECT * FROM reg r WHERE r.name = s.name AND r.grade > 80)",
-                "SELECT name FROM reg WHERE grade > 80",
-                1,
-                "witness: 1\nreg 1: 'Mary', 216, 'CS', 100\nonly query 1: 0\nonly query 2: 1\n  'Mary'\nboth: 0\n",
             ),],
         )?
     );

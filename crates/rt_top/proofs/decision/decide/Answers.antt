@@ -1,4 +1,3 @@
-use Rattle.std.proofs.Common.{◌∙◌, sym}
 use Rattle.rt_schema.specs.Kept.{kept}
 use Rattle.rt_schema.specs.Law.{lawful}
 use Rattle.rt_top.proofs.DecideLemmas.{enough, verdict_of}

@@ -1,0 +1,77 @@
+use Rattle.std.proofs.Common.{◌≡◌, ◌<◌, ℕ, arith, ◌∙◌, sym, ap, refl, subst, Ok, Result, List, length, get_or}
+use Rattle.std.specs.Prelude.{Some, IsOk, slice_get}
+use Rattle.std.specs.Option.{option_map}
+use Rattle.std.proofs.lemmas.Option.{slice_get-get_or}
+use Rattle.std.proofs.lemmas.Result.{err_from_is_err_and}
+use Rattle.rt_schema.specs.declared.table.Table.{Table}
+use Rattle.rt_schema.specs.Given.{Tables, places, rows_at}
+use Rattle.rt_schema.proofs.GivenLemmas.{no_rows-places}
+use Rattle.rt_top.specs.declared.outcome.Outcome.{Outcome}
+use Rattle.rt_top.specs.declared.part.Part.TheVariants as part
+use Rattle.rt_top.specs.Judged.{IsTableReached, no_rows, table_judged, tables_judged}
+use Rattle.rt_top.proofs.StepLemmas.{stops_on}
+use Rattle.rt_top.proofs.TableLemmas.{no_rows-at, rows_at-set_other, tables_judged-more, tables_judged-stops}
+use Rattle.rt_top.proofs.tables.read_given.Goals as goal
+
+pub tables-init : goal.tables-init
+tables-init g c = record {
+  of_schema = c.in_ok-given.ensures.of_schema;
+  empty = λ k h. rw c.in_ok-given.ensures.no_rows (no_rows-at (length c.args.schema.now) k);
+  few = rw c.in_ok-given.ensures.no_rows (omega (arith, no_rows-places (length c.args.schema.now)));
+  told = λ t. ap Ok (sym c.in_ok-given.ensures.no_rows);
+  made = λ m. refl;
+  held = refl;
+  rises = λ name. omega arith;
+}
+
+here : (tables schema : List Table) (at : ℕ) (table : Table) → tables ≡ schema → at < length tables → table ≡ get_or tables at table → slice_get schema at ≡ Some table
+here tables schema at table same within is =
+    ap (λ ts. slice_get ts at) (sym same) ∙ slice_get-get_or tables at table within ∙ ap Some (sym is)
+
+pub read_table-requires-clause-is_table : goal.read_table-requires-clause-is_table
+read_table-requires-clause-is_table g c = here _ _ c.tables.at c.table-item.result c.tables-table-items.ensures.same c.tables-test.true c.table-item.is
+
+pub returns-in_err-read_table-clause-err : goal.returns-in_err-read_table-clause-err
+returns-in_err-read_table-clause-err g c =
+    let held = g.F.Files.held c.args.files.now in
+    let schema = c.args.schema.now in
+    let source = c.args.source.now in
+    let table = c.table-item.result in
+    let at = c.tables.at in
+    let within : at < length schema = subst (λ (ts : List Table). at < length ts) c.tables-table-items.ensures.same c.tables-test.true in
+    let is : table ≡ get_or schema at table = subst (λ (ts : List Table). table ≡ get_or ts at table) c.tables-table-items.ensures.same c.table-item.is in
+    let p = err_from_is_err_and c.from_residual-in_err-read_table.result c.from_residual-in_err-read_table.ensures.1 in
+    rw (p.1, p.2) (stops_on g.F.Files.tells held (g.F.Files.held c.tables.files) (g.F.Files.faults c.args.files.now) (g.F.Files.faults c.tables.files)
+    (g.F.Files.faults c.read_table.new.files) (g.F.Files.current c.read_table.new.files) (g.F.Files.taken c.read_table.new.files) source
+    (table_judged source (g.F.Files.held c.tables.files) at table (places c.tables.given.tables)) (tables_judged source held 0 (no_rows schema) schema)
+    (λ q. q ≡ part.Table at table.name) (IsTableReached source held schema) c.in_err-read_table.field-0.0 c.tables.invariant.rises
+    (λ t e stop. tables_judged-stops source held (no_rows schema) schema at c.tables.given.tables table e within is (c.tables.invariant.told t)
+    (ap (λ h. table_judged source h at table (places c.tables.given.tables)) (sym c.tables.invariant.held) ∙ stop))
+    (λ t q named. subst (IsTableReached source held schema) (sym named) (
+      ap (option_map (λ x. x.name)) (slice_get-get_or schema at table within ∙ ap Some (sym is)),
+      subst (λ (r : Result Tables Outcome). IsOk r) (sym (c.tables.invariant.told t)) refl,
+    ))
+    c.in_err-read_table.ensures.err)
+
+pub tables-preserved : goal.tables-preserved
+tables-preserved g c =
+    let held = g.F.Files.held c.args.files.now in
+    let schema = c.args.schema.now in
+    let source = c.args.source.now in
+    let table = c.table-item.result in
+    let at = c.tables.at in
+    let rows = rows_at c.read_table.new.given.tables at in
+    let within : at < length schema = subst (λ (ts : List Table). at < length ts) c.tables-table-items.ensures.same c.tables-test.true in
+    let is : table ≡ get_or schema at table = subst (λ (ts : List Table). table ≡ get_or ts at table) c.tables-table-items.ensures.same c.table-item.is in
+    record {
+      of_schema = c.in_ok-read_table.ensures.kinds ∙ c.tables.invariant.of_schema;
+      empty = λ k h. ap (λ ts. length (rows_at ts k)) c.in_ok-read_table.ensures.tables
+          ∙ ap (λ rs. length rs) (rows_at-set_other c.tables.given.tables at k rows (omega arith)) ∙ c.tables.invariant.empty k (omega arith);
+      few = c.in_ok-read_table.ensures.few;
+      told = λ t. tables_judged-more source held (no_rows schema) schema at c.tables.given.tables table rows within is (c.tables.invariant.told t)
+          (ap (λ h. table_judged source h at table (places c.tables.given.tables)) (sym c.tables.invariant.held) ∙ c.in_ok-read_table.ensures.ok t)
+          ∙ ap Ok (sym c.in_ok-read_table.ensures.tables);
+      made = λ m. c.in_ok-read_table.ensures.made m ∙ c.tables.invariant.made m;
+      held = c.in_ok-read_table.ensures.held ∙ c.tables.invariant.held;
+      rises = λ name. let a = c.tables.invariant.rises name in let b = c.in_ok-read_table.ensures.rises name in omega (arith, a, b);
+    }

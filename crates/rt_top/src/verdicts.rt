@@ -1,0 +1,107 @@
+//! Verdicts on an input, and their texts.
+ghost use Rattle.std.specs.Prelude.{◌≡◌, IfOk, Some};
+ghost use Rattle.rt_top.specs.Answers.{Judges};
+ghost use Rattle.rt_top.specs.Smallest.{IsGivenUp, IsSmallest};
+ghost use Rattle.rt_top.specs.Texts.{agree_of, spent_of, witness_of};
+
+use crate::decision::decide;
+use crate::input::Input;
+use crate::outcome::{Outcome, Spent};
+use rt_eval::answers;
+use rt_print::{MadeVerdict, made_text, spent_text, witness_text};
+use rt_search::{Best, SpentBest};
+use rt_value::{Bytes, Keep, List, NoMemory};
+use std::alloc::Global;
+
+/// An outcome and its text.
+#[derive(Drop)]
+pub struct Answer {
+    pub outcome: Outcome,
+    pub text: Bytes,
+}
+
+fn agree_of(alloc: Global, input: &Input) -> Result<Bytes, NoMemory>
+    ensures { IfOk result (λ text. text ≡ agree_of input.now) }
+{
+    match input.made() {
+        Some(n) => made_text(alloc, n, MadeVerdict::Agree),
+        None => List::from_slice(alloc, b"agree\n"),
+    }
+}
+
+/// The text of a smallest counterexample.
+fn witness_of(alloc: Global, input: &Input, keep: &Keep) -> Result<Bytes, NoMemory>
+    requires { IsSmallest input.now keep.now }
+    ensures { IfOk result (λ text. text ≡ witness_of input.now keep.now) }
+{
+    let schema = input.schema();
+    if let Some(n) = input.made() {
+        return made_text(alloc, n, MadeVerdict::Size(keep.size()));
+    }
+    let left = answers(alloc, input.left(), input.given(), keep)?;
+    let right = answers(alloc, input.right(), input.given(), keep)?;
+    witness_text(
+        alloc,
+        schema,
+        input.given(),
+        keep,
+        left.as_slice(),
+        right.as_slice(),
+    )
+}
+
+fn spent_of(alloc: Global, input: &Input, spent: &Spent) -> Result<Bytes, NoMemory>
+    requires { IsGivenUp input.now spent.now.budget spent.now.best spent.now.least spent.now.nogoods }
+    ensures { IfOk result (λ text. text ≡ spent_of input.now spent.now) }
+{
+    let schema = input.schema();
+    if let Some(n) = input.made() {
+        return made_text(alloc, n, MadeVerdict::Undecided(spent.budget));
+    }
+    spent_text(
+        alloc,
+        schema,
+        input.given(),
+        spent.budget,
+        spent.best.as_ref(),
+    )
+}
+
+fn given_up(alloc: Global, input: &Input, budget: u64, found: SpentBest) -> Result<Answer, NoMemory>
+    requires budget { input.now.conflicts ≡ Some budget }
+    requires given_up { IsGivenUp input.now budget found.best found.least found.nogoods }
+    ensures { IfOk result (λ a. Judges input.now a.outcome a.text) }
+{
+    let spent = Spent {
+        budget,
+        best: found.best,
+        least: found.least,
+        nogoods: found.nogoods,
+    };
+    let text = spent_of(alloc, input, &spent)?;
+    let outcome = Outcome::Spent(spent);
+    Ok(Answer { outcome, text })
+}
+
+/// What is to be said of an accepted input: agreement, a smallest counterexample, or that the budget
+/// is spent.
+pub fn verdict(alloc: Global, input: &Input) -> Result<Answer, NoMemory>
+    ensures { IfOk result (λ a. Judges input.now a.outcome a.text) }
+{
+    match decide(alloc, input)? {
+        Best::Never => {
+            let text = agree_of(alloc, input)?;
+            let outcome = Outcome::Agree;
+            Ok(Answer { outcome, text })
+        }
+        Best::Least(keep) => {
+            let text = witness_of(alloc, input, &keep)?;
+            let outcome = Outcome::Witness(keep);
+            Ok(Answer { outcome, text })
+        }
+        Best::Spent(found) => match input.conflicts() {
+            Some(budget) => given_up(alloc, input, budget, found),
+            None => unreachable!(),
+        },
+    }
+}

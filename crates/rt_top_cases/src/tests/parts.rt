@@ -1,0 +1,94 @@
+//! The parts of a command that other commands stand on, each called by itself.
+use super::{SCHEMA, TABLE, files, words};
+use rt_load::LoadFault;
+use rt_resolve::NameFault;
+use rt_top::{Fault, Outcome, Part, fault_text, read_tables, read_text, read_words, refusal_line};
+use rt_value::{Bytes, List, NoMemory, Txt};
+use std::alloc::Global;
+use std::test::Fail;
+
+/// The work limit that the words name, and none where they are no command.
+fn limit_named(alloc: Global, command: &[&str]) -> Result<Option<u64>, NoMemory> {
+    let command = words(alloc, command)?;
+    match read_words(alloc, command.as_slice()) {
+        Ok(command) => Ok(Some(command.work_limit)),
+        Err(Outcome::Usage) => Ok(None),
+        Err(_) => Err(NoMemory),
+    }
+}
+
+#[test]
+fn words_of_a_command(rt: HostRuntime) -> Result<(), Fail> {
+    let alloc = rt.alloc();
+    let four = limit_named(alloc, &["s", "d", "--work=7", "p", "q"])?;
+    assert_eq!(rt; four, Some(7));
+    let three = limit_named(alloc, &["s", "d", "p"])?;
+    assert_eq!(rt; three, None);
+    Ok(())
+}
+
+/// The text of a file that begins with a byte order mark, or the line of the fault.
+fn marked_text(alloc: Global, name: &str) -> Result<Bytes, NoMemory> {
+    let mut held = files(alloc, SCHEMA, &[TABLE], "\u{feff}SELECT", "")?;
+    let name = Txt::of(alloc, name)?;
+    match read_text(alloc, Part::Query1, &name, &mut held) {
+        Ok(text) => Ok(text),
+        Err(fault) => refusal_line(alloc, &fault, 1),
+    }
+}
+
+#[test]
+fn text_of_a_file(rt: HostRuntime) -> Result<(), Fail> {
+    let alloc = rt.alloc();
+    let text = marked_text(alloc, "p")?;
+    assert_eq!(rt; text.as_slice(), b"SELECT".as_slice());
+    let line = marked_text(alloc, "x")?;
+    assert_eq!(rt;
+        line.as_slice(),
+        b"ratest: cannot read query 1\n".as_slice()
+    );
+    Ok(())
+}
+
+/// How many rows the tables in this folder have, and none where they are refused.
+fn rows_in(alloc: Global, dir: &str) -> Result<Option<usize>, NoMemory> {
+    let mut held = files(alloc, SCHEMA, &[TABLE], "", "")?;
+    let schema = Txt::of(alloc, "s")?;
+    let dir = Txt::of(alloc, dir)?;
+    match read_tables(alloc, &schema, &dir, &mut held) {
+        Ok(tables) => Ok(Some(tables.given.total())),
+        Err(Outcome::ReadFault(Part::Table(0, _))) => Ok(None),
+        Err(_) => Err(NoMemory),
+    }
+}
+
+#[test]
+fn tables_of_a_folder(rt: HostRuntime) -> Result<(), Fail> {
+    let alloc = rt.alloc();
+    let there = rows_in(alloc, "d")?;
+    assert_eq!(rt; there, Some(3));
+    let elsewhere = rows_in(alloc, "e")?;
+    assert_eq!(rt; elsewhere, None);
+    Ok(())
+}
+
+/// A limit and want of memory have no text among the faults, and a usage no line.
+#[test]
+fn texts_of_faults(rt: HostRuntime) -> Result<(), Fail> {
+    let alloc = rt.alloc();
+    let texts: [(Fault, &str); 3] = [
+        (
+            Fault::Load(LoadFault::FieldCount(2)),
+            "record 2 has another number of fields",
+        ),
+        (Fault::Load(LoadFault::TooManyRows), ""),
+        (Fault::Name(NameFault::NoMemory), ""),
+    ];
+    for (fault, text) in &texts {
+        let told = fault_text(alloc, fault)?;
+        assert_eq!(rt; told.as_slice(), text.as_bytes());
+    }
+    let usage = refusal_line(alloc, &Outcome::Usage, 1)?;
+    assert_eq!(rt; usage.as_slice(), List::new(alloc).as_slice());
+    Ok(())
+}
