@@ -1,5 +1,5 @@
 //! A formula as a test draws it, node by node.
-ghost use Rattle.std.specs.Prelude.{◌≤◌, ◌<◌, IfSome, length};
+ghost use Rattle.std.specs.Prelude.{◌≤◌, ◌<◌, ◌^◌, IfSome, length};
 
 use rt_clausify::clausify;
 use rt_derive::Checker;
@@ -39,7 +39,9 @@ impl Drawing {
     }
 
     /// How many nodes the formula has.
-    pub fn len(&self) -> usize {
+    pub fn len(&self) -> usize
+        ensures { result < 2 ^ 60 }
+    {
         self.dag.len()
     }
 

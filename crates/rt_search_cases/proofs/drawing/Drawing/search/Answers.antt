@@ -1,7 +1,7 @@
-use Rattle.std.proofs.Common.{◌≡◌, ℕ, zero, suc, Bool, true, false, List, [], ◌∷◌, length, replicate, refl, sym, ap, ◌∙◌}
+use Rattle.std.proofs.Common.{◌≡◌, Bool, true, false, List, [], ◌∷◌, length, replicate, refl, sym, ap, ◌∙◌}
 use Rattle.rt_formula.specs.Cut.{cut}
 use Rattle.rt_formula.specs.Shared.{val}
-use Rattle.rt_search_cases.proofs.search.search.Goals as goal
+use Rattle.rt_search_cases.proofs.drawing.Drawing.search.Goals as goal
 
 -- nothing is cut off where each row is in the cone
 cut-none : (keep : List Bool) → cut keep (replicate (length keep) true) ≡ keep
@@ -11,4 +11,4 @@ cut-none (false ∷ keep) = ap (λ (xs : List Bool). false ∷ xs) (cut-none kee
 
 pub smallest_counted-requires-clause-cone : goal.smallest_counted-requires-clause-cone
 smallest_counted-requires-clause-cone c keep g =
-    ap (λ k. val c.args.dag.now k c.args.goal) (ap (cut keep) (c.in_ok-all.ensures ∙ ap (λ n. replicate n true) (c.rows.ensures ∙ sym g.0)) ∙ cut-none keep) ∙ g.1
+    ap (λ k. val c.args.self.now.dag k c.node.result) (ap (cut keep) (c.in_ok-all.ensures ∙ ap (λ n. replicate n true) (c.rows.ensures ∙ sym g.0)) ∙ cut-none keep) ∙ g.1
