@@ -105,6 +105,8 @@ pub fn read_file<F: Files>(
     ensures failed_within { IsErrOf result ReadFail.Failed → F.taken files.new ≤ max }
     ensures too_long { IsErrOf result ReadFail.TooLong → F.taken files.new ≡ max + 1 }
     ensures too_long_current { IsErrOf result ReadFail.TooLong → F.current files.new ≡ Some name.now }
+    // No other file is begun.
+    ensures current { IfSome (F.current files.new) (λ current. current ≡ name.now) }
     ensures longer { IsErrOf result ReadFail.TooLong → IsTrue F.tells → max < length (F.held files.old name.now) }
     ensures has { F.has files.new ≡ F.has files.old }
     ensures held { F.held files.new ≡ F.held files.old }

@@ -1,0 +1,6 @@
+/// The sink that a text belongs to: the one for answers, or the one for refusals.
+#[derive(Clone, Copy, PartialEq, Eq, Debug)]
+pub enum Place {
+    Out,
+    Err,
+}
