@@ -102,6 +102,22 @@ verdict_of input schema given left right conflicts old d goal total found s g l 
     then_verdict (Ok b) f h = f b h
     then_verdict (Err e) f h = tt
 
+-- whatever else the input says
+pub whatever_else : (found : Result Best NoMemory) (P : ℕ → Option ℕ → Best → Type 0) → ((limit : ℕ) (made : Option ℕ) → IfOk found (P limit made))
+    → IfOk found (λ best. (limit : ℕ) (made : Option ℕ) → P limit made best)
+whatever_else (Ok best) P h = h
+whatever_else (Err e) P h = tt
+
+-- the verdict on the parts of an input is that on the input
+pub of_input : (input : Accepted) (schema : List Table) (given : Instance) (left right : Typed) (conflicts : Option ℕ) (found : Result Best NoMemory)
+    → schema ≡ input.schema → given ≡ input.given → left ≡ input.left → right ≡ input.right → conflicts ≡ input.conflicts
+    → IfOk found (λ best. (limit : ℕ) (made : Option ℕ) → IsVerdict (record { schema = schema; given = given; left = left; right = right; conflicts = conflicts; work_limit = limit; made = made }) best)
+    → IfOk found (IsVerdict input)
+of_input input schema given left right conflicts (Ok best) s g l r c h =
+    let same : record { schema = schema; given = given; left = left; right = right; conflicts = conflicts; work_limit = input.work_limit; made = input.made } ≡ input = rw (s, g, l, r, c) refl in
+    subst (λ (i : Accepted). IsVerdict i best) same (h input.work_limit input.made)
+of_input input schema given left right conflicts (Err e) s g l r c h = tt
+
 -- wherever the goal is true, it is true where no row outside of the cone is kept
 pub enough : (old d : Shared) (goal differs : ℕ) (cone : List Bool) (law : List Bool → Bool) → IsGrown old d → ((keep : List Bool) → length keep ≡ old.rows → val d keep goal ≡ (law keep && val d keep differs))
     → ((keep : List Bool) → length keep ≡ d.rows → law keep ≡ true → law (cut keep cone) ≡ true) → ((keep : List Bool) → val d (cut keep cone) differs ≡ val d keep differs) → IsEnough d goal cone

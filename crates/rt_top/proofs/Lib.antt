@@ -1,4 +1,5 @@
 mod DecideLemmas
+mod LastLemmas
 mod OneLemmas
 mod PlaceLemmas
 mod ShapeLemmas

@@ -41,7 +41,7 @@ use Rattle.rt_top.specs.declared.source.Paths.{Paths}
 use Rattle.rt_top.specs.declared.source.Source.{Source}
 use Rattle.rt_top.specs.declared.source.Source.TheVariants.{Files}
 use Rattle.rt_top.specs.Faults.{excess_limit, lex_outcome, load_outcome, name_outcome, or_outcome, schema_outcome, sql_outcome}
-use Rattle.rt_top.specs.Judged.{Data, Holding, Reaches, data_judged, input_judged, most_bytes, query_judged, right_judged, then_read, query_of, query_of_tokens, query_of_tree, file_text, schema_of, text_of}
+use Rattle.rt_top.specs.Judged.{Data, Holding, Reaches, accepted, data_judged, input_judged, most_bytes, query_judged, right_judged, then_read, within_limit, query_of, query_of_tokens, query_of_tree, file_text, schema_of, text_of}
 use Rattle.rt_top.specs.Source.{IsKnown, file_name, file_of, source_of}
 use Rattle.rt_top.specs.Steps.{Failed, IsLong, IsLongFor, Refuses, Seen, seen, Stops, TextStops, of_contents}
 
@@ -253,3 +253,39 @@ right_stops tells held0 held1 held2 before mid after current taken source k d le
   where
     reaches : (r : Result Data Outcome) → r ≡ Ok d → query_judged source held0 Query1 d.schema ≡ Ok left → IsOkAnd r (λ d. IsOk (query_judged source held0 Query1 d.schema))
     reaches r e q = rw e (rw q refl)
+
+-- the first query stops the reading of a source, whatever comes after it
+left_stops_here : {T : Type 0} (tells : Bool) (held0 held1 : Holding) (before mid after : List ℕ → ℕ) (current : Option (List ℕ)) (taken : ℕ) (source : Source) (f : Data → Typed → Result T Outcome) (d : Data) (o : Outcome)
+    → held1 ≡ held0 → NoneFell before mid → (IsKnown tells source → data_judged source held0 ≡ Ok d)
+    → Stops (seen tells held1 mid after current taken) source (query_judged source held1 Query1 d.schema) (λ p. p ≡ Query1) o
+    → Stops (seen tells held0 before after current taken) source (then_read (data_judged source held0) (λ d. then_read (query_judged source held0 Query1 d.schema) (f d))) (Reaches source held0) o
+left_stops_here {T = T} tells held0 held1 before mid after current taken source f d o same grew told stop =
+    let all : Result T Outcome = then_read (data_judged source held0) (λ d. then_read (query_judged source held0 Query1 d.schema) (f d)) in
+    let judged : IsKnown tells source → (e : Outcome) → query_judged source held1 Query1 d.schema ≡ Err e → all ≡ Err e = λ t e err.
+    then_ok (data_judged source held0) d _ _ (told t) (then_err _ _ e (ap (λ (h : Holding). query_judged source h Query1 d.schema) (sym same) ∙ err)) in
+    let reached : IsKnown tells source → (p : Part) → p ≡ Query1 → Reaches source held0 p = λ t p named.
+    subst (Reaches source held0) (sym named) (subst (λ (r : Result Data Outcome). IsOk r) (sym (told t)) refl) in
+    stops_on tells held0 held1 before mid after current taken source (query_judged source held1 Query1 d.schema) all (λ p. p ≡ Query1) (Reaches source held0) o grew judged reached stop
+
+pub left_stops : {T : Type 0} (tells : Bool) (held0 held1 : Holding) (before mid after : List ℕ → ℕ) (current : Option (List ℕ)) (taken : ℕ) (source s : Source) (f : Data → Typed → Result T Outcome) (d : Data) (o : Outcome)
+    → source ≡ s → held1 ≡ held0 → NoneFell before mid → (IsKnown tells source → data_judged source held0 ≡ Ok d)
+    → Stops (seen tells held1 mid after current taken) source (query_judged source held1 Query1 d.schema) (λ p. p ≡ Query1) o
+    → Stops (seen tells held0 before after current taken) s (then_read (data_judged s held0) (λ d. then_read (query_judged s held0 Query1 d.schema) (f d))) (Reaches s held0) o
+left_stops tells held0 held1 before mid after current taken source s f d o is same grew told stop =
+    subst (λ (x : Source). Stops (seen tells held0 before after current taken) x (then_read (data_judged x held0) (λ d. then_read (query_judged x held0 Query1 d.schema) (f d))) (Reaches x held0) o) is
+    (left_stops_here tells held0 held1 before mid after current taken source f d o same grew told stop)
+
+-- a command whose texts are all read is judged by its work
+pub judged_all : (held0 held1 held2 : Holding) (source : Source) (k : Command) (d : Data) (left right : Typed) → source ≡ source_of k → held1 ≡ held0 → held2 ≡ held0
+    → data_judged source held0 ≡ Ok d → query_judged source held1 Query1 d.schema ≡ Ok left → right_judged source held2 d.schema left ≡ Ok right
+    → input_judged held0 k ≡ within_limit (accepted k d left right)
+judged_all held0 held1 held2 source k d left right is same1 same2 told first second =
+    then_ok (data_judged (source_of k) held0) d _ _ (ap (λ (s : Source). data_judged s held0) (sym is) ∙ told)
+    (then_ok (query_judged (source_of k) held0 Query1 d.schema) left _ _
+    (ap (λ (s : Source). query_judged s held0 Query1 d.schema) (sym is) ∙ ap (λ (h : Holding). query_judged source h Query1 d.schema) (sym same1) ∙ first)
+    (then_ok (right_judged (source_of k) held0 d.schema left) right _ _
+    (ap (λ (s : Source). right_judged s held0 d.schema left) (sym is) ∙ ap (λ (h : Holding). right_judged source h d.schema left) (sym same2) ∙ second) refl))
+
+pub if_err : {X : Type 0} (P Q : Outcome → Type 0) (r : Result X Outcome) → ((o : Outcome) → P o → Q o) → IfErr r P → IfErr r Q
+if_err P Q (Ok x) f p = tt
+if_err P Q (Err o) f p = f o p

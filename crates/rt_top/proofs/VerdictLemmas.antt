@@ -4,6 +4,7 @@ use Rattle.std.proofs.Common.{◌≡◌, ℕ, List, Result, Ok, Err, refl, sym, 
 use Rattle.std.specs.Prelude.{Option, Some, None, IfOk, IsOkAnd, IsSome, IsSomeAnd, ◌<◌, ◌≤◌, ◌^◌}
 use Rattle.std.specs.Option.{ForSome}
 use Rattle.rt_io.specs.Edge.{Rose}
+use Rattle.rt_io.specs.Logs.{Log, NoSinkRose, at_place}
 use Rattle.rt_schema.specs.Given.{places}
 use Rattle.rt_schema.specs.declared.table.Table.{Table as TableOf}
 use Rattle.rt_top.specs.declared.outcome.Outcome.{Outcome}
@@ -11,8 +12,8 @@ use Rattle.rt_top.specs.declared.outcome.Outcome.TheVariants as outcome
 use Rattle.rt_top.specs.declared.outcome.Spent.{Spent}
 use Rattle.rt_top.specs.declared.part.Part.{Part}
 use Rattle.rt_top.specs.declared.part.Part.TheVariants.{Schema, Table, Query1, Query2, Queries}
-use Rattle.rt_top.specs.declared.place.Place.{Place}
-use Rattle.rt_top.specs.declared.place.Place.TheVariants as at
+use Rattle.rt_io.specs.declared.place.Place.{Place}
+use Rattle.rt_io.specs.declared.place.Place.TheVariants as at
 use Rattle.rt_top.specs.Accepted.{Accepted, HasOptions, IsAccepted}
 use Rattle.rt_top.specs.declared.source.Source.{Source}
 use Rattle.rt_top.specs.Source.{IsKnown, source_of}
@@ -22,7 +23,7 @@ use Rattle.rt_top.specs.Judged.{Holding, command_judged, input_judged, judged, s
 use Rattle.rt_top.specs.Placed.{Placed}
 use Rattle.rt_top.specs.Steps.{IsLongFor, Stops}
 use Rattle.rt_top.specs.Texts.{place}
-use Rattle.rt_top.specs.Answers.{Call, HasRoom, IsVerdictOrMemory, SpentRow, YieldsTo, Log, NoFileRose, NoSinkRose, ReadFaultAt, ReadFaultRow, Row, IfText, WritesAll, Writes, Stop, at_place, Judges, PlacedRow, IsTextOf, IsRead, IsTold}
+use Rattle.rt_top.specs.Answers.{Call, HasRoom, IsVerdictOrMemory, SpentRow, YieldsTo, NoFileRose, ReadFaultAt, ReadFaultRow, Row, IfText, WritesAll, Writes, Stop, Judges, PlacedRow, IsTextOf, IsRead, IsTold}
 
 -- ---- from the reading of the files to the rows
 

@@ -1,16 +1,13 @@
 -- When each outcome of a call comes, and what the call writes.
 use Rattle.std.specs.Option.{ForSome}
 use Rattle.std.specs.Prelude.{◌≡◌, ℕ, ◌≤◌, ◌^◌, ◌⊎◌, Bool, IsTrue, List, ◌++◌, Option, None, Some, Ok, Err, IsSome, IsSomeAnd, ⊤}
-use Rattle.rt_io.specs.Edge.{Rose, AddsPrefix}
+use Rattle.rt_io.specs.Logs.{Log, Grew, GrewPartly, IsKept, Broke, at_place, other_place}
 use Rattle.rt_io.specs.declared.files.Files.{Ghosts as Files}
-use Rattle.rt_io.specs.declared.sink.Sink.{Ghosts as Sinks}
 use Rattle.rt_top.specs.declared.part.Part.{Part}
 use Rattle.rt_top.specs.declared.outcome.Fault.{Fault}
 use Rattle.rt_top.specs.declared.outcome.Limit.{Limit}
 use Rattle.rt_top.specs.declared.outcome.Outcome.{Outcome}
 use Rattle.rt_top.specs.declared.outcome.Outcome.TheVariants as outcome
-use Rattle.rt_top.specs.declared.place.Place.{Place}
-use Rattle.rt_top.specs.declared.place.Place.TheVariants as at
 use Rattle.rt_top.specs.declared.outcome.Spent.{Spent}
 use Rattle.rt_words.specs.Command.{command}
 use Rattle.rt_words.specs.Ranges.{Command}
@@ -20,7 +17,7 @@ use Rattle.rt_top.specs.Placed.{Placed}
 use Rattle.rt_top.specs.Smallest.{IsSmallest, Agrees, IsGivenUp}
 use Rattle.rt_top.specs.Source.{IsKnown, IsMade, file_of, source_of}
 use Rattle.rt_top.specs.Faults.{is_refusal, placeless}
-use Rattle.rt_top.specs.Steps.{Seen, over, Failed, IsLongFor}
+use Rattle.rt_top.specs.Steps.{BeginsOnly, Seen, over, Failed, IsLongFor}
 use Rattle.rt_schema.specs.Given.{places}
 use Rattle.rt_top.specs.Texts.{agree_of, place, refusal_text, spent_of, witness_of}
 
@@ -42,6 +39,12 @@ IsTold c = ForSome (command c.words) (λ k. IsKnown c.files.tells (source_of k))
 -- the command asks for a generated input
 abbrev pub IsMadeCall : Option Command → Type 0
 IsMadeCall o = IsSomeAnd o (λ k. IsMade (source_of k))
+
+-- the file that a call begins last, if it begins one, is that of a part that the reading comes to; so
+-- none is begun after a refusal
+abbrev pub LastBegun : {F : Type 0} → Files F → Option Command → F → F → Type 0
+LastBegun files None old new = files.current new ≡ files.current old
+LastBegun files (Some k) old new = BeginsOnly files old new (source_of k) (Reaches (source_of k) (files.held old))
 
 -- an input that was read in the call: an accepted one with the numbers of the command, and where the
 -- contents of its source are known, the one that is judged
@@ -203,37 +206,13 @@ IsTextOf c (outcome.Witness keep) said = (input : Accepted) × IsRead c input ×
 IsTextOf c (outcome.Spent s) said = (input : Accepted) × IsRead c input × (input.conflicts ≡ Some s.budget) × IsGivenUp input s.budget s.best s.least s.nogoods × (said ≡ spent_of input s)
 IsTextOf c o said = said ≡ refusal_text (limit_of (command c.words)) o
 
--- one sink over a call: whether it tells its bytes, these, and its count, before and after
-pub record Log : Type 0 where
-  pub tells : Bool
-  pub old : List ℕ
-  pub new : List ℕ
-  pub before : ℕ
-  pub after : ℕ
-
--- the sink that a call found as `old` and left as `new`
-abbrev pub log : {S : Type 0} → Sinks S → S → S → Log
-log sink old new = record { tells = sink.tells; old = sink.contents old; new = sink.contents new; before = sink.faults old; after = sink.faults new }
-
 -- this sink grew by all of a text of the outcome
 abbrev pub GrewByWhole : Call → Outcome → Log → Type 0
-GrewByWhole c o sink = (said : List ℕ) × IsTextOf c o said × (IsTrue sink.tells → sink.new ≡ sink.old ++ said)
+GrewByWhole c o sink = (said : List ℕ) × IsTextOf c o said × Grew sink said
 
 -- this sink grew by a prefix of a text of the outcome
 abbrev pub GrewByPrefix : Call → Outcome → Log → Type 0
-GrewByPrefix c o sink = (said : List ℕ) × IsTextOf c o said × (IsTrue sink.tells → AddsPrefix sink.old sink.new said)
-
-abbrev pub IsKept : Log → Type 0
-IsKept sink = IsTrue sink.tells → sink.new ≡ sink.old
-
--- the sink of an outcome, and the other one
-abbrev pub at_place : Place → Log → Log → Log
-at_place at.Out out err = out
-at_place at.Err out err = err
-
-abbrev pub other_place : Place → Log → Log → Log
-other_place at.Out out err = err
-other_place at.Err out err = out
+GrewByPrefix c o sink = (said : List ℕ) × IsTextOf c o said × GrewPartly sink said
 
 -- the whole text of the outcome went to its sink, and nothing to the other
 pub record WritesAll (c : Call) (o : Outcome) (out err : Log) : Type 0 where
@@ -249,7 +228,7 @@ pub record WritesPart (c : Call) (out err : Log) (o : Outcome) : Type 0 where
 -- the same, where that sink failed
 pub record WritesUntilFault (c : Call) (out err : Log) (o : Outcome) : Type 0 where
   pub begun : WritesPart c out err o
-  pub rose : Rose (at_place (place o) out err).before (at_place (place o) out err).after
+  pub rose : Broke (at_place (place o) out err)
 
 -- of an outcome that has a text
 abbrev pub IfText : Outcome → Type 0 → Type 0
@@ -257,27 +236,17 @@ IfText outcome.WriteFault P = ⊤
 IfText outcome.NoMemory P = ⊤
 IfText _ P = P
 
--- nothing was written
-pub record WritesNothing (out err : Log) : Type 0 where
-  pub out_kept : IsKept out
-  pub err_kept : IsKept err
-
 -- how the writing of a text ended: all of it was taken, the sink failed, or memory was wanting
 abbrev pub WritesTo : Log → Outcome → List ℕ → Outcome → Type 0
 WritesTo sink o said result =
-    ((result ≡ o) × (IsTrue sink.tells → sink.new ≡ sink.old ++ said))
-    ⊎ (((result ≡ outcome.WriteFault) × Rose sink.before sink.after × (IsTrue sink.tells → AddsPrefix sink.old sink.new said))
-    ⊎ ((result ≡ outcome.NoMemory) × (IsTrue sink.tells → AddsPrefix sink.old sink.new said)))
+    ((result ≡ o) × Grew sink said)
+    ⊎ (((result ≡ outcome.WriteFault) × Broke sink × GrewPartly sink said)
+    ⊎ ((result ≡ outcome.NoMemory) × GrewPartly sink said))
 
 -- the same at the sink of an outcome, with nothing at the other
 pub record Writes (out err : Log) (o : Outcome) (said : List ℕ) (result : Outcome) : Type 0 where
   pub ends : WritesTo (at_place (place o) out err) o said result
   pub kept : IsKept (other_place (place o) out err)
-
--- neither sink failed
-pub record NoSinkRose (out err : Log) : Type 0 where
-  pub out_rose : Rose out.before out.after → ⊥
-  pub err_rose : Rose err.before err.after → ⊥
 
 -- what is said of an accepted input
 abbrev pub Judges : Accepted → Outcome → List ℕ → Type 0

@@ -131,8 +131,12 @@ right_judged source held schema left = then_read (query_judged source held Query
 
 -- ---- the work
 
+-- of the two queries and of the rules of the schema
+abbrev pub work_between : List TableOf → Instance → Typed → Typed → ℕ
+work_between schema given left right = capped (capped (work left.query given + work right.query given) + law_work schema given.tables)
+
 abbrev pub total_work : Accepted → ℕ
-total_work input = capped (capped (work input.left.query input.given + work input.right.query input.given) + law_work input.schema input.given.tables)
+total_work input = work_between input.schema input.given input.left input.right
 
 abbrev pub within_limit : Accepted → Result Accepted Outcome
 within_limit input = if nat_le (total_work input) input.work_limit then Ok input else Err (outcome.Limit (limit.Work (total_work input)))

@@ -1,6 +1,7 @@
 pub mod Accepted
 pub mod Answers
 pub mod Faults
+pub mod First
 pub mod Judged
 pub mod One
 pub mod Placed

@@ -16,12 +16,12 @@ Text = List ℕ
 
 -- the four paths of a command over files
 abbrev pub paths_in : List Text → Paths
-paths_in (s ∷ d ∷ p ∷ q ∷ []) = record { schema = s; dir = d; query1 = p; query2 = q }
-paths_in _ = record { schema = []; dir = []; query1 = []; query2 = [] }
+paths_in (s ∷ d ∷ p ∷ q ∷ []) = record { schema = s; dir = d; query1 = Some p; query2 = Some q }
+paths_in _ = record { schema = []; dir = []; query1 = None; query2 = None }
 
 -- the paths of a schema and of the folder of its tables, with no query
 abbrev pub table_paths : Text → Text → Paths
-table_paths schema dir = record { schema = schema; dir = dir; query1 = []; query2 = [] }
+table_paths schema dir = record { schema = schema; dir = dir; query1 = None; query2 = None }
 
 abbrev pub tables_in : Text → Text → Source
 tables_in schema dir = Files (table_paths schema dir)
@@ -40,8 +40,8 @@ table_file paths name = paths.dir ++ (codes "/" ++ (name ++ codes ".csv"))
 abbrev pub file_name : Paths → Part → Option Text
 file_name paths Schema = Some paths.schema
 file_name paths (Table at name) = Some (table_file paths name)
-file_name paths Query1 = Some paths.query1
-file_name paths Query2 = Some paths.query2
+file_name paths Query1 = paths.query1
+file_name paths Query2 = paths.query2
 file_name paths Queries = None
 
 -- a generated input has no files

@@ -1,5 +1,5 @@
 -- What stops the reading of a command's files.
-use Rattle.std.specs.Prelude.{◌≡◌, ℕ, ◌+◌, Bool, true, false, IsTrue, List, Option, None, Some, Result, Err, ⊤}
+use Rattle.std.specs.Prelude.{◌≡◌, ℕ, ◌+◌, Bool, true, false, IsTrue, List, Option, None, Some, IfSome, ◌⊎◌, Result, Err, ⊤}
 use Rattle.rt_io.specs.Edge.{Rose}
 use Rattle.rt_io.specs.declared.files.Files.{Ghosts}
 use Rattle.rt_top.specs.declared.part.Part.{Part}
@@ -94,3 +94,16 @@ Stops s source judged Reached (outcome.Limit limit) = IsLongFor s source limit �
 Stops s source judged Reached (outcome.ReadFault part) = Failed s (file_of source part) × (IsKnown s.tells source → Reached part)
 Stops s source judged Reached outcome.WriteFault = ⊥
 Stops s source judged Reached outcome.NoMemory = ⊤
+
+-- the file of a part that the reading comes to
+abbrev pub IsFileOf : Bool → Source → (Part → Type 0) → List ℕ → Type 0
+IsFileOf tells source Reached name = (part : Part) × (file_of source part ≡ Some name) × (IsKnown tells source → Reached part)
+
+-- of the current file before and after: the last one that was begun, if one was, is that of a part
+-- that the reading comes to
+abbrev pub LastIs : Bool → Option (List ℕ) → Option (List ℕ) → Source → (Part → Type 0) → Type 0
+LastIs tells before after source Reached = IfSome after (λ name. (before ≡ Some name) ⊎ IsFileOf tells source Reached name)
+
+-- the same of files that a call found as `old` and left as `new`
+abbrev pub BeginsOnly : {F : Type 0} → Ghosts F → F → F → Source → (Part → Type 0) → Type 0
+BeginsOnly files old new source Reached = LastIs files.tells (files.current old) (files.current new) source Reached

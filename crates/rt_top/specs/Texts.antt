@@ -26,8 +26,8 @@ use Rattle.rt_top.specs.declared.outcome.Spent.{Spent}
 use Rattle.rt_top.specs.declared.outcome.Limit.TheVariants.{TooLong, Tables, Columns, Rules, Rows, Work}
 use Rattle.rt_top.specs.declared.outcome.Outcome.{Outcome}
 use Rattle.rt_top.specs.declared.outcome.Outcome.TheVariants as outcome
-use Rattle.rt_top.specs.declared.place.Place.{Place}
-use Rattle.rt_top.specs.declared.place.Place.TheVariants as at
+use Rattle.rt_io.specs.declared.place.Place.{Place}
+use Rattle.rt_io.specs.declared.place.Place.TheVariants as at
 
 abbrev pub part_text : Part → List ℕ
 part_text Schema = codes "schema"

@@ -1,11 +1,15 @@
 //! The verdict on an input.
-ghost use Rattle.std.specs.Prelude.{IfOk};
+ghost use Rattle.std.specs.Prelude.{ℕ, ◌≤◌, Option, IfOk, IfSome};
+ghost use Rattle.rt_schema.specs.Given.{IsOf};
+ghost use Rattle.rt_algebra.specs.Typed.{IsTypedOf};
 ghost use Rattle.rt_top.specs.Smallest.{IsVerdict};
 
 use crate::input::Input;
+use rt_algebra::Typed;
 use rt_annot::goal;
 use rt_formula::Dag;
 use rt_rules::cone;
+use rt_schema::{Given, Schema};
 use rt_search::{Best, smallest};
 use rt_value::NoMemory;
 use std::alloc::Global;
@@ -17,9 +21,33 @@ pub fn decide(alloc: Global, input: &Input) -> Result<Best, NoMemory>
     ensures { IfOk result (IsVerdict input.now) }
 {
     let schema = input.schema();
-    let given = input.given();
+    decide_between(
+        alloc,
+        schema,
+        input.given(),
+        input.left(),
+        input.right(),
+        input.conflicts(),
+    )
+}
+
+/// The same of two queries over given rows, whatever else their input says.
+pub fn decide_between(
+    alloc: Global,
+    schema: &Schema,
+    given: &Given,
+    left: &Typed,
+    right: &Typed,
+    conflicts: Option<u64>,
+) -> Result<Best, NoMemory>
+    requires of_schema { IsOf schema.now given.now }
+    requires left { IsTypedOf schema.now left.now }
+    requires right { IsTypedOf schema.now right.now }
+    requires conflicts { IfSome conflicts (λ b. 1 ≤ b) }
+    ensures { IfOk result (λ best. (limit : ℕ) (made : Option ℕ) → IsVerdict (record { schema = schema.now; given = given.now; left = left.now; right = right.now; conflicts = conflicts; work_limit = limit; made = made }) best) }
+{
     let mut dag = Dag::new(alloc, given.total())?;
-    let aim = goal(alloc, &mut dag, schema, given, input.left(), input.right())?;
+    let aim = goal(alloc, &mut dag, schema, given, left, right)?;
     let cone = cone(alloc, &dag, aim.differs, schema, given)?;
-    smallest(alloc, &dag, aim.goal, &cone, input.conflicts())
+    smallest(alloc, &dag, aim.goal, &cone, conflicts)
 }

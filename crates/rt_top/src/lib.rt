@@ -3,6 +3,7 @@
 
 mod decision;
 mod faults;
+mod first;
 mod input;
 pub mod laws;
 mod outcome;
@@ -17,13 +18,15 @@ mod text;
 mod top;
 mod verdicts;
 
-pub use decision::decide;
+pub use decision::{decide, decide_between};
+pub use first::{First, read_first};
 pub use input::Input;
 pub use outcome::{Fault, Limit, Outcome, Spent};
-pub use part::Part;
-pub use read::{read_input, read_words};
+pub use part::{Part, QueryPart};
+pub use query::{like_left, query_of};
+pub use read::{read_input, read_words, within_limit, work_between};
 pub use rt_search::{Best, SpentBest};
-pub use say::{USAGE, fault_text, refusal_line};
+pub use say::{USAGE, fault_text, lex_text, part_text, refusal_line};
 pub use tables::{Tables, read_tables};
 pub use text::read_text;
 pub use top::ratest;

@@ -16,13 +16,14 @@ pub enum Part {
 
 /// Which of the two queries.
 #[derive(Clone, Copy)]
-pub(crate) enum QueryPart {
+pub enum QueryPart {
     First,
     Second,
 }
 
 impl QueryPart {
-    pub(crate) fn part(self) -> Part
+    /// The part of an input that the query is.
+    pub fn part(self) -> Part
         ensures { result ≡ query_part self }
     {
         match self {

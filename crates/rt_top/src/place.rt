@@ -2,13 +2,7 @@ ghost use Rattle.std.specs.Prelude.{◌≡◌};
 ghost use Rattle.rt_top.specs.Texts.{place};
 
 use crate::outcome::Outcome;
-
-/// The sink that a text belongs to.
-#[derive(Clone, Copy)]
-pub(crate) enum Place {
-    Out,
-    Err,
-}
+use rt_io::Place;
 
 impl Outcome {
     /// The sink of its text.

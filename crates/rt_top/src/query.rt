@@ -49,13 +49,8 @@ fn query_of_tokens(
     }
 }
 
-/// The query of a text.
-pub(crate) fn query_of(
-    alloc: Global,
-    part: Part,
-    schema: &Schema,
-    text: &[u8],
-) -> Result<Typed, Outcome>
+/// The query of a text; a fault speaks of the part.
+pub fn query_of(alloc: Global, part: Part, schema: &Schema, text: &[u8]) -> Result<Typed, Outcome>
     ensures typed { IfOk result (IsTypedOf schema.now) }
     ensures ok { IfOk result (λ typed. query_of part schema.now text.now ≡ Ok typed) }
     ensures err { IfErr result (Refuses (query_of part schema.now text.now)) }
@@ -68,7 +63,7 @@ pub(crate) fn query_of(
 }
 
 /// The second query, where it has as many columns as the first, of the same kinds.
-pub(crate) fn like_left(left: &Typed, right: Typed) -> Result<Typed, Outcome>
+pub fn like_left(left: &Typed, right: Typed) -> Result<Typed, Outcome>
     ensures kinds { IfOk result (λ typed. typed.kinds ≡ left.now.kinds) }
     ensures ok { IfOk result (λ typed. (typed ≡ right) × (like_left left.now right ≡ Ok typed)) }
     ensures err { IfErr result (Refuses (like_left left.now right)) }

@@ -2,13 +2,14 @@
 ghost use Rattle.std.specs.Prelude.{◌≡◌, ◌≤◌, IsSomeAnd, IfOk, IfErr, Ok, None, Some};
 ghost use Rattle.std.specs.Option.{ForSome};
 ghost use Rattle.rt_io.specs.Edge.{NoneFell};
+ghost use Rattle.rt_schema.specs.Given.{IsOf};
 ghost use Rattle.rt_algebra.specs.Typed.{IsTypedOf};
 ghost use Rattle.rt_words.specs.Command.{command};
 ghost use Rattle.rt_top.specs.Source.{IsKnown, IsMade, query_part, source_of};
-ghost use Rattle.rt_top.specs.Judged.{text_of, query_judged, right_judged, input_judged, total_work, within_limit, Reaches};
+ghost use Rattle.rt_top.specs.Judged.{text_of, query_judged, right_judged, input_judged, total_work, within_limit, work_between, Reaches};
 ghost use Rattle.rt_top.specs.Placed.{IsPlaceless, Placed};
-ghost use Rattle.rt_top.specs.Steps.{over, Refuses, Stops};
-ghost use Rattle.rt_top.specs.Answers.{call, IsMadeCall, IsRead, Stop, WordsStop};
+ghost use Rattle.rt_top.specs.Steps.{over, BeginsOnly, Refuses, Stops};
+ghost use Rattle.rt_top.specs.Answers.{call, LastBegun, IsMadeCall, IsRead, Stop, WordsStop};
 ghost use Rattle.rt_top.specs.declared.part.Part.TheVariants as parts;
 ghost use Rattle.rt_top.specs.Accepted.{HasOptions, IsAccepted};
 
@@ -21,7 +22,7 @@ use crate::tables::{Tables, tables_of};
 use crate::text::source_text;
 use rt_algebra::{Typed, work};
 use rt_io::Files;
-use rt_schema::{Schema, capped_add, law_work};
+use rt_schema::{Given, Schema, capped_add, law_work};
 use rt_value::Txt;
 use rt_words::{WordFault, Words};
 use std::alloc::Global;
@@ -39,7 +40,7 @@ pub fn read_words(alloc: Global, words: &[Txt]) -> Result<Words, Outcome>
 }
 
 /// A query over the tables of the schema.
-fn read_query<F: Files>(
+pub(crate) fn read_query<F: Files>(
     alloc: Global,
     files: &mut F,
     source: &Source,
@@ -50,6 +51,7 @@ fn read_query<F: Files>(
     ensures ok { IfOk result (λ typed. IsKnown F.tells source.now → query_judged source.now (F.held files.old) (query_part part) schema.now ≡ Ok typed) }
     ensures err { IfErr result (Stops (over F.Files files.old files.new) source.now (query_judged source.now (F.held files.old) (query_part part) schema.now) (λ p. p ≡ query_part part)) }
     ensures place { IfErr result (λ o. IsKnown F.tells source.now → Placed (text_of source.now (F.held files.old)) o) }
+    ensures last { BeginsOnly F.Files files.old files.new source.now (λ p. p ≡ query_part part) }
     ensures made { IsMade source.now → files.new ≡ files.old }
     ensures held { F.held files.new ≡ F.held files.old }
     ensures rises { NoneFell (F.faults files.old) (F.faults files.new) }
@@ -71,6 +73,7 @@ fn read_right<F: Files>(
     ensures ok { IfOk result (λ right. IsKnown F.tells source.now → right_judged source.now (F.held files.old) schema.now left.now ≡ Ok right) }
     ensures err { IfErr result (Stops (over F.Files files.old files.new) source.now (right_judged source.now (F.held files.old) schema.now left.now) (λ p. p ≡ parts.Query2)) }
     ensures place { IfErr result (λ o. IsKnown F.tells source.now → Placed (text_of source.now (F.held files.old)) o) }
+    ensures last { BeginsOnly F.Files files.old files.new source.now (λ p. p ≡ parts.Query2) }
     ensures made { IsMade source.now → files.new ≡ files.old }
     ensures held { F.held files.new ≡ F.held files.old }
     ensures rises { NoneFell (F.faults files.old) (F.faults files.new) }
@@ -79,18 +82,25 @@ fn read_right<F: Files>(
     like_left(left, right)
 }
 
+/// The work of two queries over given rows and of the rules of the schema.
+pub fn work_between(schema: &Schema, given: &Given, left: &Typed, right: &Typed) -> u128
+    requires { IsOf schema.now given.now }
+    ensures { result ≡ work_between schema.now given.now left.now right.now }
+{
+    let queries = capped_add(work(left, given), work(right, given));
+    capped_add(queries, law_work(schema, given))
+}
+
 fn total_work(input: &Input) -> u128
     ensures value { result ≡ total_work input.now }
     ensures sound { IsAccepted input.now }
 {
     let schema = input.schema();
-    let given = input.given();
-    let queries = capped_add(work(input.left(), given), work(input.right(), given));
-    capped_add(queries, law_work(schema, given))
+    work_between(schema, input.given(), input.left(), input.right())
 }
 
-/// An input whose work is within its limit.
-fn within_limit(input: Input) -> Result<Input, Outcome>
+/// The input, where its work is within its limit.
+pub fn within_limit(input: Input) -> Result<Input, Outcome>
     ensures sound { IfOk result IsAccepted }
     ensures ok { IfOk result (λ same. (same ≡ input) × (within_limit input ≡ Ok same)) }
     ensures err { IfErr result (Refuses (within_limit input)) }
@@ -111,6 +121,7 @@ fn read_command<F: Files>(alloc: Global, words: &Words, files: &mut F) -> Result
     ensures ok { IfOk result (λ input. IsKnown F.tells (source_of words.now) → input_judged (F.held files.old) words.now ≡ Ok input) }
     ensures err { IfErr result (Stops (over F.Files files.old files.new) (source_of words.now) (input_judged (F.held files.old) words.now) (Reaches (source_of words.now) (F.held files.old))) }
     ensures place { IfErr result (λ o. IsKnown F.tells (source_of words.now) → Placed (text_of (source_of words.now) (F.held files.old)) o) }
+    ensures last { BeginsOnly F.Files files.old files.new (source_of words.now) (Reaches (source_of words.now) (F.held files.old)) }
     ensures made { IsMade (source_of words.now) → files.new ≡ files.old }
     ensures held { F.held files.new ≡ F.held files.old }
     ensures rises { NoneFell (F.faults files.old) (F.faults files.new) }
@@ -134,6 +145,8 @@ fn read_command<F: Files>(alloc: Global, words: &Words, files: &mut F) -> Result
 pub fn read_input<F: Files>(alloc: Global, words: &[Txt], files: &mut F) -> Result<Input, Outcome>
     ensures ok { IfOk result (IsRead (call F.Files words.now files.old files.new)) }
     ensures err { IfErr result (Stop (call F.Files words.now files.old files.new)) }
+    // The file that is begun last is one that the reading comes to: none is begun after a refusal.
+    ensures last { LastBegun F.Files (command words.now) files.old files.new }
     // A generated input begins no file.
     ensures made { IsMadeCall (command words.now) → files.new ≡ files.old }
     ensures held { F.held files.new ≡ F.held files.old }

@@ -16,7 +16,8 @@ use std::alloc::{AllocError, Global};
 pub const USAGE: &str =
     "usage: ratest SCHEMA DATADIR QUERY1 QUERY2 [--conflicts N] [--work N]\n       ratest made N [--conflicts N] [--work N]\n";
 
-fn part_text(alloc: Global, part: &Part) -> Result<String, AllocError>
+/// How the line of a refusal names a part.
+pub fn part_text(alloc: Global, part: &Part) -> Result<String, AllocError>
     ensures { IfOk result (λ s. string_bytes s ≡ part_text part.now) }
 {
     match part {
@@ -43,7 +44,8 @@ fn fault_words(alloc: Global, fault: &Fault) -> Result<String, AllocError>
     }
 }
 
-fn lex_text(alloc: Global, fault: &LexFault) -> Result<String, AllocError>
+/// Why a text has no tokens, without a line end; empty for want of memory.
+pub fn lex_text(alloc: Global, fault: &LexFault) -> Result<String, AllocError>
     ensures { IfOk result (λ s. string_bytes s ≡ lex_text fault.now) }
 {
     match fault {

@@ -14,8 +14,9 @@ pub(crate) struct Paths {
     pub(crate) schema: Txt,
     /// The folder of the table files.
     pub(crate) dir: Txt,
-    pub(crate) query1: Txt,
-    pub(crate) query2: Txt,
+    /// The queries' files; none where the command reads no query.
+    pub(crate) query1: Option<Txt>,
+    pub(crate) query2: Option<Txt>,
 }
 
 /// The files that a command names, or the texts of a generated input.
@@ -44,14 +45,14 @@ impl Paths {
             [schema, dir, query1, query2] => Ok(Paths {
                 schema: schema.copy(alloc)?,
                 dir: dir.copy(alloc)?,
-                query1: query1.copy(alloc)?,
-                query2: query2.copy(alloc)?,
+                query1: Some(query1.copy(alloc)?),
+                query2: Some(query2.copy(alloc)?),
             }),
             _ => Ok(Paths {
                 schema: Txt::of(alloc, "")?,
                 dir: Txt::of(alloc, "")?,
-                query1: Txt::of(alloc, "")?,
-                query2: Txt::of(alloc, "")?,
+                query1: None,
+                query2: None,
             }),
         }
     }
@@ -63,8 +64,8 @@ impl Paths {
         Ok(Paths {
             schema: schema.copy(alloc)?,
             dir: dir.copy(alloc)?,
-            query1: Txt::of(alloc, "")?,
-            query2: Txt::of(alloc, "")?,
+            query1: None,
+            query2: None,
         })
     }
 
@@ -75,8 +76,8 @@ impl Paths {
         match part {
             Part::Schema => Ok(Some(self.schema.copy(alloc)?)),
             Part::Table(_, name) => Ok(Some(self.table_file(alloc, name)?)),
-            Part::Query1 => Ok(Some(self.query1.copy(alloc)?)),
-            Part::Query2 => Ok(Some(self.query2.copy(alloc)?)),
+            Part::Query1 => copied(alloc, &self.query1),
+            Part::Query2 => copied(alloc, &self.query2),
             Part::Queries => Ok(None),
         }
     }
@@ -88,6 +89,15 @@ impl Paths {
         let name = name.as_str();
         let path = format!(in alloc; "{dir}/{name}.csv")?;
         Ok(Txt::from_string(path))
+    }
+}
+
+fn copied(alloc: Global, name: &Option<Txt>) -> Result<Option<Txt>, NoMemory>
+    ensures { IfOk result (λ copy. copy ≡ name.now) }
+{
+    match name {
+        Some(name) => Ok(Some(name.copy(alloc)?)),
+        None => Ok(None),
     }
 }
 

@@ -6,7 +6,7 @@ ghost use Rattle.rt_load.specs.Loaded.{row_limit};
 ghost use Rattle.rt_top.specs.Source.{IsKnown, IsMade, tables_in};
 ghost use Rattle.rt_top.specs.Judged.{text_of, schema_of, schema_judged, table_judged, tables_judged, data_judged, no_rows, IsTableReached, Reaches};
 ghost use Rattle.rt_top.specs.Placed.{Placed, PlacedIn};
-ghost use Rattle.rt_top.specs.Steps.{over, Refuses, Stops};
+ghost use Rattle.rt_top.specs.Steps.{over, BeginsOnly, Refuses, Stops};
 ghost use Rattle.rt_top.specs.declared.part.Part.TheVariants as parts;
 
 use crate::faults::{load_outcome, schema_outcome};
@@ -45,6 +45,7 @@ fn schema_file<F: Files>(alloc: Global, files: &mut F, source: &Source) -> Resul
     ensures ok { IfOk result (λ schema. IsKnown F.tells source.now → schema_judged source.now (F.held files.old) ≡ Ok schema) }
     ensures err { IfErr result (Stops (over F.Files files.old files.new) source.now (schema_judged source.now (F.held files.old)) (λ p. p ≡ parts.Schema)) }
     ensures place { IfErr result (λ o. IsKnown F.tells source.now → Placed (text_of source.now (F.held files.old)) o) }
+    ensures last { BeginsOnly F.Files files.old files.new source.now (λ p. p ≡ parts.Schema) }
     ensures made { IsMade source.now → files.new ≡ files.old }
     ensures held { F.held files.new ≡ F.held files.old }
     ensures rises { NoneFell (F.faults files.old) (F.faults files.new) }
@@ -73,6 +74,7 @@ fn read_table<F: Files>(
     ensures kinds { given.new.kinds ≡ given.old.kinds }
     ensures err { IfErr result (Stops (over F.Files files.old files.new) source.now (table_judged source.now (F.held files.old) at table.now (places given.old.tables)) (λ p. p ≡ parts.Table at table.now.name)) }
     ensures place { IfErr result (λ o. IsKnown F.tells source.now → Placed (text_of source.now (F.held files.old)) o) }
+    ensures last { BeginsOnly F.Files files.old files.new source.now (λ p. p ≡ parts.Table at table.now.name) }
     ensures made { IsMade source.now → files.new ≡ files.old }
     ensures held { F.held files.new ≡ F.held files.old }
     ensures rises { NoneFell (F.faults files.old) (F.faults files.new) }
@@ -100,6 +102,7 @@ fn read_given<F: Files>(
     ensures ok { IfOk result (λ given. IsKnown F.tells source.now → tables_judged source.now (F.held files.old) 0 (no_rows schema.now) schema.now ≡ Ok given.tables) }
     ensures err { IfErr result (Stops (over F.Files files.old files.new) source.now (tables_judged source.now (F.held files.old) 0 (no_rows schema.now) schema.now) (IsTableReached source.now (F.held files.old) schema.now)) }
     ensures place { IfErr result (λ o. IsKnown F.tells source.now → Placed (text_of source.now (F.held files.old)) o) }
+    ensures last { BeginsOnly F.Files files.old files.new source.now (IsTableReached source.now (F.held files.old) schema.now) }
     ensures made { IsMade source.now → files.new ≡ files.old }
     ensures held { F.held files.new ≡ F.held files.old }
     ensures rises { NoneFell (F.faults files.old) (F.faults files.new) }
@@ -122,6 +125,7 @@ pub(crate) fn tables_of<F: Files>(
     ensures ok { IfOk result (λ t. IsKnown F.tells source.now → data_judged source.now (F.held files.old) ≡ Ok (record { schema = t.schema; given = t.given })) }
     ensures err { IfErr result (Stops (over F.Files files.old files.new) source.now (data_judged source.now (F.held files.old)) (Reaches source.now (F.held files.old))) }
     ensures place { IfErr result (λ o. IsKnown F.tells source.now → Placed (text_of source.now (F.held files.old)) o) }
+    ensures last { BeginsOnly F.Files files.old files.new source.now (Reaches source.now (F.held files.old)) }
     ensures made { IsMade source.now → files.new ≡ files.old }
     ensures held { F.held files.new ≡ F.held files.old }
     ensures rises { NoneFell (F.faults files.old) (F.faults files.new) }
@@ -143,6 +147,7 @@ pub fn read_tables<F: Files>(
     ensures ok { IfOk result (λ t. IsTrue F.tells → data_judged (tables_in schema.now dir.now) (F.held files.old) ≡ Ok (record { schema = t.schema; given = t.given })) }
     ensures err { IfErr result (Stops (over F.Files files.old files.new) (tables_in schema.now dir.now) (data_judged (tables_in schema.now dir.now) (F.held files.old)) (Reaches (tables_in schema.now dir.now) (F.held files.old))) }
     ensures place { IfErr result (λ o. IsTrue F.tells → Placed (text_of (tables_in schema.now dir.now) (F.held files.old)) o) }
+    ensures last { BeginsOnly F.Files files.old files.new (tables_in schema.now dir.now) (Reaches (tables_in schema.now dir.now) (F.held files.old)) }
     ensures held { F.held files.new ≡ F.held files.old }
     ensures rises { NoneFell (F.faults files.old) (F.faults files.new) }
 {

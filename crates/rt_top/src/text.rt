@@ -1,10 +1,10 @@
 //! The texts of a command, from its files or generated.
-ghost use Rattle.std.specs.Prelude.{◌≡◌, IsTrue, IfOk, IfErr, Ok};
+ghost use Rattle.std.specs.Prelude.{◌≡◌, IsTrue, IfOk, IfErr, IfSome, Ok};
 ghost use Rattle.rt_io.specs.Edge.{NoneFell, OnlyRises};
 ghost use Rattle.rt_top.specs.Source.{IsKnown, IsMade, file_name};
 ghost use Rattle.rt_top.specs.Judged.{text_read, file_text, text_of, without_mark};
 ghost use Rattle.rt_top.specs.Placed.{IsPlaceless};
-ghost use Rattle.rt_top.specs.Steps.{over, Stops, TextStops};
+ghost use Rattle.rt_top.specs.Steps.{over, BeginsOnly, Stops, TextStops};
 ghost use Rattle.rt_top.specs.declared.source.Source.TheVariants as sources;
 
 use crate::outcome::{Limit, Outcome};
@@ -26,6 +26,7 @@ pub fn read_text<F: Files>(
 ) -> Result<Bytes, Outcome>
     ensures ok { IfOk result (λ text. IsTrue F.tells → text_read part (F.held files.old name.now) ≡ Ok text) }
     ensures err { IfErr result (TextStops (over F.Files files.old files.new) name.now part) }
+    ensures last { IfSome (F.current files.new) (λ current. current ≡ name.now) }
     ensures held { F.held files.new ≡ F.held files.old }
     ensures rises { OnlyRises name.now (F.faults files.old) (F.faults files.new) }
 {
@@ -55,6 +56,7 @@ fn file_text<F: Files>(
     ensures ok { IfOk result (λ text. IsTrue F.tells → file_text part (F.held files.old) (file_name paths.now part) ≡ Ok text) }
     ensures err { IfErr result (Stops (over F.Files files.old files.new) (sources.Files paths.now) (file_text part (F.held files.old) (file_name paths.now part)) (λ p. p ≡ part)) }
     ensures place { IfErr result IsPlaceless }
+    ensures last { BeginsOnly F.Files files.old files.new (sources.Files paths.now) (λ p. p ≡ part) }
     ensures held { F.held files.new ≡ F.held files.old }
     ensures rises { NoneFell (F.faults files.old) (F.faults files.new) }
 {
@@ -74,6 +76,7 @@ pub(crate) fn source_text<F: Files>(
     ensures ok { IfOk result (λ text. IsKnown F.tells source.now → text_of source.now (F.held files.old) part ≡ Ok text) }
     ensures err { IfErr result (Stops (over F.Files files.old files.new) source.now (text_of source.now (F.held files.old) part) (λ p. p ≡ part)) }
     ensures place { IfErr result IsPlaceless }
+    ensures last { BeginsOnly F.Files files.old files.new source.now (λ p. p ≡ part) }
     ensures made { IsMade source.now → files.new ≡ files.old }
     ensures held { F.held files.new ≡ F.held files.old }
     ensures rises { NoneFell (F.faults files.old) (F.faults files.new) }

@@ -3,16 +3,16 @@ ghost use Rattle.rt_io.specs.Edge.{NoneFell};
 ghost use Rattle.rt_words.specs.Command.{command};
 ghost use Rattle.rt_top.specs.Judged.{judged};
 ghost use Rattle.rt_top.specs.Accepted.{Accepted};
-ghost use Rattle.rt_top.specs.Answers.{call, log, limit_of, IsTold, IsMadeCall, Row, AgreeRow, WitnessRow, UsageRow, RefusedRow, SpentRow, LimitRow, ReadFaultRow, HasRoom, IfAgree, IfWitness, IfUsage, IfRefused, IfSpent, IfLimit, IfReadFault, IfWriteFault, IfNoMemory, IfText, YieldsTo, YieldsToWrite, IsVerdictOrMemory, NoFileRose, NoSinkRose, IsTextOf, WritesTo, Writes, WritesAll, WritesPart, WritesUntilFault, WritesNothing};
+ghost use Rattle.rt_io.specs.Logs.{log, NoSinkRose, WritesNothing};
+ghost use Rattle.rt_top.specs.Answers.{call, limit_of, LastBegun, IsTold, IsMadeCall, Row, AgreeRow, WitnessRow, UsageRow, RefusedRow, SpentRow, LimitRow, ReadFaultRow, HasRoom, IfAgree, IfWitness, IfUsage, IfRefused, IfSpent, IfLimit, IfReadFault, IfWriteFault, IfNoMemory, IfText, YieldsTo, YieldsToWrite, IsVerdictOrMemory, NoFileRose, IsTextOf, Writes, WritesAll, WritesPart, WritesUntilFault};
 ghost use Rattle.rt_top.specs.declared.outcome.Outcome.{Outcome};
 ghost use Rattle.rt_top.specs.declared.outcome.Outcome.TheVariants as outcome;
 
 use crate::outcome::Outcome;
-use crate::place::Place;
 use crate::read::read_input;
 use crate::say::refusal_text;
 use crate::verdicts::{Answer, verdict};
-use rt_io::{Files, Sink, SinkFail, write_text};
+use rt_io::{Files, Sink, SinkFail, write_at};
 use rt_value::{NoMemory, Txt};
 use rt_words::{WordFault, read_words};
 use std::alloc::Global;
@@ -32,6 +32,7 @@ fn work_limit(alloc: Global, words: &[Txt]) -> Result<u64, NoMemory>
 fn prepare<F: Files>(alloc: Global, words: &[Txt], files: &mut F) -> Result<Answer, NoMemory>
     ensures row { IfOk result (λ a. Row (call F.Files words.now files.old files.new) a.outcome) }
     ensures says { IfOk result (λ a. IsTextOf (call F.Files words.now files.old files.new) a.outcome a.text) }
+    ensures last { LastBegun F.Files (command words.now) files.old files.new }
     ensures made { IsMadeCall (command words.now) → files.new ≡ files.old }
     ensures held { F.held files.new ≡ F.held files.old }
     ensures rises { NoneFell (F.faults files.old) (F.faults files.new) }
@@ -47,24 +48,15 @@ fn prepare<F: Files>(alloc: Global, words: &[Txt], files: &mut F) -> Result<Answ
     }
 }
 
-/// Writes the text of an answer.
-fn finish<S: Sink>(sink: &mut S, answer: Answer) -> Outcome
-    ensures { WritesTo (log S.Sink sink.old sink.new) answer.outcome answer.text result }
-{
-    match write_text(sink, answer.text.as_slice()) {
-        Ok(()) => answer.outcome,
-        Err(SinkFail::Failed) => Outcome::WriteFault,
-        Err(SinkFail::NoMemory) => Outcome::NoMemory,
-    }
-}
-
 /// Writes the text of an answer to its sink.
 fn speak<O: Sink, E: Sink>(out: &mut O, err: &mut E, answer: Answer) -> Outcome
     ensures { Writes (log O.Sink out.old out.new) (log E.Sink err.old err.new) answer.outcome answer.text result }
 {
-    match answer.outcome.place() {
-        Place::Out => finish(out, answer),
-        Place::Err => finish(err, answer),
+    let place = answer.outcome.place();
+    match write_at(out, err, place, answer.text.as_slice()) {
+        Ok(()) => answer.outcome,
+        Err(SinkFail::Failed) => Outcome::WriteFault,
+        Err(SinkFail::NoMemory) => Outcome::NoMemory,
     }
 }
 
@@ -105,6 +97,8 @@ pub fn ratest<F: Files, O: Sink, E: Sink>(
     ensures complete { let c = call F.Files words.now files.old files.new in
         IsTold c → NoFileRose c → NoSinkRose (log O.Sink out.old out.new) (log E.Sink err.old err.new)
         → (input : Accepted) → judged words.now (F.held files.old) ≡ Ok input → HasRoom input → IsVerdictOrMemory result }
+    // The file that is begun last is one that the reading comes to: none is begun after a refusal.
+    ensures last { LastBegun F.Files (command words.now) files.old files.new }
     // A generated input begins no file.
     ensures made { IsMadeCall (command words.now) → files.new ≡ files.old }
     ensures held { F.held files.new ≡ F.held files.old }
