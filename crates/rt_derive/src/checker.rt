@@ -96,6 +96,13 @@ impl Checker {
         }
     }
 
+    /// The number of lines.
+    pub fn len(&self) -> usize
+        ensures { result ≡ length (⟦<Checker as Adds>⟧.lines self.now) }
+    {
+        self.lines.len()
+    }
+
     /// Whether the lines have the empty clause, or the negation of `assume` alone. Such a line mostly
     /// came last, so the search begins there.
     pub fn refutes(&self, assume: Option<Lit>) -> bool

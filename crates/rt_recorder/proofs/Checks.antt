@@ -1,7 +1,7 @@
 -- Steps that are accepted one after another.
 use Rattle.std.proofs.Common.{◌≡◌, ℕ, zero, suc, ◌≤◌, ◌||◌, ◌<◌, ◌+◌, Bool, true, false, List, [], ◌∷◌, ◌++◌, length, take, get_or, refl, sym, ap, ◌∙◌, subst, append_assoc, arith, Option, Some, None, inl, inr}
 use Rattle.std.specs.Prelude.{not, IsTrue, Result, Ok, Err, IfOk}
-use Rattle.std.specs.Option.{IfSome, SomeIff}
+use Rattle.std.specs.Option.{IfSome}
 use Rattle.std.proofs.lemmas.List.{take_more, take_all, length-take-le}
 use Rattle.rt_clause.specs.Literal.{Literal, negated}
 use Rattle.rt_clause.specs.Lists.{line_at}
@@ -70,10 +70,6 @@ so false e = absurd (cc)
 pub not-so : (b : Bool) → IsTrue b → b ≡ false → ⊥
 not-so true t e = absurd (cc)
 not-so false t e = absurd (cc)
-
-pub is-sum : (P : Type 0) (o : Option ℕ) (v m : ℕ) → SomeIff o P v → o ≡ Some m → m ≡ v
-is-sum P None v m h e = absurd (cc)
-is-sum P (Some x) v m h e = let k : x ≡ m = cc in sym k ∙ h.1
 
 -- ---- one answer
 

@@ -34,50 +34,43 @@ fn known(alloc: Global, hints: &[u64], lines: usize) -> Result<Option<List<usize
 }
 
 // Takes the clause of the step as a line where the step is accepted.
-fn accept(alloc: Global, to: &mut Checker, lines: usize, step: &Step) -> Result<bool, NoMemory>
-    requires { lines ≡ length (⟦<Checker as Adds>⟧.lines to.old) }
+fn accept(alloc: Global, to: &mut Checker, step: &Step) -> Result<bool, NoMemory>
     ensures yes { IfOk result (λ yes. IsTrue yes ↔ IsAccepted (⟦<Checker as Adds>⟧.lines to.old) step.now) }
     ensures lines { IfOk result (λ yes. ⟦<Checker as Adds>⟧.lines to.new ≡ (if yes then ⟦<Checker as Adds>⟧.lines to.old ++ step.now.lits ∷ [] else ⟦<Checker as Adds>⟧.lines to.old)) }
 {
-    let Some(hints) = known(alloc, step.hints.as_slice(), lines)? else {
+    let Some(hints) = known(alloc, step.hints.as_slice(), to.len())? else {
         return Ok(false);
     };
     to.derive(step.lits.as_slice(), hints.as_slice())
 }
 
-/// Checks the steps of the certificate one after another over the checker's lines, of which there
-/// are so many. The clauses of the accepted steps become lines of the checker.
+/// Checks the steps of the certificate one after another over the checker's lines. The clauses of the
+/// accepted steps become lines of the checker.
 pub fn check_steps(
     alloc: Global,
     to: &mut Checker,
-    given: usize,
     cert: &Cert,
     assume: Option<Lit>,
 ) -> Result<Checked, NoMemory>
-    requires { given ≡ length (⟦<Checker as Adds>⟧.lines to.old) }
     ensures checked { IfOk result (λ checked. IsChecked (⟦<Checker as Adds>⟧.lines to.old) cert.now.steps assume checked) }
     ensures only { IfOk result (λ checked. (other : Checked) → IsChecked (⟦<Checker as Adds>⟧.lines to.old) cert.now.steps assume other → other ≡ checked) }
     ensures sound { IfOk result (λ checked. IsSound (⟦<Checker as Adds>⟧.lines to.old) assume checked) }
 {
-    check(alloc, to, given, cert.steps.as_slice(), assume)
+    check(alloc, to, cert.steps.as_slice(), assume)
 }
 
 fn check(
     alloc: Global,
     to: &mut Checker,
-    given: usize,
     steps: &[Step],
     assume: Option<Lit>,
 ) -> Result<Checked, NoMemory>
-    requires { given ≡ length (⟦<Checker as Adds>⟧.lines to.old) }
     ensures { IfOk result (λ checked. IsChecked (⟦<Checker as Adds>⟧.lines to.old) steps.now assume checked) }
 {
-    let mut lines = given;
     for (i, step) in steps.iter().enumerate() {
-        if !accept(alloc, to, lines, step)? {
+        if !accept(alloc, to, step)? {
             return Ok(Checked::Line(i + 1));
         }
-        lines = lines.checked_add(1).ok_or(NoMemory)?;
     }
     if to.refutes(assume) {
         Ok(Checked::Yes)
