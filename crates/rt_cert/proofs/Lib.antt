@@ -1,0 +1,4 @@
+mod ClaimLemmas
+mod LeastLemmas
+mod PlaceLemmas
+mod Refutations

@@ -1,0 +1,19 @@
+-- What a certificate may claim.
+use Rattle.std.specs.Prelude.{Bool, List, Option, None, Some}
+use Rattle.rt_top.specs.Accepted.{Accepted}
+use Rattle.rt_top.specs.Smallest.{Agrees, HasFewest, IsCounter, IsSmallest}
+
+-- a counterexample, and none keeps fewer rows
+pub record IsLeastSize (input : Accepted) (keep : List Bool) : Type 0 where
+  pub counter : IsCounter input keep
+  pub fewest : HasFewest input keep
+
+-- a choice has the least size, or there is no counterexample
+abbrev pub IsLeastOrNone : Accepted → Option (List Bool) → Type 0
+IsLeastOrNone input None = Agrees input
+IsLeastOrNone input (Some keep) = IsLeastSize input keep
+
+-- a choice is the smallest counterexample, or there is none
+abbrev pub IsSmallestOrNone : Accepted → Option (List Bool) → Type 0
+IsSmallestOrNone input None = Agrees input
+IsSmallestOrNone input (Some keep) = IsSmallest input keep
