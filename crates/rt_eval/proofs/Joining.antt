@@ -3,20 +3,20 @@ use Rattle.std.proofs.Common.{◌≡◌, ◌≢◌, ℕ, ℤ, ◌+◌, ◌<◌, 
 use Rattle.std.specs.List.{filter, filter_map, cons_option, slice_get, list_all}
 use Rattle.std.specs.Prelude.{nat_eq}
 use Rattle.std.proofs.Math.Seq.{drop-cons}
-use Rattle.std.proofs.lemmas.List.{append_assoc, map-id, get_or-map}
+use Rattle.std.proofs.lemmas.List.{append_assoc}
 use Rattle.rt_value.specs.declared.value.Value.{Value}
 use Rattle.rt_schema.specs.Given.{Rows, Tables}
 use Rattle.rt_algebra.specs.Answer.{Condition, Answer, has_row, join_each, pairs, is_yes, pred_by, answer_by, pred_step, query_step, product_after}
 use Rattle.rt_algebra.specs.Expression.{Env, wrapped}
-use Rattle.rt_algebra.specs.Join.{places_where, matches, matched, joined_rows, product_rows, are_wide}
-use Rattle.rt_algebra.specs.Split.{all_simple, keys_yes, first, later}
+use Rattle.rt_algebra.specs.Join.{matched, joined_rows, product_rows, are_wide}
+use Rattle.rt_algebra.specs.Split.{all_simple, first, later}
 use Rattle.rt_algebra.specs.declared.query.Pred.{Pred}
 use Rattle.rt_algebra.specs.declared.query.Query.{Query}
 use Rattle.rt_algebra.specs.declared.query.Query.TheVariants as v
 use Rattle.rt_algebra.specs.declared.query.Pred.TheOpen.{Select, Product, Except}
 use Rattle.rt_algebra.specs.declared.query.Pred.TheFolds.{fold-roll-Query}
 use Rattle.rt_algebra.specs.declared.parts.KeyPair.{KeyPair}
-use Rattle.rt_algebra.proofs.Places.{picked, later_drop, drop_more}
+use Rattle.rt_algebra.proofs.Places.{later_drop, drop_more}
 
 join_cons : (b : List Value) (o : Option (List Value)) (ys : Rows) → join_each b (cons_option o ys) ≡ join_each b (cons_option o []) ++ join_each b ys
 join_cons b None ys = refl
@@ -31,19 +31,6 @@ picked_step b rows places i d l out next whole n h =
     let rest : drop i places ≡ p ∷ drop (i + 1) places = rw add-one (drop-cons places i d l) in
     ap (λ xs. xs ++ join_each b more) n ∙ append_assoc out (join_each b (cons_option (slice_get rows p) [])) (join_each b more)
     ∙ ap (λ xs. out ++ xs) (sym (join_cons b (slice_get rows p) more)) ∙ ap (λ ps. out ++ join_each b (filter_map (slice_get rows) ps)) (sym rest) ∙ h
-
-map_at : {X Y : Type 0} (f : X → Y) (xs : List X) (i : ℕ) (x : X) (y : Y) → i < length xs → x ≡ get_or xs i x → y ≡ get_or (map f xs) i y → y ≡ f x
-map_at f xs i x y l e h = h ∙ get_or-map f xs i x y l ∙ ap f (sym e)
-
-pub matched_step : (ks : List KeyPair) (befores rows : Rows) (i : ℕ) (b : List Value) → i < length befores → b ≡ get_or befores i b
-    → (ps : List ℕ) → ps ≡ get_or (matches ks befores rows) i ps
-    → (out next whole : Rows) → next ≡ out ++ join_each b (filter_map (slice_get rows) ps)
-    → out ++ matched ks (drop i befores) rows ≡ whole → next ++ matched ks (drop (i + 1) befores) rows ≡ whole
-matched_step ks befores rows i b l e ps f out next whole n h =
-    let more = matched ks (drop (i + 1) befores) rows in
-    let here = ap (filter_map (slice_get rows)) (map_at (λ x. places_where (keys_yes ks x) 0 rows) befores i b ps l e f ∙ ap (places_where (keys_yes ks b) 0) (sym (map-id rows))) ∙ picked (λ r. r) (keys_yes ks b) rows in
-    ap (λ xs. xs ++ more) n ∙ append_assoc out (join_each b (filter_map (slice_get rows) ps)) more
-    ∙ ap (λ xs. out ++ (join_each b xs ++ more)) here ∙ ap (λ bs. out ++ matched ks bs rows) (sym (drop_more befores i b l e)) ∙ h
 
 pub chosen_step : (fit : ℤ → ℤ) (own : List (List Pred)) (keys : List (List KeyPair)) (members : List Rows) (env : Env) (i : ℕ) (rows : Rows) → i < length members → rows ≡ get_or members i rows
     → (out mine next whole : Rows) → mine ≡ filter (λ r. all_simple fit (first (drop i own)) (r ∷ env)) rows → next ≡ matched (first (drop i keys)) out mine

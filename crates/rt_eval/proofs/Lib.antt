@@ -1,2 +1,3 @@
 pub mod DistinctLaws
 pub mod Joining
+pub mod Pairing

@@ -1,13 +1,14 @@
 //! Products, and what the parts of a condition choose from them, member by member.
-ghost use Rattle.std.specs.Prelude.{◌≡◌, ◌∷◌, ◌++◌, [], length, map, nat_eq, slice_get, slice_index_or, IfOk};
-ghost use Rattle.std.specs.List.{cons_option, filter, filter_map, list_all};
-ghost use Rattle.rt_algebra.specs.Answer.{join_each};
+ghost use Rattle.std.specs.Prelude.{◌≡◌, ◌∷◌, [], length, map, nat_eq, slice_index_or, IfOk};
+ghost use Rattle.std.specs.List.{filter, list_all};
 ghost use Rattle.rt_algebra.specs.Expression.{wrapped};
-ghost use Rattle.rt_algebra.specs.Join.{are_wide, joined_rows, matched, product_rows};
+ghost use Rattle.rt_algebra.specs.Join.{are_wide, joined_rows, product_rows};
 ghost use Rattle.rt_algebra.specs.Split.{all_simple};
+ghost use Rattle.rt_eval.specs.Pairs.{all_joined};
 
 use crate::lists::joined;
-use rt_algebra::{KeyPair, Pred, Split, all_true, matches, scope};
+use crate::pairs::Pairs;
+use rt_algebra::{Pred, Split, all_true, scope};
 use rt_value::{List, NoMemory, Row};
 use std::alloc::Global;
 
@@ -22,21 +23,23 @@ pub fn product(alloc: Global, members: &[List<Row>]) -> Result<List<Row>, NoMemo
     Ok(out)
 }
 
-/// The concatenations on which each member's own conditions and keys hold.
+/// The concatenations on which each member's own conditions and keys hold, the last member not yet
+/// joined to the rows before it.
 pub fn chosen(
     alloc: Global,
     members: &[List<Row>],
     parts: &Split,
     env: &[&Row],
-) -> Result<List<Row>, NoMemory>
-    ensures { IfOk result (λ out. out ≡ joined_rows wrapped parts.now.own parts.now.keys ([] ∷ []) members.now (map (λ s. s.now) env.now)) }
+) -> Result<Pairs, NoMemory>
+    ensures { IfOk result (λ p. all_joined p.befores p.rows p.places ≡ joined_rows wrapped parts.now.own parts.now.keys ([] ∷ []) members.now (map (λ s. s.now) env.now)) }
 {
-    let mut out = unit(alloc)?;
+    let mut pairs = Pairs::matched(alloc, &[], unit(alloc)?, unit(alloc)?)?;
     for (at, rows) in members.iter().enumerate() {
         let own = own_rows(alloc, rows.as_slice(), parts.own_of(at), env)?;
-        out = matched(alloc, parts.keys_of(at), out.as_slice(), own.as_slice())?;
+        let befores = pairs.joined(alloc)?;
+        pairs = Pairs::matched(alloc, parts.keys_of(at), befores, own)?;
     }
-    Ok(out)
+    Ok(pairs)
 }
 
 fn unit(alloc: Global) -> Result<List<Row>, NoMemory>
@@ -72,72 +75,6 @@ fn is_own(alloc: Global, row: &Row, conditions: &[Pred], env: &[&Row]) -> Result
     let inner = scope(alloc, row, env)?;
     let holds = all_true(alloc, conditions, inner.as_slice())?;
     Ok(holds)
-}
-
-/// Each of the rows before each row of the member that matches it by the keys.
-fn matched(
-    alloc: Global,
-    keys: &[KeyPair],
-    befores: &[Row],
-    rows: &[Row],
-) -> Result<List<Row>, NoMemory>
-    ensures { IfOk result (λ out. out ≡ matched keys.now befores.now rows.now) }
-{
-    let firsts = borrowed(alloc, befores)?;
-    let seconds = borrowed(alloc, rows)?;
-    let places = matches(alloc, keys, firsts.as_slice(), seconds.as_slice())?;
-    let mut out = List::new(alloc);
-    for (at, before) in befores.iter().enumerate() {
-        out = picked_each(alloc, out, before, rows, places.as_slice()[at].as_slice())?;
-    }
-    Ok(out)
-}
-
-fn borrowed<'a>(alloc: Global, rows: &'a [Row]) -> Result<List<&'a Row>, NoMemory>
-    ensures { IfOk result (λ out. map (λ r. r.now) out ≡ rows.now) }
-{
-    let mut out = List::new(alloc);
-    for row in rows {
-        out.push(row)?;
-    }
-    Ok(out)
-}
-
-/// `out`, and the row before each of the rows at the places.
-fn picked_each(
-    alloc: Global,
-    out: List<Row>,
-    before: &Row,
-    rows: &[Row],
-    places: &[usize],
-) -> Result<List<Row>, NoMemory>
-    ensures { IfOk result (λ o. o ≡ out ++ join_each before.now (filter_map (slice_get rows.now) places.now)) }
-{
-    let mut out = out;
-    for place in places {
-        out = with_picked(alloc, out, before, rows, *place)?;
-    }
-    Ok(out)
-}
-
-/// `out`, and the row before the one at the place, where there is one.
-fn with_picked(
-    alloc: Global,
-    out: List<Row>,
-    before: &Row,
-    rows: &[Row],
-    place: usize,
-) -> Result<List<Row>, NoMemory>
-    ensures { IfOk result (λ o. o ≡ out ++ join_each before.now (cons_option (slice_get rows.now place) [])) }
-{
-    let mut out = out;
-    match rows.get(place) {
-        Some(row) => {
-            out.push(before.join(alloc, row)?)?;
-            Ok(out)
-        }
-        None => Ok(out),
-    }
 }
 
 /// How many values each row of a member has, where all have as many.

@@ -2,9 +2,12 @@
 #![tactic(auto)]
 
 mod answer;
+mod condition;
+mod items;
 mod join;
 mod kept;
 mod lists;
+mod pairs;
 mod query;
 mod rows;
 

@@ -1,13 +1,15 @@
 ghost use Rattle.std.specs.Prelude.{◌≡◌, ◌∷◌, [], map, IfOk};
 ghost use Rattle.std.specs.List.{filter};
 ghost use Rattle.rt_algebra.specs.Expression.{wrapped};
-ghost use Rattle.rt_algebra.specs.Answer.{pred_by, answer_by, is_yes, all_of, any_of};
+ghost use Rattle.rt_algebra.specs.Answer.{pred_by, answer_by, is_yes};
 ghost use Rattle.rt_algebra.specs.Join.{product_rows};
 
+use crate::condition::{is_yes, pred};
+use crate::items::projection;
 use crate::join::{are_wide, chosen, product, widths};
-use crate::lists::{appended, common, difference, member_truth, projected, some_truth, table_rows};
-use rt_algebra::{Pred, Query, null_truth, one_of_truth, scope, split, value};
-use rt_value::{List, NoMemory, Row, Truth, compare};
+use crate::lists::{appended, common, difference, table_rows};
+use rt_algebra::{Pred, Query, scope, split};
+use rt_value::{List, NoMemory, Row};
 use std::alloc::Global;
 
 /// The answer of a query on the rows of the tables, under the rows in scope.
@@ -39,8 +41,7 @@ pub fn answer(
             }
         },
         Query::Project(source, items) => {
-            let rows = answer(alloc, source.get(), tables, env)?;
-            projected(alloc, rows.as_slice(), items.as_slice(), env)
+            projection(alloc, source.get(), items.as_slice(), tables, env)
         }
         Query::Product(members) => {
             let lists = each_answer(alloc, members.as_slice(), tables, env)?;
@@ -107,7 +108,7 @@ fn product_selected(
         return Ok(out);
     }
     let parts = split(alloc, condition, widths.as_slice())?;
-    let rows = chosen(alloc, members, &parts, env)?;
+    let rows = chosen(alloc, members, &parts, env)?.joined(alloc)?;
     match parts.rest.as_slice() {
         [] => Ok(rows),
         [_, ..] => {
@@ -119,7 +120,7 @@ fn product_selected(
 
 /// The answer of each query, in their order.
 #[cycle(answer)]
-fn each_answer(
+pub fn each_answer(
     alloc: Global,
     queries: &[Query],
     tables: &[List<Row>],
@@ -132,96 +133,4 @@ fn each_answer(
         out.push(answer(alloc, query, tables, env)?)?;
     }
     Ok(out)
-}
-
-/// The truth of a condition on the rows of the tables, under the rows in scope.
-#[cycle(answer)]
-fn pred(
-    alloc: Global,
-    condition: &Pred,
-    tables: &[List<Row>],
-    env: &[&Row],
-) -> Result<Truth, NoMemory>
-    ensures { IfOk result (λ t. t ≡ pred_by wrapped condition.now tables.now (map (λ r. r.now) env.now)) }
-{
-    match condition {
-        Pred::Cmp(op, a, b) => {
-            let left = value(alloc, a, env)?;
-            let right = value(alloc, b, env)?;
-            Ok(compare(&left, &right, *op))
-        }
-        Pred::IsNull(expr) => {
-            let value = value(alloc, expr, env)?;
-            Ok(null_truth(&value))
-        }
-        Pred::OneOf(expr, items) => {
-            let left = value(alloc, expr, env)?;
-            one_of_truth(alloc, &left, items.as_slice(), env)
-        }
-        Pred::And(members) => all(alloc, members.as_slice(), tables, env),
-        Pred::Or(members) => any(alloc, members.as_slice(), tables, env),
-        Pred::Not(member) => {
-            let truth = pred(alloc, member.get(), tables, env)?;
-            Ok(truth.not())
-        }
-        Pred::Exists(query) => {
-            let rows = answer(alloc, query.get(), tables, env)?;
-            Ok(some_truth(rows.as_slice()))
-        }
-        Pred::Member(expr, query) => {
-            let left = value(alloc, expr, env)?;
-            let rows = answer(alloc, query.get(), tables, env)?;
-            Ok(member_truth(&left, rows.as_slice()))
-        }
-    }
-}
-
-/// AND, which asks no further member once one is false.
-#[cycle(answer)]
-fn all(
-    alloc: Global,
-    members: &[Pred],
-    tables: &[List<Row>],
-    env: &[&Row],
-) -> Result<Truth, NoMemory>
-    ensures { IfOk result (λ t. t ≡ all_of (map (pred_by wrapped) members.now) tables.now (map (λ r. r.now) env.now)) }
-{
-    let mut truth = Truth::Yes;
-    for member in members {
-        match truth {
-            Truth::No => return Ok(Truth::No),
-            Truth::Yes | Truth::Unknown => {}
-        }
-        let next = pred(alloc, member, tables, env)?;
-        truth = truth.and(next);
-    }
-    Ok(truth)
-}
-
-/// OR, which asks no further member once one is true.
-#[cycle(answer)]
-fn any(
-    alloc: Global,
-    members: &[Pred],
-    tables: &[List<Row>],
-    env: &[&Row],
-) -> Result<Truth, NoMemory>
-    ensures { IfOk result (λ t. t ≡ any_of (map (pred_by wrapped) members.now) tables.now (map (λ r. r.now) env.now)) }
-{
-    let mut truth = Truth::No;
-    for member in members {
-        match truth {
-            Truth::Yes => return Ok(Truth::Yes),
-            Truth::No | Truth::Unknown => {}
-        }
-        let next = pred(alloc, member, tables, env)?;
-        truth = truth.or(next);
-    }
-    Ok(truth)
-}
-
-fn is_yes(truth: Truth) -> bool
-    ensures { result ≡ is_yes truth }
-{
-    truth == Truth::Yes
 }

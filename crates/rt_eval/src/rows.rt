@@ -34,6 +34,7 @@ impl Rows {
         ensures members { IfOk result (λ r. (x : List Value) → has_row r x ≡ has_row rows x) }
     {
         let mut items = rows.into_vec();
+        items.dedup();
         items.sort()?;
         items.dedup();
         Ok(Rows { rows: items })

@@ -1,11 +1,12 @@
-use Rattle.std.proofs.Common.{◌∙◌, ◌∷◌, ap, ap₂, map, drop, List}
+use Rattle.std.proofs.Common.{◌∙◌, ◌∷◌, ap₂, map, List}
 use Rattle.std.specs.List.{filter}
 use Rattle.rt_schema.specs.Given.{Rows}
 use Rattle.rt_algebra.specs.Expression.{wrapped}
 use Rattle.rt_algebra.specs.Join.{matched}
-use Rattle.rt_algebra.specs.Split.{all_simple, first}
+use Rattle.rt_algebra.specs.Split.{all_simple}
 use Rattle.rt_algebra.specs.declared.query.Pred.{Pred}
 use Rattle.rt_algebra.specs.declared.parts.KeyPair.{KeyPair}
+use Rattle.rt_eval.specs.Pairs.{all_joined}
 use Rattle.rt_eval.proofs.Joining.{chosen_step}
 use Rattle.rt_eval.proofs.join.chosen.Goals as goal
 
@@ -14,8 +15,7 @@ loop-at-preserved c =
     let env = map (λ s. s.now) c.args.env.now in
     let parts = c.args.parts.now in
     chosen_step wrapped parts.own parts.keys c.args.members.now env c.loop-at.at c.index-members-at.result c.loop-at-test.true c.index-members-at.is
-    _ c.in_ok-own.own _ _
+    (all_joined c.loop-at.pairs.befores c.loop-at.pairs.rows c.loop-at.pairs.places) c.in_ok-own.own _ _
     (c.in_ok-own.ensures ∙ ap₂ (λ (ps : List Pred) (rs : Rows). filter (λ r. all_simple wrapped ps (r ∷ env)) rs) c.own_of.ensures c.as_slice.ensures)
-    (c.in_ok-out-2.ensures ∙ ap₂ (λ (ks : List KeyPair) (rs : Rows). matched ks rs c.as_slice-in-loop-at-2.result.now) c.keys_of.ensures c.as_slice-in-loop-at.ensures
-    ∙ ap (λ (rs : Rows). matched (first (drop c.loop-at.at parts.keys)) c.loop-at.out rs) c.as_slice-in-loop-at-2.ensures)
+    (c.in_ok-pairs-2.ensures ∙ ap₂ (λ (ks : List KeyPair) (rs : Rows). matched ks rs c.in_ok-own.own) c.keys_of.ensures c.in_ok-befores.ensures)
     c.loop-at.invariant

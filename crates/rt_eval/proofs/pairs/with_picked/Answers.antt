@@ -6,7 +6,7 @@ use Rattle.std.proofs.lemmas.List.{append-nil}
 use Rattle.std.proofs.lemmas.Option.{slice_get_past}
 use Rattle.rt_value.specs.declared.value.Value.{Value}
 use Rattle.rt_algebra.specs.Answer.{join_each}
-use Rattle.rt_eval.proofs.join.with_picked.Goals as goal
+use Rattle.rt_eval.proofs.pairs.with_picked.Goals as goal
 
 pub returns-in-None : goal.returns-in-None
 returns-in-None c =

@@ -1,5 +1,5 @@
 use Rattle.rt_eval.proofs.Joining.{picked_step}
-use Rattle.rt_eval.proofs.join.picked_each.Goals as goal
+use Rattle.rt_eval.proofs.pairs.picked_each.Goals as goal
 
 pub loop-place-preserved : goal.loop-place-preserved
 loop-place-preserved c =

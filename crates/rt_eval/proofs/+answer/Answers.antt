@@ -1,0 +1,112 @@
+use Rattle.std.proofs.Common.{◌∙◌, ◌∷◌, ◌++◌, [], arith, drop, refl, ap, ap₂, map, not, sym, List, ℕ}
+use Rattle.std.specs.List.{filter}
+use Rattle.rt_schema.specs.Given.{Rows}
+use Rattle.rt_algebra.specs.Answer.{answer_by, has_row, is_yes, pred_by}
+use Rattle.rt_algebra.specs.Expression.{wrapped, row_by}
+use Rattle.rt_algebra.specs.Join.{are_wide, product_rows}
+use Rattle.rt_algebra.specs.declared.query.Query.{Query}
+use Rattle.rt_eval.specs.Items.{items_where}
+use Rattle.rt_eval.specs.Pairs.{first_joined}
+use Rattle.rt_eval.proofs.Pairing.{all_made, items_append, joined_step}
+use Rattle.rt_eval.proofs.Joining.{at_except, at_product, at_select, nothing}
+use Rattle.rt_eval.proofs.+answer.Goals as goal
+
+pub query::answer-returns-in_ok-out-in-Product : goal.query::answer-returns-in_ok-out-in-Product
+query::answer-returns-in_ok-out-in-Product t c =
+    let db = c.args.tables.now in
+    let env = map (λ r. r.now) c.args.env.now in
+    c.in_ok-out-in-Product.ensures
+    ∙ ap (λ (lists : List Rows). product_rows ([] ∷ []) lists)
+    (c.as_slice-in-Product-2.ensures ∙ c.in_ok-lists-in-Product.ensures ∙ ap (λ (qs : List Query). map (λ q. answer_by wrapped q db env) qs) c.as_slice-in-Product.ensures)
+    ∙ at_product c.in-Product.members db env c.in-Product.is
+
+pub query::answer-returns-in_ok-out-in-Product-get : goal.query::answer-returns-in_ok-out-in-Product-get
+query::answer-returns-in_ok-out-in-Product-get t c =
+    let db = c.args.tables.now in
+    let env = map (λ r. r.now) c.args.env.now in
+    c.in_ok-out-in-Product-get.ensures
+    ∙ ap (filter (λ r. is_yes (pred_by wrapped c.in-Select.condition db (r ∷ env))))
+    (ap (λ (lists : List Rows). product_rows ([] ∷ []) lists)
+    (c.as_slice-in-Product-get.ensures ∙ c.in_ok-lists-in-Product-get.ensures ∙ ap (λ (qs : List Query). map (λ q. answer_by wrapped q db env) qs) c.as_slice.ensures)
+    ∙ at_product c.in-Product-get.members db env c.in-Product-get.is ∙ ap (λ (q : Query). answer_by wrapped q db env) c.get.ensures)
+    ∙ at_select c.in-Select.source c.in-Select.condition db env c.in-Select.is
+
+pub query::product_selected-returns-in-empty : goal.query::product_selected-returns-in-empty
+query::product_selected-returns-in-empty t c =
+    let db = c.args.tables.now in
+    let env = map (λ s. s.now) c.args.env.now in
+    let wide = ap (λ (ws : List ℕ). are_wide ws c.args.members.now) (c.as_slice-2.ensures ∙ sym c.as_slice.ensures) ∙ sym c.are_wide.ensures ∙ c.if-not-are_wide.false in
+    let none = sym c.as_slice-3.ensures ∙ nothing c.as_slice-3.result.now c.in-empty.len_below in
+    c.in_ok-rows-2.ensures ∙ c.in_ok-chosen.ensures ∙ c.in_ok-parts.ensures.joins_whole wrapped db env c.args.members.now wide none
+
+pub query::product_selected-returns : goal.query::product_selected-returns
+query::product_selected-returns t c =
+    let db = c.args.tables.now in
+    let env = map (λ s. s.now) c.args.env.now in
+    let wide = ap (λ (ws : List ℕ). are_wide ws c.args.members.now) (c.as_slice-2.ensures ∙ sym c.as_slice.ensures) ∙ sym c.are_wide.ensures ∙ c.if-not-are_wide.false in
+    c.in_ok-out-in-len1-up.ensures
+    ∙ ap (filter (λ r. is_yes (pred_by wrapped c.args.condition.now db (r ∷ env)))) (c.as_slice-in-len1-up.ensures ∙ c.in_ok-rows-2.ensures ∙ c.in_ok-chosen.ensures)
+    ∙ c.in_ok-parts.ensures.joins wrapped db env c.args.members.now wide
+
+pub query::answer-returns-in_ok-out-in-Except : goal.query::answer-returns-in_ok-out-in-Except
+query::answer-returns-in_ok-out-in-Except t c =
+    let db = c.args.tables.now in
+    let env = map (λ r. r.now) c.args.env.now in
+    c.in_ok-out-in-Except.ensures
+    ∙ ap₂ (λ (xs ys : Rows). filter (λ r. not (has_row ys r)) xs)
+    (c.as_slice-in-Except.ensures ∙ c.in_ok-first-in-Except.ensures ∙ ap (λ (q : Query). answer_by wrapped q db env) c.get-in-Except.ensures)
+    (c.in_ok-second-in-Except.ensures ∙ ap (λ (q : Query). answer_by wrapped q db env) c.get-in-Except-2.ensures)
+    ∙ at_except c.in-Except.a c.in-Except.b db env c.in-Except.is
+
+pub items::product_items-returns : goal.items::product_items-returns
+items::product_items-returns t c =
+    let db = c.args.tables.now in
+    let env = map (λ s. s.now) c.args.env.now in
+    let p = c.args.condition.now in
+    let es = c.args.items.now in
+    let wide = ap (λ (ws : List ℕ). are_wide ws c.args.members.now) (c.as_slice-2.ensures ∙ sym c.as_slice.ensures) ∙ sym c.are_wide.ensures ∙ c.if-not-are_wide.false in
+    c.in_ok-out-2.ensures ∙ ap (items_where p es db env) c.in_ok-pairs.ensures
+    ∙ ap (map (λ r. row_by wrapped es (r ∷ env))) (c.in_ok-parts.ensures.joins wrapped db env c.args.members.now wide)
+
+pub items::pair_items-loop-at-preserved : goal.items::pair_items-loop-at-preserved
+items::pair_items-loop-at-preserved t c =
+    let db = c.args.tables.now in
+    let env = map (λ s. s.now) c.args.env.now in
+    let p = c.args.condition.now in
+    let es = c.args.items.now in
+    let pairs = c.args.pairs.now in
+    joined_step (items_where p es db env) (items_append p es db env) pairs.befores pairs.rows pairs.places c.loop-at.at (omega (arith, c.loop-at-test.true, c.len-at-end.ensures)) _ _ _
+    (c.in_ok-out.ensures ∙ ap (λ (rows : Rows). c.loop-at.out ++ items_where p es db env rows)
+    (c.as_slice.ensures ∙ c.in_ok-rows.ensures ∙ ap (λ (start : Rows). start ++ first_joined (drop c.loop-at.at pairs.befores) pairs.rows (drop c.loop-at.at pairs.places)) c.new.ensures))
+    c.loop-at.invariant
+
+pub items::pair_items-returns : goal.items::pair_items-returns
+items::pair_items-returns t c =
+    let db = c.args.tables.now in
+    let env = map (λ s. s.now) c.args.env.now in
+    let pairs = c.args.pairs.now in
+    all_made (items_where c.args.condition.now c.args.items.now db env) refl pairs.befores pairs.rows pairs.places c.loop-at.at (omega (arith, c.loop-at-test.false, c.len-at-end.ensures)) _ _ c.loop-at.invariant
+
+pub items::projection-returns-in_ok-out-in-Product : goal.items::projection-returns-in_ok-out-in-Product
+items::projection-returns-in_ok-out-in-Product t c =
+    let db = c.args.tables.now in
+    let env = map (λ s. s.now) c.args.env.now in
+    let p = c.in-Select.condition in
+    let es = c.args.items.now in
+    c.in_ok-out-in-Product.ensures
+    ∙ ap (items_where p es db env)
+    (ap (λ (lists : List Rows). product_rows ([] ∷ []) lists)
+    (c.as_slice-in-Product.ensures ∙ c.in_ok-lists-in-Product.ensures ∙ ap (λ (qs : List Query). map (λ q. answer_by wrapped q db env) qs) c.as_slice.ensures)
+    ∙ at_product c.in-Product.members db env c.in-Product.is ∙ ap (λ (q : Query). answer_by wrapped q db env) c.get.ensures)
+    ∙ ap (map (λ r. row_by wrapped es (r ∷ env))) (at_select c.in-Select.inner p db env c.in-Select.is)
+
+pub items::projection-returns-in_ok-out-in_default-get : goal.items::projection-returns-in_ok-out-in_default-get
+items::projection-returns-in_ok-out-in_default-get t c =
+    let db = c.args.tables.now in
+    let env = map (λ s. s.now) c.args.env.now in
+    let p = c.in-Select.condition in
+    let es = c.args.items.now in
+    c.in_ok-out-in_default-get.ensures
+    ∙ ap₂ (λ (start rows : Rows). start ++ items_where p es db env rows) c.new-in_default-get.ensures
+    (c.as_slice-in_default-get.ensures ∙ c.in_ok-rows-in_default-get.ensures ∙ ap (λ (q : Query). answer_by wrapped q db env) c.get-in_default-get.ensures)
+    ∙ ap (map (λ r. row_by wrapped es (r ∷ env))) (at_select c.in-Select.inner p db env c.in-Select.is)
