@@ -1,12 +1,1 @@
-pub mod Columned
-pub mod Conditions
-pub mod Divided
-pub mod Dividing
-pub mod Joined
-pub mod Layers
-pub mod Meant
 pub mod More
-pub mod Relations
-pub mod Typing
-pub mod Typings
-pub mod Widths

@@ -5,6 +5,7 @@ use Rattle.rt_operators.specs.Fault.{◌>>=◌}
 use Rattle.rt_operators.specs.declared.column.Column.{Column}
 use Rattle.rt_ra_tree.specs.declared.fault.RaFault.{RaFault}
 use Rattle.rt_ra_tree.specs.declared.fault.RaFault.TheVariants as fault
+use Rattle.rt_ra_tree.specs.declared.tree.RaNames.{RaNames}
 
 abbrev pub Text : Type 0
 Text = List ℕ
@@ -24,6 +25,9 @@ further_names (n ∷ ns) others = if has n others then further_names ns others e
 
 abbrev pub names : List Column → List Text
 names cs = map (λ c. c.name) cs
+
+abbrev pub texts : RaNames → List Text
+texts ns = ns.head.text ∷ map (λ n. n.text) ns.tail
 
 -- ---- names that are refused
 

@@ -1,7 +1,6 @@
 pub mod Alone
 pub mod Answers
 pub mod Columns
-pub mod Divisor
 pub mod Fault
 pub mod Meaning
 pub mod Numbers

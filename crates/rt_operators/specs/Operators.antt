@@ -19,7 +19,6 @@ use Rattle.rt_operators.specs.declared.column.Column.{Column}
 use Rattle.rt_operators.specs.declared.relation.Relation.{Relation}
 use Rattle.rt_ra_tree.specs.declared.fault.RaFault.{RaFault}
 use Rattle.rt_ra_tree.specs.declared.fault.RaFault.TheVariants as fault
-use Rattle.rt_ra_tree.specs.declared.tree.RaNames.{RaNames}
 use Rattle.rt_ra_tree.specs.declared.tree.RaOp.{RaOp}
 use Rattle.rt_ra_tree.specs.declared.tree.RaOp.TheVariants as op
 use Rattle.rt_ra_tree.specs.declared.tree.RaTests.{RaTests}
@@ -41,9 +40,6 @@ table_named n at [] = Err (fault.UnknownTable n)
 table_named n at (t ∷ ts) = if bytes_eq t.name n then Ok (record { query = query.Table at; columns = table_columns t.columns }) else table_named n (at + 1) ts
 
 -- ---- operators of one operand
-
-abbrev pub texts : RaNames → List Text
-texts ns = ns.head.text ∷ map (λ n. n.text) ns.tail
 
 abbrev pub select : Relation → RaTests → Answer
 select t ts = tests [] t.columns (ts.head ∷ ts.tail) >>= λ cs. Ok (record { query = selected t.query cs; columns = t.columns })

@@ -1,7 +1,7 @@
 //! Lists of names.
 
 ghost use Rattle.std.specs.Prelude.{◌≡◌, IfOk};
-ghost use Rattle.rt_operators.specs.Operators as spec;
+ghost use Rattle.rt_operators.specs.Columns as spec;
 
 use rt_ra_tree::RaNames;
 use rt_value::{List, NoMemory, Txt};

@@ -1,42 +1,22 @@
 //! Products.
 
-ghost use Rattle.std.specs.Prelude.{◌≡◌, ◌++◌, IfOk};
+ghost use Rattle.std.specs.Prelude.{◌≡◌, IfOk};
 ghost use Rattle.rt_operators.specs.Operators as spec;
-ghost use Rattle.rt_ra_tree.specs.Refusals.{is_memory};
-ghost use Rattle.rt_ra_tree.specs.declared.tree.RaOp.TheVariants as op;
-ghost use Rattle.rt_value.specs.Gives.{Gives};
 
-use crate::lists::{concatenated, shared_name};
-use crate::relation::Relation;
 use rt_algebra::Query;
-use rt_ra_tree::RaFault;
-use rt_value::{List, NoMemory};
+use rt_value::{Boxed, List, NoMemory};
 use std::alloc::Global;
 
 /// All concatenations of a row of each.
-pub fn product(alloc: Global, left: Query, right: Query) -> Result<Query, NoMemory>
+pub fn product(
+    alloc: Global,
+    left: Boxed<Query>,
+    right: Boxed<Query>,
+) -> Result<Boxed<Query>, NoMemory>
     ensures { IfOk result (λ q. q ≡ spec.product left right) }
 {
     let mut members = List::new(alloc);
-    members.push(left)?;
-    members.push(right)?;
-    Ok(Query::Product(members))
-}
-
-fn crossed(alloc: Global, left: Relation, right: Relation) -> Result<Relation, NoMemory>
-    ensures { IfOk result (λ r. r ≡ record { query = spec.product left.query right.query; columns = left.columns ++ right.columns }) }
-{
-    let columns = concatenated(alloc, left.columns.as_slice(), right.columns.as_slice())?;
-    let query = product(alloc, left.query, right.query)?;
-    Ok(Relation { query, columns })
-}
-
-/// CROSS.
-pub fn cross(alloc: Global, left: Relation, right: Relation) -> Result<Relation, RaFault>
-    ensures { Gives is_memory result (spec.two op.Cross left right) }
-{
-    match shared_name(alloc, right.columns.as_slice(), left.columns.as_slice())? {
-        Some(name) => Err(RaFault::DuplicateColumn(name)),
-        None => Ok(crossed(alloc, left, right)?),
-    }
+    members.push(left.into_inner())?;
+    members.push(right.into_inner())?;
+    Boxed::new(alloc, Query::Product(members))
 }

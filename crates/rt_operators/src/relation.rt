@@ -4,13 +4,13 @@ ghost use Rattle.rt_operators.specs.Operators as spec;
 use crate::column::Column;
 use rt_algebra::{Query, Typed};
 use rt_schema::ColKind;
-use rt_value::{List, NoMemory, Txt};
+use rt_value::{Boxed, List, NoMemory, Txt};
 use std::alloc::Global;
 
 /// A query with its columns.
 #[derive(Drop)]
 pub struct Relation {
-    pub query: Query,
+    pub query: Boxed<Query>,
     pub columns: List<Column>,
 }
 
@@ -75,7 +75,7 @@ pub fn typed_of(alloc: Global, relation: Relation) -> Result<Typed, NoMemory>
         names,
     } = heads_of(alloc, relation.columns.as_slice())?;
     Ok(Typed {
-        query: relation.query,
+        query: relation.query.into_inner(),
         kinds,
         bounds,
         names,

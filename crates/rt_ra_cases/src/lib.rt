@@ -1,7 +1,11 @@
-//! The tests of algebra texts: what is read, and what is refused.
+//! The tests of algebra texts: what is read, what a text becomes and answers, and what is refused.
 //!
 //! They stand in a crate of their own, since a crate with tests is proved twice.
 #![tactic(auto)]
 
 #[cfg(test)]
+mod data;
+#[cfg(test)]
 mod reads;
+#[cfg(test)]
+mod resolves;

@@ -1,0 +1,10 @@
+pub mod Columned
+pub mod Conditions
+pub mod Divided
+pub mod Joined
+pub mod Layers
+pub mod Meant
+pub mod Relations
+pub mod Typing
+pub mod Typings
+pub mod Widths

@@ -1,0 +1,5 @@
+pub mod Faulty
+pub mod Kept
+pub mod Means
+pub mod Sizes
+pub mod Types
