@@ -1,0 +1,31 @@
+//! What the programs of this repository share: the words that they are called with, and what they
+//! answer to words that can't be read.
+#![tactic(auto)]
+
+ghost use Rattle.std.specs.Prelude.{◌≡◌, ◌⊎◌};
+
+use rt_io::{RealSink, write_text};
+use rt_value::{List, Txt};
+use std::{env, io};
+
+/// The words after the program's name. A word that isn't UTF-8 is an error.
+pub fn words(rt: &HostRuntime) -> io::Result<List<Txt>> {
+    let mut words = List::new(rt.alloc());
+    for word in env::args(rt)?.skip(1) {
+        if words.push(Txt::from_string(word)).is_err() {
+            return Err(io::Error::from(io::ErrorKind::OutOfMemory));
+        }
+    }
+    Ok(words)
+}
+
+/// Writes the usage text where words can't be read, unless memory was wanting, and gives the status.
+pub fn refuse<W: io::Write>(err: &mut RealSink<W>, error: &io::Error, usage: &str) -> u8
+    ensures { (result ≡ 2) ⊎ (result ≡ 7) }
+{
+    if error.kind() == io::ErrorKind::OutOfMemory {
+        return 7;
+    }
+    let _ = write_text(err, usage.as_bytes());
+    2
+}

@@ -1,0 +1,5 @@
+mod AskedLemmas
+mod JudgeLemmas
+mod QueryLemmas
+mod RowLemmas
+mod StepLemmas

@@ -1,0 +1,9 @@
+pub mod Answers
+pub mod Asked
+pub mod Faults
+pub mod Judged
+pub mod Placed
+pub mod Smallest
+pub mod Steps
+pub mod Texts
+pub mod Words

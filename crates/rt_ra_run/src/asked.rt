@@ -1,0 +1,10 @@
+use rt_ra_tree::RaText;
+use rt_top::Input;
+
+/// What is asked of an accepted input: its two algebra texts, beside the input of their queries.
+#[derive(Drop)]
+pub(crate) struct Asked {
+    pub(crate) input: Input,
+    pub(crate) left: RaText,
+    pub(crate) right: RaText,
+}

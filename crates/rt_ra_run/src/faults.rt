@@ -1,0 +1,28 @@
+//! The faults of an algebra text as outcomes.
+ghost use Rattle.std.specs.Prelude.{◌≡◌};
+ghost use Rattle.rt_ra_run.specs.Faults.{fault_outcome, lex_outcome};
+
+use crate::outcome::RaOutcome;
+use rt_ra_tree::RaFault;
+use rt_token::LexFault;
+use rt_top::{Outcome, Part};
+
+fn lex_outcome(part: Part, fault: LexFault) -> RaOutcome
+    ensures { result ≡ lex_outcome part fault }
+{
+    match fault {
+        LexFault::NoMemory => RaOutcome::Verdict(Outcome::NoMemory),
+        fault => RaOutcome::Refused(part, RaFault::Lex(fault)),
+    }
+}
+
+/// The outcome of an algebra text that is refused.
+pub(crate) fn fault_outcome(part: Part, fault: RaFault) -> RaOutcome
+    ensures { result ≡ fault_outcome part fault }
+{
+    match fault {
+        RaFault::Lex(fault) => lex_outcome(part, fault),
+        RaFault::NoMemory => RaOutcome::Verdict(Outcome::NoMemory),
+        fault => RaOutcome::Refused(part, fault),
+    }
+}

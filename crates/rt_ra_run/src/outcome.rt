@@ -1,0 +1,39 @@
+ghost use Rattle.std.specs.Prelude.{◌≡◌};
+ghost use Rattle.rt_ra_run.specs.Texts.{place, status_of};
+
+use rt_io::Place;
+use rt_ra_tree::RaFault;
+use rt_top::{Outcome, Part};
+
+/// How a call of `ra_run` ends.
+#[derive(Debug, Drop)]
+pub enum RaOutcome {
+    /// As a call of `ratest` does. A refusal is one of the schema, of a table, or of the two queries
+    /// beside each other.
+    Verdict(Outcome),
+    /// The first refusal is that of an algebra text.
+    Refused(Part, RaFault),
+}
+
+impl RaOutcome {
+    /// The status that the program ends with.
+    pub fn status(&self) -> u8
+        ensures { result ≡ status_of self.now }
+    {
+        match self {
+            RaOutcome::Verdict(outcome) => outcome.status(),
+            RaOutcome::Refused(_, _) => 3,
+        }
+    }
+
+    /// The sink of its text.
+    pub(crate) fn place(&self) -> Place
+        ensures { result ≡ place self.now }
+    {
+        match self {
+            RaOutcome::Verdict(Outcome::Agree | Outcome::Witness(_) | Outcome::Spent(_)) =>
+                Place::Out,
+            _ => Place::Err,
+        }
+    }
+}

@@ -1,0 +1,120 @@
+//! What the command says, over files and sinks in memory.
+use rt_io::{MemFiles, MemSink};
+use rt_ra_run::{RA_USAGE, ra_run};
+use rt_value::{List, NoMemory, Txt};
+use std::alloc::Global;
+use std::test::Fail;
+
+mod failing;
+mod refused;
+mod worked;
+
+const SCHOOL: &str = "CREATE TABLE student (name TEXT PRIMARY KEY, major TEXT);\n\
+    CREATE TABLE reg (name TEXT REFERENCES student, course INTEGER, dept TEXT, grade INTEGER, PRIMARY KEY (name, course));";
+
+const STUDENT: (&str, &str) = ("d/student.csv", "name,major\nMary,CS\nJohn,ECON\n");
+
+const REG: (&str, &str) = (
+    "d/reg.csv",
+    "name,course,dept,grade\nMary,216,CS,100\nMary,230,CS,75\nJohn,316,CS,90\n",
+);
+
+/// The command over the files of a schema `s`, a folder `d` and two texts `p` and `q`.
+const FIVE: [&str; 5] = ["ra", "s", "d", "p", "q"];
+
+const MARY: &str =
+    "witness: 1\nstudent 1: 'Mary', 'CS'\nonly query 1: 0\nonly query 2: 1\n  'Mary', 'CS'\nboth: 0\n";
+
+fn words(alloc: Global, words: &[&str]) -> Result<List<Txt>, NoMemory> {
+    let mut list = List::new(alloc);
+    for word in words {
+        list.push(Txt::of(alloc, word)?)?;
+    }
+    Ok(list)
+}
+
+/// The files of a schema, of tables by the names of their files, and of two texts.
+fn files(
+    alloc: Global,
+    schema: &str,
+    tables: &[(&str, &str)],
+    left: &str,
+    right: &str,
+) -> Result<MemFiles, NoMemory> {
+    let mut files = MemFiles::new(alloc);
+    files.hold("s", schema.as_bytes())?;
+    for (name, rows) in tables {
+        files.hold(name, rows.as_bytes())?;
+    }
+    files.hold("p", left.as_bytes())?;
+    files.hold("q", right.as_bytes())?;
+    Ok(files)
+}
+
+fn school(alloc: Global, left: &str, right: &str) -> Result<MemFiles, NoMemory> {
+    files(alloc, SCHOOL, &[STUDENT, REG], left, right)
+}
+
+/// Whether the command ends with this status and writes just these texts.
+fn ends(
+    alloc: Global,
+    files: &mut MemFiles,
+    command: &[&str],
+    status: u8,
+    out: &str,
+    err: &str,
+) -> Result<bool, NoMemory> {
+    let command = words(alloc, command)?;
+    let (mut to_out, mut to_err) = (MemSink::new(alloc), MemSink::new(alloc));
+    let outcome = ra_run(alloc, command.as_slice(), files, &mut to_out, &mut to_err);
+    Ok(
+        outcome.status() == status
+            && to_out.bytes() == out.as_bytes()
+            && to_err.bytes() == err.as_bytes(),
+    )
+}
+
+#[test]
+fn words_and_options(rt: HostRuntime) -> Result<(), Fail> {
+    let alloc = rt.alloc();
+    let work = "ratest: limit: work 11 is above 10\n";
+    let table: [(&[&str], u8, &str, &str); 14] = [
+        (&[], 2, "", RA_USAGE),
+        (&["ra"], 2, "", RA_USAGE),
+        (&["s", "d", "p", "q"], 2, "", RA_USAGE),
+        (&["Ra", "s", "d", "p", "q"], 2, "", RA_USAGE),
+        (&["ra", "s", "d", "p"], 2, "", RA_USAGE),
+        (&["ra", "s", "d", "p", "q", "q"], 2, "", RA_USAGE),
+        (&["ra", "made", "3"], 2, "", RA_USAGE),
+        (&["ra", "--", "made", "d", "p", "q"], 2, "", RA_USAGE),
+        (
+            &["ra", "s", "d", "p", "q", "--conflicts", "0"],
+            2,
+            "",
+            RA_USAGE,
+        ),
+        (&FIVE, 0, "agree\n", ""),
+        (&["ra", "--", "s", "d", "p", "q"], 0, "agree\n", ""),
+        (
+            &["ra", "--conflicts=64", "s", "d", "p", "q"],
+            0,
+            "agree\n",
+            "",
+        ),
+        (
+            &["ra", "s", "d", "p", "q", "--work", "11"],
+            0,
+            "agree\n",
+            "",
+        ),
+        (&["ra", "s", "d", "p", "q", "--work", "10"], 5, "", work),
+    ];
+    for (command, status, out, err) in table {
+        let mut files = school(alloc, "student", "student;")?;
+        assert!(rt;
+            ends(alloc, &mut files, command, status, out, err)?,
+            "{out}{err}"
+        );
+    }
+    Ok(())
+}
