@@ -1,0 +1,4 @@
+mod AloneLemmas
+mod FaultLemmas
+mod GradeLemmas
+mod WordLemmas

@@ -1,0 +1,14 @@
+//! The answer on one named row of a command's first query: the smallest lawful sub-instance at which
+//! the first query alone answers with it (the smallest witness problem; Miao, Roy and Yang, SIGMOD 2019).
+#![tactic(auto)]
+
+mod answer;
+mod outcome;
+mod run;
+mod say;
+mod verdict;
+
+pub use answer::{RowAnswer, RowVerdict};
+pub use outcome::RowOutcome;
+pub use run::{USAGE, row_run};
+pub use verdict::row_answer;

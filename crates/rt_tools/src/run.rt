@@ -1,0 +1,132 @@
+ghost use Rattle.std.specs.Prelude.{◌≡◌, ◌⊎◌, IfOk};
+ghost use Rattle.rt_io.specs.Edge.{NoneFell};
+ghost use Rattle.rt_io.specs.Logs.{Broke, Grew, GrewPartly, IsKept, WritesNothing, at_place, log, other_place};
+ghost use Rattle.rt_top.specs.Answers.{Stop, call, limit_of};
+ghost use Rattle.rt_words.specs.Command.{command};
+ghost use Rattle.rt_row_run.specs.RowVerdicts.{IsRowAnswer};
+ghost use Rattle.rt_tools.specs.Answers.{Ends, EndsBegun, EndsBroken, EndsWritten, IfNoMemory, IfText, IfWriteFault, SaysGrade, SaysRow, SaysVerdict, WritesTo};
+ghost use Rattle.rt_tools.specs.Texts.{place};
+ghost use Rattle.rt_tools.specs.declared.outcome.ToolOutcome.{ToolOutcome};
+
+use crate::outcome::ToolOutcome;
+use crate::say::{USAGE, fault_line, grades_text, verdict_text};
+use rt_grading::{GradeFault, grades};
+use rt_io::{Files, Sink, SinkFail, write_at};
+use rt_row_run::row_answer;
+use rt_top::Outcome;
+use rt_value::{Bytes, List, NoMemory, Txt};
+use std::alloc::Global;
+
+/// An outcome and its text.
+#[derive(Drop)]
+struct ToolAnswer {
+    outcome: ToolOutcome,
+    text: Bytes,
+}
+
+/// Why a tool has no answer of its own; the words are those of the command of `ratest`.
+fn stopped(alloc: Global, words: &[Txt], outcome: Outcome) -> Result<ToolAnswer, NoMemory>
+    ensures { IfOk result (λ a. SaysVerdict words.now outcome a.outcome a.text) }
+{
+    match outcome {
+        Outcome::NoMemory => Err(NoMemory),
+        outcome => {
+            let text = verdict_text(alloc, words, &outcome)?;
+            let outcome = ToolOutcome::Verdict(outcome);
+            Ok(ToolAnswer { outcome, text })
+        }
+    }
+}
+
+fn row_tool<F: Files>(
+    alloc: Global,
+    row: &Txt,
+    words: &[Txt],
+    files: &mut F,
+) -> Result<ToolAnswer, NoMemory>
+    ensures says { IfOk result (λ a. SaysRow (call F.Files words.now files.old files.new) row.now a.outcome a.text) }
+    ensures held { F.held files.new ≡ F.held files.old }
+    ensures rises { NoneFell (F.faults files.old) (F.faults files.new) }
+{
+    match row_answer(alloc, row, words, files) {
+        Ok(answer) => Ok(ToolAnswer {
+            outcome: ToolOutcome::from(answer.verdict),
+            text: answer.text,
+        }),
+        Err(outcome) => stopped(alloc, words, outcome),
+    }
+}
+
+fn grade_tool<F: Files>(alloc: Global, words: &[Txt], files: &mut F) -> Result<ToolAnswer, NoMemory>
+    ensures says { IfOk result (λ a. SaysGrade (call F.Files words.now files.old files.new) a.outcome a.text) }
+    ensures held { F.held files.new ≡ F.held files.old }
+    ensures rises { NoneFell (F.faults files.old) (F.faults files.new) }
+{
+    match grades(alloc, words, files) {
+        Ok(graded) => {
+            let text = grades_text(alloc, graded.paths.as_slice(), graded.grades.as_slice())?;
+            let outcome = ToolOutcome::Grades(graded.grades);
+            Ok(ToolAnswer { outcome, text })
+        }
+        Err(GradeFault::Verdict(outcome)) => stopped(alloc, words, outcome),
+        Err(fault) => {
+            let text = fault_line(alloc, &fault)?;
+            let outcome = ToolOutcome::from(fault);
+            Ok(ToolAnswer { outcome, text })
+        }
+    }
+}
+
+/// What is to be said of the words of a tool.
+fn prepare<F: Files>(alloc: Global, words: &[Txt], files: &mut F) -> Result<ToolAnswer, NoMemory>
+    ensures ends { IfOk result (λ a. Ends (call F.Files words.now files.old files.new) a.outcome a.text) }
+    ensures held { F.held files.new ≡ F.held files.old }
+    ensures rises { NoneFell (F.faults files.old) (F.faults files.new) }
+{
+    match words {
+        [tool, row, args @ ..] if tool.as_str() == "row" => row_tool(alloc, row, args, files),
+        [tool, args @ ..] if tool.as_str() == "grade" => grade_tool(alloc, args, files),
+        _ => {
+            let text = List::from_slice(alloc, USAGE.as_bytes())?;
+            let outcome = ToolOutcome::Verdict(Outcome::Usage);
+            Ok(ToolAnswer { outcome, text })
+        }
+    }
+}
+
+/// Writes the text of an answer to its sink.
+fn speak<O: Sink, E: Sink>(out: &mut O, err: &mut E, answer: ToolAnswer) -> ToolOutcome
+    ensures ends { WritesTo (at_place (place answer.outcome) (log O.Sink out.old out.new) (log E.Sink err.old err.new)) answer.outcome answer.text result }
+    ensures kept { IsKept (other_place (place answer.outcome) (log O.Sink out.old out.new) (log E.Sink err.old err.new)) }
+{
+    match write_at(out, err, answer.outcome.place(), answer.text.as_slice()) {
+        Ok(()) => answer.outcome,
+        Err(SinkFail::Failed) => ToolOutcome::Verdict(Outcome::WriteFault),
+        Err(SinkFail::NoMemory) => ToolOutcome::Verdict(Outcome::NoMemory),
+    }
+}
+
+/// The answer on one named row, or the grades of many candidates: reads the files that the words
+/// name, and writes what is found to `out`, or to `err` why there is nothing.
+pub fn tool_run<F: Files, O: Sink, E: Sink>(
+    alloc: Global,
+    words: &[Txt],
+    files: &mut F,
+    out: &mut O,
+    err: &mut E,
+) -> ToolOutcome
+    // Each outcome comes only where it may; its whole text went to its sink, and nothing to the other.
+    ensures ends { IfText result (EndsWritten (call F.Files words.now files.old files.new) (log O.Sink out.old out.new) (log E.Sink err.old err.new) result) }
+    // Only where the sink of an outcome that may come failed in this call.
+    ensures write_fault { IfWriteFault result ((allowed : ToolOutcome) × EndsBroken (call F.Files words.now files.old files.new) (log O.Sink out.old out.new) (log E.Sink err.old err.new) allowed) }
+    // Want of memory may come anywhere; at most a prefix of such a text was written.
+    ensures no_memory { let o = log O.Sink out.old out.new in let e = log E.Sink err.old err.new in
+        IfNoMemory result (WritesNothing o e ⊎ ((allowed : ToolOutcome) × EndsBegun (call F.Files words.now files.old files.new) o e allowed)) }
+    ensures held { F.held files.new ≡ F.held files.old }
+    ensures rises { NoneFell (F.faults files.old) (F.faults files.new) }
+{
+    match prepare(alloc, words, files) {
+        Ok(answer) => speak(out, err, answer),
+        Err(NoMemory) => ToolOutcome::Verdict(Outcome::NoMemory),
+    }
+}

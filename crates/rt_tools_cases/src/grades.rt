@@ -1,0 +1,82 @@
+use crate::held::{ends, files};
+use rt_io::MemFiles;
+use rt_tools::USAGE;
+use rt_value::NoMemory;
+use std::alloc::Global;
+use std::test::Fail;
+
+const WORDS: [&str; 5] = ["grade", "s", "d", "a.sql", "list"];
+
+const THREE: &str =
+    "b.sql: witness 2\na.sql: agree\nc.sql: refused: unknown column: foo\ngraded: 3\n";
+
+/// The files with this list.
+fn with_list(alloc: Global, list: &[u8]) -> Result<MemFiles, NoMemory> {
+    let mut files = files(alloc)?;
+    files.hold("list", list)?;
+    Ok(files)
+}
+
+#[test]
+fn lists_of_candidates(rt: HostRuntime) -> Result<(), Fail> {
+    let alloc = rt.alloc();
+    let table: [(&[u8], u8, &str, &str); 6] = [
+        (b"b.sql\na.sql\nc.sql\n", 0, THREE, ""),
+        (b"", 0, "graded: 0\n", ""),
+        (b"\xEF\xBB\xBFb.sql\r\n\r\n\na.sql\r\nc.sql", 0, THREE, ""),
+        (b"a.sql\r", 0, "a.sql: agree\ngraded: 1\n", ""),
+        (b"a.sql\nno.sql\n", 6, "", "ratest: cannot read no.sql\n"),
+        (b"a.sql\n\xFF", 3, "", "ratest: list: not UTF-8 at byte 6\n"),
+    ];
+    for (list, status, out, err) in table {
+        let mut files = with_list(alloc, list)?;
+        assert!(rt; ends(alloc, &mut files, &WORDS, status, out, err)?, "{out}{err}");
+    }
+    Ok(())
+}
+
+#[test]
+fn words_of_a_list(rt: HostRuntime) -> Result<(), Fail> {
+    let alloc = rt.alloc();
+    let work = "b.sql: work 54\na.sql: work 45\nc.sql: refused: unknown column: foo\ngraded: 3\n";
+    let table: [(&[&str], u8, &str, &str); 7] = [
+        (&["grade"], 2, "", USAGE),
+        (&["grade", "s", "d", "a.sql"], 2, "", USAGE),
+        (&["grade", "made", "3"], 2, "", USAGE),
+        (&["grade", "--", "made", "d", "a.sql", "list"], 2, "", USAGE),
+        (&["grade", "s", "d", "a.sql", "no"], 6, "", "ratest: cannot read no\n"),
+        (&["grade", "s", "d", "no", "list"], 6, "", "ratest: cannot read query 1\n"),
+        (
+            &["grade", "--work=1", "s", "d", "a.sql", "list"],
+            0,
+            work,
+            "",
+        ),
+    ];
+    for (words, status, out, err) in table {
+        let mut files = with_list(alloc, b"b.sql\na.sql\nc.sql\n")?;
+        assert!(rt; ends(alloc, &mut files, words, status, out, err)?, "{out}{err}");
+    }
+    Ok(())
+}
+
+/// A list with so many lines of one byte.
+fn short_lines(alloc: Global, lines: usize) -> Result<MemFiles, NoMemory> {
+    let mut list = String::new(alloc);
+    for _ in 0..lines {
+        list.push_str("c\n")?;
+    }
+    with_list(alloc, list.as_str().as_bytes())
+}
+
+#[test]
+fn long_lists(rt: HostRuntime) -> Result<(), Fail> {
+    let alloc = rt.alloc();
+    let mut many = short_lines(alloc, 257)?;
+    let paths = "ratest: limit: more than 256 paths\n";
+    assert!(rt; ends(alloc, &mut many, &WORDS, 5, "", paths)?);
+    let mut long = short_lines(alloc, 2_097_153)?;
+    let bytes = "ratest: limit: list is longer than 4194304 bytes\n";
+    assert!(rt; ends(alloc, &mut long, &WORDS, 5, "", bytes)?);
+    Ok(())
+}

@@ -1,0 +1,59 @@
+//! Files and sinks in memory.
+use rt_io::{MemFiles, MemSink};
+use rt_tools::tool_run;
+use rt_value::{List, NoMemory, Txt};
+use std::alloc::Global;
+
+const SCHEMA: &str = "CREATE TABLE student (name TEXT PRIMARY KEY, major TEXT);\n\
+    CREATE TABLE reg (name TEXT REFERENCES student, course INTEGER, dept TEXT, grade INTEGER, PRIMARY KEY (name, course));";
+
+const FILES: [(&str, &str); 6] = [
+    ("s", SCHEMA),
+    ("d/student.csv", "name,major\nMary,CS\nJohn,ECON\n"),
+    (
+        "d/reg.csv",
+        "name,course,dept,grade\nMary,216,CS,100\nMary,230,CS,75\nJohn,316,CS,90\n",
+    ),
+    ("a.sql", "SELECT r.name FROM reg r WHERE r.dept = 'CS'"),
+    (
+        "b.sql",
+        "SELECT r.name FROM reg r WHERE r.dept = 'CS' AND r.grade > 80",
+    ),
+    ("c.sql", "SELECT foo FROM reg"),
+];
+
+/// A schema, two tables, two queries and a text that is no query of the schema.
+pub(crate) fn files(alloc: Global) -> Result<MemFiles, NoMemory> {
+    let mut files = MemFiles::new(alloc);
+    for (name, text) in FILES {
+        files.hold(name, text.as_bytes())?;
+    }
+    Ok(files)
+}
+
+fn list_of(alloc: Global, words: &[&str]) -> Result<List<Txt>, NoMemory> {
+    let mut list = List::new(alloc);
+    for word in words {
+        list.push(Txt::of(alloc, word)?)?;
+    }
+    Ok(list)
+}
+
+/// Whether the call ends with this status and writes just these texts.
+pub(crate) fn ends(
+    alloc: Global,
+    files: &mut MemFiles,
+    words: &[&str],
+    status: u8,
+    out: &str,
+    err: &str,
+) -> Result<bool, NoMemory> {
+    let words = list_of(alloc, words)?;
+    let (mut to_out, mut to_err) = (MemSink::new(alloc), MemSink::new(alloc));
+    let outcome = tool_run(alloc, words.as_slice(), files, &mut to_out, &mut to_err);
+    Ok(
+        outcome.status() == status
+            && to_out.bytes() == out.as_bytes()
+            && to_err.bytes() == err.as_bytes(),
+    )
+}

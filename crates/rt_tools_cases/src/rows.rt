@@ -1,0 +1,63 @@
+use crate::held::{ends, files};
+use rt_tools::USAGE;
+use std::test::Fail;
+
+const MARY: &str = "witness: 2\nstudent 1: 'Mary', 'CS'\nreg 2: 'Mary', 230, 'CS', 75\n\
+    only query 1: 1\n  'Mary'\nonly query 2: 0\nboth: 0\n";
+
+/// One named row of the first query, whose answers on all rows are Mary and John.
+#[test]
+fn one_named_row(rt: HostRuntime) -> Result<(), Fail> {
+    let alloc = rt.alloc();
+    let table: [(&str, u8, &str, &str); 7] = [
+        ("'Mary'", 1, MARY, ""),
+        ("'John'", 0, "never\n", ""),
+        ("'Jane'", 0, "never\n", ""),
+        ("5", 3, "", "ratest: row: types do not match\n"),
+        ("'Mary', 1", 3, "", "ratest: row: numbers of columns differ\n"),
+        ("Mary", 3, "", "ratest: row: syntax fault\n"),
+        ("'Mary", 3, "", "ratest: row: text without end from byte 0\n"),
+    ];
+    for (row, status, out, err) in table {
+        let mut files = files(alloc)?;
+        let words = ["row", row, "s", "d", "a.sql", "b.sql"];
+        assert!(rt;
+            ends(alloc, &mut files, &words, status, out, err)?,
+            "{row}"
+        );
+    }
+    Ok(())
+}
+
+#[test]
+fn words_of_a_row(rt: HostRuntime) -> Result<(), Fail> {
+    let alloc = rt.alloc();
+    let made = "witness: 3\nstudent 3: 3\nreg 5: 3, 3, 'CS'\nreg 6: 3, 6, 'CS'\n\
+        only query 1: 1\n  3\nonly query 2: 0\nboth: 0\n";
+    let work = "ratest: limit: work 738 is above 737\n";
+    let table: [(&[&str], u8, &str, &str); 7] = [
+        (&[], 2, "", USAGE),
+        (&["row"], 2, "", USAGE),
+        (&["row", "5"], 2, "", USAGE),
+        (&["rows", "5", "made", "3"], 2, "", USAGE),
+        (&["row", "5", "s", "d", "a.sql"], 2, "", USAGE),
+        (&["row", "3", "made", "3"], 1, made, ""),
+        (&["row", "3", "made", "3", "--work", "737"], 5, "", work),
+    ];
+    for (words, status, out, err) in table {
+        let mut files = files(alloc)?;
+        assert!(rt; ends(alloc, &mut files, words, status, out, err)?, "{out}{err}");
+    }
+    Ok(())
+}
+
+#[test]
+fn files_of_a_row_that_fail(rt: HostRuntime) -> Result<(), Fail> {
+    let alloc = rt.alloc();
+    let mut failing = files(alloc)?;
+    failing.fail_begin("b.sql")?;
+    let words = ["row", "'Mary'", "s", "d", "a.sql", "b.sql"];
+    let line = "ratest: cannot read query 2\n";
+    assert!(rt; ends(alloc, &mut failing, &words, 6, "", line)?);
+    Ok(())
+}
