@@ -30,7 +30,10 @@ fn lists_of_candidates(rt: HostRuntime) -> Result<(), Fail> {
     ];
     for (list, status, out, err) in table {
         let mut files = with_list(alloc, list)?;
-        assert!(rt; ends(alloc, &mut files, &WORDS, status, out, err)?, "{out}{err}");
+        assert!(rt;
+            ends(alloc, &mut files, &WORDS, status, out, err)?,
+            "{out}{err}"
+        );
     }
     Ok(())
 }
@@ -44,8 +47,18 @@ fn words_of_a_list(rt: HostRuntime) -> Result<(), Fail> {
         (&["grade", "s", "d", "a.sql"], 2, "", USAGE),
         (&["grade", "made", "3"], 2, "", USAGE),
         (&["grade", "--", "made", "d", "a.sql", "list"], 2, "", USAGE),
-        (&["grade", "s", "d", "a.sql", "no"], 6, "", "ratest: cannot read no\n"),
-        (&["grade", "s", "d", "no", "list"], 6, "", "ratest: cannot read query 1\n"),
+        (
+            &["grade", "s", "d", "a.sql", "no"],
+            6,
+            "",
+            "ratest: cannot read no\n",
+        ),
+        (
+            &["grade", "s", "d", "no", "list"],
+            6,
+            "",
+            "ratest: cannot read query 1\n",
+        ),
         (
             &["grade", "--work=1", "s", "d", "a.sql", "list"],
             0,
@@ -55,7 +68,10 @@ fn words_of_a_list(rt: HostRuntime) -> Result<(), Fail> {
     ];
     for (words, status, out, err) in table {
         let mut files = with_list(alloc, b"b.sql\na.sql\nc.sql\n")?;
-        assert!(rt; ends(alloc, &mut files, words, status, out, err)?, "{out}{err}");
+        assert!(rt;
+            ends(alloc, &mut files, words, status, out, err)?,
+            "{out}{err}"
+        );
     }
     Ok(())
 }

@@ -14,17 +14,24 @@ fn one_named_row(rt: HostRuntime) -> Result<(), Fail> {
         ("'John'", 0, "never\n", ""),
         ("'Jane'", 0, "never\n", ""),
         ("5", 3, "", "ratest: row: types do not match\n"),
-        ("'Mary', 1", 3, "", "ratest: row: numbers of columns differ\n"),
+        (
+            "'Mary', 1",
+            3,
+            "",
+            "ratest: row: numbers of columns differ\n",
+        ),
         ("Mary", 3, "", "ratest: row: syntax fault\n"),
-        ("'Mary", 3, "", "ratest: row: text without end from byte 0\n"),
+        (
+            "'Mary",
+            3,
+            "",
+            "ratest: row: text without end from byte 0\n",
+        ),
     ];
     for (row, status, out, err) in table {
         let mut files = files(alloc)?;
         let words = ["row", row, "s", "d", "a.sql", "b.sql"];
-        assert!(rt;
-            ends(alloc, &mut files, &words, status, out, err)?,
-            "{row}"
-        );
+        assert!(rt; ends(alloc, &mut files, &words, status, out, err)?, "{row}");
     }
     Ok(())
 }
@@ -46,7 +53,10 @@ fn words_of_a_row(rt: HostRuntime) -> Result<(), Fail> {
     ];
     for (words, status, out, err) in table {
         let mut files = files(alloc)?;
-        assert!(rt; ends(alloc, &mut files, words, status, out, err)?, "{out}{err}");
+        assert!(rt;
+            ends(alloc, &mut files, words, status, out, err)?,
+            "{out}{err}"
+        );
     }
     Ok(())
 }
