@@ -9,32 +9,13 @@ use rt_annot::goal;
 use rt_eval::answers;
 use rt_formula::Dag;
 use rt_io::{RealFiles, RealSink, Sink, SinkFail, write_text};
+use rt_program::{refuse, words};
 use rt_rules::cone;
 use rt_search::smallest_counted;
-use rt_top::{Input, Outcome, read_input};
-use rt_value::{Keep, List, Txt};
+use rt_top::{Input, Outcome, USAGE, read_input};
+use rt_value::{Keep, Txt};
 use std::alloc::Global;
 use std::process::ExitCode;
-use std::{env, io};
-
-/// The words after the program's name. A word that isn't UTF-8 is an error.
-fn words(rt: &HostRuntime) -> io::Result<List<Txt>> {
-    let mut words = List::new(rt.alloc());
-    for word in env::args(rt)?.skip(1) {
-        if words.push(Txt::from_string(word)).is_err() {
-            return Err(io::Error::from(io::ErrorKind::OutOfMemory));
-        }
-    }
-    Ok(words)
-}
-
-/// The status where there are no words.
-fn refused(error: &io::Error) -> u8 {
-    if error.kind() == io::ErrorKind::OutOfMemory {
-        return Outcome::NoMemory.status();
-    }
-    Outcome::Usage.status()
-}
 
 fn say<S: Sink>(alloc: Global, out: &mut S, name: &str, number: u64) -> Result<(), Outcome> {
     let Ok(line) = format!(in alloc; "{name} {number}\n") else {
@@ -78,9 +59,10 @@ fn read_and_measure<S: Sink>(
 
 fn main(rt: HostRuntime) -> ExitCode {
     let mut out = RealSink::new(rt.stdout());
+    let mut err = RealSink::new(rt.stderr());
     let words = match words(&rt) {
         Ok(words) => words,
-        Err(error) => return ExitCode::from(refused(&error)),
+        Err(error) => return ExitCode::from(refuse(&mut err, &error, USAGE)),
     };
     let alloc = rt.alloc();
     let mut files = RealFiles::new(rt);

@@ -1,6 +1,7 @@
 //! Commands beside `ratest`, on the files of the system; the first word says which.
 #![tactic(auto)]
 
+use rt_cert_run::cert_run;
 use rt_io::{Files, RealFiles, RealSink, Sink};
 use rt_program::{refuse, words};
 use rt_ra_run::{RA_USAGE, ra_run};
@@ -8,6 +9,11 @@ use rt_tools::tool_run;
 use rt_value::Txt;
 use std::alloc::Global;
 use std::process::ExitCode;
+
+/// Whether the word is a command of certificates.
+fn is_certs(word: &str) -> bool {
+    word == "prove" || word == "check"
+}
 
 /// Whether the word is a command of the tools.
 fn is_tool(word: &str) -> bool {
@@ -24,6 +30,7 @@ fn run<F: Files, O: Sink, E: Sink>(
     err: &mut E,
 ) -> u8 {
     match words {
+        [first, ..] if is_certs(first.as_str()) => cert_run(alloc, words, files, out, err).status(),
         [first, ..] if is_tool(first.as_str()) => tool_run(alloc, words, files, out, err).status(),
         _ => ra_run(alloc, words, files, out, err).status(),
     }

@@ -1,7 +1,7 @@
 -- Rows that match by keys are those whose key columns are the same without NULL.
-use Rattle.std.proofs.Common.{◌≡◌, ℕ, ◌+◌, ◌<◌, Bool, true, false, not, cond, ◌&&◌, ◌||◌, List, [], ◌∷◌, ◌++◌, length, map, take, get_or, Bor, None, Some, refl, sym, ap, ap₂, ◌∙◌, inl, inr, slice_index_or}
+use Rattle.std.proofs.Common.{◌≡◌, ℕ, ◌+◌, Bool, true, false, not, cond, ◌&&◌, ◌||◌, List, [], ◌∷◌, ◌++◌, map, Bor, None, Some, refl, sym, ap, ap₂, ◌∙◌, inl, inr, slice_index_or, Result, Ok, Err, IfOk}
 use Rattle.std.proofs.lemmas.Bool.{cases_Bool}
-use Rattle.std.proofs.lemmas.List.{append-nil, take_more, map-append}
+use Rattle.std.proofs.lemmas.List.{append-nil}
 use Rattle.std.proofs.lemmas.Map.Lookups.{CmpEqualImpliesEq, exact_signed, exact_bytes}
 use Rattle.std.specs.declared.cmp.Ordering.{Ordering}
 use Rattle.std.specs.declared.cmp.Ordering.TheVariants.{Less, Equal, Greater}
@@ -122,10 +122,15 @@ found_where ks before rows places h = go (has_null (before_key ks before)) refl
     go true e = sym (where_same (keys_yes ks before) (λ row. false) (λ row. keys_are ks before row ∙ ap (λ b. not b && row_eq (before_key ks before) (own_key ks row)) e) 0 rows ∙ none_where 0 rows)
     go false e = h ∙ sym (where_same (keys_yes ks before) (λ row. row_eq (before_key ks before) (own_key ks row)) (λ row. keys_are ks before row ∙ ap (λ b. not b && row_eq (before_key ks before) (own_key ks row)) e) 0 rows)
 
-pub matches_more : (ks : List KeyPair) (befores : List (Bor (List Value))) (i : ℕ) (b : Bor (List Value)) (rows : Rows) → i < length befores → b ≡ get_or befores i b
-    → matches ks (map (λ r. r.now) (take (i + 1) befores)) rows ≡ matches ks (map (λ r. r.now) (take i befores)) rows ++ places_where (keys_yes ks b.now) 0 rows ∷ []
-matches_more ks befores i b rows l e =
-    let more : take (i + 1) befores ≡ take i befores ++ b ∷ [] = take_more befores i b l ∙ ap (λ m. take i befores ++ m ∷ []) (sym e) in
-    ap (λ bs. matches ks (map (λ r. r.now) bs) rows) more
-    ∙ ap (map (λ before. places_where (keys_yes ks before) 0 rows)) (map-append (λ r. r.now) (take i befores) (b ∷ []))
-    ∙ map-append (λ before. places_where (keys_yes ks before) 0 rows) (map (λ r. r.now) (take i befores)) (b.now ∷ [])
+pub found_all : (ks : List KeyPair) (befores : List (Bor (List Value))) (rows : Rows) (index : Placed)
+    → ((key : List Value) → places_at index key ≡ places_where (λ row. row_eq key (own_key ks row)) 0 rows)
+    → map (λ b. cond (has_null (before_key ks b.now)) [] (places_at index (before_key ks b.now))) befores ≡ matches ks (map (λ r. r.now) befores) rows
+found_all ks [] rows index h = refl
+found_all ks (b ∷ bs) rows index h = ap₂ (λ (x : List ℕ) (xs : List (List ℕ)). x ∷ xs) (found_where ks b.now rows _ (h (before_key ks b.now))) (found_all ks bs rows index h)
+
+pub all_found : (E : Type 0) (ks : List KeyPair) (befores : List (Bor (List Value))) (rows : Rows) (index : Placed) (out : Result (List (List ℕ)) E)
+    → ((key : List Value) → places_at index key ≡ places_where (λ row. row_eq key (own_key ks row)) 0 rows)
+    → IfOk out (λ o. o ≡ map (λ b. cond (has_null (before_key ks b.now)) [] (places_at index (before_key ks b.now))) befores)
+    → IfOk out (λ o. o ≡ matches ks (map (λ r. r.now) befores) rows)
+all_found E ks befores rows index (Ok o) h e = e ∙ found_all ks befores rows index h
+all_found E ks befores rows index (Err x) h e = e

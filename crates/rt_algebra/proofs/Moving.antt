@@ -10,10 +10,10 @@ use Rattle.rt_value.specs.declared.value.Value.{Value}
 use Rattle.rt_value.specs.declared.value.Value.TheVariants as v
 use Rattle.rt_value.specs.declared.truth.Truth.{Truth}
 use Rattle.rt_value.specs.Truth.{truth_not, truth_and, truth_or}
-use Rattle.rt_value.specs.Value.{value_truth}
+use Rattle.rt_value.specs.Value.{value_truth, null_truth}
 use Rattle.rt_schema.specs.Given.{Tables}
 use Rattle.rt_algebra.specs.Expression.{Env, value_by, term_by, expr_step, term_step, sum_from, mul_from, add_value, mul_value, neg_value, cell_of}
-use Rattle.rt_algebra.specs.Answer.{Condition, Answer, pred_by, answer_by, pred_step, query_step, all_of, any_of, one_of_truth, null_truth}
+use Rattle.rt_algebra.specs.Answer.{Condition, Answer, pred_by, answer_by, pred_step, query_step, all_of, any_of, one_of_truth}
 use Rattle.rt_algebra.specs.Split.{all_from, both, lies, term, moved, moved_term, moved_step, moved_term_step, moved_column, moved_pred, moved_pred_step, simple_by, simple_step, simple_all, simple_any}
 use Rattle.rt_algebra.specs.declared.expr.Expr.{Expr}
 use Rattle.rt_algebra.specs.declared.expr.Expr.TheVariants as e

@@ -9,7 +9,8 @@ use Rattle.rt_value.specs.declared.value.Value.TheVariants as v
 use Rattle.rt_schema.specs.Given.{Rows, Tables}
 use Rattle.rt_algebra.specs.Expression.{Env, exact, wrapped, value_by, row_by}
 use Rattle.rt_algebra.specs.Answer.{Condition, Answer, pred_by, answer_by, pred_step, query_step, is_yes, one_of_truth, has_row, join_each, pairs, product_after, all_of, any_of}
-use Rattle.rt_algebra.specs.Columns.{Column, Columns, Scopes, column_of, with_column, item_columns, comparable, all_comparable, kinds_match, either_kind, merged_column, merged_columns, set_columns, ConditionTest, QueryColumns, all_typed, comparable_member, product_columns, pred_typed, query_columns, pred_typed_step, query_columns_step}
+use Rattle.rt_schema.specs.Schema.{kinds_match}
+use Rattle.rt_algebra.specs.Columns.{Column, Columns, Scopes, column_of, with_column, item_columns, comparable, all_comparable, either_kind, merged_column, merged_columns, set_columns, ConditionTest, QueryColumns, all_typed, comparable_member, product_columns, pred_typed, query_columns, pred_typed_step, query_columns_step}
 use Rattle.rt_algebra.specs.Within.{Within, RowWithin, RowsWithin, TablesWithin, EnvWithin}
 use Rattle.rt_algebra.specs.declared.expr.Expr.{Expr}
 use Rattle.rt_algebra.specs.declared.query.Pred.{Pred}

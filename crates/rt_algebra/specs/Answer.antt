@@ -8,7 +8,7 @@ use Rattle.rt_value.specs.declared.value.Op.TheVariants.{Eq}
 use Rattle.rt_value.specs.declared.truth.Truth.{Truth}
 use Rattle.rt_value.specs.declared.truth.Truth.TheVariants.{Yes, No, Unknown}
 use Rattle.rt_value.specs.Truth.{truth_not, truth_and, truth_or}
-use Rattle.rt_value.specs.Value.{value_truth}
+use Rattle.rt_value.specs.Value.{value_truth, null_truth}
 use Rattle.rt_value.specs.Row.{row_eq}
 use Rattle.rt_schema.specs.Given.{Rows, Tables}
 use Rattle.rt_algebra.specs.Expression.{Env, exact, value_by, row_by}
@@ -29,11 +29,6 @@ abbrev pub is_yes : Truth → Bool
 is_yes Yes = true
 is_yes No = false
 is_yes Unknown = false
-
-abbrev pub null_truth : Value → Truth
-null_truth v.Null = Yes
-null_truth (v.Int n) = No
-null_truth (v.Text t) = No
 
 -- whether there is a row
 abbrev pub some_truth : Rows → Truth

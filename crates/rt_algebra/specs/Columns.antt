@@ -5,7 +5,7 @@ use Rattle.std.specs.Prelude.{ℕ, ◌+◌, ◌*◌, ◌-◌, ◌^◌, max, Bool
 use Rattle.std.specs.Option.{option_and_then}
 use Rattle.rt_schema.specs.declared.table.ColKind.{ColKind}
 use Rattle.rt_schema.specs.declared.table.ColKind.TheVariants.{Whole, Text as Texts}
-use Rattle.rt_schema.specs.Schema.{kind_eq}
+use Rattle.rt_schema.specs.Schema.{kinds_match}
 use Rattle.rt_algebra.specs.declared.expr.Expr.{Expr}
 use Rattle.rt_algebra.specs.declared.expr.Term.{Term}
 use Rattle.rt_algebra.specs.declared.expr.Expr.TheOpen.{Expr-F, Term-F, Col, Int, Text, Null, Sum, Mul}
@@ -37,12 +37,6 @@ table_column Texts = column Texts 0
 
 abbrev pub table_columns : List (List ColKind) → List Columns
 table_columns kinds = map (map table_column) kinds
-
--- equal kinds, or one that is missing
-abbrev pub kinds_match : Option ColKind → Option ColKind → Bool
-kinds_match None l = true
-kinds_match (Some k) None = true
-kinds_match (Some k) (Some l) = kind_eq k l
 
 -- two typed expressions whose kinds match
 abbrev pub comparable : Option Column → Option Column → Bool

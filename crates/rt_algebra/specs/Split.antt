@@ -10,10 +10,10 @@ use Rattle.rt_value.specs.declared.value.Op.TheVariants.{Eq, Ne, Lt, Le, Gt, Ge}
 use Rattle.rt_value.specs.declared.truth.Truth.{Truth}
 use Rattle.rt_value.specs.declared.truth.Truth.TheVariants.{Yes, No, Unknown}
 use Rattle.rt_value.specs.Truth.{truth_not, truth_and, truth_or}
-use Rattle.rt_value.specs.Value.{value_truth}
+use Rattle.rt_value.specs.Value.{value_truth, null_truth}
 use Rattle.rt_schema.specs.Given.{Rows, Tables}
 use Rattle.rt_algebra.specs.Expression.{Env, value_by}
-use Rattle.rt_algebra.specs.Answer.{is_yes, null_truth, one_of_truth, pred_by}
+use Rattle.rt_algebra.specs.Answer.{is_yes, one_of_truth, pred_by}
 use Rattle.rt_algebra.specs.declared.expr.Expr.{Expr}
 use Rattle.rt_algebra.specs.declared.expr.Expr.TheVariants as e
 use Rattle.rt_algebra.specs.declared.expr.Term.{Term, roll-Term}

@@ -2,8 +2,8 @@
 use Rattle.std.specs.Prelude.{◌≡◌, ℕ, Bool, true, false, ◌&&◌, IsTrue, List, [], ◌∷◌, length, Option, None, Some, nat_eq}
 use Rattle.rt_schema.specs.declared.table.ColKind.{ColKind}
 use Rattle.rt_schema.specs.declared.table.Table.{Table}
-use Rattle.rt_schema.specs.Schema.{schema_kinds}
-use Rattle.rt_algebra.specs.Columns.{Columns, kinds_match, table_columns, query_columns}
+use Rattle.rt_schema.specs.Schema.{schema_kinds, kinds_match}
+use Rattle.rt_algebra.specs.Columns.{Columns, table_columns, query_columns}
 use Rattle.rt_algebra.specs.declared.typed.Typed.{Typed}
 
 -- the kinds and bounds of columns; each kind fits a column without one

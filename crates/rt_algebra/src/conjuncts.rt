@@ -1,5 +1,5 @@
 //! The conjuncts of a condition over members side by side.
-ghost use Rattle.std.specs.Prelude.{◌≡◌, ◌+◌, not, map, IfOk};
+ghost use Rattle.std.specs.Prelude.{◌≡◌, ◌+◌, not, map, is_some, IfOk};
 ghost use Rattle.std.specs.List.{filter, filter_map};
 ghost use Rattle.rt_algebra.specs.Join.{Joins, JoinsWhole};
 ghost use Rattle.rt_algebra.specs.Split.{Splits, split_of, apart, conjuncts, own_of, key_of, pair, place, is_taken};
@@ -141,13 +141,22 @@ fn rest(alloc: Global, conjuncts: &[Pred], widths: &[usize]) -> Result<List<Pred
     Ok(out)
 }
 
+/// Whether the conjunct speaks of the columns of one member alone, the first of which is `base`.
+fn is_own(alloc: Global, conjunct: &Pred, base: usize, width: usize) -> Result<bool, NoMemory>
+    ensures { IfOk result (λ b. b ≡ is_some (own_of base width conjunct.now)) }
+{
+    let own = own_of(alloc, conjunct, base, width)?;
+    let found = own.is_some();
+    drop(own);
+    Ok(found)
+}
+
 fn is_taken(alloc: Global, conjunct: &Pred, widths: &[usize]) -> Result<bool, NoMemory>
     ensures { IfOk result (λ b. b ≡ is_taken 0 widths.now conjunct.now) }
 {
     let mut base: usize = 0;
     for width in widths {
-        let own = own_of(alloc, conjunct, base, *width)?;
-        if own.is_some() || key_of(conjunct, base, *width).is_some() {
+        if is_own(alloc, conjunct, base, *width)? || key_of(conjunct, base, *width).is_some() {
             return Ok(true);
         }
         base = after(base, *width)?;

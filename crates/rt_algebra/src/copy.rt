@@ -1,9 +1,10 @@
 //! Copies of queries and of their parts.
 ghost use Rattle.std.specs.Prelude.{◌≡◌, IfOk};
+ghost use Rattle.rt_algebra.specs.declared.query.Pred.TheVariants as preds;
 
 use crate::expr::{Expr, Term};
 use crate::query::{Pred, Query};
-use rt_value::{Boxed, List, NoMemory};
+use rt_value::{Boxed, List, NoMemory, Op};
 use std::alloc::Global;
 
 #[cycle(copy_value)]
@@ -51,24 +52,36 @@ fn copy_term(alloc: Global, term: &Term) -> Result<Term, NoMemory>
     Ok(Term { minus, of })
 }
 
+fn copy_cmp(alloc: Global, op: Op, a: &Expr, b: &Expr) -> Result<Pred, NoMemory>
+    ensures { IfOk result (λ p. p ≡ preds.Cmp op a.now b.now) }
+{
+    let a = copy_expr(alloc, a)?;
+    let b = copy_expr(alloc, b)?;
+    Ok(Pred::Cmp(op, a, b))
+}
+
+fn copy_one_of(alloc: Global, expr: &Expr, items: &[Expr]) -> Result<Pred, NoMemory>
+    ensures { IfOk result (λ p. p ≡ preds.OneOf expr.now items.now) }
+{
+    let items = copy_exprs(alloc, items)?;
+    Ok(Pred::OneOf(copy_expr(alloc, expr)?, items))
+}
+
 #[cycle(copy)]
 pub fn copy_pred(alloc: Global, pred: &Pred) -> Result<Pred, NoMemory>
     ensures { IfOk result (λ p. p ≡ pred.now) }
 {
     match pred {
-        Pred::Cmp(op, a, b) => Ok(Pred::Cmp(*op, copy_expr(alloc, a)?, copy_expr(alloc, b)?)),
+        Pred::Cmp(op, a, b) => copy_cmp(alloc, *op, a, b),
         Pred::IsNull(expr) => Ok(Pred::IsNull(copy_expr(alloc, expr)?)),
-        Pred::OneOf(expr, items) => {
-            let expr = copy_expr(alloc, expr)?;
-            Ok(Pred::OneOf(expr, copy_exprs(alloc, items.as_slice())?))
-        }
+        Pred::OneOf(expr, items) => copy_one_of(alloc, expr, items.as_slice()),
         Pred::And(members) => Ok(Pred::And(copy_preds(alloc, members.as_slice())?)),
         Pred::Or(members) => Ok(Pred::Or(copy_preds(alloc, members.as_slice())?)),
         Pred::Not(member) => Ok(Pred::Not(Boxed::new(alloc, copy_pred(alloc, member.get())?)?)),
         Pred::Exists(query) => Ok(Pred::Exists(copy_boxed(alloc, query.get())?)),
         Pred::Member(expr, query) => {
-            let expr = copy_expr(alloc, expr)?;
-            Ok(Pred::Member(expr, copy_boxed(alloc, query.get())?))
+            let query = copy_boxed(alloc, query.get())?;
+            Ok(Pred::Member(copy_expr(alloc, expr)?, query))
         }
     }
 }

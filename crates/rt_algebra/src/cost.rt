@@ -19,7 +19,7 @@ struct Cost {
 pub fn work(typed: &Typed, given: &Given) -> u128
     ensures { result ≡ work typed.now.query given.now }
 {
-    query_cost(&typed.query, given).work
+    query_cost(typed.query.get(), given).work
 }
 
 #[cycle(cost)]

@@ -26,7 +26,7 @@ pub use expr::{Expr, Term};
 pub use laws::{stays_bounded, wrapped_is_exact};
 pub use matching::matches;
 pub use parts::{KeyPair, Split};
-pub use predicate::{cell_truth, null_truth, one_of_truth};
+pub use predicate::{cell_truth, one_of_truth};
 pub use query::{Pred, Query};
 pub use simple::all_true;
 pub use typed::Typed;

@@ -22,9 +22,23 @@ pub fn matches(
     ensures { IfOk result (λ out. out ≡ matches keys.now (map (λ r. r.now) befores.now) (map (λ r. r.now) rows.now)) }
 {
     let index = index(alloc, keys, rows)?;
+    let out = found_for(alloc, &index, keys, befores);
+    drop(index);
+    out
+}
+
+/// The places of the rows that match each of the rows before a member.
+fn found_for(
+    alloc: Global,
+    index: &Index,
+    keys: &[KeyPair],
+    befores: &[&Row],
+) -> Result<List<List<usize>>, NoMemory>
+    ensures { IfOk result (λ out. out ≡ map (λ b. cond (has_null (before_key keys.now b.now)) [] (places_at index.now (before_key keys.now b.now))) befores.now) }
+{
     let mut out = List::new(alloc);
     for before in befores {
-        let places = found(alloc, &index, keys, before)?;
+        let places = found(alloc, index, keys, before)?;
         out.push(places)?;
     }
     Ok(out)

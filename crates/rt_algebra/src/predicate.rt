@@ -1,21 +1,11 @@
 ghost use Rattle.std.specs.Prelude.{◌≡◌, map, IfOk};
-ghost use Rattle.rt_algebra.specs.Answer.{null_truth, cell_truth, one_of_truth};
+ghost use Rattle.rt_algebra.specs.Answer.{cell_truth, one_of_truth};
 ghost use Rattle.rt_algebra.specs.Expression.{wrapped};
 
 use crate::evaluate::value;
 use crate::expr::Expr;
 use rt_value::{NoMemory, Op, Row, Truth, Value, compare};
 use std::alloc::Global;
-
-/// IS NULL, which is never unknown.
-pub fn null_truth(value: &Value) -> Truth
-    ensures { result ≡ null_truth value.now }
-{
-    match value {
-        Value::Null => Truth::Yes,
-        _ => Truth::No,
-    }
-}
 
 /// IN with a list: whether the value compares equal to one of the items.
 pub fn one_of_truth(

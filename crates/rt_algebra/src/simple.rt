@@ -4,9 +4,9 @@ ghost use Rattle.rt_algebra.specs.Expression.{wrapped};
 ghost use Rattle.rt_algebra.specs.Split.{simple_by, simple_all, simple_any, all_simple};
 
 use crate::evaluate::value;
-use crate::predicate::{null_truth, one_of_truth};
+use crate::predicate::one_of_truth;
 use crate::query::Pred;
-use rt_value::{NoMemory, Row, Truth, compare};
+use rt_value::{NoMemory, Row, Truth, compare, null_truth};
 use std::alloc::Global;
 
 /// Whether each of the conditions is true. They hold no subquery: a condition with one is unknown.

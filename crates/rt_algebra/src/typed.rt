@@ -2,13 +2,13 @@ ghost use Rattle.std.specs.Prelude.{◌≡◌, length};
 
 use crate::query::Query;
 use rt_schema::ColKind;
-use rt_value::{List, Txt};
+use rt_value::{Boxed, List, Txt};
 
 /// A query with the kinds, bounds and names of its columns, one entry a column. No whole number
 /// in a column is larger in size than the column's bound.
 #[derive(Drop)]
 pub struct Typed {
-    pub query: Query,
+    pub query: Boxed<Query>,
     pub kinds: List<ColKind>,
     pub bounds: List<u128>,
     pub names: List<Option<Txt>>,

@@ -8,9 +8,9 @@ use Rattle.rt_value.specs.declared.value.Value.{Value}
 use Rattle.rt_value.specs.declared.truth.Truth.{Truth}
 use Rattle.rt_value.specs.declared.truth.Truth.TheVariants.{Yes, No, Unknown}
 use Rattle.rt_value.specs.Truth.{truth_not, truth_and, truth_or}
-use Rattle.rt_value.specs.Value.{value_truth}
+use Rattle.rt_value.specs.Value.{value_truth, null_truth}
 use Rattle.rt_schema.specs.Given.{Tables, Rows}
-use Rattle.rt_algebra.specs.Answer.{Condition, Answer, answer_by, pred_by, query_step, pred_step, is_yes, null_truth, some_truth, member_truth, one_of_truth, has_row, product_after, all_of, any_of}
+use Rattle.rt_algebra.specs.Answer.{Condition, Answer, answer_by, pred_by, query_step, pred_step, is_yes, some_truth, member_truth, one_of_truth, has_row, product_after, all_of, any_of}
 use Rattle.rt_algebra.specs.Expression.{wrapped, Env, row_by, value_by}
 use Rattle.rt_algebra.specs.declared.expr.Expr.{Expr}
 use Rattle.rt_algebra.specs.declared.query.Pred.{Pred}

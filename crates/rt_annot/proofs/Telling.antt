@@ -8,10 +8,10 @@ use Rattle.rt_value.specs.declared.value.Op.TheVariants.{Eq}
 use Rattle.rt_value.specs.declared.value.Value.{Value}
 use Rattle.rt_value.specs.declared.value.Value.TheVariants.{Null, Int, Text}
 use Rattle.rt_value.specs.declared.truth.Truth.TheVariants.{Unknown}
-use Rattle.rt_value.specs.Value.{value_eq, value_cmp, value_truth, op_truth}
+use Rattle.rt_value.specs.Value.{value_eq, value_cmp, value_truth, op_truth, null_truth}
 use Rattle.rt_value.specs.Order.{value_ties}
 use Rattle.rt_schema.specs.Given.{Rows}
-use Rattle.rt_algebra.specs.Answer.{is_yes, null_truth, some_truth, cell_truth, member_truth}
+use Rattle.rt_algebra.specs.Answer.{is_yes, some_truth, cell_truth, member_truth}
 use Rattle.rt_formula.specs.Shared.{Shared, val}
 use Rattle.rt_formula.specs.Groups.{nodes_where}
 use Rattle.rt_formula.specs.declared.noted.Noted.{Noted}

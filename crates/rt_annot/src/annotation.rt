@@ -28,7 +28,7 @@ pub fn annotate(alloc: Global, dag: &mut Dag, typed: &Typed, given: &Given) -> R
     ensures rows { IfOk result (λ a. (keep : List Bool) (r : List Value) → has_row (rows_of dag.new keep a) r ≡ has_row (plain typed.now.query (kept given.now.tables keep)) r) }
     ensures entries { IfOk result (λ a. (keep : List Bool) (r : List Value) → node_value dag.new keep (node_at a r) ≡ has_row (plain typed.now.query (kept given.now.tables keep)) r) }
 {
-    let ann = wrapped_annotation(alloc, dag, &typed.query, given.tables())?;
+    let ann = wrapped_annotation(alloc, dag, typed.query.get(), given.tables())?;
     Ok(ann)
 }
 

@@ -12,9 +12,9 @@ use crate::evaluate::annotated;
 use crate::gate::{Gate, Gates, all, any, constant, is_always};
 use crate::known::{Found, find, known};
 use crate::member::{exists, member};
-use rt_algebra::{Pred, Query, null_truth, one_of_truth, scope, value};
+use rt_algebra::{Pred, Query, one_of_truth, scope, value};
 use rt_formula::Dag;
-use rt_value::{List, NoMemory, Row, Value, compare};
+use rt_value::{List, NoMemory, Row, Value, compare, null_truth};
 use std::alloc::Global;
 
 /// Where a condition is true and where it is false.

@@ -2,9 +2,9 @@
 //! is first asked for.
 ghost use Rattle.std.specs.Prelude.{◌≡◌, ◌∷◌, [], ◌<◌, map, length, slice_index_or, IfOk, IfSome, None, Some, List, Bool};
 ghost use Rattle.rt_value.specs.declared.value.Value.{Value};
-ghost use Rattle.rt_value.specs.Value.{value_eq};
+ghost use Rattle.rt_value.specs.Value.{value_eq, null_truth};
 ghost use Rattle.rt_schema.specs.Given.{Rows};
-ghost use Rattle.rt_algebra.specs.Answer.{is_yes, null_truth};
+ghost use Rattle.rt_algebra.specs.Answer.{is_yes};
 ghost use Rattle.rt_formula.specs.Shared.{IsGrown};
 ghost use Rattle.rt_formula.specs.Groups.{group_at, nodes_where};
 ghost use Rattle.rt_annot.specs.Entries.{rows_at};

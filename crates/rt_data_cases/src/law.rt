@@ -2,7 +2,7 @@
 ghost use Rattle.rt_schema.specs.Given.{IsOf};
 
 use crate::data::{Data, choice, read_data};
-use rt_formula::{Dag, Entry};
+use rt_formula::{Dag, Entry, Node};
 use rt_rules::law;
 use rt_schema::{law_work, lawful};
 use rt_value::{Keep, NoMemory};
@@ -26,11 +26,34 @@ fn is_true(alloc: Global, tables: &Data, places: &str) -> Result<bool, NoMemory>
 {
     let mut dag = Dag::new(alloc, tables.given.total())?;
     let node = law(alloc, &mut dag, &tables.schema, &tables.given)?;
+    let value = value_at(alloc, &dag, node, places);
+    drop(dag);
+    value
+}
+
+fn value_at(alloc: Global, dag: &Dag, node: Node, places: &str) -> Result<bool, NoMemory> {
     let keep = choice(alloc, places)?;
     if keep.len() != dag.rows() || node.number() >= dag.len() {
         return Err(NoMemory);
     }
     dag.value(node, &keep)
+}
+
+/// Whether the kept rows are lawful, and whether the formula of the law is true at them.
+fn both(alloc: Global, tables: &Data, places: &str) -> Result<[bool; 2], NoMemory>
+    requires { IsOf tables.now.schema tables.now.given }
+{
+    let lawful = is_lawful(alloc, tables, places)?;
+    let holds = is_true(alloc, tables, places)?;
+    Ok([lawful, holds])
+}
+
+/// The same of the rows of a file.
+fn both_of(alloc: Global, schema: &str, file: &str, places: &str) -> Result<[bool; 2], NoMemory> {
+    let tables = read_data(alloc, schema, &[file])?;
+    let found = both(alloc, &tables, places);
+    drop(tables);
+    found
 }
 
 #[test]
@@ -59,19 +82,142 @@ fn two_rows_at_each_choice(rt: HostRuntime) -> Result<(), Fail> {
         ),
     ];
     for (schema, file, wanted) in cases {
-        let tables = read_data(alloc, schema, &[file])?;
         for (places, want) in ["00", "10", "01", "11"].iter().zip(wanted) {
-            assert_eq!(rt;
-                is_lawful(alloc, &tables, *places)?,
-                want,
-                "{schema} {places}"
-            );
-            assert_eq!(rt;
-                is_true(alloc, &tables, *places)?,
-                want,
-                "{schema} {places}"
-            );
+            let [lawful, holds] = both_of(alloc, schema, file, *places)?;
+            assert_eq!(rt; lawful, want, "{schema} {places}");
+            assert_eq!(rt; holds, want, "{schema} {places}");
         }
+    }
+    Ok(())
+}
+
+/// The choices of three rows that are not lawful. Where the formula of the law says otherwise of a
+/// choice, this ends as want of memory.
+fn refused_of(alloc: Global, tables: &Data) -> Result<String, NoMemory>
+    requires { IsOf tables.now.schema tables.now.given }
+{
+    let mut refused = String::new(alloc);
+    for places in ["000", "100", "010", "001", "110", "101", "011", "111"] {
+        match both(alloc, tables, places)? {
+            [true, true] => {}
+            [false, false] => {
+                refused.push_str(places)?;
+                refused.push_str(" ")?;
+            }
+            _ => return Err(NoMemory),
+        }
+    }
+    Ok(refused)
+}
+
+/// The same of a table under a rule.
+fn refused(alloc: Global, rule: &str, file: &str) -> Result<String, NoMemory> {
+    let schema = format!(in alloc; "CREATE TABLE t (a INTEGER, b INTEGER, c TEXT, {rule});")?;
+    let tables = read_data(alloc, schema.as_str(), &[file])?;
+    drop(schema);
+    let refused = refused_of(alloc, &tables);
+    drop(tables);
+    refused
+}
+
+// The choices that have the first, the second or the third of three rows.
+const FIRST: &str = "100 110 101 111 ";
+
+const SECOND: &str = "010 110 011 111 ";
+
+const THIRD: &str = "001 101 011 111 ";
+
+const FIRST_SECOND: &str = "100 010 110 101 011 111 ";
+
+const FIRST_THIRD: &str = "100 001 110 101 011 111 ";
+
+// A check refuses the rows that make it false, and lets those stand that make it unknown.
+#[test]
+fn checks_of_three_rows(rt: HostRuntime) -> Result<(), Fail> {
+    let alloc = rt.alloc();
+    let file = "a,b,c\n1,2,x\n3,,y\n,0,\n";
+    let cases = [
+        ("CHECK (a > 0)", ""),
+        ("CHECK (a > 1)", FIRST),
+        ("CHECK (NOT a > 1)", SECOND),
+        ("CHECK (b < a)", FIRST),
+        ("CHECK (b IS NULL)", FIRST_THIRD),
+        ("CHECK (b IS NOT NULL)", SECOND),
+        ("CHECK (NOT b IS NOT NULL)", FIRST_THIRD),
+        ("CHECK (c = 'x')", SECOND),
+        ("CHECK (a BETWEEN 2 AND 4)", FIRST),
+        ("CHECK (a NOT BETWEEN 2 AND 4)", SECOND),
+        ("CHECK (a BETWEEN 4 AND 2)", FIRST_SECOND),
+        ("CHECK (a BETWEEN 2 AND NULL)", FIRST),
+        ("CHECK (a NOT BETWEEN 2 AND NULL)", ""),
+        ("CHECK (a IN (1, 3))", ""),
+        ("CHECK (a NOT IN (1, 3))", FIRST_SECOND),
+        ("CHECK (a IN (1, NULL))", ""),
+        ("CHECK (a NOT IN (1, NULL))", FIRST),
+        ("CHECK (a > 2 OR b = 2)", ""),
+        ("CHECK (a > 2 AND b = 2)", FIRST_THIRD),
+        ("CHECK (b = 2 OR b IS NULL)", THIRD),
+        ("CHECK (a > 1 AND c = 'x')", FIRST_SECOND),
+        ("CHECK (b = 0 OR a > 1 AND c = 'y')", FIRST),
+    ];
+    for (rule, wanted) in cases {
+        let said = refused(alloc, rule, file)?;
+        assert_eq!(rt; said.as_str(), wanted, "{rule}");
+    }
+    Ok(())
+}
+
+#[test]
+fn dependencies_of_three_rows(rt: HostRuntime) -> Result<(), Fail> {
+    let alloc = rt.alloc();
+    let cases = [
+        ("(a) DETERMINES (b)", "1,1,\n1,2,\n2,2,\n", "110 111 "),
+        ("(b) DETERMINES (a)", "1,1,\n1,2,\n2,2,\n", "011 111 "),
+        ("(a) DETERMINES (b)", "1,,\n1,5,\n1,,\n", "110 011 111 "),
+        ("(a) DETERMINES (b)", ",1,\n,2,\n1,3,\n", ""),
+        ("(a, b) DETERMINES (c)", "1,1,x\n1,1,y\n1,,z\n", "110 111 "),
+        (
+            "(c) DETERMINES (a, b)",
+            "1,1,x\n1,2,x\n1,1,x\n",
+            "110 011 111 ",
+        ),
+        (
+            "(c) DETERMINES (a, b)",
+            "1,1,x\n2,1,x\n2,1,x\n",
+            "110 101 111 ",
+        ),
+        ("(a, b) DETERMINES (c)", "1,,x\n1,,y\n1,,z\n", ""),
+    ];
+    for (rule, rows, wanted) in cases {
+        let rule = format!(in alloc; "DEPENDENCY {rule}")?;
+        let file = format!(in alloc; "a,b,c\n{rows}")?;
+        let said = refused(alloc, rule.as_str(), file.as_str())?;
+        assert_eq!(rt; said.as_str(), wanted, "{rule}: {rows}");
+    }
+    Ok(())
+}
+
+/// The work of the law of the rows of these files.
+fn work_of(alloc: Global, schema: &str, files: &[&str]) -> Result<u128, NoMemory> {
+    let tables = read_data(alloc, schema, files)?;
+    let work = law_work(&tables.schema, &tables.given);
+    drop(tables);
+    Ok(work)
+}
+
+#[test]
+fn pairs_of_a_dependency_and_rows_of_a_check(rt: HostRuntime) -> Result<(), Fail> {
+    let alloc = rt.alloc();
+    let file = "a,b\n1,1\n1,2\n1,2\n,2\n,3\n";
+    let cases = [
+        (
+            "CREATE TABLE t (a INTEGER, b INTEGER, DEPENDENCY (a) DETERMINES (b));",
+            3,
+        ),
+        ("CREATE TABLE t (a INTEGER, b INTEGER, CHECK (a > 1));", 5),
+    ];
+    for (schema, wanted) in cases {
+        assert_eq!(rt; work_of(alloc, schema, &[file])?, wanted, "{schema}");
     }
     Ok(())
 }
@@ -84,8 +230,7 @@ fn pairs_of_students_and_registrations(rt: HostRuntime) -> Result<(), Fail> {
         "name\nMary\nJohn\n",
         "name,num\nMary,216\nMary,230\nJohn,316\n",
     ];
-    let tables = read_data(rt.alloc(), schema, &files)?;
-    assert_eq!(rt; law_work(&tables.schema, &tables.given), 3);
+    assert_eq!(rt; work_of(rt.alloc(), schema, &files)?, 3);
     Ok(())
 }
 
@@ -111,16 +256,20 @@ fn places(alloc: Global, first: &str) -> Result<String, AllocError> {
     Ok(places)
 }
 
+/// Whether the formula of the law is true at the rows of the ring, but for the first perhaps.
+fn ring_holds(alloc: Global, first: &str) -> Result<bool, NoMemory> {
+    let schema = "CREATE TABLE t (a INTEGER PRIMARY KEY, b INTEGER REFERENCES t (a));";
+    let file = ring(alloc)?;
+    let places = places(alloc, first)?;
+    let [_, holds] = both_of(alloc, schema, file.as_str(), places.as_str())?;
+    Ok(holds)
+}
+
 #[test]
 fn two_thousand_rows(rt: HostRuntime) -> Result<(), Fail> {
     let alloc = rt.alloc();
-    let schema = "CREATE TABLE t (a INTEGER PRIMARY KEY, b INTEGER REFERENCES t (a));";
-    let file = ring(alloc)?;
-    let tables = read_data(alloc, schema, &[file.as_str()])?;
-    let all = places(alloc, "1")?;
-    assert!(rt; is_true(alloc, &tables, all.as_str())?);
-    let one_less = places(alloc, "0")?;
-    assert!(rt; !is_true(alloc, &tables, one_less.as_str())?);
+    assert!(rt; ring_holds(alloc, "1")?);
+    assert!(rt; !ring_holds(alloc, "0")?);
     Ok(())
 }
 
@@ -135,26 +284,88 @@ fn children(dag: &Dag) -> usize {
     children
 }
 
-// A group of equal rows costs a few gates a row, and none for each pair of rows.
-#[test]
-fn two_thousand_rows_with_one_key_value(rt: HostRuntime) -> Result<(), Fail> {
-    let alloc = rt.alloc();
+/// A file of 2,000 rows under a head, which are alike but for the first perhaps.
+fn alike(alloc: Global, head: &str, first: &str, other: &str) -> Result<String, AllocError> {
     let mut file = String::new(alloc);
-    file.push_str("k\n")?;
-    for _ in 0..2_000 {
-        file.push_str("7\n")?;
+    file.push_str(head)?;
+    file.push_str(first)?;
+    for _ in 1..2_000 {
+        file.push_str(other)?;
     }
-    let schema = "CREATE TABLE p (k INTEGER PRIMARY KEY)";
-    let tables = read_data(alloc, schema, &[file.as_str()])?;
+    Ok(file)
+}
+
+/// The size of a formula of 2,000 rows, whether it is true where the last row is kept alone, and
+/// whether it is true where the first is kept beside it.
+#[derive(Drop)]
+struct Size {
+    nodes: usize,
+    children: usize,
+    one: bool,
+    two: bool,
+}
+
+/// Whether the formula is true once this place is kept too.
+fn value_with(dag: &Dag, node: Node, keep: &mut Keep, place: usize) -> Result<bool, NoMemory> {
+    if place >= keep.len() {
+        return Err(NoMemory);
+    }
+    keep.set(place, true);
+    if keep.len() != dag.rows() || node.number() >= dag.len() {
+        return Err(NoMemory);
+    }
+    dag.value(node, &*keep)
+}
+
+fn size_of(alloc: Global, dag: &Dag, node: Node) -> Result<Size, NoMemory> {
+    let mut keep = Keep::all(alloc, 2_000, false)?;
+    let one = value_with(dag, node, &mut keep, 1_999)?;
+    let two = value_with(dag, node, &mut keep, 0)?;
+    Ok(Size {
+        nodes: dag.len(),
+        children: children(dag),
+        one,
+        two,
+    })
+}
+
+/// The size of the formula of the law.
+fn law_size(alloc: Global, tables: &Data) -> Result<Size, NoMemory>
+    requires { IsOf tables.now.schema tables.now.given }
+{
     let mut dag = Dag::new(alloc, tables.given.total())?;
     let node = law(alloc, &mut dag, &tables.schema, &tables.given)?;
-    assert!(rt; dag.len() <= 20_000);
-    assert!(rt; children(&dag) <= 20_000);
-    let mut keep = Keep::all(alloc, 2_000, false)?;
-    for (place, wanted) in [(1_999, true), (0, false)] {
-        assert!(rt; keep.len() == dag.rows() && node.number() < dag.len() && place < keep.len());
-        keep.set(place, true);
-        assert_eq!(rt; dag.value(node, &keep)?, wanted, "{place}");
+    let size = size_of(alloc, &dag, node);
+    drop(dag);
+    size
+}
+
+/// The same of the rows of a file.
+fn size_over(alloc: Global, schema: &str, file: &str) -> Result<Size, NoMemory> {
+    let tables = read_data(alloc, schema, &[file])?;
+    let size = law_size(alloc, &tables);
+    drop(tables);
+    size
+}
+
+// A group of rows with one key value, or with one determining value, costs a few gates a row, and none
+// for each pair of rows.
+#[test]
+fn two_thousand_rows_with_one_value(rt: HostRuntime) -> Result<(), Fail> {
+    let alloc = rt.alloc();
+    let key = "CREATE TABLE p (k INTEGER PRIMARY KEY)";
+    let dependency = "CREATE TABLE g (a INTEGER, b INTEGER, DEPENDENCY (a) DETERMINES (b))";
+    let cases = [
+        (key, "k\n", "7\n", "7\n"),
+        (dependency, "a,b\n", "7,8\n", "7,7\n"),
+    ];
+    for (schema, head, first, other) in cases {
+        let file = alike(alloc, head, first, other)?;
+        let size = size_over(alloc, schema, file.as_str())?;
+        assert!(rt; size.nodes <= 20_000, "{schema}");
+        assert!(rt; size.children <= 20_000, "{schema}");
+        assert!(rt; size.one, "{schema}");
+        assert!(rt; !size.two, "{schema}");
     }
     Ok(())
 }

@@ -1,5 +1,6 @@
 ghost use Rattle.std.specs.Prelude.{◌≡◌, IfOk};
 ghost use Rattle.std.specs.List.Sorted.{IsStrictlySortedBy};
+ghost use Rattle.rt_schema.specs.Given.{IsOf};
 ghost use Rattle.rt_value.specs.Row.{row_cmp};
 
 use crate::data::{Data, choice, read_data};
@@ -48,17 +49,31 @@ fn witness(
     left: &[&str],
     right: &[&str],
 ) -> Result<Bytes, NoMemory> {
-    let Data { schema, given } = read_data(alloc, schema, files)?;
+    let tables = read_data(alloc, schema, files)?;
+    let text = witness_in(alloc, &tables, places, left, right);
+    drop(tables);
+    text
+}
+
+fn witness_in(
+    alloc: Global,
+    tables: &Data,
+    places: &str,
+    left: &[&str],
+    right: &[&str],
+) -> Result<Bytes, NoMemory>
+    requires { IsOf tables.now.schema tables.now.given }
+{
     let keep = choice(alloc, places)?;
-    if keep.len() != given.total() {
+    if keep.len() != tables.given.total() {
         return Err(NoMemory);
     }
     let left = answer(alloc, left)?;
     let right = answer(alloc, right)?;
     witness_text(
         alloc,
-        &schema,
-        &given,
+        &tables.schema,
+        &tables.given,
         &keep,
         left.as_slice(),
         right.as_slice(),
@@ -68,14 +83,22 @@ fn witness(
 // The text for two students, of whom these are the best so far.
 fn spent(alloc: Global, best: Option<&Keep>) -> Result<Bytes, NoMemory> {
     let files = ["name,major\nMary,CS\nJohn,ECON\n"];
-    let Data { schema, given } = read_data(alloc, STUDENTS, &files)?;
+    let tables = read_data(alloc, STUDENTS, &files)?;
+    let text = spent_in(alloc, &tables, best);
+    drop(tables);
+    text
+}
+
+fn spent_in(alloc: Global, tables: &Data, best: Option<&Keep>) -> Result<Bytes, NoMemory>
+    requires { IsOf tables.now.schema tables.now.given }
+{
     match best {
-        None => spent_text(alloc, &schema, &given, 7, None),
+        None => spent_text(alloc, &tables.schema, &tables.given, 7, None),
         Some(keep) => {
-            if keep.len() != given.total() {
+            if keep.len() != tables.given.total() {
                 return Err(NoMemory);
             }
-            spent_text(alloc, &schema, &given, 7, Some(keep))
+            spent_text(alloc, &tables.schema, &tables.given, 7, Some(keep))
         }
     }
 }

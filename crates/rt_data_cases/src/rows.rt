@@ -2,7 +2,7 @@ use rt_algebra::{Query, Typed};
 use rt_row::{RowFault, read_row};
 use rt_schema::ColKind;
 use rt_token::LexFault;
-use rt_value::{List, NoMemory, Row, Txt, Value};
+use rt_value::{Boxed, List, NoMemory, Row, Txt, Value};
 use std::alloc::Global;
 use std::test::Fail;
 
@@ -12,7 +12,7 @@ fn typed(alloc: Global) -> Result<Typed, NoMemory> {
     kinds.push(ColKind::Text)?;
     kinds.push(ColKind::Whole)?;
     Ok(Typed {
-        query: Query::Table(0),
+        query: Boxed::new(alloc, Query::Table(0))?,
         kinds,
         bounds: List::new(alloc),
         names: List::new(alloc),

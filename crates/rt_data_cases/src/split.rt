@@ -15,10 +15,7 @@ fn columns(op: Op, a: usize, b: usize) -> Pred {
 }
 
 fn both(alloc: Global, a: Pred, b: Pred) -> Result<List<Pred>, NoMemory> {
-    let mut members = List::new(alloc);
-    members.push(a)?;
-    members.push(b)?;
-    Ok(members)
+    Ok(List::from_vec(vec![in alloc; a, b]?))
 }
 
 /// A column of the second member, columns of both, and a column of the row outward.

@@ -15,7 +15,7 @@ const FILES: [&str; 2] = [
 ];
 
 /// The first column of a product of tables, under as many comparisons of two columns.
-fn picked(alloc: Global, tables: &[usize], comparisons: usize) -> Result<Query, NoMemory> {
+fn picked(alloc: Global, tables: &[usize], comparisons: usize) -> Result<Boxed<Query>, NoMemory> {
     let mut members = List::new(alloc);
     for table in tables {
         members.push(Query::Table(*table))?;
@@ -27,11 +27,11 @@ fn picked(alloc: Global, tables: &[usize], comparisons: usize) -> Result<Query, 
     let product = Boxed::new(alloc, Query::Product(members))?;
     let selected = Boxed::new(alloc, Query::Select(product, Pred::And(tests)))?;
     let items = List::from_vec(vec![in alloc; Expr::Col(0, 0)]?);
-    Ok(Query::Project(selected, items))
+    Boxed::new(alloc, Query::Project(selected, items))
 }
 
 /// A query with one column of texts.
-fn typed(alloc: Global, query: Query) -> Result<Typed, NoMemory> {
+fn typed(alloc: Global, query: Boxed<Query>) -> Result<Typed, NoMemory> {
     Ok(Typed {
         query,
         kinds: List::from_slice(alloc, &[ColKind::Text])?,
@@ -41,13 +41,11 @@ fn typed(alloc: Global, query: Query) -> Result<Typed, NoMemory> {
 }
 
 /// The names of one query and not of the other.
-fn difference(alloc: Global, a: Query, b: Query) -> Result<Query, NoMemory> {
-    let a = Boxed::new(alloc, a)?;
-    let b = Boxed::new(alloc, b)?;
-    Ok(Query::Except(a, b))
+fn difference(alloc: Global, a: Boxed<Query>, b: Boxed<Query>) -> Result<Boxed<Query>, NoMemory> {
+    Boxed::new(alloc, Query::Except(a, b))
 }
 
-fn work_on(alloc: Global, query: Query) -> Result<u128, NoMemory> {
+fn work_on(alloc: Global, query: Boxed<Query>) -> Result<u128, NoMemory> {
     let query = typed(alloc, query)?;
     let tables = read_data(alloc, SCHEMA, &FILES)?;
     Ok(work(&query, &tables.given))

@@ -1,9 +1,6 @@
-pub mod ColumnLaws
 pub mod MatchLemmas
 pub mod PlaceLemmas
 pub mod ReadLemmas
 pub mod SoundLemmas
-pub mod TextLaws
-pub mod TreeLemmas
 pub mod TwiceLemmas
 pub mod WholeLemmas

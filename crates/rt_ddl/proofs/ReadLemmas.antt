@@ -8,15 +8,15 @@ use Rattle.rt_token.specs.declared.fault.LexFault.TheVariants as lex
 use Rattle.rt_ddl.specs.LexFaults.{of_lex}
 use Rattle.rt_token.specs.declared.token.Token.{Token}
 use Rattle.rt_value.specs.Gives.{Gives}
-use Rattle.rt_ddl.specs.Meaning.{fault_of, given, is_memory, is_ruled, is_wide, mismatched, named, or_else, schema_of, table_excess, tables_excess, tables_of, tables_twice, tables_unknown, unless}
+use Rattle.rt_ddl.specs.Meaning.{excess_of, fault_of, given, is_memory, is_ruled, is_wide, mismatched, named, or_else, schema_of, table_excess, tables_excess, tables_of, tables_twice, tables_unknown, unless, untyped}
 use Rattle.rt_ddl.specs.Parts.{table_texts}
 use Rattle.rt_ddl.specs.Read.{Answer, IsAnswer, TreeAnswer}
-use Rattle.rt_ddl.specs.Spelled.{IsTreeOf}
+use Rattle.rt_ddl_tree.specs.Spelled.{IsTreeOf}
 use Rattle.rt_ddl.specs.declared.fault.SchemaFault.{SchemaFault}
 use Rattle.rt_ddl.specs.declared.fault.SchemaFault.TheVariants as fault
 use Rattle.rt_ddl.specs.declared.parts.TableText.{TableText}
-use Rattle.rt_ddl.specs.declared.tree.SchemaText.{SchemaText}
-use Rattle.rt_ddl.proofs.TreeLemmas.{one_tree}
+use Rattle.rt_ddl_tree.specs.declared.tree.SchemaText.{SchemaText}
+use Rattle.rt_ddl_tree.proofs.TreeLemmas.{one_tree}
 
 -- the faults that a tree can have
 abbrev of_tree : SchemaFault → Bool
@@ -26,6 +26,7 @@ of_tree (fault.DuplicateName n) = true
 of_tree (fault.UnknownName n) = true
 of_tree (fault.KeyTypes n) = true
 of_tree (fault.TooMany e) = true
+of_tree (fault.CheckTypes n) = true
 of_tree fault.NoMemory = false
 
 abbrev OfTree : Option SchemaFault → Type 0
@@ -53,7 +54,8 @@ fault-of texts tables =
     either-of (named (λ n. fault.DuplicateName n) (tables_twice [] texts)) _ (named-of (λ n. fault.DuplicateName n) (λ n. refl) (tables_twice [] texts))
     (either-of (named (λ n. fault.UnknownName n) (tables_unknown texts texts)) _ (named-of (λ n. fault.UnknownName n) (λ n. refl) (tables_unknown texts texts))
     (either-of (named (λ n. fault.KeyTypes n) (mismatched tables tables)) _ (named-of (λ n. fault.KeyTypes n) (λ n. refl) (mismatched tables tables))
-    (either-of (given _ _) (tables_excess tables) (given-of _ _ refl) (tables-of tables))))
+    (either-of (excess_of tables) _ (either-of (given _ _) (tables_excess tables) (given-of _ _ refl) (tables-of tables))
+    (named-of (λ n. fault.CheckTypes n) (λ n. refl) (untyped tables)))))
 
 unless-of : (o : Option SchemaFault) (ts : List Table) (f : SchemaFault) → OfTree o → unless o ts ≡ Err f → of_tree f ≡ true
 unless-of None ts f p e = cc e
@@ -70,6 +72,7 @@ answer-of text tokens tree (Err (fault.DuplicateName n)) l t g = (tokens, tree, 
 answer-of text tokens tree (Err (fault.UnknownName n)) l t g = (tokens, tree, l, t, g)
 answer-of text tokens tree (Err (fault.KeyTypes n)) l t g = (tokens, tree, l, t, g)
 answer-of text tokens tree (Err (fault.TooMany e)) l t g = (tokens, tree, l, t, g)
+answer-of text tokens tree (Err (fault.CheckTypes n)) l t g = (tokens, tree, l, t, g)
 answer-of text tokens tree (Err fault.NoMemory) l t g = tt
 
 same-tokens : (text : Text) (tokens others : List Token) → lexed text ≡ Ok tokens → lexed text ≡ Ok others → others ≡ tokens

@@ -1,8 +1,5 @@
 -- The tree that is read is the one that the tokens have, and so the answer is what the text makes.
 use Rattle.std.proofs.Common.{◌≡◌, ◌∙◌, ap, subst, ℕ, List, refl, Option, Some, None, Ok, Err}
-use Rattle.std.specs.Option.{option_and_then}
-use Rattle.rt_grammar.specs.Terminals.{Kinds}
-use Rattle.rt_grammar.specs.Words.{kinds, marks}
 use Rattle.rt_grammar.specs.declared.fault.ReadFault.{ReadFault}
 use Rattle.rt_grammar.specs.declared.fault.ReadFault.TheVariants.{Syntax}
 use Rattle.rt_token.specs.Lexed.{Text, lexed}
@@ -10,31 +7,12 @@ use Rattle.rt_token.specs.declared.token.Token.{Token}
 use Rattle.rt_value.specs.Gives.{Gives}
 use Rattle.rt_ddl.specs.Meaning.{is_memory}
 use Rattle.rt_ddl.specs.Read.{Answer, HasTree, IsAnswer}
-use Rattle.rt_ddl.specs.Reads.{read_text}
-use Rattle.rt_ddl.specs.Spelled.{IsTreeOf}
-use Rattle.rt_ddl.specs.Trees.{TreeRead}
-use Rattle.rt_ddl.specs.Whole.{of_tokens, of_tree, placeless, schema_read, tree_read}
+use Rattle.rt_ddl_tree.specs.Spelled.{IsTreeOf}
+use Rattle.rt_ddl_tree.specs.Trees.{TreeRead, tree_read}
+use Rattle.rt_ddl.specs.Whole.{of_tokens, of_tree, placeless, schema_read}
 use Rattle.rt_ddl.specs.declared.fault.SchemaFault.TheVariants as fault
-use Rattle.rt_ddl.specs.declared.tree.SchemaText.{SchemaText}
-use Rattle.rt_ddl.proofs.TextLaws.{text-reads}
-use Rattle.rt_ddl.proofs.TreeLemmas.{marks-of, tree_by}
-
-tree-is-read : (tokens : List Token) (t : SchemaText) → IsTreeOf tokens t → tree_read tokens ≡ Some t
-unfolding tree_read
-tree-is-read tokens t f = ap (λ (o : Option Kinds). option_and_then read_text o) (marks-of tokens t f) ∙ text-reads t
-
-read-is-tree : (tokens : List Token) (t : SchemaText) → tree_read tokens ≡ Some t → IsTreeOf tokens t
-unfolding tree_read
-read-is-tree tokens t r = by (marks (kinds tokens)) refl r
-  where
-    by : (o : Option Kinds) → marks (kinds tokens) ≡ o → option_and_then read_text o ≡ Some t → IsTreeOf tokens t
-    by None m r = cc r
-    by (Some ks) m r = tree_by tokens ks t m r
-
-pub read_is_tree : (tokens : List Token) (t : SchemaText) → (IsTreeOf tokens t → tree_read tokens ≡ Some t) × (tree_read tokens ≡ Some t → IsTreeOf tokens t)
-read_is_tree tokens t = (tree-is-read tokens t, read-is-tree tokens t)
-
--- ---- the answer
+use Rattle.rt_ddl_tree.specs.declared.tree.SchemaText.{SchemaText}
+use Rattle.rt_ddl_tree.proofs.TreeLemmas.{read-is-tree, tree-is-read}
 
 has-tree : (text : Text) (a : Answer) → HasTree text a → schema_read text ≡ a
 has-tree text a h = ap of_tokens h.2 ∙ ap of_tree (tree-is-read h.0 h.1 h.3) ∙ h.4
@@ -58,4 +36,5 @@ answer-read text (Err (fault.DuplicateName n)) h = has-tree text (Err (fault.Dup
 answer-read text (Err (fault.UnknownName n)) h = has-tree text (Err (fault.UnknownName n)) h
 answer-read text (Err (fault.KeyTypes n)) h = has-tree text (Err (fault.KeyTypes n)) h
 answer-read text (Err (fault.TooMany e)) h = has-tree text (Err (fault.TooMany e)) h
+answer-read text (Err (fault.CheckTypes n)) h = has-tree text (Err (fault.CheckTypes n)) h
 answer-read text (Err fault.NoMemory) h = tt

@@ -1,10 +1,8 @@
+pub mod Checks
 pub mod LexFaults
 pub mod Matches
 pub mod Meaning
 pub mod Parts
 pub mod Places
 pub mod Read
-pub mod Reads
-pub mod Spelled
-pub mod Trees
 pub mod Whole

@@ -1,16 +1,17 @@
 -- Which schema a text makes, or its first fault (ISO/IEC 9075-2, table definition; our own limits).
 --
--- The faults come in four classes, one after the other over the whole text: a name that stands
--- twice, a name that is unknown, a foreign key whose columns do not match, and an excess. In a class
--- the first place in text order decides.
+-- The faults come in five classes, one after the other over the whole text: a name that stands
+-- twice, a name that is unknown, a foreign key whose columns do not match, an excess, and a check that
+-- compares a whole number with a text. In a class the first place in text order decides.
 use Rattle.std.specs.Prelude.{ℕ, suc, Bool, true, false, if◌then◌else◌, List, [], ◌∷◌, ◌++◌, count_by, length, map, Option, Some, None, Result, Ok, Err, bytes_eq, nat_lt, slice_get}
 use Rattle.std.specs.List.{flat_map, list_all, list_any}
 use Rattle.rt_grammar.specs.Terminals.{Word}
-use Rattle.rt_schema.specs.Schema.{foreign_sound}
+use Rattle.rt_schema.specs.Schema.{check_typed, foreign_sound}
 use Rattle.rt_schema.specs.declared.table.Column.{Column}
 use Rattle.rt_schema.specs.declared.table.Rule.{Rule}
 use Rattle.rt_schema.specs.declared.table.Rule.TheVariants as made
 use Rattle.rt_schema.specs.declared.table.Table.{Table}
+use Rattle.rt_ddl.specs.Checks.{check_made}
 use Rattle.rt_ddl.specs.declared.fault.Excess.TheVariants as excess
 use Rattle.rt_ddl.specs.declared.fault.SchemaFault.{SchemaFault}
 use Rattle.rt_ddl.specs.declared.fault.SchemaFault.TheVariants as fault
@@ -19,6 +20,13 @@ use Rattle.rt_ddl.specs.declared.parts.Part.TheVariants as part
 use Rattle.rt_ddl.specs.declared.parts.RuleText.{RuleText}
 use Rattle.rt_ddl.specs.declared.parts.RuleText.TheVariants as rule
 use Rattle.rt_ddl.specs.declared.parts.TableText.{TableText}
+use Rattle.rt_ddl_tree.specs.declared.test_tree.Test.{Test}
+use Rattle.rt_ddl_tree.specs.declared.test_tree.TestForm.{TestForm}
+use Rattle.rt_ddl_tree.specs.declared.test_tree.TestForm.TheVariants as form
+use Rattle.rt_ddl_tree.specs.declared.test_tree.TestLeaf.{TestLeaf}
+use Rattle.rt_ddl_tree.specs.declared.test_tree.TestPart.{TestPart}
+use Rattle.rt_ddl_tree.specs.declared.test_tree.TestSide.{TestSide}
+use Rattle.rt_ddl_tree.specs.declared.test_tree.TestSide.TheVariants as side
 
 -- the first of two, if there is one
 abbrev pub or_else : {A : Type 0} → Option A → Option A → Option A
@@ -46,6 +54,8 @@ is_primary_rule (rule.NotNull n) = false
 is_primary_rule (rule.PrimaryKey ns) = true
 is_primary_rule (rule.Unique ns) = false
 is_primary_rule (rule.Foreign from t to) = false
+is_primary_rule (rule.Check t) = false
+is_primary_rule (rule.Depend from to) = false
 
 abbrev pub is_primary : Part → Bool
 is_primary (part.Column c) = false
@@ -72,6 +82,8 @@ rule_twice table before (rule.NotNull n) = None
 rule_twice table before (rule.PrimaryKey ns) = or_else (given (has_primary before) table) (name_twice [] ns)
 rule_twice table before (rule.Unique ns) = name_twice [] ns
 rule_twice table before (rule.Foreign from t to) = or_else (name_twice [] from) (maybe_twice to)
+rule_twice table before (rule.Check t) = None
+rule_twice table before (rule.Depend from to) = or_else (name_twice [] from) (name_twice [] to)
 
 abbrev pub part_twice : Word → List Part → Part → Option Word
 part_twice table before (part.Column c) = given (has_column before c.name) c.name
@@ -98,6 +110,37 @@ abbrev pub missing : List Part → List Word → Option Word
 missing ps [] = None
 missing ps (n ∷ ns) = or_else (unknown_column ps n) (missing ps ns)
 
+-- the same of the names in a condition
+abbrev pub side_unknown : List Part → TestSide → Option Word
+side_unknown ps (side.Column n) = unknown_column ps n.text
+side_unknown ps (side.Number m n) = None
+side_unknown ps (side.Str t) = None
+side_unknown ps side.Null = None
+
+abbrev pub sides_unknown : List Part → List TestSide → Option Word
+sides_unknown ps [] = None
+sides_unknown ps (s ∷ ss) = or_else (side_unknown ps s) (sides_unknown ps ss)
+
+abbrev pub form_unknown : List Part → TestForm → Option Word
+form_unknown ps (form.Cmp a o b) = or_else (side_unknown ps a) (side_unknown ps b)
+form_unknown ps (form.IsNull a n) = side_unknown ps a
+form_unknown ps (form.Between a n low high) = or_else (side_unknown ps a) (or_else (side_unknown ps low) (side_unknown ps high))
+form_unknown ps (form.OneOf a n b bs) = or_else (side_unknown ps a) (or_else (side_unknown ps b) (sides_unknown ps bs))
+
+abbrev pub leaves_unknown : List Part → List TestLeaf → Option Word
+leaves_unknown ps [] = None
+leaves_unknown ps (l ∷ ls) = or_else (form_unknown ps l.form) (leaves_unknown ps ls)
+
+abbrev pub all_unknown : List Part → TestPart → Option Word
+all_unknown ps p = or_else (form_unknown ps p.head.form) (leaves_unknown ps p.tail)
+
+abbrev pub any_unknown : List Part → List TestPart → Option Word
+any_unknown ps [] = None
+any_unknown ps (p ∷ qs) = or_else (all_unknown ps p) (any_unknown ps qs)
+
+abbrev pub test_unknown : List Part → Test → Option Word
+test_unknown ps t = or_else (all_unknown ps t.head) (any_unknown ps t.tail)
+
 abbrev pub table_named : List TableText → Word → Option TableText
 table_named [] n = None
 table_named (t ∷ ts) n = if bytes_eq t.name n then Some t else table_named ts n
@@ -113,6 +156,8 @@ rule_unknown ts ps (rule.NotNull n) = unknown_column ps n
 rule_unknown ts ps (rule.PrimaryKey ns) = missing ps ns
 rule_unknown ts ps (rule.Unique ns) = missing ps ns
 rule_unknown ts ps (rule.Foreign from t to) = or_else (missing ps from) (target_unknown t (table_named ts t) to)
+rule_unknown ts ps (rule.Check t) = test_unknown ps t
+rule_unknown ts ps (rule.Depend from to) = or_else (missing ps from) (missing ps to)
 
 abbrev pub part_unknown : List TableText → List Part → Part → Option Word
 part_unknown ts ps (part.Column c) = None
@@ -162,6 +207,8 @@ rules_made ts cs (rule.NotNull n) = made.NotNull (column_at cs n) ∷ []
 rules_made ts cs (rule.PrimaryKey ns) = made.Key (columns_at cs ns) ∷ map (λ c. made.NotNull c) (columns_at cs ns)
 rules_made ts cs (rule.Unique ns) = made.Key (columns_at cs ns) ∷ []
 rules_made ts cs (rule.Foreign from t to) = made.Foreign (record { from = columns_at cs from; table = table_at ts t; to = target (table_named ts t) to }) ∷ []
+rules_made ts cs (rule.Check t) = made.Check (check_made (column_at cs) t) ∷ []
+rules_made ts cs (rule.Depend from to) = made.Depend (record { from = columns_at cs from; to = columns_at cs to }) ∷ []
 
 -- the rules that stand with a column, or those that stand for themselves
 abbrev pub part_rules : Bool → List TableText → List Column → Part → List Rule
@@ -188,6 +235,8 @@ abbrev pub key_matches : List Table → List Column → Rule → Bool
 key_matches ts cs (made.NotNull c) = true
 key_matches ts cs (made.Key k) = true
 key_matches ts cs (made.Foreign f) = foreign_sound cs (slice_get ts f.table) f
+key_matches ts cs (made.Check c) = true
+key_matches ts cs (made.Depend d) = true
 
 abbrev pub keys_match : List Table → Table → Bool
 keys_match all t = list_all (key_matches all t.columns) t.rules
@@ -202,11 +251,13 @@ mismatched all (t ∷ ts) = or_else (mismatch all t) (mismatched all ts)
 
 -- ---- an excess
 
--- keys and foreign keys
+-- keys, foreign keys, checks and dependencies
 abbrev pub is_counted : Rule → Bool
 is_counted (made.NotNull c) = false
 is_counted (made.Key k) = true
 is_counted (made.Foreign f) = true
+is_counted (made.Check c) = true
+is_counted (made.Depend d) = true
 
 abbrev pub most : ℕ
 most = 64
@@ -227,6 +278,26 @@ tables_excess (t ∷ ts) = or_else (table_excess t) (tables_excess ts)
 abbrev pub excess_of : List Table → Option SchemaFault
 excess_of ts = or_else (given (nat_lt most (length ts)) (fault.TooMany excess.Tables)) (tables_excess ts)
 
+-- ---- a check that compares a whole number with a text
+
+abbrev pub rule_typed : List Column → Rule → Bool
+rule_typed cs (made.NotNull c) = true
+rule_typed cs (made.Key k) = true
+rule_typed cs (made.Foreign f) = true
+rule_typed cs (made.Check c) = check_typed cs c
+rule_typed cs (made.Depend d) = true
+
+abbrev pub checks_typed : Table → Bool
+checks_typed t = list_all (rule_typed t.columns) t.rules
+
+unfoldable pub mistyped : Table → Option Word
+mistyped t = if checks_typed t then None else Some t.name
+
+-- the first table that has one
+abbrev pub untyped : List Table → Option Word
+untyped [] = None
+untyped (t ∷ ts) = or_else (mistyped t) (untyped ts)
+
 -- ---- the schema
 
 abbrev pub named : (Word → SchemaFault) → Option Word → Option SchemaFault
@@ -238,7 +309,8 @@ abbrev pub fault_of : List TableText → List Table → Option SchemaFault
 fault_of texts tables =
     or_else (named fault.DuplicateName (tables_twice [] texts))
     (or_else (named fault.UnknownName (tables_unknown texts texts))
-    (or_else (named fault.KeyTypes (mismatched tables tables)) (excess_of tables)))
+    (or_else (named fault.KeyTypes (mismatched tables tables))
+    (or_else (excess_of tables) (named fault.CheckTypes (untyped tables)))))
 
 abbrev pub unless : {A : Type 0} → Option SchemaFault → A → Result A SchemaFault
 unless None x = Ok x
@@ -254,4 +326,5 @@ is_memory (fault.DuplicateName n) = false
 is_memory (fault.UnknownName n) = false
 is_memory (fault.KeyTypes n) = false
 is_memory (fault.TooMany e) = false
+is_memory (fault.CheckTypes n) = false
 is_memory fault.NoMemory = true

@@ -2,7 +2,8 @@
 -- constraint definition).
 --
 -- IF NOT EXISTS, the number after CHAR or VARCHAR, the rule NULL and the names of constraints have
--- no effect. A rule that stands with a column is the rule over this one column.
+-- no effect. A rule that stands with a column is the rule over this one column, but a CHECK may name
+-- every column of its table.
 use Rattle.std.specs.Prelude.{true, false, List, [], ◌∷◌, ◌++◌, map, Option, Some, None, option_map}
 use Rattle.std.specs.List.{flat_map}
 use Rattle.rt_grammar.specs.Terminals.{Word}
@@ -14,19 +15,19 @@ use Rattle.rt_ddl.specs.declared.parts.Part.TheVariants as part
 use Rattle.rt_ddl.specs.declared.parts.RuleText.{RuleText}
 use Rattle.rt_ddl.specs.declared.parts.RuleText.TheVariants as rule
 use Rattle.rt_ddl.specs.declared.parts.TableText.{TableText}
-use Rattle.rt_ddl.specs.declared.tree.Column.{Column}
-use Rattle.rt_ddl.specs.declared.tree.ColumnRule.{ColumnRule}
-use Rattle.rt_ddl.specs.declared.tree.ColumnRule.TheVariants as column_rule
-use Rattle.rt_ddl.specs.declared.tree.Create.{Create}
-use Rattle.rt_ddl.specs.declared.tree.Item.{Item}
-use Rattle.rt_ddl.specs.declared.tree.Item.TheVariants as item
-use Rattle.rt_ddl.specs.declared.tree.KindWord.{KindWord}
-use Rattle.rt_ddl.specs.declared.tree.KindWord.TheVariants as word
-use Rattle.rt_ddl.specs.declared.tree.Names.{Names}
-use Rattle.rt_ddl.specs.declared.tree.SchemaText.{SchemaText}
-use Rattle.rt_ddl.specs.declared.tree.SchemaText.TheVariants as schema_text
-use Rattle.rt_ddl.specs.declared.tree.TableRule.{TableRule}
-use Rattle.rt_ddl.specs.declared.tree.TableRule.TheVariants as table_rule
+use Rattle.rt_ddl_tree.specs.declared.tree.Column.{Column}
+use Rattle.rt_ddl_tree.specs.declared.tree.ColumnRule.{ColumnRule}
+use Rattle.rt_ddl_tree.specs.declared.tree.ColumnRule.TheVariants as column_rule
+use Rattle.rt_ddl_tree.specs.declared.tree.Create.{Create}
+use Rattle.rt_ddl_tree.specs.declared.tree.Item.{Item}
+use Rattle.rt_ddl_tree.specs.declared.tree.Item.TheVariants as item
+use Rattle.rt_ddl_tree.specs.declared.tree.KindWord.{KindWord}
+use Rattle.rt_ddl_tree.specs.declared.tree.KindWord.TheVariants as word
+use Rattle.rt_ddl_tree.specs.declared.tree.Names.{Names}
+use Rattle.rt_ddl_tree.specs.declared.tree.SchemaText.{SchemaText}
+use Rattle.rt_ddl_tree.specs.declared.tree.SchemaText.TheVariants as schema_text
+use Rattle.rt_ddl_tree.specs.declared.tree.TableRule.{TableRule}
+use Rattle.rt_ddl_tree.specs.declared.tree.TableRule.TheVariants as table_rule
 
 abbrev pub texts_of : List Name → List Word
 texts_of ns = map (λ n. n.text) ns
@@ -49,6 +50,7 @@ column_rule_parts name column_rule.Null = []
 column_rule_parts name column_rule.PrimaryKey = part.Rule false (rule.PrimaryKey (name ∷ [])) ∷ []
 column_rule_parts name column_rule.Unique = part.Rule false (rule.Unique (name ∷ [])) ∷ []
 column_rule_parts name (column_rule.References t c) = part.Rule false (rule.Foreign (name ∷ []) t.text (option_map (λ n. n.text ∷ []) c)) ∷ []
+column_rule_parts name (column_rule.Check t) = part.Rule false (rule.Check t) ∷ []
 
 -- a rule that stands with a column, or none
 abbrev pub rule_parts : Option RuleText → List Part
@@ -62,6 +64,8 @@ abbrev pub table_rule_text : TableRule → RuleText
 table_rule_text (table_rule.PrimaryKey ns) = rule.PrimaryKey (names_of ns)
 table_rule_text (table_rule.Unique ns) = rule.Unique (names_of ns)
 table_rule_text (table_rule.Foreign ns t ms) = rule.Foreign (names_of ns) t.text (option_map names_of ms)
+table_rule_text (table_rule.Check t) = rule.Check t
+table_rule_text (table_rule.Depend from to) = rule.Depend (names_of from) (names_of to)
 
 abbrev pub item_parts : Item → List Part
 item_parts (item.Column c) = column_parts c

@@ -6,10 +6,10 @@ use Rattle.rt_token.specs.Lexed.{Text, lexed}
 use Rattle.rt_token.specs.declared.token.Token.{Token}
 use Rattle.rt_ddl.specs.Meaning.{schema_of}
 use Rattle.rt_ddl.specs.Parts.{table_texts}
-use Rattle.rt_ddl.specs.Spelled.{IsTreeOf}
+use Rattle.rt_ddl_tree.specs.Spelled.{IsTreeOf}
 use Rattle.rt_ddl.specs.declared.fault.SchemaFault.{SchemaFault}
 use Rattle.rt_ddl.specs.declared.fault.SchemaFault.TheVariants as fault
-use Rattle.rt_ddl.specs.declared.tree.SchemaText.{SchemaText}
+use Rattle.rt_ddl_tree.specs.declared.tree.SchemaText.{SchemaText}
 
 abbrev pub Answer : Type 0
 Answer = Result (List Table) SchemaFault
@@ -31,6 +31,7 @@ IsAnswer text (Err (fault.DuplicateName n)) = HasTree text (Err (fault.Duplicate
 IsAnswer text (Err (fault.UnknownName n)) = HasTree text (Err (fault.UnknownName n))
 IsAnswer text (Err (fault.KeyTypes n)) = HasTree text (Err (fault.KeyTypes n))
 IsAnswer text (Err (fault.TooMany e)) = HasTree text (Err (fault.TooMany e))
+IsAnswer text (Err (fault.CheckTypes n)) = HasTree text (Err (fault.CheckTypes n))
 IsAnswer text (Err fault.NoMemory) = Unit {0}
 
 -- the answer of any tree that the tokens have

@@ -1,21 +1,15 @@
 -- What a text makes, as a value: the law `read_is_tree` says that the tree that is read here is just
 -- the one formed tree that the tokens have.
 use Rattle.std.specs.Prelude.{List, Option, Some, None, Result, Ok, Err}
-use Rattle.std.specs.Option.{option_and_then}
-use Rattle.rt_grammar.specs.Words.{kinds, marks}
 use Rattle.rt_token.specs.Lexed.{Text, lexed}
 use Rattle.rt_token.specs.declared.fault.LexFault.{LexFault}
 use Rattle.rt_token.specs.declared.token.Token.{Token}
 use Rattle.rt_ddl.specs.Meaning.{schema_of}
 use Rattle.rt_ddl.specs.Parts.{table_texts}
 use Rattle.rt_ddl.specs.Read.{Answer}
-use Rattle.rt_ddl.specs.Reads.{read_text}
+use Rattle.rt_ddl_tree.specs.Trees.{tree_read}
 use Rattle.rt_ddl.specs.declared.fault.SchemaFault.TheVariants as fault
-use Rattle.rt_ddl.specs.declared.tree.SchemaText.{SchemaText}
-
--- the formed tree that tokens have, if they have one
-unfoldable pub tree_read : List Token → Option SchemaText
-tree_read tokens = option_and_then read_text (marks (kinds tokens))
+use Rattle.rt_ddl_tree.specs.declared.tree.SchemaText.{SchemaText}
 
 abbrev pub of_tree : Option SchemaText → Answer
 of_tree None = Err (fault.Syntax 0)
@@ -39,4 +33,5 @@ placeless (Err (fault.DuplicateName n)) = Err (fault.DuplicateName n)
 placeless (Err (fault.UnknownName n)) = Err (fault.UnknownName n)
 placeless (Err (fault.KeyTypes n)) = Err (fault.KeyTypes n)
 placeless (Err (fault.TooMany e)) = Err (fault.TooMany e)
+placeless (Err (fault.CheckTypes n)) = Err (fault.CheckTypes n)
 placeless (Err fault.NoMemory) = Err fault.NoMemory

@@ -6,10 +6,11 @@ ghost use Rattle.rt_ddl.specs.Meaning as spec;
 ghost use Rattle.rt_ddl.specs.declared.parts.RuleText.TheVariants as told;
 ghost use Rattle.rt_schema.specs.declared.table.Rule.TheVariants as made;
 
+use crate::build_check::check_made;
 use crate::known::{KnownTable, columns_of};
 use crate::known_tables::KnownTables;
 use crate::parts::{Part, RuleText};
-use rt_schema::{Foreign, Rule, Table};
+use rt_schema::{Depend, Foreign, Rule, Table};
 use rt_value::{List, NoMemory, Txt};
 use std::alloc::Global;
 
@@ -84,6 +85,14 @@ fn foreign_of(
     }))
 }
 
+fn depend_of(alloc: Global, table: &KnownTable, from: &[Txt], to: &[Txt]) -> Result<Rule, NoMemory>
+    ensures { let columns = spec.columns_of table.now.parts in IfOk result (λ rule. rule ≡ made.Depend (record { from = spec.columns_at columns from.now; to = spec.columns_at columns to.now })) }
+{
+    let from = columns_at(alloc, table, from)?;
+    let to = columns_at(alloc, table, to)?;
+    Ok(Rule::Depend(Depend { from, to }))
+}
+
 // Puts what a rule's text makes at the end of the rules.
 fn push_rule(
     alloc: Global,
@@ -102,6 +111,10 @@ fn push_rule(
         }
         RuleText::Foreign(from, name, to) => {
             rules.push(foreign_of(alloc, tables, table, from.as_slice(), name, to)?)
+        }
+        RuleText::Check(test) => rules.push(Rule::Check(check_made(alloc, table, test)?)),
+        RuleText::Depend(from, to) => {
+            rules.push(depend_of(alloc, table, from.as_slice(), to.as_slice())?)
         }
     }
 }

@@ -10,7 +10,7 @@ use rt_value::{NoMemory, Txt};
 pub enum Excess {
     Tables,
     Columns(Txt),
-    /// Keys and foreign keys, together.
+    /// Keys, foreign keys, checks and dependencies, together.
     Rules(Txt),
 }
 
@@ -32,6 +32,8 @@ pub enum SchemaFault {
     /// they refer to.
     KeyTypes(Txt),
     TooMany(Excess),
+    /// This table has a check that compares a whole number with a text.
+    CheckTypes(Txt),
     NoMemory,
 }
 

@@ -1,12 +1,11 @@
 //! Reading a schema: CREATE TABLE statements (ISO/IEC 9075-2, table definition), from bytes to the
 //! tables and rules that they make.
 //!
-//! `tree` has one type a line of the grammar; `specs/Spelled.antt` says which tokens a tree has,
-//! and `specs/Meaning.antt` which schema it makes.
+//! The trees of texts stand in rt_ddl_tree; `specs/Meaning.antt` says which schema a text makes.
 #![tactic(auto)]
 
 mod build;
-mod columns;
+mod build_check;
 mod fault;
 mod known;
 mod known_tables;
@@ -15,15 +14,12 @@ mod matches;
 mod name_list;
 mod parts;
 mod reader;
-mod tables;
 mod texts;
-mod tree;
 mod twice;
+mod typed;
 mod unknown;
+mod unknown_test;
 
 pub use fault::{Excess, SchemaFault};
 pub use parts::{Part, RuleText, TableText};
-pub use reader::{one_tree, read_is_tree, read_schema};
-pub use tree::{
-    Column, ColumnConstraint, ColumnRule, Create, Item, KindWord, Names, SchemaText, TableRule,
-};
+pub use reader::read_schema;

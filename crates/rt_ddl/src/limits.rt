@@ -9,7 +9,8 @@ use crate::fault::{Excess, SchemaFault};
 use rt_schema::{Rule, Table};
 use std::alloc::Global;
 
-/// The most tables, the most columns of a table, and the most keys and foreign keys of a table.
+/// The most tables, the most columns of a table, and the most keys, foreign keys, checks and
+/// dependencies of a table together.
 pub const MOST: usize = 64;
 
 fn is_counted(rule: &Rule) -> bool
@@ -19,6 +20,8 @@ fn is_counted(rule: &Rule) -> bool
         Rule::NotNull(_) => false,
         Rule::Key(_) => true,
         Rule::Foreign(_) => true,
+        Rule::Check(_) => true,
+        Rule::Depend(_) => true,
     }
 }
 

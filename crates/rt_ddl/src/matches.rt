@@ -67,6 +67,8 @@ fn rule_matches(tables: &KnownTables, table: &KnownTable, rule: &RuleText) -> bo
         RuleText::Foreign(from, name, to) => {
             target_matches(table, from.as_slice(), tables.named(name), to)
         }
+        RuleText::Check(_) => true,
+        RuleText::Depend(_, _) => true,
     }
 }
 

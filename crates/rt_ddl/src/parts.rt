@@ -1,5 +1,6 @@
 //! What a table's text says, part by part in text order, without the words that have no effect.
 
+use rt_ddl_tree::Test;
 use rt_schema::Column;
 use rt_value::{List, Txt};
 
@@ -17,7 +18,8 @@ pub enum Part {
     Rule(bool, RuleText),
 }
 
-/// A rule over columns by their names. One that stands with a column names that one.
+/// A rule over columns by their names. One that stands with a column names that one; a CHECK may
+/// name others.
 #[derive(PartialEq, Eq, Debug, Drop)]
 pub enum RuleText {
     NotNull(Txt),
@@ -25,4 +27,7 @@ pub enum RuleText {
     Unique(List<Txt>),
     /// The referencing columns, the referenced table, and its columns if they are told.
     Foreign(List<Txt>, Txt, Option<List<Txt>>),
+    Check(Test),
+    /// The determining columns, and those that they determine.
+    Depend(List<Txt>, List<Txt>),
 }

@@ -7,7 +7,7 @@ ghost use Rattle.rt_ddl.specs.Parts as spec;
 use crate::known::KnownTable;
 use crate::known_tables::KnownTables;
 use crate::parts::{Part, RuleText, TableText};
-use crate::tree::{
+use rt_ddl_tree::{
     Column, ColumnConstraint, ColumnRule, Create, Item, KindWord, Names, SchemaText, TableRule,
 };
 use rt_grammar::Name;
@@ -80,6 +80,7 @@ fn column_rule(alloc: Global, column: &Txt, rule: &ColumnRule) -> Result<Option<
             let to = maybe_only(alloc, to)?;
             Ok(Some(RuleText::Foreign(from, table.text.copy(alloc)?, to)))
         }
+        ColumnRule::Check(test) => Ok(Some(RuleText::Check(test.copy(alloc)?))),
     }
 }
 
@@ -119,6 +120,11 @@ fn table_rule(alloc: Global, rule: &TableRule) -> Result<RuleText, NoMemory>
             let from = names_of(alloc, from)?;
             let to = maybe_names_of(alloc, to)?;
             Ok(RuleText::Foreign(from, table.text.copy(alloc)?, to))
+        }
+        TableRule::Check(test) => Ok(RuleText::Check(test.copy(alloc)?)),
+        TableRule::Depend(from, to) => {
+            let from = names_of(alloc, from)?;
+            Ok(RuleText::Depend(from, names_of(alloc, to)?))
         }
     }
 }

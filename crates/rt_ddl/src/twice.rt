@@ -45,6 +45,19 @@ fn key_twice<'t>(
     }
 }
 
+fn lists_twice<'t>(
+    alloc: Global,
+    from: &'t [Txt],
+    to: &'t [Txt],
+) -> Result<Option<&'t Txt>, NoMemory>
+    ensures { IfOk result (λ twice. option_map (λ name. name.now) twice ≡ spec.or_else (spec.name_twice [] from.now) (spec.name_twice [] to.now)) }
+{
+    if let Some(name) = name_twice(alloc, from)? {
+        return Ok(Some(name));
+    }
+    name_twice(alloc, to)
+}
+
 fn rule_twice<'t>(
     alloc: Global,
     table: &'t Txt,
@@ -63,6 +76,8 @@ fn rule_twice<'t>(
         }
         RuleText::Unique(columns) => name_twice(alloc, columns.as_slice()),
         RuleText::Foreign(from, _, to) => key_twice(alloc, from.as_slice(), to),
+        RuleText::Check(_) => Ok(None),
+        RuleText::Depend(from, to) => lists_twice(alloc, from.as_slice(), to.as_slice()),
     }
 }
 

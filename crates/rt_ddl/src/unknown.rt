@@ -6,11 +6,12 @@ ghost use Rattle.rt_ddl.specs.Meaning as spec;
 use crate::known::KnownTable;
 use crate::known_tables::KnownTables;
 use crate::parts::{Part, RuleText};
+use crate::unknown_test::test_unknown;
 use rt_value::{List, Txt};
 
 // The name, where no column has it.
 #[tactic(auto, unfolding(crate::specs::Meaning::unknown_column))]
-fn unknown_column<'t>(table: &KnownTable, name: &'t Txt) -> Option<&'t Txt>
+pub fn unknown_column<'t>(table: &KnownTable, name: &'t Txt) -> Option<&'t Txt>
     ensures { option_map (λ name. name.now) result ≡ spec.unknown_column table.now.parts name.now }
 {
     if table.has_column(name) {
@@ -64,6 +65,11 @@ fn rule_unknown<'t>(tables: &KnownTables, table: &KnownTable, rule: &'t RuleText
         RuleText::Foreign(from, name, to) => match missing(table, from.as_slice()) {
             Some(column) => Some(column),
             None => target_unknown(name, tables.named(name), to),
+        },
+        RuleText::Check(test) => test_unknown(table, test),
+        RuleText::Depend(from, to) => match missing(table, from.as_slice()) {
+            Some(column) => Some(column),
+            None => missing(table, to.as_slice()),
         },
     }
 }

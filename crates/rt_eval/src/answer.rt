@@ -23,7 +23,7 @@ pub fn answers(alloc: Global, typed: &Typed, given: &Given, keep: &Keep) -> Resu
     ensures members { IfOk result (λ rows. (x : List Value) → has_row rows x ≡ has_row (plain typed.now.query (kept given.now.tables keep.now)) x) }
 {
     wrapped_is_exact(typed, given, keep);
-    wrapped_answers(alloc, &typed.query, given, keep)
+    wrapped_answers(alloc, typed.query.get(), given, keep)
 }
 
 /// The answer with arithmetic modulo 2^128, which asks for no bounds.

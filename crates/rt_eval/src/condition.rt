@@ -6,8 +6,8 @@ ghost use Rattle.rt_algebra.specs.Answer.{pred_by, is_yes, all_of, any_of};
 
 use crate::lists::{member_truth, some_truth};
 use crate::query::answer;
-use rt_algebra::{Expr, Pred, null_truth, one_of_truth, value};
-use rt_value::{List, NoMemory, Op, Row, Truth, Value, compare};
+use rt_algebra::{Expr, Pred, one_of_truth, value};
+use rt_value::{List, NoMemory, Op, Row, Truth, Value, compare, null_truth};
 use std::alloc::Global;
 
 /// The truth of a condition on the rows of the tables, under the rows in scope.

@@ -86,7 +86,9 @@ fn product_items(
         return Ok(out);
     }
     let parts = split(alloc, condition, widths.as_slice())?;
+    drop(widths);
     let pairs = chosen(alloc, members, &parts, env)?;
+    drop(parts);
     let out = pair_items(alloc, &pairs, condition, items, tables, env)?;
     Ok(out)
 }

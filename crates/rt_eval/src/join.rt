@@ -42,6 +42,20 @@ pub fn chosen(
     Ok(pairs)
 }
 
+/// The same, joined.
+pub fn chosen_rows(
+    alloc: Global,
+    members: &[List<Row>],
+    parts: &Split,
+    env: &[&Row],
+) -> Result<List<Row>, NoMemory>
+    ensures { IfOk result (λ out. out ≡ joined_rows wrapped parts.now.own parts.now.keys ([] ∷ []) members.now (map (λ s. s.now) env.now)) }
+{
+    let pairs = chosen(alloc, members, parts, env)?;
+    let rows = pairs.joined(alloc)?;
+    Ok(rows)
+}
+
 fn unit(alloc: Global) -> Result<List<Row>, NoMemory>
     ensures { IfOk result (λ out. out ≡ [] ∷ []) }
 {

@@ -6,7 +6,7 @@ ghost use Rattle.rt_algebra.specs.Join.{product_rows};
 
 use crate::condition::{is_yes, pred};
 use crate::items::projection;
-use crate::join::{are_wide, chosen, product, widths};
+use crate::join::{are_wide, chosen_rows, product, widths};
 use crate::lists::{appended, common, difference, table_rows};
 use rt_algebra::{Pred, Query, scope, split};
 use rt_value::{List, NoMemory, Row};
@@ -108,7 +108,8 @@ fn product_selected(
         return Ok(out);
     }
     let parts = split(alloc, condition, widths.as_slice())?;
-    let rows = chosen(alloc, members, &parts, env)?.joined(alloc)?;
+    drop(widths);
+    let rows = chosen_rows(alloc, members, &parts, env)?;
     match parts.rest.as_slice() {
         [] => Ok(rows),
         [_, ..] => {

@@ -1,5 +1,8 @@
+ghost use Rattle.std.specs.Prelude.{◌≡◌, IfOk, IfSome};
+
 use rt_top::{Fault, Part, Spent};
-use rt_value::Keep;
+use rt_value::{Keep, NoMemory};
+use std::alloc::Global;
 
 /// How a candidate stands to its reference: what a run of the two alone ends with.
 #[derive(Debug, Drop)]
@@ -16,4 +19,19 @@ pub enum Grade {
     Work(u128),
     /// Its file has too many bytes.
     TooLong,
+}
+
+impl Grade {
+    /// The same grade once more; none where that is long or soon found again, as of one that is
+    /// undecided or refused.
+    pub fn again(&self, alloc: Global) -> Result<Option<Grade>, NoMemory>
+        ensures { IfOk result (λ copy. IfSome copy (λ grade. grade ≡ self.now)) }
+    {
+        match self {
+            Grade::Agree => Ok(Some(Grade::Agree)),
+            Grade::Witness(keep) => Ok(Some(Grade::Witness(keep.copy(alloc)?))),
+            Grade::Work(work) => Ok(Some(Grade::Work(*work))),
+            Grade::Undecided(_) | Grade::Refused(_, _) | Grade::TooLong => Ok(None),
+        }
+    }
 }

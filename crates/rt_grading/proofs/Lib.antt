@@ -1,4 +1,5 @@
 mod AloneLemmas
 mod FaultLemmas
 mod GradeLemmas
+mod KnownLemmas
 mod WordLemmas

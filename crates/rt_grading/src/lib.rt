@@ -3,6 +3,7 @@
 
 mod candidates;
 mod fault;
+mod known;
 mod list;
 mod run;
 mod words;

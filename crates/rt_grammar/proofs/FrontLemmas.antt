@@ -19,7 +19,7 @@ fixed_at (f ∷ fs) (suc n) = fixed_at fs n
 
 -- by their codes; `Dot` stands where a code is not that of a fixed terminal
 all_fixed : List Fixed
-all_fixed = fixed.Left ∷ fixed.Dot ∷ fixed.Star ∷ fixed.Plus ∷ fixed.Minus ∷ fixed.Constraint ∷ fixed.Null ∷ fixed.Primary ∷ fixed.Unique ∷ fixed.References ∷ fixed.Equal ∷ fixed.NotEqual ∷ fixed.Below ∷ fixed.AtMost ∷ fixed.Above ∷ fixed.AtLeast ∷ fixed.Is ∷ fixed.Not ∷ fixed.In ∷ fixed.Between ∷ fixed.And ∷ fixed.Or ∷ fixed.As ∷ fixed.Dot ∷ fixed.Inner ∷ fixed.Join ∷ fixed.Cross ∷ fixed.Comma ∷ fixed.Where ∷ fixed.Intersect ∷ fixed.Union ∷ fixed.Except ∷ fixed.Right ∷ fixed.Semi ∷ fixed.Dot ∷ fixed.From ∷ fixed.On ∷ fixed.Select ∷ fixed.Distinct ∷ fixed.Exists ∷ fixed.Create ∷ fixed.Table ∷ fixed.Foreign ∷ fixed.Dot ∷ fixed.Dot ∷ []
+all_fixed = fixed.Left ∷ fixed.Dot ∷ fixed.Star ∷ fixed.Plus ∷ fixed.Minus ∷ fixed.Constraint ∷ fixed.Null ∷ fixed.Primary ∷ fixed.Unique ∷ fixed.References ∷ fixed.Equal ∷ fixed.NotEqual ∷ fixed.Below ∷ fixed.AtMost ∷ fixed.Above ∷ fixed.AtLeast ∷ fixed.Is ∷ fixed.Not ∷ fixed.In ∷ fixed.Between ∷ fixed.And ∷ fixed.Or ∷ fixed.As ∷ fixed.Dot ∷ fixed.Inner ∷ fixed.Join ∷ fixed.Cross ∷ fixed.Check ∷ fixed.Comma ∷ fixed.Where ∷ fixed.Intersect ∷ fixed.Union ∷ fixed.Except ∷ fixed.Right ∷ fixed.Semi ∷ fixed.Dot ∷ fixed.From ∷ fixed.On ∷ fixed.Select ∷ fixed.Distinct ∷ fixed.Exists ∷ fixed.Create ∷ fixed.Table ∷ fixed.Foreign ∷ fixed.Dot ∷ fixed.Dot ∷ []
 
 at-code : (f : Fixed) → fixed_at all_fixed (code f) ≡ f
 unfolding fixed_at all_fixed
@@ -49,6 +49,7 @@ at-code fixed.As = refl
 at-code fixed.Inner = refl
 at-code fixed.Join = refl
 at-code fixed.Cross = refl
+at-code fixed.Check = refl
 at-code fixed.Comma = refl
 at-code fixed.Where = refl
 at-code fixed.Intersect = refl
@@ -80,8 +81,8 @@ pub is-fixed : (f : Fixed) (k : Terminal) → (code_of k == code f) ≡ true →
 unfolding fixed_at all_fixed
 is-fixed f (terminal.Fixed g) e = ap (λ (f : Fixed). terminal.Fixed f) (same-code g f e)
 is-fixed f (terminal.Name n) e = absurd (unlike 23 f refl e)
-is-fixed f (terminal.Number n) e = absurd (unlike 43 f refl e)
-is-fixed f (terminal.Str t) e = absurd (unlike 44 f refl e)
+is-fixed f (terminal.Number n) e = absurd (unlike 44 f refl e)
+is-fixed f (terminal.Str t) e = absurd (unlike 45 f refl e)
 
 pub chosen : {A : Type 0} (b : Bool) (x : Option A) (y : A) → cond b x None ≡ Some y → (b ≡ true) × (x ≡ Some y)
 chosen true x y e = (refl, e)

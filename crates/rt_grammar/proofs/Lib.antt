@@ -1,4 +1,5 @@
 pub mod CalmLemmas
+pub mod ComparisonLaws
 pub mod EndLaws
 pub mod FrontLemmas
 pub mod Laws

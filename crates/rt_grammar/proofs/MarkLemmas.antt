@@ -38,7 +38,7 @@ either-sound (Some g) b w f x y h = x h
 word-sound : (w : List ℕ) (f : Fixed) → word_of w ≡ Some f → fixed_kind f ≡ kind.Word w
 unfolding word_of
 word-sound w f h = either-sound (look_up words_to_exists w) (or_else (look_up words_to_null w) (look_up words_to_where w)) w f
-    (look-sound words_to_exists (refl, (refl, (refl, (refl, (refl, (refl, (refl, (refl, (refl, tt))))))))) w f)
+    (look-sound words_to_exists (refl, (refl, (refl, (refl, (refl, (refl, (refl, (refl, (refl, (refl, tt)))))))))) w f)
     (either-sound (look_up words_to_null w) (look_up words_to_where w) w f
     (look-sound words_to_null (refl, (refl, (refl, (refl, (refl, (refl, (refl, (refl, (refl, tt))))))))) w f)
     (look-sound words_to_where (refl, (refl, (refl, (refl, (refl, (refl, (refl, (refl, (refl, tt))))))))) w f)) h
@@ -112,6 +112,7 @@ fixed-mark fixed.As = refl
 fixed-mark fixed.Inner = refl
 fixed-mark fixed.Join = refl
 fixed-mark fixed.Cross = refl
+fixed-mark fixed.Check = refl
 fixed-mark fixed.Comma = refl
 fixed-mark fixed.Where = refl
 fixed-mark fixed.Intersect = refl
@@ -164,6 +165,7 @@ fixed-reserved fixed.As = refl
 fixed-reserved fixed.Inner = refl
 fixed-reserved fixed.Join = refl
 fixed-reserved fixed.Cross = refl
+fixed-reserved fixed.Check = refl
 fixed-reserved fixed.Comma = refl
 fixed-reserved fixed.Where = refl
 fixed-reserved fixed.Intersect = refl

@@ -1,3 +1,4 @@
+pub mod Comparisons
 pub mod Places
 pub mod Readers
 pub mod Reads

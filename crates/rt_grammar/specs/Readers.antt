@@ -1,6 +1,7 @@
 -- Readers of terminals from the left, and how a grammar's rules are put together of them.
 --
--- Contracts of private functions alone cite them: what a grammar is, its trees' spellings say.
+-- What a text is, the spellings of a grammar's trees say; by its law `read_is_tree` its readers give just
+-- the tree that the tokens spell.
 use Rattle.std.specs.Prelude.{◌&&◌, bytes_eq, not, ℕ, zero, suc, ◌==◌, Bool, true, false, if◌then◌else◌, List, [], ◌∷◌, length, Option, Some, None, option_and_then}
 use Rattle.rt_grammar.specs.declared.fixed.Fixed.{Fixed}
 use Rattle.rt_grammar.specs.declared.fixed.Fixed.TheVariants as fixed
@@ -31,9 +32,16 @@ lead f p ks = after f ks >>= p
 abbrev pub paren : {A : Type 0} → Parser A → Parser A
 paren p ks = after fixed.Left ks >>= λ r. p r >>= λ a. after fixed.Right a.1 >>= λ s. Some (a.0, s)
 
+abbrev pub flag_from : Kinds → Option Kinds → Bool × Kinds
+flag_from ks None = (false, ks)
+flag_from ks (Some r) = (true, r)
+
+-- whether the terminal stands at the front, and what follows it, or all
+abbrev pub flag_at : Fixed → Kinds → Bool × Kinds
+flag_at f ks = flag_from ks (after f ks)
+
 abbrev pub flagged_from : {A : Type 0} → Parser A → Kinds → Option Kinds → Option ((Bool × A) × Kinds)
-flagged_from p ks None = p ks >>= λ a. Some ((false, a.0), a.1)
-flagged_from p ks (Some r) = p r >>= λ a. Some ((true, a.0), a.1)
+flagged_from p ks o = p (flag_from ks o).1 >>= λ a. Some (((flag_from ks o).0, a.0), a.1)
 
 -- whether the terminal stands there, then the rest
 abbrev pub flagged : {A : Type 0} → Fixed → Parser A → Parser (Bool × A)

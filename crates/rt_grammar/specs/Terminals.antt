@@ -20,7 +20,7 @@ abbrev pub name_code : ℕ
 name_code = 23
 
 abbrev pub end_code : ℕ
-end_code = 34
+end_code = 35
 
 abbrev pub code : Fixed → ℕ
 code fixed.Left = 0
@@ -49,27 +49,28 @@ code fixed.As = 22
 code fixed.Inner = 24
 code fixed.Join = 25
 code fixed.Cross = 26
-code fixed.Comma = 27
-code fixed.Where = 28
-code fixed.Intersect = 29
-code fixed.Union = 30
-code fixed.Except = 31
-code fixed.Right = 32
-code fixed.Semi = 33
-code fixed.From = 35
-code fixed.On = 36
-code fixed.Select = 37
-code fixed.Distinct = 38
-code fixed.Exists = 39
-code fixed.Create = 40
-code fixed.Table = 41
-code fixed.Foreign = 42
+code fixed.Check = 27
+code fixed.Comma = 28
+code fixed.Where = 29
+code fixed.Intersect = 30
+code fixed.Union = 31
+code fixed.Except = 32
+code fixed.Right = 33
+code fixed.Semi = 34
+code fixed.From = 36
+code fixed.On = 37
+code fixed.Select = 38
+code fixed.Distinct = 39
+code fixed.Exists = 40
+code fixed.Create = 41
+code fixed.Table = 42
+code fixed.Foreign = 43
 
 abbrev pub code_of : Terminal → ℕ
 code_of (terminal.Fixed f) = code f
 code_of (terminal.Name n) = name_code
-code_of (terminal.Number n) = 43
-code_of (terminal.Str t) = 44
+code_of (terminal.Number n) = 44
+code_of (terminal.Str t) = 45
 
 -- ---- the front of a list of terminals
 

@@ -18,7 +18,7 @@ abbrev pub Entry : Type 0
 Entry = Word × Fixed
 
 abbrev pub words_to_exists : List Entry
-words_to_exists = (codes "and", fixed.And) ∷ (codes "as", fixed.As) ∷ (codes "between", fixed.Between) ∷ (codes "constraint", fixed.Constraint) ∷ (codes "create", fixed.Create) ∷ (codes "cross", fixed.Cross) ∷ (codes "distinct", fixed.Distinct) ∷ (codes "except", fixed.Except) ∷ (codes "exists", fixed.Exists) ∷ []
+words_to_exists = (codes "and", fixed.And) ∷ (codes "as", fixed.As) ∷ (codes "between", fixed.Between) ∷ (codes "check", fixed.Check) ∷ (codes "constraint", fixed.Constraint) ∷ (codes "create", fixed.Create) ∷ (codes "cross", fixed.Cross) ∷ (codes "distinct", fixed.Distinct) ∷ (codes "except", fixed.Except) ∷ (codes "exists", fixed.Exists) ∷ []
 
 abbrev pub words_to_null : List Entry
 words_to_null = (codes "foreign", fixed.Foreign) ∷ (codes "from", fixed.From) ∷ (codes "in", fixed.In) ∷ (codes "inner", fixed.Inner) ∷ (codes "intersect", fixed.Intersect) ∷ (codes "is", fixed.Is) ∷ (codes "join", fixed.Join) ∷ (codes "not", fixed.Not) ∷ (codes "null", fixed.Null) ∷ []
@@ -66,6 +66,7 @@ fixed_kind fixed.As = kind.Word (codes "as")
 fixed_kind fixed.Inner = kind.Word (codes "inner")
 fixed_kind fixed.Join = kind.Word (codes "join")
 fixed_kind fixed.Cross = kind.Word (codes "cross")
+fixed_kind fixed.Check = kind.Word (codes "check")
 fixed_kind fixed.Comma = kind.Sym sign.Comma
 fixed_kind fixed.Where = kind.Word (codes "where")
 fixed_kind fixed.Intersect = kind.Word (codes "intersect")

@@ -6,6 +6,7 @@
 //! accepted. The laws of `proofs/` say this once for each way to put readers together.
 #![tactic(auto)]
 
+mod comparisons;
 mod fault;
 mod fixed;
 mod looks;
@@ -15,9 +16,10 @@ mod reads;
 mod terminal;
 mod words;
 
+pub use comparisons::op_at;
 pub use fault::ReadFault;
 pub use fixed::{Fixed, code};
-pub use looks::{END, NAME, after, code_of, counted, front, starts};
+pub use looks::{END, NAME, after, code_of, counted, flag, front, starts, tail};
 pub use marks::{name_of, terminals};
 pub use place::syntax_place;
 pub use reads::{after_word, end, expect, expect_word, name, starts_name};

@@ -11,11 +11,11 @@ use crate::terminal::Terminal;
 pub const NAME: u8 = 23;
 
 /// The code that stands for the end of the terminals.
-pub const END: u8 = 34;
+pub const END: u8 = 35;
 
-const NUMBER: u8 = 43;
+const NUMBER: u8 = 44;
 
-const STR: u8 = 44;
+const STR: u8 = 45;
 
 /// The place of a terminal in the order of what may follow what.
 pub fn code_of(terminal: &Terminal) -> u8
@@ -74,4 +74,25 @@ pub fn counted(terminals: &[Terminal], fixed: Fixed) -> (usize, &[Terminal])
         rest = next;
     }
     (count, rest)
+}
+
+/// Whether the terminal stands at the front, and what follows it, or all.
+pub fn flag(terminals: &[Terminal], fixed: Fixed) -> (bool, &[Terminal])
+    ensures flag { result.0 ≡ (readers.flag_at fixed terminals.now).0 }
+    ensures rest { result.1.now ≡ (readers.flag_at fixed terminals.now).1 }
+{
+    match after(terminals, fixed) {
+        Some(rest) => (true, rest),
+        None => (false, terminals),
+    }
+}
+
+/// What follows the terminal at the front, or nothing.
+pub fn tail(terminals: &[Terminal]) -> &[Terminal]
+    ensures { result.now ≡ spec.tail_of terminals.now }
+{
+    match terminals {
+        [_, rest @ ..] => rest,
+        _ => terminals,
+    }
 }

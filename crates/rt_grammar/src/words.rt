@@ -20,6 +20,8 @@ fn word_to_exists(word: &str) -> Option<Fixed>
         Some(Fixed::As)
     } else if is(word, "between") {
         Some(Fixed::Between)
+    } else if is(word, "check") {
+        Some(Fixed::Check)
     } else if is(word, "constraint") {
         Some(Fixed::Constraint)
     } else if is(word, "create") {

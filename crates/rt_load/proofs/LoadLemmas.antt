@@ -9,8 +9,8 @@ use Rattle.csv.specs.Reading.{default_config, records, strip_bom}
 use Rattle.rt_value.specs.Gives.{Gives}
 use Rattle.rt_value.specs.declared.value.Value.{Value}
 use Rattle.rt_schema.specs.declared.table.Column.{Column}
-use Rattle.rt_schema.specs.Given.{Rows}
-use Rattle.rt_load.specs.Loaded.{Field, begins_with_mark, is_header, rows_behind_header, loaded, is_name, is_memory, ◌>>=◌, cell, cells, row_at, row_limit, rows_from}
+use Rattle.rt_schema.specs.Given.{Rows, row_limit}
+use Rattle.rt_load.specs.Loaded.{Field, begins_with_mark, is_header, rows_behind_header, loaded, is_name, is_memory, ◌>>=◌, cell, cells, row_at, rows_from}
 use Rattle.rt_load.specs.declared.fault.LoadFault.{LoadFault}
 use Rattle.rt_load.specs.declared.fault.LoadFault.TheVariants.{BadHeader, FieldCount, TooManyRows}
 

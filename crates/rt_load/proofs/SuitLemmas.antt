@@ -11,10 +11,10 @@ use Rattle.rt_schema.specs.declared.table.ColKind.{ColKind}
 use Rattle.rt_schema.specs.declared.table.ColKind.TheVariants.{Whole, Text}
 use Rattle.rt_schema.specs.declared.table.Column.{Column}
 use Rattle.rt_schema.specs.declared.table.Table.{Table}
-use Rattle.rt_schema.specs.Given.{Instance, Rows, Tables, in_64_bits, is_instance, places, row_suits, rows_suit, tables_suit, value_suits}
+use Rattle.rt_schema.specs.Given.{Instance, Rows, Tables, in_64_bits, is_instance, places, row_suits, rows_suit, tables_suit, value_suits, row_limit}
 use Rattle.rt_schema.specs.Schema.{kinds_of, schema_kinds}
 use Rattle.rt_load.specs.Integer.{integer, signed, trimmed, with_sign}
-use Rattle.rt_load.specs.Loaded.{Field, ◌>>=◌, begins_with_mark, cell, cells, columns_at, is_header, loaded, number_or, row_at, row_limit, rows_behind_header, rows_from, text_cell, whole_cell}
+use Rattle.rt_load.specs.Loaded.{Field, ◌>>=◌, begins_with_mark, cell, cells, columns_at, is_header, loaded, number_or, row_at, rows_behind_header, rows_from, text_cell, whole_cell}
 use Rattle.rt_load.specs.declared.fault.LoadFault.{LoadFault}
 use Rattle.rt_load.specs.declared.fault.LoadFault.TheVariants.{BadHeader, FieldCount, TooManyRows}
 

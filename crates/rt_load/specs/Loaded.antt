@@ -9,17 +9,13 @@ use Rattle.rt_schema.specs.declared.table.ColKind.{ColKind}
 use Rattle.rt_schema.specs.declared.table.ColKind.TheVariants.{Whole, Text}
 use Rattle.rt_schema.specs.declared.table.Column.{Column}
 use Rattle.rt_schema.specs.declared.table.Table.{Table}
-use Rattle.rt_schema.specs.Given.{Rows}
+use Rattle.rt_schema.specs.Given.{Rows, row_limit}
 use Rattle.rt_load.specs.Integer.{integer, trimmed}
 use Rattle.rt_load.specs.declared.fault.LoadFault.{LoadFault}
 use Rattle.rt_load.specs.declared.fault.LoadFault.TheVariants.{BadHeader, FieldCount, TooManyRows, BadInteger, BadText, NoMemory}
 
 abbrev pub Field : Type 0
 Field = List ℕ
-
--- the most rows that all tables together may have
-abbrev pub row_limit : ℕ
-row_limit = 2000
 
 -- the first fault decides
 infixl 10 ◌>>=◌

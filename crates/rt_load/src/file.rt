@@ -1,8 +1,8 @@
 ghost use Rattle.std.specs.Prelude.{◌≡◌, ◌≤◌, ◌<◌, ◌+◌, ◌-◌, OnOk, OnErr, length, slice_set};
 ghost use Rattle.csv.specs.Records.{fields_of};
 ghost use Rattle.rt_value.specs.Gives.{Gives};
-ghost use Rattle.rt_schema.specs.Given.{IsOf, places, rows_at};
-ghost use Rattle.rt_load.specs.Loaded.{columns_at, is_memory, loaded, row_at, row_limit, rows_from, with_rows};
+ghost use Rattle.rt_schema.specs.Given.{IsOf, places, rows_at, row_limit};
+ghost use Rattle.rt_load.specs.Loaded.{columns_at, is_memory, loaded, row_at, rows_from, with_rows};
 ghost use Rattle.rt_load.specs.Records.{IsReading, left_of};
 
 use crate::cells::cells_of;
@@ -10,12 +10,9 @@ use crate::fault::LoadFault;
 use crate::header::{begins_with_mark, is_header};
 use crate::records::{read_next, reader_of};
 use csv::{ByteRecord, Reader};
-use rt_schema::{Column, Given, Schema};
+use rt_schema::{Column, Given, ROW_LIMIT, Schema};
 use rt_value::{List, Row};
 use std::alloc::Global;
-
-/// The most rows that all tables together may have.
-pub const ROW_LIMIT: usize = 2000;
 
 /// Reads the rows of a table from its file into `given`, which has none of this table yet. The
 /// first refusal decides: the header, then record by record its number of fields, the number of
@@ -52,7 +49,7 @@ fn rows_of(
     bytes: &[u8],
     before: usize,
 ) -> Result<List<Row>, LoadFault>
-    requires { before ≤ 2000 }
+    requires { before ≤ row_limit }
     ensures { Gives is_memory result (loaded columns.now bytes.now before) }
 {
     if begins_with_mark(bytes) {
@@ -74,7 +71,7 @@ fn rows_left(
     before: usize,
 ) -> Result<List<Row>, LoadFault>
     requires reading { IsReading reader.old }
-    requires within { before ≤ 2000 }
+    requires within { before ≤ row_limit }
     ensures { Gives is_memory result (rows_from columns.now 2 before (left_of reader.old)) }
 {
     let mut fields = ByteRecord::new(alloc);

@@ -13,6 +13,6 @@ mod integer;
 mod records;
 
 pub use fault::LoadFault;
-pub use file::{ROW_LIMIT, load};
+pub use file::load;
 pub use generator::made;
 pub use input::Made;

@@ -2,7 +2,7 @@
 use Rattle.std.proofs.Common.{◌≡◌, ◌∙◌, ℕ, zero, suc, ℤ, ◌+◌, ◌<◌, Bool, true, false, ◌&&◌, not, cond, List, [], ◌∷◌, ◌++◌, map, length, Option, Some, None, Result, Ok, Err, refl, sym, ap, ap₂, subst, arith, slice_get}
 use Rattle.std.specs.Prelude.{IfOk, bytes_eq, if◌then◌else◌, slice_index_or}
 use Rattle.std.specs.List.{filter, list_any}
-use Rattle.rt_algebra.specs.Answer.{all_of as all_true, answer, is_yes, null_truth, pred}
+use Rattle.rt_algebra.specs.Answer.{all_of as all_true, answer, is_yes, pred}
 use Rattle.rt_algebra.specs.Expression.{Env, cell_of, row_of, value_of}
 use Rattle.rt_algebra.specs.declared.expr.Expr.{Expr}
 use Rattle.rt_algebra.specs.declared.expr.Expr.TheVariants as expr
@@ -13,7 +13,7 @@ use Rattle.rt_algebra.specs.declared.query.Query.TheVariants as q
 use Rattle.rt_schema.specs.Given.{Rows, Tables}
 use Rattle.rt_schema.specs.Schema.{kind_eq}
 use Rattle.rt_value.specs.Truth.{truth_and, truth_not}
-use Rattle.rt_value.specs.Value.{value_truth}
+use Rattle.rt_value.specs.Value.{null_truth, value_truth}
 use Rattle.rt_value.specs.declared.truth.Truth.{Truth}
 use Rattle.rt_value.specs.declared.truth.Truth.TheVariants.{Yes, No, Unknown}
 use Rattle.rt_value.specs.declared.value.Op.{Op}

@@ -3,7 +3,7 @@ use Rattle.std.proofs.Common.{◌≡◌, ◌∙◌, ℕ, ℤ, Bool, true, not, L
 use Rattle.std.proofs.Math.IntN.{+ℤ_idl}
 use Rattle.std.specs.Prelude.{slice_index_or}
 use Rattle.std.specs.List.{filter}
-use Rattle.rt_algebra.specs.Answer.{Answer, Condition, all_of, answer, has_row, is_yes, join_each, null_truth, pairs, pred, pred_step, product_after, query_step, some_truth}
+use Rattle.rt_algebra.specs.Answer.{Answer, Condition, all_of, answer, has_row, is_yes, join_each, pairs, pred, pred_step, product_after, query_step, some_truth}
 use Rattle.rt_algebra.specs.Expression.{Env, add_value, cell_of, exact, expr_step, neg_value, row_of, term_by, term_step, value_of}
 use Rattle.rt_algebra.specs.declared.expr.Expr.{Expr}
 use Rattle.rt_algebra.specs.declared.expr.Expr.TheViews.{roll-Expr}
@@ -21,7 +21,7 @@ use Rattle.rt_algebra.specs.declared.query.Query.{Query}
 use Rattle.rt_algebra.specs.declared.query.Query.TheVariants as q
 use Rattle.rt_schema.specs.Given.{Rows, Tables}
 use Rattle.rt_value.specs.Truth.{truth_not}
-use Rattle.rt_value.specs.Value.{value_truth}
+use Rattle.rt_value.specs.Value.{null_truth, value_truth}
 use Rattle.rt_value.specs.declared.value.Op.{Op}
 use Rattle.rt_value.specs.declared.value.Value.{Value}
 use Rattle.rt_value.specs.declared.value.Value.TheVariants as v

@@ -5,14 +5,14 @@ use Rattle.std.specs.Option.{option_and_then}
 use Rattle.std.proofs.lemmas.List.{append-nil, length-map, map-append}
 use Rattle.std.proofs.lemmas.Option.{slice_get-map}
 use Rattle.rt_algebra.specs.Columns as algebra
-use Rattle.rt_algebra.specs.Columns.{all_typed, column, column_at, column_of, comparable, item_columns, kinds_match, merged_column, merged_columns, pred_typed, query_columns, set_columns, with_column}
+use Rattle.rt_schema.specs.Schema.{kinds_match, kind_eq}
+use Rattle.rt_algebra.specs.Columns.{all_typed, column, column_at, column_of, comparable, item_columns, merged_column, merged_columns, pred_typed, query_columns, set_columns, with_column}
 use Rattle.rt_algebra.specs.declared.expr.Expr.{Expr}
 use Rattle.rt_algebra.specs.declared.expr.Expr.TheVariants as expr
 use Rattle.rt_algebra.specs.declared.query.Pred.{Pred}
 use Rattle.rt_algebra.specs.declared.query.Pred.TheVariants as p
 use Rattle.rt_algebra.specs.declared.query.Query.{Query}
 use Rattle.rt_algebra.specs.declared.query.Query.TheVariants as q
-use Rattle.rt_schema.specs.Schema.{kind_eq}
 use Rattle.rt_schema.specs.declared.table.ColKind.{ColKind}
 use Rattle.rt_schema.specs.declared.table.ColKind.TheVariants.{Whole, Text as Texts}
 use Rattle.rt_value.specs.declared.value.Op.TheVariants.{Eq}

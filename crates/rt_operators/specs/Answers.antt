@@ -2,12 +2,12 @@
 -- with NULL is unknown, as in ISO/IEC 9075-2).
 use Rattle.std.specs.Prelude.{ℕ, ℤ, ◌+◌, neg_ℤ, Bool, true, false, not, ◌&&◌, if◌then◌else◌, map, List, [], ◌∷◌, ◌++◌, length, replicate, bytes_eq, slice_index_or}
 use Rattle.std.specs.List.{filter, flat_map, list_all, list_any}
-use Rattle.rt_algebra.specs.Answer.{has_row, is_yes, null_truth, pairs}
+use Rattle.rt_algebra.specs.Answer.{has_row, is_yes, pairs}
 use Rattle.rt_schema.specs.Given.{Rows, Tables, rows_at}
 use Rattle.rt_schema.specs.declared.table.Table.{Table}
 use Rattle.rt_value.specs.Row.{row_eq}
 use Rattle.rt_value.specs.Truth.{truth_not}
-use Rattle.rt_value.specs.Value.{value_truth}
+use Rattle.rt_value.specs.Value.{null_truth, value_truth}
 use Rattle.rt_value.specs.declared.truth.Truth.{Truth}
 use Rattle.rt_value.specs.declared.value.Op.TheVariants.{Eq}
 use Rattle.rt_value.specs.declared.value.Value.{Value}

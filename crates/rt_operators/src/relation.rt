@@ -75,7 +75,7 @@ pub fn typed_of(alloc: Global, relation: Relation) -> Result<Typed, NoMemory>
         names,
     } = heads_of(alloc, relation.columns.as_slice())?;
     Ok(Typed {
-        query: relation.query.into_inner(),
+        query: relation.query,
         kinds,
         bounds,
         names,

@@ -9,7 +9,8 @@ use Rattle.rt_grammar.specs.declared.terminal.Terminal.{Terminal}
 use Rattle.rt_grammar.specs.declared.terminal.Terminal.TheVariants as terminal
 use Rattle.rt_operator_laws.proofs.Typing.{and-left, and-right, and-true}
 use Rattle.rt_operators.specs.Numbers.{side_fits, test_fits, tests_fit}
-use Rattle.rt_ra_tree.specs.Spelled.{applied, op_sign, spelled_side, spelled_test, spelled_tests}
+use Rattle.rt_grammar.specs.Comparisons.{op_sign}
+use Rattle.rt_ra_tree.specs.Spelled.{applied, spelled_side, spelled_test, spelled_tests}
 use Rattle.rt_ra_tree.specs.declared.tree.RaSide.{RaSide}
 use Rattle.rt_ra_tree.specs.declared.tree.RaSide.TheVariants as side_
 use Rattle.rt_ra_tree.specs.declared.tree.RaTest.{RaTest}

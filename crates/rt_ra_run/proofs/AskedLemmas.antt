@@ -2,8 +2,7 @@
 use Rattle.std.proofs.Common.{◌≡◌, ◌≤◌, ℕ, IsTrue, List, refl, sym, subst}
 use Rattle.std.specs.Prelude.{Option, None, Some}
 use Rattle.std.specs.Option.{ForSome}
-use Rattle.rt_schema.specs.Given.{IsOf, is_instance, places}
-use Rattle.rt_load.specs.Loaded.{row_limit}
+use Rattle.rt_schema.specs.Given.{IsOf, is_instance, places, row_limit}
 use Rattle.rt_words.specs.Ranges.{IsWithin, most_made}
 use Rattle.rt_top.specs.declared.tables.Tables.{Tables}
 use Rattle.rt_top.specs.Accepted.{Accepted, IsAccepted}

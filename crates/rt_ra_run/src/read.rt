@@ -1,8 +1,7 @@
 //! The reading of what a command asks.
 ghost use Rattle.std.specs.Prelude.{◌≡◌, ◌≤◌, IsTrue, IfOk, IfErr, Ok};
 ghost use Rattle.rt_io.specs.Edge.{NoneFell};
-ghost use Rattle.rt_schema.specs.Given.{IsOf, places};
-ghost use Rattle.rt_load.specs.Loaded.{row_limit};
+ghost use Rattle.rt_schema.specs.Given.{IsOf, places, row_limit};
 ghost use Rattle.rt_top.specs.Accepted.{IsAccepted};
 ghost use Rattle.rt_top.specs.Source.{query_part};
 ghost use Rattle.rt_top.specs.Steps.{over};

@@ -64,12 +64,12 @@ ra-cases P t s p r w x = subst P (roll-out-Ra x) (go (out-Ra x))
 abbrev pair_kinds : {A : Type 0} → (A → Kinds) → Ra × A → Kinds
 pair_kinds sp x = in_paren (spelled_ra x.0 ++ terminal.Fixed fixed.Comma ∷ sp x.1)
 
-operands-law : {A : Type 0} (inner : Parser Ra) (p : Parser A) (sp : A → Kinds) (n low : ℕ) → Lawful false inner spelled_ra n 27 → Lawful false p sp n low → low ≤ 32
+operands-law : {A : Type 0} (inner : Parser Ra) (p : Parser A) (sp : A → Kinds) (n low : ℕ) → Lawful false inner spelled_ra n 28 → Lawful false p sp n low → low ≤ 33
     → Lawful false (operands inner p) (pair_kinds sp) (n + 2) 0
 operands-law {A = A} inner p sp n low l m below = paren-law (both inner (lead fixed.Comma p)) (λ (x : Ra × A). spelled_ra x.0 ++ terminal.Fixed fixed.Comma ∷ sp x.1) n low
-    (both-law inner (lead fixed.Comma p) spelled_ra (λ (x : A). terminal.Fixed fixed.Comma ∷ sp x) n 27 low l (lead-law fixed.Comma p sp n low m (λ e. omega arith) (λ e. omega arith)) (λ y rest f. omega arith)) below
+    (both-law inner (lead fixed.Comma p) spelled_ra (λ (x : A). terminal.Fixed fixed.Comma ∷ sp x) n 28 low l (lead-law fixed.Comma p sp n low m (λ e. omega arith) (λ e. omega arith)) (λ y rest f. omega arith)) below
 
-module _ (inner : Parser Ra) (n : ℕ) (l : Lawful false inner spelled_ra n 27) where
+module _ (inner : Parser Ra) (n : ℕ) (l : Lawful false inner spelled_ra n 28) where
   select-law : Lawful false (operands inner read_tests) (pair_kinds spelled_tests) (n + 2) 0
   select-law = operands-law inner read_tests spelled_tests n 21 l (tests-law n) (omega arith)
 
@@ -77,7 +77,7 @@ module _ (inner : Parser Ra) (n : ℕ) (l : Lawful false inner spelled_ra n 27) 
   named-law = operands-law inner read_names spelled_names n 0 l (weaker read_names spelled_names (n + 2) 0 n 0 (names-law n) (omega arith) (omega arith)) (omega arith)
 
   two-law : Lawful false (operands inner inner) (pair_kinds spelled_ra) (n + 2) 0
-  two-law = operands-law inner inner spelled_ra n 27 l l (omega arith)
+  two-law = operands-law inner inner spelled_ra n 28 l l (omega arith)
 
   with-sound : (h : Head) (ks : Kinds) (q : Ra × Kinds) → read_with h inner ks ≡ Some q → head_terminal h ∷ ks ≡ spelled_ra q.0 ++ q.1
   with-sound head.Select = made-after (head_terminal head.Select) (operands inner read_tests) select_of (pair_kinds spelled_tests) spelled_ra select-law.sound (λ x. spelled-Select x.0 x.1)
@@ -112,12 +112,12 @@ module _ (inner : Parser Ra) (n : ℕ) (l : Lawful false inner spelled_ra n 27) 
   two-reads : (o : RaOp) (a b : Ra) → HeadReads (head.Two o) (spelled_ra a ++ terminal.Fixed fixed.Comma ∷ spelled_ra b) (ra.Two o a b)
   two-reads o a b rest k = let one = two-law.reads (a, b) rest k (omega arith) in rw one refl
 
-  table-reads : (m : Name) (rest : Kinds) → 27 ≤ front rest → read_from inner (terminal.Name m ∷ rest) (head_at (terminal.Name m ∷ rest)) ≡ Some (ra.Table m, rest)
+  table-reads : (m : Name) (rest : Kinds) → 28 ≤ front rest → read_from inner (terminal.Name m ∷ rest) (head_at (terminal.Name m ∷ rest)) ≡ Some (ra.Table m, rest)
   unfolding read_name
   table-reads m rest f = let none = head-none m rest (omega arith) in rw none refl
 
   abbrev FromReads : Ra → Type 0
-  FromReads x = (rest : Kinds) → length (spelled_ra x) < suc n → 27 ≤ front rest → read_from inner (spelled_ra x ++ rest) (head_at (spelled_ra x ++ rest)) ≡ Some (x, rest)
+  FromReads x = (rest : Kinds) → length (spelled_ra x) < suc n → 28 ≤ front rest → read_from inner (spelled_ra x ++ rest) (head_at (spelled_ra x ++ rest)) ≡ Some (x, rest)
 
   from-reads : (x : Ra) → FromReads x
   from-reads = ra-cases FromReads
@@ -128,10 +128,10 @@ module _ (inner : Parser Ra) (n : ℕ) (l : Lawful false inner spelled_ra n 27) 
       (λ o a b rest h f. applied-reads (head.Two o) (spelled_ra a) (spelled_ra b) (ra.Two o a b) (spelled-Two o a b) (two-reads o a b) rest h)
 
 -- trees of fewer than n terminals are read
-pub ra-law : (n : ℕ) → Lawful false (read_ra n) spelled_ra n 27
+pub ra-law : (n : ℕ) → Lawful false (read_ra n) spelled_ra n 28
 unfolding read_ra
-ra-law zero = loose (read_ra zero) spelled_ra zero 27 (λ ks q e. cc e) (λ x rest h f. absurd (omega arith))
-ra-law (suc n) = loose (read_ra (suc n)) spelled_ra (suc n) 27 (λ ks q e. from-sound (read_ra n) n (ra-law n) ks (head_at ks) q refl e) (from-reads (read_ra n) n (ra-law n))
+ra-law zero = loose (read_ra zero) spelled_ra zero 28 (λ ks q e. cc e) (λ x rest h f. absurd (omega arith))
+ra-law (suc n) = loose (read_ra (suc n)) spelled_ra (suc n) 28 (λ ks q e. from-sound (read_ra n) n (ra-law n) ks (head_at ks) q refl e) (from-reads (read_ra n) n (ra-law n))
 
 -- ---- all the terminals
 
@@ -145,7 +145,7 @@ text-sound ks t e =
     subst (λ (t : RaText). spelled_text t ≡ ks) h
     (ap (λ (r : Kinds). spelled_ra c.0.0 ++ r) (sym (end-sound c.0.1 b.0 b.1)) ∙ sym ((ra-law (length ks + 1)).sound ks c.0 c.1))
 
-front-of : (b : Bool) → 27 ≤ front (flag fixed.Semi b)
+front-of : (b : Bool) → 28 ≤ front (flag fixed.Semi b)
 front-of b = let f = end-front b in omega arith
 
 -- every tree is read from its terminals

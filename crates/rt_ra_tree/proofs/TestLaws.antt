@@ -6,18 +6,17 @@ use Rattle.rt_grammar.specs.declared.fixed.Fixed.TheVariants as fixed
 use Rattle.rt_grammar.specs.declared.terminal.Name.{Name}
 use Rattle.rt_grammar.specs.declared.terminal.Terminal.{Terminal}
 use Rattle.rt_grammar.specs.declared.terminal.Terminal.TheVariants as terminal
+use Rattle.rt_grammar.specs.Comparisons.{op_sign, read_op}
 use Rattle.rt_grammar.specs.Terminals.{Kinds, code, code_of, flag, in_paren}
-use Rattle.rt_grammar.specs.Readers.{Parser, both, done, lead, list_of, made, paren, read_name, starts}
-use Rattle.rt_grammar.proofs.FrontLemmas.{is-fixed}
-use Rattle.rt_grammar.proofs.Laws.{Lawful, both-law, done-law, either-sound, lead-law, loose, made-law, made-sound, name-law, paren-law}
+use Rattle.rt_grammar.specs.Readers.{Parser, both, done, flagged, lead, list_of, made, paren, read_name, starts}
+use Rattle.rt_grammar.proofs.ComparisonLaws.{op-law, op_kinds}
+use Rattle.rt_grammar.proofs.Laws.{Lawful, both-law, done-law, either-sound, flagged-law, lead-law, loose, made-law, made-sound, name-law, paren-law}
 use Rattle.rt_grammar.proofs.ListLaws.{StepLaw, after-law, list-law}
 use Rattle.rt_grammar.proofs.ManyLemmas.{some-is}
-use Rattle.rt_tree.specs.Flags.{flagged}
-use Rattle.rt_tree.proofs.FlagLaws.{flagged-law}
 use Rattle.rt_value.specs.declared.value.Op.{Op}
 use Rattle.rt_value.specs.declared.value.Op.TheVariants as op
-use Rattle.rt_ra_tree.specs.Reads.{compared, is_null_test, name_step, names_of, negative, null_of, op_at, read_names, read_null, read_number, read_op, read_plain_side, read_side, read_test, read_tests, test_step, tests_of}
-use Rattle.rt_ra_tree.specs.Spelled.{op_sign, spelled_names, spelled_side, spelled_test, spelled_tests}
+use Rattle.rt_ra_tree.specs.Reads.{compared, is_null_test, name_step, names_of, negative, null_of, read_names, read_null, read_number, read_plain_side, read_side, read_test, read_tests, test_step, tests_of}
+use Rattle.rt_ra_tree.specs.Spelled.{spelled_names, spelled_side, spelled_test, spelled_tests}
 use Rattle.rt_ra_tree.specs.declared.tree.RaNames.{RaNames}
 use Rattle.rt_ra_tree.specs.declared.tree.RaSide.{RaSide}
 use Rattle.rt_ra_tree.specs.declared.tree.RaSide.TheVariants as side
@@ -71,37 +70,6 @@ side-law n = loose read_side spelled_side n 0
     (λ x rest h f. side-reads x rest)
 
 -- ---- comparisons
-
-op-if : (c : ℕ) (b : Bool) (x : Op) (r : Option Op) (o : Op) → (b ≡ true → (c == code (op_sign x)) ≡ true) → (r ≡ Some o → (c == code (op_sign o)) ≡ true) → cond b (Some x) r ≡ Some o → (c == code (op_sign o)) ≡ true
-op-if c true x r o f g e = subst (λ (o : Op). (c == code (op_sign o)) ≡ true) (some-is _ _ e) (f refl)
-op-if c false x r o f g e = g e
-
-op-at-sound : (c : ℕ) (o : Op) → op_at c ≡ Some o → (c == code (op_sign o)) ≡ true
-op-at-sound c o = op-if c (c == 10) op.Eq _ o (λ e. e) (op-if c (c == 11) op.Ne _ o (λ e. e) (op-if c (c == 12) op.Lt _ o (λ e. e) (op-if c (c == 13) op.Le _ o (λ e. e) (op-if c (c == 14) op.Gt _ o (λ e. e) (op-if c (c == 15) op.Ge _ o (λ e. e) (λ e. cc e))))))
-
-abbrev op_kinds : Op → Kinds
-op_kinds o = terminal.Fixed (op_sign o) ∷ []
-
-op-found : (k : Terminal) (ks : Kinds) (r : Option Op) (q : Op × Kinds) → op_at (code_of k) ≡ r → option_map (λ o. (o, ks)) r ≡ Some q → k ∷ ks ≡ op_kinds q.0 ++ q.1
-op-found k ks None q a e = cc e
-op-found k ks (Some o) q a e =
-    let h : (o, ks) ≡ q = some-is _ _ e in
-    subst (λ (q : Op × Kinds). k ∷ ks ≡ op_kinds q.0 ++ q.1) h (ap (λ (k : Terminal). k ∷ ks) (is-fixed (op_sign o) k (op-at-sound (code_of k) o a)))
-
-op-sound : (ks : Kinds) (q : Op × Kinds) → read_op ks ≡ Some q → ks ≡ op_kinds q.0 ++ q.1
-op-sound [] q e = cc e
-op-sound (k ∷ ks) q e = op-found k ks (op_at (code_of k)) q refl e
-
-op-reads : (o : Op) (rest : Kinds) → read_op (op_kinds o ++ rest) ≡ Some (o, rest)
-op-reads op.Eq rest = refl
-op-reads op.Ne rest = refl
-op-reads op.Lt rest = refl
-op-reads op.Le rest = refl
-op-reads op.Gt rest = refl
-op-reads op.Ge rest = refl
-
-op-law : (n : ℕ) → Lawful false read_op op_kinds n 0
-op-law n = loose read_op op_kinds n 0 op-sound (λ o rest h f. op-reads o rest)
 
 abbrev read_cmp : Parser (RaSide × (Op × RaSide))
 read_cmp = both read_side (both read_op read_side)
@@ -193,7 +161,7 @@ tests-law n = made-law (both read_test (list_of test_step)) tests_of (λ (x : Ra
 abbrev comma_name : Name → Kinds
 comma_name n = terminal.Fixed fixed.Comma ∷ name_kinds n
 
-pub name-step-law : (n : ℕ) → StepLaw false name_step comma_name n 0 28
+pub name-step-law : (n : ℕ) → StepLaw false name_step comma_name n 0 29
 name-step-law n = after-law fixed.Comma read_name name_kinds n 0 (a-name n) (λ e. omega arith) (λ e. omega arith) (omega arith)
 
 abbrev read_listed : Parser (Name × List Name)
@@ -202,10 +170,10 @@ read_listed = both read_name (list_of name_step)
 abbrev listed_kinds : Name × List Name → Kinds
 listed_kinds x = name_kinds x.0 ++ flat_map comma_name x.1
 
-listed-law : (n : ℕ) → Lawful false read_listed listed_kinds n 28
-listed-law n = both-law read_name (list_of name_step) name_kinds (flat_map comma_name) n 0 28 (a-name n) (list-law name_step comma_name n 0 28 (name-step-law n)) (λ xs rest f. omega arith)
+listed-law : (n : ℕ) → Lawful false read_listed listed_kinds n 29
+listed-law n = both-law read_name (list_of name_step) name_kinds (flat_map comma_name) n 0 29 (a-name n) (list-law name_step comma_name n 0 29 (name-step-law n)) (λ xs rest f. omega arith)
 
 pub names-law : (n : ℕ) → Lawful false read_names spelled_names (n + 2) 0
 unfolding read_names
 names-law n = made-law (paren read_listed) names_of (λ (x : RaNames). (x.head, x.tail)) (λ (x : Name × List Name). in_paren (listed_kinds x)) spelled_names (n + 2) 0
-    (paren-law read_listed listed_kinds n 28 (listed-law n) (omega arith)) (λ x. refl) (λ x. refl)
+    (paren-law read_listed listed_kinds n 29 (listed-law n) (omega arith)) (λ x. refl) (λ x. refl)

@@ -1,6 +1,7 @@
 -- The operator at the front of terminals: its word, before an opening parenthesis.
 --
--- Contracts of private functions alone cite it: what a text is, the spelling of trees says.
+-- What the reading of a text answers is defined by it; by the law `read_is_tree` it is the tree that the
+-- tokens spell.
 use Rattle.std.specs.Prelude.{ℕ, ◌==◌, if◌then◌else◌, List, [], ◌∷◌, Option, Some, None, codes, bytes_eq}
 use Rattle.rt_grammar.specs.declared.fixed.Fixed.{Fixed}
 use Rattle.rt_grammar.specs.declared.fixed.Fixed.TheVariants as fixed

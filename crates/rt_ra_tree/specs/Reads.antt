@@ -1,15 +1,15 @@
 -- The grammar of algebra texts, as readers of terminals from the left.
 --
--- Contracts of private functions alone cite them: what a text is, the spelling of trees says.
-use Rattle.std.specs.Prelude.{ℕ, ℤ, zero, suc, ◌+◌, ◌==◌, ◌&&◌, Bool, true, false, if◌then◌else◌, List, [], ◌∷◌, length, Option, Some, None, option_map}
-use Rattle.rt_grammar.specs.Readers.{Parser, Step, ◌>>=◌, both, done, either, lead, list_of, made, paren, read_end, read_name, starts, starts_name, step_after}
+-- What the reading of a text answers is defined by them; by the law `read_is_tree` it is the tree that
+-- the tokens spell.
+use Rattle.std.specs.Prelude.{ℕ, ℤ, zero, suc, ◌+◌, ◌&&◌, Bool, true, false, if◌then◌else◌, List, [], ◌∷◌, length, Option, Some, None}
+use Rattle.rt_grammar.specs.Comparisons.{read_op}
+use Rattle.rt_grammar.specs.Readers.{Parser, Step, both, done, either, flagged, lead, list_of, made, paren, read_end, read_name, starts, starts_name, step_after, ◌>>=◌}
 use Rattle.rt_grammar.specs.Terminals.{Kinds, code, front, tail_of}
 use Rattle.rt_grammar.specs.declared.fixed.Fixed.TheVariants as fixed
 use Rattle.rt_grammar.specs.declared.terminal.Name.{Name}
 use Rattle.rt_grammar.specs.declared.terminal.Terminal.TheVariants as terminal
-use Rattle.rt_tree.specs.Flags.{flagged}
 use Rattle.rt_value.specs.declared.value.Op.{Op}
-use Rattle.rt_value.specs.declared.value.Op.TheVariants as op
 use Rattle.rt_ra_tree.specs.Heads.{head_at}
 use Rattle.rt_ra_tree.specs.declared.heads.Head.{Head}
 use Rattle.rt_ra_tree.specs.declared.heads.Head.TheVariants as head
@@ -43,15 +43,6 @@ negative n = side.Number true n
 
 unfoldable pub read_side : Parser RaSide
 read_side = either (starts fixed.Minus) (made negative (lead fixed.Minus read_number)) read_plain_side
-
-abbrev pub op_at : ℕ → Option Op
-op_at c =
-    if c == code fixed.Equal then Some op.Eq else if c == code fixed.NotEqual then Some op.Ne
-    else if c == code fixed.Below then Some op.Lt else if c == code fixed.AtMost then Some op.Le
-    else if c == code fixed.Above then Some op.Gt else if c == code fixed.AtLeast then Some op.Ge else None
-
-abbrev pub read_op : Parser Op
-read_op ks = option_map (λ o. (o, tail_of ks)) (op_at (front ks))
 
 abbrev pub compared : RaSide × (Op × RaSide) → RaTest
 compared x = test.Cmp x.1.0 x.0 x.1.1

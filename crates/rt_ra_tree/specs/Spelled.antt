@@ -4,14 +4,13 @@
 -- and folded over the tree.
 use Rattle.std.specs.Prelude.{[], ◌∷◌, ◌++◌, codes}
 use Rattle.std.specs.List.{flat_map}
+use Rattle.rt_grammar.specs.Comparisons.{op_sign}
 use Rattle.rt_grammar.specs.declared.fixed.Fixed.{Fixed}
 use Rattle.rt_grammar.specs.declared.fixed.Fixed.TheVariants as fixed
 use Rattle.rt_grammar.specs.declared.terminal.Terminal.{Terminal}
 use Rattle.rt_grammar.specs.declared.terminal.Terminal.TheVariants as terminal
 use Rattle.rt_grammar.specs.Readers.{plain_word}
 use Rattle.rt_grammar.specs.Terminals.{Kinds, flag, in_paren}
-use Rattle.rt_value.specs.declared.value.Op.{Op}
-use Rattle.rt_value.specs.declared.value.Op.TheVariants as op
 use Rattle.rt_ra_tree.specs.declared.tree.Ra.{Ra}
 use Rattle.rt_ra_tree.specs.declared.tree.Ra.TheFolds.{fold-Ra}
 use Rattle.rt_ra_tree.specs.declared.tree.Ra.TheOpen as open_
@@ -26,14 +25,6 @@ use Rattle.rt_ra_tree.specs.declared.tree.RaTests.{RaTests}
 use Rattle.rt_ra_tree.specs.declared.tree.RaText.{RaText}
 
 -- ---- tests and names
-
-abbrev pub op_sign : Op → Fixed
-op_sign op.Eq = fixed.Equal
-op_sign op.Ne = fixed.NotEqual
-op_sign op.Lt = fixed.Below
-op_sign op.Le = fixed.AtMost
-op_sign op.Gt = fixed.Above
-op_sign op.Ge = fixed.AtLeast
 
 abbrev pub spelled_side : RaSide → Kinds
 spelled_side (side.Col n) = terminal.Name n ∷ []

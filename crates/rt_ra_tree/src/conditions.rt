@@ -7,11 +7,10 @@ ghost use Rattle.rt_ra_tree.specs.Reads as spec;
 
 use crate::tree::{RaNames, RaSide, RaTest, RaTests};
 use rt_grammar::{
-    Fixed, Name, ReadFault, Terminal, after, code, expect, front, name, name_of, starts,
-    starts_name,
+    Fixed, Name, ReadFault, Terminal, after, expect, flag, front, name, name_of, op_at, starts,
+    starts_name, tail,
 };
-use rt_tree::{flag, tail};
-use rt_value::{List, Op};
+use rt_value::List;
 use std::alloc::Global;
 
 // A name, a number or a text.
@@ -51,26 +50,6 @@ fn side<'t>(alloc: Global, terminals: &'t [Terminal]) -> Result<(RaSide, &'t [Te
     let rest = expect(terminals, Fixed::Minus)?;
     let (number, rest) = number(rest)?;
     Ok((RaSide::Number(true, number), rest))
-}
-
-fn op_at(place: u8) -> Option<Op>
-    ensures { result ≡ spec.op_at place }
-{
-    if place == code(Fixed::Equal) {
-        Some(Op::Eq)
-    } else if place == code(Fixed::NotEqual) {
-        Some(Op::Ne)
-    } else if place == code(Fixed::Below) {
-        Some(Op::Lt)
-    } else if place == code(Fixed::AtMost) {
-        Some(Op::Le)
-    } else if place == code(Fixed::Above) {
-        Some(Op::Gt)
-    } else if place == code(Fixed::AtLeast) {
-        Some(Op::Ge)
-    } else {
-        None
-    }
 }
 
 fn compared<'t>(

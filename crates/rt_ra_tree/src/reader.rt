@@ -21,10 +21,11 @@ fn select<'t>(
 {
     let rest = expect(terminals, Fixed::Left)?;
     let (of, rest) = ra(alloc, depth, rest)?;
+    let of = Boxed::new(alloc, of)?;
     let rest = expect(rest, Fixed::Comma)?;
     let (tests, rest) = tests(alloc, rest)?;
     let rest = expect(rest, Fixed::Right)?;
-    Ok((Ra::Select(Boxed::new(alloc, of)?, tests), rest))
+    Ok((Ra::Select(of, tests), rest))
 }
 
 #[cycle(ra_reader)]
@@ -37,10 +38,11 @@ fn project<'t>(
 {
     let rest = expect(terminals, Fixed::Left)?;
     let (of, rest) = ra(alloc, depth, rest)?;
+    let of = Boxed::new(alloc, of)?;
     let rest = expect(rest, Fixed::Comma)?;
     let (names, rest) = names(alloc, rest)?;
     let rest = expect(rest, Fixed::Right)?;
-    Ok((Ra::Project(Boxed::new(alloc, of)?, names), rest))
+    Ok((Ra::Project(of, names), rest))
 }
 
 #[cycle(ra_reader)]
@@ -53,10 +55,11 @@ fn rename<'t>(
 {
     let rest = expect(terminals, Fixed::Left)?;
     let (of, rest) = ra(alloc, depth, rest)?;
+    let of = Boxed::new(alloc, of)?;
     let rest = expect(rest, Fixed::Comma)?;
     let (names, rest) = names(alloc, rest)?;
     let rest = expect(rest, Fixed::Right)?;
-    Ok((Ra::Rename(Boxed::new(alloc, of)?, names), rest))
+    Ok((Ra::Rename(of, names), rest))
 }
 
 #[cycle(ra_reader)]
@@ -70,11 +73,11 @@ fn two<'t>(
 {
     let rest = expect(terminals, Fixed::Left)?;
     let (left, rest) = ra(alloc, depth, rest)?;
+    let left = Boxed::new(alloc, left)?;
     let rest = expect(rest, Fixed::Comma)?;
     let (right, rest) = ra(alloc, depth, rest)?;
-    let rest = expect(rest, Fixed::Right)?;
-    let left = Boxed::new(alloc, left)?;
     let right = Boxed::new(alloc, right)?;
+    let rest = expect(rest, Fixed::Right)?;
     Ok((Ra::Two(op, left, right), rest))
 }
 

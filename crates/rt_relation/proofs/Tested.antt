@@ -2,7 +2,8 @@
 use Rattle.std.proofs.Common.{◌≡◌, ◌∙◌, Bool, true, false, ◌&&◌, List, [], ◌∷◌, ◌++◌, map, Some, Ok, Err, refl, sym, ap}
 use Rattle.std.specs.Prelude.{IfOk, is_some}
 use Rattle.rt_algebra.specs.Columns as algebra
-use Rattle.rt_algebra.specs.Columns.{ConditionTest, QueryColumns, all_comparable, all_typed, column_of, comparable_member, kinds_match, pred_typed, pred_typed_step, query_columns, query_columns_step}
+use Rattle.rt_schema.specs.Schema.{kinds_match}
+use Rattle.rt_algebra.specs.Columns.{ConditionTest, QueryColumns, all_comparable, all_typed, column_of, comparable_member, pred_typed, pred_typed_step, query_columns, query_columns_step}
 use Rattle.rt_algebra.specs.declared.expr.Expr.{Expr}
 use Rattle.rt_algebra.specs.declared.query.Pred.{Pred}
 use Rattle.rt_algebra.specs.declared.query.Pred.TheVariants as pred

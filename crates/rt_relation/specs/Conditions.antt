@@ -1,6 +1,6 @@
 -- Conditions without a subquery, and lists of conditions (ISO/IEC 9075-2, search condition).
 use Rattle.std.specs.Prelude.{Bool, List, [], ◌∷◌, ◌++◌, Some, Result, Ok, Err, if◌then◌else◌}
-use Rattle.rt_algebra.specs.Columns.{kinds_match}
+use Rattle.rt_schema.specs.Schema.{kinds_match}
 use Rattle.rt_algebra.specs.declared.query.Pred.{Pred}
 use Rattle.rt_algebra.specs.declared.query.Pred.TheVariants as p
 use Rattle.rt_algebra.specs.declared.query.Query.{Query}

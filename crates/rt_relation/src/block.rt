@@ -15,24 +15,21 @@ use rt_value::{Boxed, List, NoMemory};
 use std::alloc::Global;
 
 #[tactic(auto, using(crate::proofs::More::product_of_more))]
-fn product_of(queries: List<Query>) -> Query
-    ensures { result ≡ spec.product_of queries }
+fn product_of(alloc: Global, queries: List<Query>) -> Result<Boxed<Query>, NoMemory>
+    ensures { IfOk result (λ q. q ≡ spec.product_of queries) }
 {
     match alone(queries) {
-        Ok(query) => query,
-        Err(queries) => Query::Product(queries),
+        Ok(query) => Boxed::new(alloc, query),
+        Err(queries) => Boxed::new(alloc, Query::Product(queries)),
     }
 }
 
-fn selected(alloc: Global, query: Query, conds: List<Pred>) -> Result<Query, NoMemory>
+fn selected(alloc: Global, query: Boxed<Query>, conds: List<Pred>) -> Result<Boxed<Query>, NoMemory>
     ensures { IfOk result (λ q. q ≡ spec.selected query conds) }
 {
     match conds.as_slice() {
         [] => Ok(query),
-        [_, ..] => {
-            let query = Boxed::new(alloc, query)?;
-            Ok(Query::Select(query, all_of(conds)))
-        }
+        [_, ..] => Boxed::new(alloc, Query::Select(query, all_of(conds))),
     }
 }
 
@@ -47,7 +44,8 @@ pub fn select_of(alloc: Global, from: FromClause, list: SelectList) -> Result<Re
         width: _,
     } = from;
     let SelectList { exprs, columns } = list;
-    let rows = selected(alloc, product_of(queries), conds)?;
-    let query = Query::Project(Boxed::new(alloc, rows)?, exprs);
+    let product = product_of(alloc, queries)?;
+    let rows = selected(alloc, product, conds)?;
+    let query = Boxed::new(alloc, Query::Project(rows, exprs))?;
     Ok(Relation { query, columns })
 }

@@ -3,12 +3,14 @@
 ghost use Rattle.std.specs.Prelude.{◌≡◌, Ok, map, IfOk};
 ghost use Rattle.rt_relation.specs.Conditions as spec;
 ghost use Rattle.rt_scope.specs.Fault.{is_memory};
+ghost use Rattle.rt_scope.specs.Sums as sums;
 ghost use Rattle.rt_value.specs.Gives.{Gives};
 
 use crate::alone::alone;
 use crate::relation::Relation;
 use rt_algebra::Pred;
-use rt_scope::{NameFault, Scalar, Source, comparable, compared, list_items, negated, sum};
+use rt_schema::comparable;
+use rt_scope::{NameFault, Scalar, Source, compared, list_items, negated, sum};
 use rt_tree::{Op as OpTree, Sum};
 use rt_value::{Boxed, List, NoMemory, Op};
 use std::alloc::Global;
@@ -72,6 +74,14 @@ fn op_of(op: OpTree) -> Op
     }
 }
 
+/// The expression of a sum, in a box of its own while another is read.
+pub fn boxed_sum(alloc: Global, of: &Sum, scopes: &[&[Source]]) -> Result<Boxed<Scalar>, NameFault>
+    ensures { Gives is_memory result (sums.sum of.now (map (λ s. s.now) scopes.now)) }
+{
+    let x = sum(alloc, of, scopes)?;
+    Ok(Boxed::new(alloc, x)?)
+}
+
 /// A comparison of two sums.
 pub fn comparison(
     alloc: Global,
@@ -82,9 +92,9 @@ pub fn comparison(
 ) -> Result<Pred, NameFault>
     ensures { Gives is_memory result (spec.comparison a.now op b.now (map (λ s. s.now) scopes.now)) }
 {
-    let x = sum(alloc, a, scopes)?;
+    let x = boxed_sum(alloc, a, scopes)?;
     let y = sum(alloc, b, scopes)?;
-    compared(op_of(op), x, y)
+    compared(op_of(op), x.into_inner(), y)
 }
 
 /// IS NULL.
@@ -106,28 +116,33 @@ pub fn list_test(
 ) -> Result<Pred, NameFault>
     ensures { Gives is_memory result (spec.list_test a.now not head.now tail.now (map (λ s. s.now) scopes.now)) }
 {
-    let x = sum(alloc, a, scopes)?;
-    let items = list_items(alloc, x.kind, head, tail, scopes)?;
-    negated(alloc, not, Pred::OneOf(x.expr, items))
+    let x = boxed_sum(alloc, a, scopes)?;
+    let items = list_items(alloc, x.get().kind, head, tail, scopes)?;
+    negated(alloc, not, Pred::OneOf(x.into_inner().expr, items))
 }
 
 fn both(alloc: Global, low: Pred, high: Pred) -> Result<Pred, NoMemory>
     ensures { IfOk result (λ c. c ≡ spec.both low high) }
 {
-    let mut conds = List::new(alloc);
-    conds.push(low)?;
-    conds.push(high)?;
-    Ok(Pred::And(conds))
+    let conds = vec![in alloc; low, high]?;
+    Ok(Pred::And(List::from_vec(conds)))
 }
 
 // The first with the third, then the second, which is the same, with the last.
-fn between(alloc: Global, x: Scalar, again: Scalar, y: Scalar, z: Scalar) -> Result<Pred, NameFault>
+fn between(
+    alloc: Global,
+    x: Boxed<Scalar>,
+    again: Boxed<Scalar>,
+    y: Boxed<Scalar>,
+    z: Boxed<Scalar>,
+) -> Result<Pred, NameFault>
     requires { again ≡ x }
     ensures { Gives is_memory result (spec.between x y z) }
 {
-    let low = compared(Op::Ge, x, y)?;
-    let high = compared(Op::Le, again, z)?;
-    Ok(both(alloc, low, high)?)
+    let low = compared(Op::Ge, x.into_inner(), y.into_inner())?;
+    let low = Boxed::new(alloc, low)?;
+    let high = compared(Op::Le, again.into_inner(), z.into_inner())?;
+    Ok(both(alloc, low.into_inner(), high)?)
 }
 
 /// BETWEEN. The first sum stands in both comparisons, so it is lowered twice.
@@ -141,22 +156,22 @@ pub fn between_test(
 ) -> Result<Pred, NameFault>
     ensures { Gives is_memory result (spec.between_test a.now not b.now c.now (map (λ s. s.now) scopes.now)) }
 {
-    let x = sum(alloc, a, scopes)?;
-    let again = sum(alloc, a, scopes)?;
-    let y = sum(alloc, b, scopes)?;
-    let z = sum(alloc, c, scopes)?;
+    let x = boxed_sum(alloc, a, scopes)?;
+    let again = boxed_sum(alloc, a, scopes)?;
+    let y = boxed_sum(alloc, b, scopes)?;
+    let z = boxed_sum(alloc, c, scopes)?;
     let within = between(alloc, x, again, y, z)?;
     negated(alloc, not, within)
 }
 
 /// IN with a query.
-pub fn member(alloc: Global, x: Scalar, of: Relation) -> Result<Pred, NameFault>
+pub fn member(x: Boxed<Scalar>, of: Relation) -> Result<Pred, NameFault>
     ensures { Gives is_memory result (spec.member x of) }
 {
     match of.columns.as_slice() {
         [only] => {
-            if comparable(x.kind, Some(only.kind)) {
-                Ok(Pred::Member(x.expr, Boxed::new(alloc, of.query)?))
+            if comparable(x.get().kind, Some(only.kind)) {
+                Ok(Pred::Member(x.into_inner().expr, of.query))
             } else {
                 Err(NameFault::TypeMismatch)
             }

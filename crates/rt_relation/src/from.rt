@@ -65,7 +65,7 @@ fn extended(
         start,
     };
     let sources = sources.with(alloc, source)?;
-    queries.push(query)?;
+    queries.push(query.into_inner())?;
     Ok(FromClause {
         sources,
         queries,

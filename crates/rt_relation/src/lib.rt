@@ -14,7 +14,8 @@ mod table;
 
 pub use block::select_of;
 pub use condition::{
-    Members, all_of, any_of, between_test, comparison, list_test, member, null_test, one_more, only,
+    Members, all_of, any_of, between_test, boxed_sum, comparison, list_test, member, null_test,
+    one_more, only,
 };
 pub use from::{FromClause, inner, no_sources, visible, with_base, with_cond};
 pub use relation::{Relation, TableRef, typed_of};

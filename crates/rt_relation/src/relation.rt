@@ -4,13 +4,13 @@ ghost use Rattle.rt_relation.specs.Relations as spec;
 use rt_algebra::{Query, Typed};
 use rt_schema::ColKind;
 use rt_scope::Column;
-use rt_value::{List, NoMemory, Txt};
+use rt_value::{Boxed, List, NoMemory, Txt};
 use std::alloc::Global;
 
 /// A query with its columns.
 #[derive(Drop)]
 pub struct Relation {
-    pub query: Query,
+    pub query: Boxed<Query>,
     pub columns: List<Column>,
 }
 

@@ -77,12 +77,23 @@ pub fn intersected(alloc: Global, t: Relation, u: Relation) -> Result<Relation, 
     ensures { Gives is_memory result (spec.intersected t u) }
 {
     let columns = united_columns(alloc, t.columns.as_slice(), u.columns.as_slice())?;
-    let a = Boxed::new(alloc, t.query)?;
-    let b = Boxed::new(alloc, u.query)?;
-    Ok(Relation {
-        query: Query::Intersect(a, b),
-        columns,
-    })
+    let query = Boxed::new(alloc, Query::Intersect(t.query, u.query))?;
+    Ok(Relation { query, columns })
+}
+
+fn union_or_except(
+    alloc: Global,
+    except: bool,
+    a: Boxed<Query>,
+    b: Boxed<Query>,
+) -> Result<Boxed<Query>, NoMemory>
+    ensures { IfOk result (λ q. q ≡ spec.union_or_except except a b) }
+{
+    if except {
+        Boxed::new(alloc, Query::Except(a, b))
+    } else {
+        Boxed::new(alloc, Query::Union(a, b))
+    }
 }
 
 /// EXCEPT or UNION.
@@ -90,12 +101,6 @@ pub fn united(alloc: Global, except: bool, t: Relation, u: Relation) -> Result<R
     ensures { Gives is_memory result (spec.united except t u) }
 {
     let columns = united_columns(alloc, t.columns.as_slice(), u.columns.as_slice())?;
-    let a = Boxed::new(alloc, t.query)?;
-    let b = Boxed::new(alloc, u.query)?;
-    let query = if except {
-        Query::Except(a, b)
-    } else {
-        Query::Union(a, b)
-    };
+    let query = union_or_except(alloc, except, t.query, u.query)?;
     Ok(Relation { query, columns })
 }

@@ -10,7 +10,7 @@ use rt_algebra::Query;
 use rt_schema::{ColKind, Column as TableColumn, Table};
 use rt_scope::{Column, NameFault, after};
 use rt_tree::Alias;
-use rt_value::{List, NoMemory, Txt};
+use rt_value::{Boxed, List, NoMemory, Txt};
 use std::alloc::Global;
 
 fn table_column(alloc: Global, column: &TableColumn) -> Result<Column, NoMemory>
@@ -41,7 +41,7 @@ fn table_ref(alloc: Global, name: Txt, at: usize, table: &Table) -> Result<Table
     ensures { IfOk result (λ t. t ≡ spec.table_ref name at table.now) }
 {
     let columns = table_columns(alloc, table.columns.as_slice())?;
-    let query = Query::Table(at);
+    let query = Boxed::new(alloc, Query::Table(at))?;
     Ok(TableRef {
         name,
         relation: Relation { query, columns },

@@ -1,3 +1,4 @@
 pub mod Inductive
+pub mod Linking
 pub mod Shaped
 pub mod Typings

@@ -8,17 +8,16 @@ ghost use Rattle.rt_value.specs.Gives.{Gives};
 
 use rt_algebra::Pred;
 use rt_relation::{
-    FromClause, Members, Relation, TableRef, alias_or, all_of, any_of, between_test, comparison,
-    inner, intersected, list_test, member, no_sources, null_test, one_more, only, select_of,
-    table_named, united, visible, with_base, with_cond,
+    FromClause, Members, Relation, TableRef, alias_or, all_of, any_of, between_test, boxed_sum,
+    comparison, inner, intersected, list_test, member, no_sources, null_test, one_more, only,
+    select_of, table_named, united, visible, with_base, with_cond,
 };
 use rt_schema::Table;
-use rt_scope::{NameFault, SelectList, Source, negated, select_list, sum};
+use rt_scope::{NameFault, SelectList, Source, negated, select_list};
 use rt_tree::{
     Atom, Base, Chain, ChainLink, Cond, Conj, Items, Join, Meet, MeetLink, Neg, Pick, Primary,
     Source as SourceTree, Sum,
 };
-use rt_value::Boxed;
 use std::alloc::Global;
 
 fn items_over(
@@ -41,9 +40,9 @@ fn atom(alloc: Global, tables: &[Table], of: &Atom, scopes: &[&[Source]]) -> Res
         Atom::Cmp(a, op, b) => comparison(alloc, a, *op, b, scopes),
         Atom::IsNull(a, not) => null_test(alloc, a, *not, scopes),
         Atom::InChain(a, not, of) => {
-            let x = sum(alloc, a, scopes)?;
+            let x = boxed_sum(alloc, a, scopes)?;
             let rows = chain(alloc, tables, of.get(), scopes)?;
-            let cond = member(alloc, x, rows)?;
+            let cond = member(x, rows)?;
             negated(alloc, *not, cond)
         }
         Atom::InList(a, not, head, tail) => {
@@ -52,7 +51,7 @@ fn atom(alloc: Global, tables: &[Table], of: &Atom, scopes: &[&[Source]]) -> Res
         Atom::Between(a, not, b, c) => between_test(alloc, a, *not, b, c, scopes),
         Atom::Exists(of) => {
             let rows = chain(alloc, tables, of.get(), scopes)?;
-            Ok(Pred::Exists(Boxed::new(alloc, rows.query)?))
+            Ok(Pred::Exists(rows.query))
         }
         Atom::Paren(inner) => cond(alloc, tables, inner.get(), scopes),
     }

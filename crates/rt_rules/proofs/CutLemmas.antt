@@ -1,14 +1,16 @@
 -- What holds of kept rows holds where they are cut to a set that is closed under references.
-use Rattle.std.proofs.Common.{◌≡◌, ℕ, zero, suc, ◌+◌, Bool, true, false, cond, not, ◌&&◌, ◌||◌, List, [], ◌∷◌, map, length, drop, slice_get, Some, refl, sym, subst, ap, arith, ◌∙◌, inl, inr}
+use Rattle.std.proofs.Common.{◌≡◌, ℕ, zero, suc, ◌+◌, Bool, true, false, cond, not, ◌||◌, List, [], ◌∷◌, map, length, drop, slice_get, Some, refl, sym, subst, ap, arith, ◌∙◌, inl, inr}
 use Rattle.std.proofs.lemmas.Bool.{cases_Bool}
 use Rattle.std.proofs.lemmas.List.{drop-drop}
 use Rattle.std.specs.List.{list_all, list_any}
 use Rattle.rt_value.specs.declared.value.Value.{Value}
 use Rattle.rt_schema.specs.Given.{Rows, Tables, rows_at, base_of}
 use Rattle.rt_schema.specs.Kept.{kept, kept_rows}
-use Rattle.rt_schema.specs.Law.{agree, cell, cells, foreign_holds, is_null, key_holds, lawful, not_null_holds, rule_holds, rules_hold, tables_hold}
+use Rattle.rt_schema.specs.Cells.{agree, cell, cells, is_null}
+use Rattle.rt_schema.specs.Check.{check_truth}
+use Rattle.rt_schema.specs.Law.{check_holds, depend_holds, foreign_holds, key_holds, lawful, not_null_holds, passes, rule_holds, rules_hold, tables_hold}
 use Rattle.rt_schema.specs.declared.table.Rule.{Rule}
-use Rattle.rt_schema.specs.declared.table.Rule.TheVariants.{NotNull, Key, Foreign}
+use Rattle.rt_schema.specs.declared.table.Rule.TheVariants.{NotNull, Key, Foreign, Check, Depend}
 use Rattle.rt_schema.specs.declared.table.Table.{Table}
 use Rattle.rt_formula.specs.Cut.{cut}
 use Rattle.rt_formula.specs.Shared.{bool_at}
@@ -17,32 +19,10 @@ use Rattle.rt_formula.proofs.Cutting.{cut-drop}
 use Rattle.rt_rules.specs.declared.links.Link.{Link}
 use Rattle.rt_rules.specs.Closing.{IsClosed}
 use Rattle.rt_rules.specs.Cone.{foreign_links, link, places_where, references, rule_links, rules_links, tables_links}
+use Rattle.rt_rules.proofs.BoolLemmas.{and-both, and-one, and-two, or-both, or-none, or-this}
+use Rattle.rt_rules.proofs.DependLemmas.{as_told}
 use Rattle.rt_rules.proofs.KeptLemmas.{kept-rest}
 use Rattle.rt_rules.proofs.LinkLemmas.{each-left, each-right}
-
-and-one : (a b : Bool) → (a && b) ≡ true → a ≡ true
-and-one true b h = refl
-and-one false b h = h
-
-and-two : (a b : Bool) → (a && b) ≡ true → b ≡ true
-and-two true b h = h
-and-two false b h = absurd (cc)
-
-and-both : (a b : Bool) → a ≡ true → b ≡ true → (a && b) ≡ true
-and-both true b p q = q
-and-both false b p q = p
-
-or-none : (a b : Bool) → (a || b) ≡ false → b ≡ false
-or-none true b h = absurd (cc)
-or-none false b h = h
-
-or-this : (a b : Bool) → (a || b) ≡ false → a ≡ false
-or-this true b h = h
-or-this false b h = refl
-
-or-both : (a b : Bool) → a ≡ false → b ≡ false → (a || b) ≡ false
-or-both true b p q = p
-or-both false b p q = q
 
 all-cut : (p : List Value → Bool) (rows : Rows) (keep set : List Bool) → list_all p (kept_rows rows keep) ≡ true → list_all p (kept_rows rows (cut keep set)) ≡ true
 all-cut p [] keep set h = refl
@@ -80,6 +60,18 @@ key-cut key (row ∷ rows) (true ∷ keep) (true ∷ set) h =
     let two = and-two (not (list_any (agree key key row) (kept_rows rows keep))) (key_holds key (kept_rows rows keep)) h in
     and-both (not (list_any (agree key key row) (kept_rows rows (cut keep set)))) (key_holds key (kept_rows rows (cut keep set)))
     (ap not (none-cut (agree key key row) rows keep set (not-false (list_any (agree key key row) (kept_rows rows keep)) one))) (key-cut key rows keep set two)
+
+depend-cut : (from to : List ℕ) (rows : Rows) (keep set : List Bool) → depend_holds from to (kept_rows rows keep) ≡ true → depend_holds from to (kept_rows rows (cut keep set)) ≡ true
+depend-cut from to [] keep set h = refl
+depend-cut from to (row ∷ rows) [] set h = refl
+depend-cut from to (row ∷ rows) (false ∷ keep) [] h = depend-cut from to rows keep [] h
+depend-cut from to (row ∷ rows) (true ∷ keep) [] h = depend-cut from to rows keep [] (and-two (list_all (as_told from to row) (kept_rows rows keep)) (depend_holds from to (kept_rows rows keep)) h)
+depend-cut from to (row ∷ rows) (false ∷ keep) (c ∷ set) h = depend-cut from to rows keep set h
+depend-cut from to (row ∷ rows) (true ∷ keep) (false ∷ set) h = depend-cut from to rows keep set (and-two (list_all (as_told from to row) (kept_rows rows keep)) (depend_holds from to (kept_rows rows keep)) h)
+depend-cut from to (row ∷ rows) (true ∷ keep) (true ∷ set) h =
+    and-both (list_all (as_told from to row) (kept_rows rows (cut keep set))) (depend_holds from to (kept_rows rows (cut keep set)))
+    (all-cut (as_told from to row) rows keep set (and-one (list_all (as_told from to row) (kept_rows rows keep)) (depend_holds from to (kept_rows rows keep)) h))
+    (depend-cut from to rows keep set (and-two (list_all (as_told from to row) (kept_rows rows keep)) (depend_holds from to (kept_rows rows keep)) h))
 
 -- a kept row that passes a test is kept after the cut, where the set has all that pass it
 any-cut : (p : List Value → Bool) (rows : Rows) (keep set : List Bool) → ((j : ℕ) (o : List Value) → slice_get rows j ≡ Some o → p o ≡ true → bool_at set j ≡ true) → list_any p (kept_rows rows keep) ≡ true → list_any p (kept_rows rows (cut keep set)) ≡ true
@@ -183,6 +175,9 @@ rule-cut all keep set base rows (Foreign f) c h =
     ∙ ap (λ k. foreign_holds f.from f.to (kept_rows others (cut (drop ob keep) (drop ob set))) (kept_rows rows k)) (cut-drop base keep set)
     ∙ foreign-cut f.from f.to others (drop ob keep) (drop ob set) rows (drop base keep) (drop base set)
     (λ i r g m j o q t. drop-at ob set j ∙ foreign-closed f.from f.to ob others base rows set c i r g (sym (drop-at base set i) ∙ m) j o q t) was
+rule-cut all keep set base rows (Check check) c h =
+    ap (λ k. check_holds check (kept_rows rows k)) (cut-drop base keep set) ∙ all-cut (λ row. passes (check_truth row check)) rows (drop base keep) (drop base set) h
+rule-cut all keep set base rows (Depend d) c h = ap (λ k. depend_holds d.from d.to (kept_rows rows k)) (cut-drop base keep set) ∙ depend-cut d.from d.to rows (drop base keep) (drop base set) h
 
 rules-cut : (all : Tables) (keep set : List Bool) (base : ℕ) (rows : Rows) (rules : List Rule) → IsClosed (rules_links all base rows rules) set
     → rules_hold rules (kept_rows rows (drop base keep)) (kept all keep) ≡ true → rules_hold rules (kept_rows rows (drop base (cut keep set))) (kept all (cut keep set)) ≡ true

@@ -7,8 +7,10 @@ use Rattle.rt_value.specs.declared.value.Value.{Value}
 use Rattle.rt_schema.specs.Given.{Rows, Tables}
 use Rattle.rt_schema.specs.Kept.{kept, kept_rows}
 use Rattle.rt_value.specs.Row.{row_eq}
-use Rattle.rt_schema.specs.Law.{agree, cells, is_null, key_holds, foreign_holds}
+use Rattle.rt_schema.specs.Cells.{agree, cells, is_null}
+use Rattle.rt_schema.specs.Law.{key_holds, foreign_holds}
 use Rattle.rt_formula.specs.Shared.{bool_at}
+use Rattle.rt_rules.proofs.BoolLemmas.{and-false, and-true}
 
 -- the kept rows from a row on, `base` being the place of the table's first row
 abbrev pub since : Rows → ℕ → ℕ → List Bool → Rows
@@ -44,10 +46,6 @@ key-kept key false row rows = refl
 pub kept-rest : (rows : Rows) (rest : Tables) (base : ℕ) (keep : List Bool) → kept (rows ∷ rest) (drop base keep) ≡ kept_rows rows (drop base keep) ∷ kept rest (drop (base + length rows) keep)
 kept-rest rows rest base keep = ap (λ s. kept_rows rows (drop base keep) ∷ kept rest s) (drop-drop (length rows) base keep)
 
-and-false : (b : Bool) → (b && false) ≡ false
-and-false true = refl
-and-false false = refl
-
 -- a row with NULL among the values agrees with no row
 pub no-agree : (from to : List ℕ) (row : List Value) (rows : Rows) → list_any is_null (cells from row) ≡ true → list_any (agree from to row) rows ≡ false
 no-agree from to row [] h = refl
@@ -55,18 +53,15 @@ no-agree from to row (r ∷ rs) h =
     let rest = no-agree from to row rs h in
     ap (λ x. (row_eq (cells from row) (cells to r) && not x) || list_any (agree from to row) rs) h ∙ ap (λ x. x || list_any (agree from to row) rs) (and-false (row_eq (cells from row) (cells to r))) ∙ rest
 
-and-true : (b : Bool) → (b && true) ≡ b
-and-true true = refl
-and-true false = refl
-
 -- one without agrees with those that have its values
+pub agree-one : (from to : List ℕ) (row r : List Value) → list_any is_null (cells from row) ≡ false → agree from to row r ≡ row_eq (cells from row) (cells to r)
+agree-one from to row r h = ap (λ x. row_eq (cells from row) (cells to r) && not x) h ∙ and-true (row_eq (cells from row) (cells to r))
+
 pub agree-same : (from to : List ℕ) (row : List Value) (rows : Rows) → list_any is_null (cells from row) ≡ false → list_any (λ r. row_eq (cells from row) (cells to r)) rows ≡ list_any (agree from to row) rows
 agree-same from to row [] h = refl
 agree-same from to row (r ∷ rs) h =
     let rest = agree-same from to row rs h in
-    let here : (row_eq (cells from row) (cells to r) && not (list_any is_null (cells from row))) ≡ row_eq (cells from row) (cells to r) =
-    ap (λ x. row_eq (cells from row) (cells to r) && not x) h ∙ and-true (row_eq (cells from row) (cells to r)) in
-    ap (λ x. row_eq (cells from row) (cells to r) || x) rest ∙ ap (λ x. x || list_any (agree from to row) rs) (sym here)
+    ap (λ x. row_eq (cells from row) (cells to r) || x) rest ∙ ap (λ x. x || list_any (agree from to row) rs) (sym (agree-one from to row r h))
 
 pub foreign-kept : (from to : List ℕ) (others : Rows) (b : Bool) (row : List Value) (rows : Rows)
     → foreign_holds from to others (cond b (row ∷ rows) rows) ≡ ((not b || (list_any is_null (cells from row) || list_any (agree from to row) others)) && foreign_holds from to others rows)

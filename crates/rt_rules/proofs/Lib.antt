@@ -1,4 +1,6 @@
+pub mod BoolLemmas
 pub mod CutLemmas
+pub mod DependLemmas
 pub mod KeptLemmas
 pub mod LinkLemmas
 pub mod Meanings

@@ -5,9 +5,9 @@ use Rattle.std.specs.List.{list_any, All as Each}
 use Rattle.rt_value.specs.declared.value.Value.{Value}
 use Rattle.rt_value.specs.Row.{row_eq}
 use Rattle.rt_schema.specs.Given.{Rows, Tables, rows_at, base_of, places}
-use Rattle.rt_schema.specs.Law.{agree, cells, is_null}
+use Rattle.rt_schema.specs.Cells.{agree, cells, is_null}
 use Rattle.rt_schema.specs.declared.table.Rule.{Rule}
-use Rattle.rt_schema.specs.declared.table.Rule.TheVariants.{NotNull, Key, Foreign}
+use Rattle.rt_schema.specs.declared.table.Rule.TheVariants.{NotNull, Key, Foreign, Check, Depend}
 use Rattle.rt_schema.specs.declared.table.Table.{Table}
 use Rattle.rt_rules.specs.declared.links.Link.{Link}
 use Rattle.rt_rules.specs.Cone.{foreign_links, link, places_where, references, rule_links, rules_links, tables_links}
@@ -139,6 +139,8 @@ rules-low all base rows (rule ∷ rules) h =
       one : (r : Rule) → AreLow (places all) (rule_links all base rows r)
       one (NotNull column) = λ i d b. absurd (omega (arith, b))
       one (Key key) = λ i d b. absurd (omega (arith, b))
+      one (Check check) = λ i d b. absurd (omega (arith, b))
+      one (Depend e) = λ i d b. absurd (omega (arith, b))
       one (Foreign f) = foreign-low f.from f.to (base_of f.table all) (rows_at all f.table) base rows (places all) (table-low f.table all) h
 
 tables-low : (all : Tables) (base : ℕ) (tables : List Table) (rest : Tables) → base + places rest ≤ places all → AreLow (places all) (tables_links all base tables rest)

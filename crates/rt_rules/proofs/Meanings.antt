@@ -8,7 +8,7 @@ use Rattle.rt_value.specs.declared.value.Value.{Value}
 use Rattle.rt_value.specs.Row.{row_eq}
 use Rattle.rt_schema.specs.Given.{Rows}
 use Rattle.rt_schema.specs.Kept.{kept_rows}
-use Rattle.rt_schema.specs.Law.{cells}
+use Rattle.rt_schema.specs.Cells.{cells}
 use Rattle.rt_formula.specs.declared.entry.Entry.{Entry}
 use Rattle.rt_formula.specs.Shared.{Shared, IsGrown, val, bool_at}
 use Rattle.rt_formula.specs.Groups.{Grouped, group_at}

@@ -3,9 +3,9 @@
 use Rattle.std.specs.Prelude.{◌≡◌, ℕ, zero, suc, ◌+◌, Bool, true, cond, List, [], ◌∷◌, ◌++◌, map, length, slice_set}
 use Rattle.rt_value.specs.declared.value.Value.{Value}
 use Rattle.rt_schema.specs.Given.{Rows, Tables, rows_at, base_of}
-use Rattle.rt_schema.specs.Law.{agree}
+use Rattle.rt_schema.specs.Cells.{agree}
 use Rattle.rt_schema.specs.declared.table.Rule.{Rule}
-use Rattle.rt_schema.specs.declared.table.Rule.TheVariants.{NotNull, Key, Foreign}
+use Rattle.rt_schema.specs.declared.table.Rule.TheVariants.{NotNull, Key, Foreign, Check, Depend}
 use Rattle.rt_schema.specs.declared.table.Table.{Table}
 use Rattle.rt_formula.specs.Shared.{Shared}
 use Rattle.rt_formula.specs.Under.{is_marked, AreRowsUnder}
@@ -26,10 +26,13 @@ foreign_links from to others_base others base [] = []
 foreign_links from to others_base others base (row ∷ rows) =
     map (link base) (places_where (agree from to row) others_base others) ++ foreign_links from to others_base others (base + 1) rows
 
+-- by foreign keys alone: the other rules hold for each part of rows for which they hold
 abbrev pub rule_links : Tables → ℕ → Rows → Rule → List Link
 rule_links all base rows (NotNull column) = []
 rule_links all base rows (Key key) = []
 rule_links all base rows (Foreign f) = foreign_links f.from f.to (base_of f.table all) (rows_at all f.table) base rows
+rule_links all base rows (Check check) = []
+rule_links all base rows (Depend d) = []
 
 abbrev pub rules_links : Tables → ℕ → Rows → List Rule → List Link
 rules_links all base rows [] = []

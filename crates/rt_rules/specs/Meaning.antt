@@ -5,7 +5,10 @@ use Rattle.rt_value.specs.declared.value.Value.{Value}
 use Rattle.rt_value.specs.Row.{row_eq}
 use Rattle.rt_schema.specs.Given.{Rows}
 use Rattle.rt_schema.specs.Kept.{kept_rows}
-use Rattle.rt_schema.specs.Law.{cells, agree, is_null, cell}
+use Rattle.rt_schema.specs.Cells.{cells, agree, is_null, cell, same_in}
+use Rattle.rt_schema.specs.Check.{check_truth}
+use Rattle.rt_schema.specs.Law.{passes}
+use Rattle.rt_schema.specs.declared.check.Check.{Check}
 use Rattle.rt_formula.specs.Shared.{Shared, val, bool_at}
 use Rattle.rt_formula.specs.Groups.{Grouped, group_at}
 
@@ -47,3 +50,13 @@ apart key row place others base keep = not (bool_at keep place && list_any (agre
 abbrev pub met : List ℕ → List ℕ → List Value → ℕ → Rows → ℕ → List Bool → Bool
 met from to row place others base keep =
     not (bool_at keep place) || (list_any is_null (cells from row) || list_any (agree from to row) (kept_rows others (drop base keep)))
+
+-- it is not kept, or the check lets it stand
+abbrev pub allowed : Check → List Value → ℕ → List Bool → Bool
+allowed check row place keep = not (bool_at keep place) || passes (check_truth row check)
+
+-- it is not kept, or agrees with no kept row of the others, or with one that is the same in `to`
+abbrev pub determined : List ℕ → List ℕ → List Value → ℕ → Rows → ℕ → List Bool → Bool
+determined from to row place others base keep =
+    not (bool_at keep place && (list_any (agree from from row) (kept_rows others (drop base keep))
+    && not (list_any (λ other. agree from from row other && same_in to row other) (kept_rows others (drop base keep)))))

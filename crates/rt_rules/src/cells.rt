@@ -1,5 +1,5 @@
 ghost use Rattle.std.specs.Prelude.{◌≡◌, IfOk};
-ghost use Rattle.rt_schema.specs.Law.{cell, cells};
+ghost use Rattle.rt_schema.specs.Cells.{cell, cells};
 
 use rt_value::{NoMemory, Row, Value};
 use std::alloc::Global;

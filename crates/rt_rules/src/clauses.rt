@@ -1,14 +1,14 @@
 //! The clauses of one rule, one for each row.
 ghost use Rattle.std.specs.Prelude.{◌≡◌, ◌<◌, ◌≤◌, ◌+◌, length, drop, IfOk};
 ghost use Rattle.rt_schema.specs.Kept.{kept_rows};
-ghost use Rattle.rt_schema.specs.Law.{not_null_holds, key_holds, foreign_holds};
+ghost use Rattle.rt_schema.specs.Law.{not_null_holds, key_holds, foreign_holds, check_holds};
 ghost use Rattle.rt_formula.specs.Shared.{IsGrown};
-ghost use Rattle.rt_rules.specs.Meaning.{Means, IsIndexed, filled, apart, met};
+ghost use Rattle.rt_rules.specs.Meaning.{Means, IsIndexed, allowed, filled, apart, met};
 
 use crate::cells::cells;
 use crate::index::note;
 use rt_formula::{Dag, Groups, Node};
-use rt_schema::{Foreign, has_null, null_at};
+use rt_schema::{Check, Foreign, has_null, null_at, passes};
 use rt_value::{List, NoMemory, Row};
 use std::alloc::Global;
 
@@ -41,6 +41,41 @@ fn filled(dag: &mut Dag, column: usize, row: &Row, place: usize) -> Result<Node,
     ensures means { IfOk result (λ n. Means dag.new n (filled column row.now place)) }
 {
     if !null_at(row, column) {
+        return Ok(dag.yes());
+    }
+    let kept = dag.row(place)?;
+    dag.not(kept)
+}
+
+/// That the check lets each kept row stand, `base` being the place of the first row.
+pub(crate) fn check(
+    alloc: Global,
+    dag: &mut Dag,
+    check: &Check,
+    rows: &[Row],
+    base: usize,
+) -> Result<Node, NoMemory>
+    requires { base + length rows.now ≤ dag.old.rows }
+    ensures grown { IsGrown dag.old dag.new }
+    ensures means { IfOk result (λ n. Means dag.new n (λ keep. check_holds check.now (kept_rows rows.now (drop base keep)))) }
+{
+    let mut clauses = List::new(alloc);
+    let _places = dag.rows();
+    let mut at = rows.len();
+    'rows: while at > 0 {
+        at -= 1;
+        clauses.push(allowed(dag, check, &rows[at], base + at)?)?;
+    }
+    dag.all(clauses.as_slice())
+}
+
+// That the row is not kept, or the check lets it stand.
+fn allowed(dag: &mut Dag, check: &Check, row: &Row, place: usize) -> Result<Node, NoMemory>
+    requires { place < dag.old.rows }
+    ensures grown { IsGrown dag.old dag.new }
+    ensures means { IfOk result (λ n. Means dag.new n (allowed check.now row.now place)) }
+{
+    if passes(check, row) {
         return Ok(dag.yes());
     }
     let kept = dag.row(place)?;
@@ -81,8 +116,8 @@ pub(crate) fn key(
     dag.all(clauses.as_slice())
 }
 
-// The rows from a place on.
-fn from(rows: &[Row], at: usize) -> &[Row]
+/// The rows from a place on.
+pub(crate) fn from(rows: &[Row], at: usize) -> &[Row]
     requires { at ≤ length rows.now }
     ensures { result.now ≡ drop at rows.now }
 {

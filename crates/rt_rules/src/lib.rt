@@ -11,6 +11,7 @@ mod cells;
 mod clauses;
 mod closing;
 mod cone_of;
+mod dependencies;
 mod index;
 mod links;
 mod place_groups;

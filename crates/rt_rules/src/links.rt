@@ -3,7 +3,7 @@ ghost use Rattle.std.specs.Prelude.{◌≡◌, ◌<◌, ◌≤◌, ◌+◌, ◌^
 ghost use Rattle.rt_value.specs.Row.{row_eq};
 ghost use Rattle.rt_value.specs.declared.value.Value.{Value};
 ghost use Rattle.rt_schema.specs.Given.{places};
-ghost use Rattle.rt_schema.specs.Law.{agree, cells};
+ghost use Rattle.rt_schema.specs.Cells.{agree, cells};
 ghost use Rattle.rt_schema.specs.declared.table.Rule.TheVariants.{Foreign as ForeignRule};
 ghost use Rattle.rt_formula.specs.Groups.{group_at};
 ghost use Rattle.rt_rules.specs.Cone.{link, places_where, references, rule_links, rules_links, tables_links};
@@ -94,7 +94,7 @@ fn link_rule(
     ensures { OnOk result (links.new ≡ links.old ++ rule_links all.now base rows.now rule.now) }
 {
     match rule {
-        Rule::NotNull(_) | Rule::Key(_) => Ok(()),
+        Rule::NotNull(_) | Rule::Key(_) | Rule::Check(_) | Rule::Depend(_) => Ok(()),
         Rule::Foreign(foreign) => link_foreign(alloc, foreign, rows, base, all, links),
     }
 }

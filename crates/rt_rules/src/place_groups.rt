@@ -1,7 +1,7 @@
 ghost use Rattle.std.specs.Prelude.{◌≡◌, ◌<◌, ◌≤◌, ◌+◌, ◌^◌, ◌++◌, ◌∷◌, [], List, cond, length, IfOk, OnOk};
 ghost use Rattle.rt_value.specs.Row.{row_eq};
 ghost use Rattle.rt_value.specs.declared.value.Value.{Value};
-ghost use Rattle.rt_schema.specs.Law.{cells};
+ghost use Rattle.rt_schema.specs.Cells.{cells};
 ghost use Rattle.rt_formula.specs.Groups.{group_at};
 ghost use Rattle.rt_rules.specs.Cone.{places_where};
 

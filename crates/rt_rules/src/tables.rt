@@ -5,7 +5,8 @@ ghost use Rattle.rt_schema.specs.Law.{lawful, tables_hold, rules_hold, rule_hold
 ghost use Rattle.rt_formula.specs.Shared.{IsGrown, val};
 ghost use Rattle.rt_rules.specs.Meaning.{Means};
 
-use crate::clauses::{foreign, key, not_null};
+use crate::clauses::{check, foreign, key, not_null};
+use crate::dependencies::depend;
 use crate::index::index;
 use rt_formula::{Dag, Node};
 use rt_schema::{Given, Rule, Schema, Table};
@@ -108,6 +109,8 @@ fn rule_node(
             let groups = index(alloc, dag, rule.to.as_slice(), others, others_base)?;
             foreign(alloc, dag, rule, rows, base, &groups, others, others_base)
         }
+        Rule::Check(rule) => check(alloc, dag, rule, rows, base),
+        Rule::Depend(rule) => depend(alloc, dag, rule, rows, base),
     }
 }
 

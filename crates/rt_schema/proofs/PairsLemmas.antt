@@ -6,7 +6,7 @@ use Rattle.std.specs.Prelude.{count_by}
 use Rattle.rt_value.specs.declared.value.Value.{Value}
 use Rattle.rt_schema.specs.Capped.{capped}
 use Rattle.rt_schema.specs.Given.{Rows}
-use Rattle.rt_schema.specs.Law.{agree}
+use Rattle.rt_schema.specs.Cells.{agree}
 use Rattle.rt_schema.specs.LawWork.{key_pairs, foreign_pairs}
 
 -- a count that was capped on the way is capped to the same

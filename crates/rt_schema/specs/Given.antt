@@ -63,9 +63,13 @@ base_of n [] = 0
 base_of zero (rows ∷ tables) = 0
 base_of (suc n) (rows ∷ tables) = length rows + base_of n tables
 
--- each row suits its table, and there are at most 2,000 rows
+-- the most rows that all tables together may have
+abbrev pub row_limit : ℕ
+row_limit = 2000
+
+-- each row suits its table, and there are not too many
 abbrev pub is_instance : Instance → Bool
-is_instance given = tables_suit given.kinds given.tables && nat_le (places given.tables) 2000
+is_instance given = tables_suit given.kinds given.tables && nat_le (places given.tables) row_limit
 
 -- the instance has the tables of the schema, with the same kinds of columns
 abbrev pub IsOf : List Table → Instance → Type 0

@@ -1,32 +1,17 @@
 -- When rows meet the rules of a schema (ISO/IEC 9075-2, unique constraint definition with
--- NULLS DISTINCT, referential constraint definition with MATCH SIMPLE).
-use Rattle.std.specs.Prelude.{ℕ, Bool, true, false, not, ◌&&◌, ◌||◌, List, [], ◌∷◌, map, slice_index_or}
+-- NULLS DISTINCT, referential constraint definition with MATCH SIMPLE, check constraint definition;
+-- 4.18 of it, known functional dependencies).
+use Rattle.std.specs.Prelude.{ℕ, Bool, true, false, not, ◌&&◌, ◌||◌, List, [], ◌∷◌}
 use Rattle.std.specs.List.{list_all, list_any}
-use Rattle.rt_value.specs.declared.value.Value.{Value}
-use Rattle.rt_value.specs.declared.value.Value.TheVariants as v
-use Rattle.rt_value.specs.Row.{row_eq}
+use Rattle.rt_value.specs.declared.truth.Truth.{Truth}
+use Rattle.rt_value.specs.declared.truth.Truth.TheVariants.{Yes, No, Unknown}
+use Rattle.rt_schema.specs.Cells.{agree, cell, cells, is_null, same_in}
+use Rattle.rt_schema.specs.Check.{check_truth}
 use Rattle.rt_schema.specs.Given.{Rows, Tables, rows_at}
+use Rattle.rt_schema.specs.declared.check.Check.{Check as Condition}
 use Rattle.rt_schema.specs.declared.table.Rule.{Rule}
-use Rattle.rt_schema.specs.declared.table.Rule.TheVariants.{NotNull, Key, Foreign}
+use Rattle.rt_schema.specs.declared.table.Rule.TheVariants.{NotNull, Key, Foreign, Check, Depend}
 use Rattle.rt_schema.specs.declared.table.Table.{Table}
-
-abbrev pub is_null : Value → Bool
-is_null v.Null = true
-is_null (v.Int n) = false
-is_null (v.Text t) = false
-
--- the value of a row in a column
-abbrev pub cell : List Value → ℕ → Value
-cell row column = slice_index_or row column v.Null
-
--- the values of a row in several columns
-abbrev pub cells : List ℕ → List Value → List Value
-cells columns row = map (cell row) columns
-
--- two rows agree where the first has in the columns `from` what the second has in the columns
--- `to`, with no NULL among these values
-abbrev pub agree : List ℕ → List ℕ → List Value → List Value → Bool
-agree from to row other = row_eq (cells from row) (cells to other) && not (list_any is_null (cells from row))
 
 -- no row has NULL in the column
 abbrev pub not_null_holds : ℕ → Rows → Bool
@@ -41,11 +26,28 @@ key_holds key (row ∷ rows) = not (list_any (agree key key row) rows) && key_ho
 abbrev pub foreign_holds : List ℕ → List ℕ → Rows → Rows → Bool
 foreign_holds from to others rows = list_all (λ row. list_any is_null (cells from row) || list_any (agree from to row) others) rows
 
+-- a check refuses No alone: what is unknown passes
+abbrev pub passes : Truth → Bool
+passes Yes = true
+passes No = false
+passes Unknown = true
+
+-- no row makes the check No
+abbrev pub check_holds : Condition → Rows → Bool
+check_holds check rows = list_all (λ row. passes (check_truth row check)) rows
+
+-- rows that agree on the columns `from` are the same in the columns `to`
+abbrev pub depend_holds : List ℕ → List ℕ → Rows → Bool
+depend_holds from to [] = true
+depend_holds from to (row ∷ rows) = list_all (λ other. not (agree from from row other) || same_in to row other) rows && depend_holds from to rows
+
 -- a rule of the table that has the rows `rows`
 abbrev pub rule_holds : Rule → Rows → Tables → Bool
 rule_holds (NotNull column) rows tables = not_null_holds column rows
 rule_holds (Key key) rows tables = key_holds key rows
 rule_holds (Foreign f) rows tables = foreign_holds f.from f.to (rows_at tables f.table) rows
+rule_holds (Check check) rows tables = check_holds check rows
+rule_holds (Depend d) rows tables = depend_holds d.from d.to rows
 
 abbrev pub rules_hold : List Rule → Rows → Tables → Bool
 rules_hold rules rows tables = list_all (λ rule. rule_holds rule rows tables) rules

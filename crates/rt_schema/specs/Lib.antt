@@ -1,4 +1,6 @@
 pub mod Capped
+pub mod Cells
+pub mod Check
 pub mod Given
 pub mod Kept
 pub mod Law

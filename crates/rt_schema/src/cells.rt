@@ -4,7 +4,7 @@ ghost use Rattle.rt_value.specs.Value.{value_eq};
 ghost use Rattle.rt_value.specs.Row.{row_eq};
 ghost use Rattle.rt_value.specs.declared.value.Value.TheVariants.{Null};
 ghost use Rattle.rt_schema.specs.Kept.{kept_rows};
-ghost use Rattle.rt_schema.specs.Law.{agree, cell, cells, is_null};
+ghost use Rattle.rt_schema.specs.Cells.{agree, cell, cells, is_null, same_in};
 
 use rt_value::{Row, Value};
 
@@ -36,6 +36,13 @@ pub fn agree(from: &[usize], to: &[usize], row: &Row, other: &Row) -> bool
     ensures { result ≡ agree from.now to.now row.now other.now }
 {
     same_cells(row, from, other, to) && !has_null(row, from)
+}
+
+/// Whether two rows have the same in the columns, NULL being the same as NULL.
+pub fn same_in(columns: &[usize], row: &Row, other: &Row) -> bool
+    ensures { result ≡ same_in columns.now row.now other.now }
+{
+    same_cells(row, columns, other, columns)
 }
 
 fn same_cells(row: &Row, from: &[usize], other: &Row, to: &[usize]) -> bool

@@ -1,15 +1,15 @@
 ghost use Rattle.std.specs.Prelude.{◌≡◌, ◌+◌, ◌<◌, ◌≤◌, [], Some, IsTrue, IfOk, length, replicate, slice_get, slice_index_or, slice_set};
-ghost use Rattle.rt_schema.specs.Given.{IsOf, is_instance, rows_suit, row_suits, value_suits, rows_at, places, base_of};
+ghost use Rattle.rt_schema.specs.Given.{IsOf, is_instance, rows_suit, rows_at, places, base_of, row_limit};
 ghost use Rattle.rt_schema.specs.Schema.{kinds_of, schema_kinds};
 
 use crate::schema::Schema;
 use crate::table::{ColKind, Column};
-use rt_value::{List, NoMemory, Row, Value};
+use rt_value::{List, NoMemory, Row};
 use std::alloc::Global;
 use std::marker::Model;
 
 /// The most rows that all tables together may have.
-pub const ROWS: usize = 2000;
+pub const ROW_LIMIT: usize = 2000;
 
 /// The rows given for the tables of a schema, with the kinds of the tables' columns. Each row
 /// suits its table. A place is a row's number from 0, table by table in schema order.
@@ -50,22 +50,11 @@ impl Given {
         requires in_range { table < length self.old.tables }
         requires empty { length (rows_at self.old.tables table) ≡ 0 }
         requires suit { IsTrue (rows_suit (slice_index_or self.old.kinds table []) rows) }
-        requires room { places self.old.tables + length rows ≤ 2000 }
+        requires room { places self.old.tables + length rows ≤ row_limit }
         ensures tables { self.new.tables ≡ slice_set self.old.tables table rows }
         ensures kinds { self.new.kinds ≡ self.old.kinds }
     {
         self.tables.set(table, rows);
-    }
-
-    /// Whether each row has a value for each column of the table, NULL or of the column's kind,
-    /// and its whole numbers are of 64 bits.
-    pub fn suits(&self, table: usize, rows: &[Row]) -> bool
-        ensures { result ≡ rows_suit (slice_index_or self.now.kinds table []) rows.now }
-    {
-        match self.kinds.as_slice().get(table) {
-            None => rows_suit(&[], rows),
-            Some(kinds) => rows_suit(kinds.as_slice(), rows),
-        }
     }
 
     /// The number of columns of a table.
@@ -97,7 +86,7 @@ impl Given {
     /// The number of rows of all tables.
     pub fn total(&self) -> usize
         ensures total { result ≡ places self.now.tables }
-        ensures limit { result ≤ 2000 }
+        ensures limit { result ≤ row_limit }
     {
         let mut total: usize = 0;
         for rows in self.tables() {
@@ -131,40 +120,6 @@ impl Given {
     }
 }
 
-fn rows_suit(kinds: &[ColKind], rows: &[Row]) -> bool
-    ensures { result ≡ rows_suit kinds.now rows.now }
-{
-    rows.iter().all(|row| row_suits(kinds, row.as_slice()))
-}
-
-fn row_suits(kinds: &[ColKind], cells: &[Value]) -> bool
-    ensures { result ≡ row_suits kinds.now cells.now }
-{
-    match kinds {
-        [] => match cells {
-            [] => true,
-            [_, ..] => false,
-        },
-        [kind, kinds_rest @ ..] => match cells {
-            [] => false,
-            [cell, cells_rest @ ..] => {
-                value_suits(*kind, cell) && row_suits(kinds_rest, cells_rest)
-            }
-        },
-    }
-}
-
-fn value_suits(kind: ColKind, value: &Value) -> bool
-    ensures { result ≡ value_suits kind value.now }
-{
-    match (kind, value) {
-        (_, Value::Null) => true,
-        (ColKind::Whole, Value::Int(n)) => -(1 << 63) <= *n && *n < 1 << 63,
-        (ColKind::Text, Value::Text(_)) => true,
-        _ => false,
-    }
-}
-
 fn kinds_of(alloc: Global, columns: &[Column]) -> Result<List<ColKind>, NoMemory>
     ensures { IfOk result (λ kinds. kinds ≡ kinds_of columns.now) }
 {
@@ -187,7 +142,7 @@ pub fn rows_at(tables: &[List<Row>], table: usize) -> &[Row]
 
 /// The number of rows before those of a table.
 fn base_of(tables: &[List<Row>], table: usize) -> usize
-    requires { places tables.now ≤ 2000 }
+    requires { places tables.now ≤ row_limit }
     ensures { result ≡ base_of table tables.now }
 {
     match tables {

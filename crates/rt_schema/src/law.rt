@@ -1,13 +1,16 @@
-ghost use Rattle.std.specs.Prelude.{◌≡◌, ◌+◌, ◌≤◌, [], drop, length};
-ghost use Rattle.std.specs.List.{list_any};
+ghost use Rattle.std.specs.Prelude.{◌≡◌, ◌+◌, ◌≤◌, ◌||◌, [], drop, length, not};
+ghost use Rattle.std.specs.List.{list_all, list_any};
 ghost use Rattle.rt_schema.specs.Given.{IsOf, places, rows_at};
 ghost use Rattle.rt_schema.specs.Kept.{kept, kept_rows};
-ghost use Rattle.rt_schema.specs.Law.{agree, lawful, rules_hold, rule_holds, key_holds, foreign_holds, not_null_holds};
+ghost use Rattle.rt_schema.specs.Cells.{agree, same_in};
+ghost use Rattle.rt_schema.specs.Law.{lawful, rules_hold, rule_holds, key_holds, foreign_holds, not_null_holds, check_holds, depend_holds};
 
-use crate::cells::{agree, has_null, null_at};
+use crate::cells::{agree, has_null, null_at, same_in};
+use crate::check::Check;
+use crate::check_truth::passes;
 use crate::given::Given;
 use crate::schema::Schema;
-use crate::table::{Foreign, Rule};
+use crate::table::{Depend, Foreign, Rule};
 use rt_value::{Keep, List, Row};
 
 /// Whether the kept rows meet the rules of the schema.
@@ -53,6 +56,8 @@ fn rule_holds(rule: &Rule, rows: &[Row], base: usize, all: &[List<Row>], keep: &
         Rule::NotNull(column) => not_null_holds(*column, rows, base, keep),
         Rule::Key(key) => key_holds(key.as_slice(), rows, base, keep),
         Rule::Foreign(foreign) => foreign_holds(foreign, rows, base, all, keep),
+        Rule::Check(check) => check_holds(check, rows, base, keep),
+        Rule::Depend(depend) => depend_holds(depend, rows, base, keep),
     }
 }
 
@@ -125,6 +130,55 @@ fn foreign_holds(
             && !has_null(row, from)
             && !agrees_with_one(from, to, row, others, others_base, keep)
         {
+            return false;
+        }
+    }
+    true
+}
+
+fn check_holds(check: &Check, rows: &[Row], base: usize, keep: &Keep) -> bool
+    requires { base + length rows.now ≤ length keep.now }
+    ensures { result ≡ check_holds check.now (kept_rows rows.now (drop base keep.now)) }
+{
+    let _places = keep.len();
+    for (at, row) in rows.iter().enumerate() {
+        if keep.is(base + at) && !passes(check, row) {
+            return false;
+        }
+    }
+    true
+}
+
+fn depend_holds(depend: &Depend, rows: &[Row], base: usize, keep: &Keep) -> bool
+    requires { base + length rows.now ≤ length keep.now }
+    ensures { result ≡ depend_holds depend.now.from depend.now.to (kept_rows rows.now (drop base keep.now)) }
+{
+    let _places = keep.len();
+    let from = depend.from.as_slice();
+    let to = depend.to.as_slice();
+    for (at, row) in rows.iter().enumerate() {
+        if keep.is(base + at) && !determines(from, to, row, &rows[at + 1..], base + at + 1, keep) {
+            return false;
+        }
+    }
+    true
+}
+
+/// Whether the kept ones of the rows `others` that agree with a row on `from` are the same on `to`.
+fn determines(
+    from: &[usize],
+    to: &[usize],
+    row: &Row,
+    others: &[Row],
+    base: usize,
+    keep: &Keep,
+) -> bool
+    requires { base + length others.now ≤ length keep.now }
+    ensures { result ≡ list_all (λ other. not (agree from.now from.now row.now other) || same_in to.now row.now other) (kept_rows others.now (drop base keep.now)) }
+{
+    let _places = keep.len();
+    for (at, other) in others.iter().enumerate() {
+        if keep.is(base + at) && agree(from, from, row, other) && !same_in(to, row, other) {
             return false;
         }
     }

@@ -1,7 +1,7 @@
 ghost use Rattle.std.specs.Prelude.{◌≡◌, count_by};
 ghost use Rattle.rt_schema.specs.Capped.{capped};
 ghost use Rattle.rt_schema.specs.Given.{IsOf};
-ghost use Rattle.rt_schema.specs.Law.{agree};
+ghost use Rattle.rt_schema.specs.Cells.{agree};
 ghost use Rattle.rt_schema.specs.LawWork.{law_work, rules_pairs, rule_pairs, key_pairs, foreign_pairs};
 
 use crate::capped::capped_add;
@@ -11,7 +11,8 @@ use crate::schema::Schema;
 use crate::table::Rule;
 use rt_value::{List, Row};
 
-/// The pairs of given rows that agree on a key or match by a foreign key, summed over all rules.
+/// The pairs of given rows that agree on a key or on the determining columns of a dependency, those
+/// that match by a foreign key, and a table's rows for each check, summed over all rules.
 pub fn law_work(schema: &Schema, given: &Given) -> u128
     requires of_schema { IsOf schema.now given.now }
     ensures { result ≡ law_work schema.now given.now.tables }
@@ -50,6 +51,8 @@ fn rule_pairs(rule: &Rule, rows: &[Row], all: &[List<Row>]) -> u128
             let others = rows_at(all, foreign.table);
             foreign_pairs(foreign.from.as_slice(), foreign.to.as_slice(), others, rows)
         }
+        Rule::Check(_) => rows.len() as u128,
+        Rule::Depend(depend) => key_pairs(depend.from.as_slice(), rows),
     }
 }
 

@@ -1,13 +1,13 @@
-ghost use Rattle.std.specs.Prelude.{◌≡◌, IsTrue, length, nat_lt, slice_get};
-ghost use Rattle.std.specs.List.{list_all};
-ghost use Rattle.rt_schema.specs.Schema.{is_sound, table_sound, rule_sound, foreign_sound, columns_match, same_kind};
+ghost use Rattle.std.specs.Prelude.{◌≡◌, IsTrue, slice_get};
+ghost use Rattle.rt_schema.specs.Schema.{are_below, is_sound, table_sound, rule_sound, foreign_sound, columns_match, same_kind};
 
+use crate::check_sound::{check_there, check_typed};
 use crate::table::{ColKind, Column, Foreign, Rule, Table};
 use rt_value::List;
 use std::marker::Model;
 
-/// A list of tables whose rules name only columns and tables that are there. Contracts see the
-/// list of the tables.
+/// A list of tables whose rules name only columns and tables that are there and compare values of
+/// one kind. Contracts see the list of the tables.
 #[derive(Debug, Drop)]
 pub struct Schema {
     tables: List<Table>,
@@ -41,8 +41,8 @@ impl Schema {
     }
 }
 
-/// Whether the rules of all tables name only columns and tables that are there, and each foreign
-/// key has columns of the same kinds on both sides.
+/// Whether the rules of all tables name only columns and tables that are there, each foreign key has
+/// columns of the same kinds on both sides, and no check compares a whole number with a text.
 pub fn is_sound(tables: &[Table]) -> bool
     ensures { result ≡ is_sound tables.now }
 {
@@ -65,13 +65,18 @@ fn rule_sound(tables: &[Table], columns: &[Column], rule: &Rule) -> bool
 {
     match rule {
         Rule::NotNull(column) => *column < columns.len(),
-        Rule::Key(key) => all_below(key.as_slice(), columns.len()),
+        Rule::Key(key) => are_below(key.as_slice(), columns.len()),
         Rule::Foreign(foreign) => foreign_sound(tables, columns, foreign),
+        Rule::Check(check) => check_there(columns, check) && check_typed(columns, check),
+        Rule::Depend(depend) => {
+            are_below(depend.from.as_slice(), columns.len())
+                && are_below(depend.to.as_slice(), columns.len())
+        }
     }
 }
 
-fn all_below(numbers: &[usize], end: usize) -> bool
-    ensures { result ≡ list_all (λ n. nat_lt n end) numbers.now }
+fn are_below(numbers: &[usize], end: usize) -> bool
+    ensures { result ≡ are_below numbers.now end }
 {
     numbers.iter().all(|n| *n < end)
 }

@@ -1,3 +1,4 @@
+use crate::check::Check;
 use rt_value::{List, Txt};
 
 /// The type of a column: INTEGER or TEXT.
@@ -22,12 +23,22 @@ pub struct Foreign {
     pub to: List<usize>,
 }
 
+/// A functional dependency: rows with the same values in the columns `from`, none of them NULL, are
+/// the same in the columns `to`.
+#[derive(PartialEq, Eq, Debug, Drop)]
+pub struct Depend {
+    pub from: List<usize>,
+    pub to: List<usize>,
+}
+
 /// A rule of a table. Columns and tables are named by their numbers from 0.
 #[derive(PartialEq, Eq, Debug, Drop)]
 pub enum Rule {
     NotNull(usize),
     Key(List<usize>),
     Foreign(Foreign),
+    Check(Check),
+    Depend(Depend),
 }
 
 #[derive(PartialEq, Eq, Debug, Drop)]

@@ -2,7 +2,8 @@
 use Rattle.std.proofs.Common.{◌≡◌, ◌∙◌, ℕ, Bool, true, false, ◌&&◌, List, [], ◌∷◌, ◌++◌, Option, Some, Ok, Err, refl, sym, ap}
 use Rattle.std.specs.Prelude.{IfOk}
 use Rattle.rt_algebra.specs.Columns as algebra
-use Rattle.rt_algebra.specs.Columns.{ConditionTest, QueryColumns, all_comparable, comparable, column_of, kinds_match, pred_typed, pred_typed_step, query_columns_step}
+use Rattle.rt_schema.specs.Schema.{kinds_match}
+use Rattle.rt_algebra.specs.Columns.{ConditionTest, QueryColumns, all_comparable, comparable, column_of, pred_typed, pred_typed_step, query_columns_step}
 use Rattle.rt_algebra.specs.declared.expr.Expr.{Expr}
 use Rattle.rt_algebra.specs.declared.query.Pred.{Pred}
 use Rattle.rt_algebra.specs.declared.query.Pred.TheVariants as pred

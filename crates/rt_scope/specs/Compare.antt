@@ -1,7 +1,7 @@
 -- Comparisons and lists, and when their kinds fit (ISO/IEC 9075-2, comparison predicate, in
 -- predicate).
 use Rattle.std.specs.Prelude.{Bool, List, [], ◌∷◌, ◌++◌, Option, Result, Ok, Err, if◌then◌else◌}
-use Rattle.rt_algebra.specs.Columns.{kinds_match}
+use Rattle.rt_schema.specs.Schema.{kinds_match}
 use Rattle.rt_algebra.specs.declared.expr.Expr.{Expr}
 use Rattle.rt_algebra.specs.declared.query.Pred.{Pred}
 use Rattle.rt_algebra.specs.declared.query.Pred.TheVariants as p

@@ -1,7 +1,6 @@
 //! Comparisons, tests for NULL and lists, without subqueries.
 
 ghost use Rattle.std.specs.Prelude.{◌≡◌, ◌∷◌, [], Ok, map};
-ghost use Rattle.rt_algebra.specs.Columns.{kinds_match};
 ghost use Rattle.rt_scope.specs.Compare as spec;
 ghost use Rattle.rt_scope.specs.Fault.{is_memory};
 ghost use Rattle.rt_value.specs.Gives.{Gives};
@@ -11,23 +10,10 @@ use crate::scalar::Scalar;
 use crate::source::Source;
 use crate::sums::sum;
 use rt_algebra::{Expr, Pred};
-use rt_schema::ColKind;
+use rt_schema::{ColKind, comparable};
 use rt_tree::Sum;
 use rt_value::{Boxed, List, Op};
 use std::alloc::Global;
-
-/// Equal kinds, or one that NULL lacks.
-pub fn comparable(a: Option<ColKind>, b: Option<ColKind>) -> bool
-    ensures { result ≡ kinds_match a b }
-{
-    match a {
-        Some(k) => match b {
-            Some(l) => k == l,
-            None => true,
-        },
-        None => true,
-    }
-}
 
 /// The comparison of two expressions.
 pub fn compared(op: Op, a: Scalar, b: Scalar) -> Result<Pred, NameFault>

@@ -15,7 +15,7 @@ mod sources;
 mod sums;
 
 pub use column::Column;
-pub use compare::{comparable, compared, list_items, negated};
+pub use compare::{compared, list_items, negated};
 pub use fault::NameFault;
 pub use lookup::{Found, Seen, after, find_column, find_qualified};
 pub use scalar::Scalar;

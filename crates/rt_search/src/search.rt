@@ -114,12 +114,14 @@ pub fn smallest_counted(
     ensures { IfOk result (λ s. IsBest dag.now goal budget s.best) }
 {
     let mut solver = Solver::new(alloc, Counted::new(alloc));
-    let best = search(alloc, &mut solver, dag, goal, cone, budget)?;
-    let lines = solver.lines();
+    let best = search(alloc, &mut solver, dag, goal, cone, budget);
+    let clauses = solver.lines().given;
+    let conflicts = solver.lines().derived;
+    drop(solver);
     Ok(Searched {
-        best,
-        clauses: lines.given,
-        conflicts: lines.derived,
+        best: best?,
+        clauses,
+        conflicts,
     })
 }
 

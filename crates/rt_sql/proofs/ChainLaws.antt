@@ -6,12 +6,10 @@ use Rattle.rt_grammar.specs.declared.terminal.Name.{Name}
 use Rattle.rt_grammar.specs.declared.terminal.Terminal.{Terminal}
 use Rattle.rt_grammar.specs.declared.terminal.Terminal.TheVariants as terminal
 use Rattle.rt_grammar.specs.Terminals.{Kinds, code_of, flag, front, in_paren, maybe}
-use Rattle.rt_grammar.specs.Readers.{Parser, both, done, either, lead, list_of, made, optional, paren, read_name, starts, starts_name}
-use Rattle.rt_tree.specs.Flags.{flagged}
+use Rattle.rt_grammar.specs.Readers.{Parser, both, done, either, flagged, lead, list_of, made, optional, paren, read_end, read_name, starts, starts_name}
 use Rattle.rt_grammar.proofs.ManyLemmas.{bind-some, some-is}
 use Rattle.rt_grammar.proofs.FrontLemmas.{Passed, other-nat}
-use Rattle.rt_grammar.proofs.Laws.{Lawful, both-law, done-law, either-sound, lead-law, made-law, made-sound, optional-law, paren-law, weaker}
-use Rattle.rt_tree.proofs.FlagLaws.{flagged-law}
+use Rattle.rt_grammar.proofs.Laws.{Lawful, both-law, done-law, either-sound, flagged-law, lead-law, made-law, made-sound, optional-law, paren-law, weaker}
 use Rattle.rt_grammar.proofs.ListLaws.{StepLaw, after-law, follows, list-law, when-law}
 use Rattle.rt_tree.specs.declared.tree.Alias.{Alias}
 use Rattle.rt_tree.specs.declared.tree.Items.{Items}
@@ -44,7 +42,6 @@ use Rattle.rt_sql.proofs.StartLemmas.{primary-cases}
 use Rattle.rt_sql.proofs.CondLaws.{InnerLaw, cond-law}
 use Rattle.rt_grammar.proofs.CalmLemmas.{IsCalm, calm-name}
 use Rattle.rt_grammar.proofs.EndLaws.{end-front, end-reads, end-sound}
-use Rattle.rt_grammar.specs.Readers.{read_end}
 
 -- ---- bases
 
@@ -68,7 +65,7 @@ abbrev sub_kinds : Chain × Alias → Kinds
 sub_kinds x = in_paren (spelled_chain x.0) ++ spelled_alias x.1
 
 sub-law : (inner : Inner) (n : ℕ) → InnerLaw inner n → Lawful true (both (paren inner.chain) read_alias) sub_kinds (n + 2) 1
-sub-law inner n l = both-law (paren inner.chain) read_alias (λ (q : Chain). in_paren (spelled_chain q)) spelled_alias (n + 2) 0 1 (paren-law inner.chain spelled_chain n 32 l.chain (omega arith)) (alias-law (n + 2)) (λ a rest f. omega arith)
+sub-law inner n l = both-law (paren inner.chain) read_alias (λ (q : Chain). in_paren (spelled_chain q)) spelled_alias (n + 2) 0 1 (paren-law inner.chain spelled_chain n 33 l.chain (omega arith)) (alias-law (n + 2)) (λ a rest f. omega arith)
 
 abbrev BaseReads : Inner → ℕ → Base → Type 0
 BaseReads inner n x = (rest : Kinds) → length (spelled_base x) < n + 2 → 24 ≤ front rest → read_base inner (spelled_base x ++ rest) ≡ Some (x, rest)
@@ -194,50 +191,50 @@ join-front = join-cases (λ x. (rest : Kinds) → 24 ≤ front (spelled_join x +
 join-there : (x : Join) (rest : Kinds) → is_join (spelled_join x ++ rest) ≡ true
 join-there = join-cases (λ x. (rest : Kinds) → is_join (spelled_join x ++ rest) ≡ true) (λ b c rest. rw spelled-Plain refl) (λ b c rest. rw spelled-Inner refl) (λ b rest. rw spelled-Cross refl)
 
-no-join : (rest : Kinds) → 27 ≤ front rest → is_join rest ≡ false
+no-join : (rest : Kinds) → 28 ≤ front rest → is_join rest ≡ false
 no-join rest h = rw (other-nat (front rest) 24 (λ e. omega arith), other-nat (front rest) 25 (λ e. omega arith), other-nat (front rest) 26 (λ e. omega arith)) refl
 
-pub join-step-law : (inner : Inner) (n : ℕ) → InnerLaw inner n → StepLaw true (join_step inner) spelled_join (n + 2) 24 27
-join-step-law inner n l = when-law is_join (read_join inner) spelled_join (n + 2) 24 27 (join-law inner n l) join-some join-front join-there no-join (omega arith)
+pub join-step-law : (inner : Inner) (n : ℕ) → InnerLaw inner n → StepLaw true (join_step inner) spelled_join (n + 2) 24 28
+join-step-law inner n l = when-law is_join (read_join inner) spelled_join (n + 2) 24 28 (join-law inner n l) join-some join-front join-there no-join (omega arith)
 
-pub source-law : (inner : Inner) (n : ℕ) → InnerLaw inner n → Lawful true (read_source inner) spelled_source (n + 2) 27
+pub source-law : (inner : Inner) (n : ℕ) → InnerLaw inner n → Lawful true (read_source inner) spelled_source (n + 2) 28
 unfolding read_source
 source-law inner n l =
     let step = join-step-law inner n l in
     made-law (both (read_base inner) (list_of (join_step inner))) source_of (λ (x : Source). ((out-Source x).head, (out-Source x).joins))
-    (λ (x : Base × List Join). spelled_base x.0 ++ flat_map spelled_join x.1) spelled_source (n + 2) 27
-    (both-law (read_base inner) (list_of (join_step inner)) spelled_base (flat_map spelled_join) (n + 2) 24 27 (base-law inner n l) (list-law (join_step inner) spelled_join (n + 2) 24 27 step)
+    (λ (x : Base × List Join). spelled_base x.0 ++ flat_map spelled_join x.1) spelled_source (n + 2) 28
+    (both-law (read_base inner) (list_of (join_step inner)) spelled_base (flat_map spelled_join) (n + 2) 24 28 (base-law inner n l) (list-law (join_step inner) spelled_join (n + 2) 24 28 step)
     (λ xs rest f. follows spelled_join 24 step.starts xs rest (omega arith)))
     roll-out-Source (λ x. spelled-Source x.0 x.1)
 
 abbrev comma_source : Source → Kinds
 comma_source x = terminal.Fixed fixed.Comma ∷ spelled_source x
 
-pub source-step-law : (inner : Inner) (n : ℕ) → InnerLaw inner n → StepLaw true (source_step inner) comma_source (n + 2) 27 28
-source-step-law inner n l = after-law fixed.Comma (read_source inner) spelled_source (n + 2) 27 (source-law inner n l) (λ e. omega arith) (λ e. omega arith) (omega arith)
+pub source-step-law : (inner : Inner) (n : ℕ) → InnerLaw inner n → StepLaw true (source_step inner) comma_source (n + 2) 28 29
+source-step-law inner n l = after-law fixed.Comma (read_source inner) spelled_source (n + 2) 28 (source-law inner n l) (λ e. omega arith) (λ e. omega arith) (omega arith)
 
 abbrev sources_kinds : Source × List Source → Kinds
 sources_kinds x = spelled_source x.0 ++ flat_map comma_source x.1
 
-pub sources-law : (inner : Inner) (n : ℕ) → InnerLaw inner n → Lawful true (read_sources inner) sources_kinds (n + 2) 28
+pub sources-law : (inner : Inner) (n : ℕ) → InnerLaw inner n → Lawful true (read_sources inner) sources_kinds (n + 2) 29
 unfolding read_sources
 sources-law inner n l =
     let step = source-step-law inner n l in
-    both-law (read_source inner) (list_of (source_step inner)) spelled_source (flat_map comma_source) (n + 2) 27 28 (source-law inner n l) (list-law (source_step inner) comma_source (n + 2) 27 28 step)
-    (λ xs rest f. follows comma_source 27 step.starts xs rest (omega arith))
+    both-law (read_source inner) (list_of (source_step inner)) spelled_source (flat_map comma_source) (n + 2) 28 29 (source-law inner n l) (list-law (source_step inner) comma_source (n + 2) 28 29 step)
+    (λ xs rest f. follows comma_source 28 step.starts xs rest (omega arith))
 
 -- ---- picks
 
 abbrev where_kinds : Cond → Kinds
 where_kinds c = terminal.Fixed fixed.Where ∷ spelled_cond c
 
-pub where-law : (inner : Inner) (n : ℕ) → InnerLaw inner n → Lawful true (read_where inner) spelled_where (n + 2) 29
+pub where-law : (inner : Inner) (n : ℕ) → InnerLaw inner n → Lawful true (read_where inner) spelled_where (n + 2) 30
 unfolding read_where
 where-law inner n l = optional-law (starts fixed.Where) (lead fixed.Where (read_cond inner)) where_kinds (n + 2) 22
     (lead-law fixed.Where (read_cond inner) spelled_cond (n + 2) 22 (cond-law inner n l) (λ e. omega arith) (λ e. omega arith))
-    (λ c rest. refl) 29 (omega arith) (λ rest f. other-nat (front rest) 28 (λ e. omega arith))
+    (λ c rest. refl) 30 (omega arith) (λ rest f. other-nat (front rest) 29 (λ e. omega arith))
 
-where-front : (o : Option Cond) (rest : Kinds) → 29 ≤ front rest → 28 ≤ front (spelled_where o ++ rest)
+where-front : (o : Option Cond) (rest : Kinds) → 30 ≤ front rest → 29 ≤ front (spelled_where o ++ rest)
 where-front None rest f = omega arith
 where-front (Some c) rest f = omega arith
 
@@ -253,40 +250,40 @@ from_kinds x = terminal.Fixed fixed.From ∷ (sources_kinds x.0 ++ spelled_where
 abbrev parts_kinds : Parts → Kinds
 parts_kinds x = spelled_items x.0 ++ from_kinds x.1
 
-from-law : (inner : Inner) (n : ℕ) → InnerLaw inner n → Lawful true (lead fixed.From (both (read_sources inner) (read_where inner))) from_kinds (n + 2) 29
-from-law inner n l = lead-law fixed.From (both (read_sources inner) (read_where inner)) (λ (x : (Source × List Source) × Option Cond). sources_kinds x.0 ++ spelled_where x.1) (n + 2) 29
-    (both-law (read_sources inner) (read_where inner) sources_kinds spelled_where (n + 2) 28 29 (sources-law inner n l) (where-law inner n l) where-front)
+from-law : (inner : Inner) (n : ℕ) → InnerLaw inner n → Lawful true (lead fixed.From (both (read_sources inner) (read_where inner))) from_kinds (n + 2) 30
+from-law inner n l = lead-law fixed.From (both (read_sources inner) (read_where inner)) (λ (x : (Source × List Source) × Option Cond). sources_kinds x.0 ++ spelled_where x.1) (n + 2) 30
+    (both-law (read_sources inner) (read_where inner) sources_kinds spelled_where (n + 2) 29 30 (sources-law inner n l) (where-law inner n l) where-front)
     (λ e. omega arith) (λ e. omega arith)
 
-parts-law : (inner : Inner) (n : ℕ) → InnerLaw inner n → Lawful true (read_parts inner) parts_kinds (n + 2) 29
-parts-law inner n l = both-law read_items (lead fixed.From (both (read_sources inner) (read_where inner))) spelled_items from_kinds (n + 2) 28 29 (items-law (n + 2)) (from-law inner n l) (λ x rest f. omega arith)
+parts-law : (inner : Inner) (n : ℕ) → InnerLaw inner n → Lawful true (read_parts inner) parts_kinds (n + 2) 30
+parts-law inner n l = both-law read_items (lead fixed.From (both (read_sources inner) (read_where inner))) spelled_items from_kinds (n + 2) 29 30 (items-law (n + 2)) (from-law inner n l) (λ x rest f. omega arith)
 
 abbrev flagged_kinds : Bool × Parts → Kinds
 flagged_kinds x = flag fixed.Distinct x.0 ++ parts_kinds x.1
 
-parts-front : (x : Parts) (rest : Kinds) → front (parts_kinds x ++ rest) ≡ 38 → ⊥
+parts-front : (x : Parts) (rest : Kinds) → front (parts_kinds x ++ rest) ≡ 39 → ⊥
 parts-front x rest h = items-front x.0 (from_kinds x.1 ++ rest) (rw append_assoc at h)
 
-distinct-law : (inner : Inner) (n : ℕ) → InnerLaw inner n → Lawful true (flagged fixed.Distinct (read_parts inner)) flagged_kinds (n + 2) 29
-distinct-law inner n l = flagged-law fixed.Distinct (read_parts inner) parts_kinds (n + 2) 29 (parts-law inner n l) (λ e. omega arith) (λ e. omega arith) (λ x rest f e. parts-front x rest e)
+distinct-law : (inner : Inner) (n : ℕ) → InnerLaw inner n → Lawful true (flagged fixed.Distinct (read_parts inner)) flagged_kinds (n + 2) 30
+distinct-law inner n l = flagged-law fixed.Distinct (read_parts inner) parts_kinds (n + 2) 30 (parts-law inner n l) (λ e. omega arith) (λ e. omega arith) (λ x rest f e. parts-front x rest e)
 
 abbrev back_pick : Pick → Bool × Parts
 back_pick x = ((out-Pick x).distinct, ((out-Pick x).items, (((out-Pick x).head, (out-Pick x).tail), (out-Pick x).cond)))
 
-pub pick-law : (inner : Inner) (n : ℕ) → InnerLaw inner n → Lawful true (read_pick inner) spelled_pick (n + 2) 29
+pub pick-law : (inner : Inner) (n : ℕ) → InnerLaw inner n → Lawful true (read_pick inner) spelled_pick (n + 2) 30
 unfolding read_pick
 pick-law inner n l = made-law (lead fixed.Select (flagged fixed.Distinct (read_parts inner))) pick_of back_pick
-    (λ (x : Bool × Parts). terminal.Fixed fixed.Select ∷ flagged_kinds x) spelled_pick (n + 2) 29
-    (lead-law fixed.Select (flagged fixed.Distinct (read_parts inner)) flagged_kinds (n + 2) 29 (distinct-law inner n l) (λ e. omega arith) (λ e. omega arith))
+    (λ (x : Bool × Parts). terminal.Fixed fixed.Select ∷ flagged_kinds x) spelled_pick (n + 2) 30
+    (lead-law fixed.Select (flagged fixed.Distinct (read_parts inner)) flagged_kinds (n + 2) 30 (distinct-law inner n l) (λ e. omega arith) (λ e. omega arith))
     roll-out-Pick (λ x. spelled-Pick x.0 x.1.0 x.1.1.0.0 x.1.1.0.1 x.1.1.1)
 
 -- ---- primaries
 
 abbrev PrimaryReads : Inner → ℕ → Primary → Type 0
-PrimaryReads inner n x = (rest : Kinds) → length (spelled_primary x) < n + 2 → 29 ≤ front rest → read_primary inner (spelled_primary x ++ rest) ≡ Some (x, rest)
+PrimaryReads inner n x = (rest : Kinds) → length (spelled_primary x) < n + 2 → 30 ≤ front rest → read_primary inner (spelled_primary x ++ rest) ≡ Some (x, rest)
 
-pick-front : (p : Pick) (rest : Kinds) → front (spelled_pick p ++ rest) ≡ 37
-pick-front p rest = subst (λ (p : Pick). front (spelled_pick p ++ rest) ≡ 37) (roll-out-Pick p)
+pick-front : (p : Pick) (rest : Kinds) → front (spelled_pick p ++ rest) ≡ 38
+pick-front p rest = subst (λ (p : Pick). front (spelled_pick p ++ rest) ≡ 38) (roll-out-Pick p)
     (rw (spelled-Pick (out-Pick p).distinct (out-Pick p).items (out-Pick p).head (out-Pick p).tail (out-Pick p).cond) refl)
 
 one-reads : (inner : Inner) (n : ℕ) → InnerLaw inner n → (p : Pick) → PrimaryReads inner n (primary.One p)
@@ -301,13 +298,13 @@ paren-reads : (inner : Inner) (n : ℕ) → InnerLaw inner n → (c : Chain) →
 unfolding read_primary
 paren-reads inner n l c rest h f =
     let e = spelled-ChainParen c in
-    let one = (paren-law inner.chain spelled_chain n 32 l.chain (omega arith)).reads c rest (omega (arith, h, ap length e)) (omega arith) in
+    let one = (paren-law inner.chain spelled_chain n 33 l.chain (omega arith)).reads c rest (omega (arith, h, ap length e)) (omega arith) in
     rw (e, one) refl
 
-pub primary-law : (inner : Inner) (n : ℕ) → InnerLaw inner n → Lawful true (read_primary inner) spelled_primary (n + 2) 29
+pub primary-law : (inner : Inner) (n : ℕ) → InnerLaw inner n → Lawful true (read_primary inner) spelled_primary (n + 2) 30
 unfolding read_primary
 primary-law inner n l =
-    let p = paren-law inner.chain spelled_chain n 32 l.chain (omega arith) in
+    let p = paren-law inner.chain spelled_chain n 33 l.chain (omega arith) in
     record {
       sound = either-sound (starts fixed.Left) (made primary.Paren (paren inner.chain)) (made primary.One (read_pick inner)) spelled_primary
           (made-sound (paren inner.chain) primary.Paren (λ (c : Chain). in_paren (spelled_chain c)) spelled_primary p.sound spelled-ChainParen)
@@ -316,29 +313,29 @@ primary-law inner n l =
       passed = λ s. primary-cases (λ x. length (spelled_primary x) < n + 2 → Passed (spelled_primary x))
           (λ q h. let e = spelled-One q in rw e ((pick-law inner n l).passed refl q (omega (arith, h, ap length e))))
           (λ c h. let e = spelled-ChainParen c in rw e (p.passed refl c (omega (arith, h, ap length e))));
-      calm = λ s. primary-cases (λ x. (rest : Kinds) → length (spelled_primary x) < n + 2 → 29 ≤ front rest → IsCalm rest → IsCalm (spelled_primary x ++ rest))
+      calm = λ s. primary-cases (λ x. (rest : Kinds) → length (spelled_primary x) < n + 2 → 30 ≤ front rest → IsCalm rest → IsCalm (spelled_primary x ++ rest))
           (λ q rest h f k. let e = spelled-One q in rw e ((pick-law inner n l).calm refl q rest (omega (arith, h, ap length e)) f k))
           (λ c rest h f k. let e = spelled-ChainParen c in rw e (p.calm refl c rest (omega (arith, h, ap length e)) (omega arith) k));
     }
 
-pub primary-front : (x : Primary) (rest : Kinds) → front (spelled_primary x ++ rest) ≡ 38 → ⊥
-primary-front = primary-cases (λ x. (rest : Kinds) → front (spelled_primary x ++ rest) ≡ 38 → ⊥)
-    (λ p rest e. let h : front (spelled_pick p ++ rest) ≡ 38 = rw spelled-One at e in omega (arith, pick-front p rest))
-    (λ c rest e. let h : 0 ≡ 38 = rw spelled-ChainParen at e in omega arith)
+pub primary-front : (x : Primary) (rest : Kinds) → front (spelled_primary x ++ rest) ≡ 39 → ⊥
+primary-front = primary-cases (λ x. (rest : Kinds) → front (spelled_primary x ++ rest) ≡ 39 → ⊥)
+    (λ p rest e. let h : front (spelled_pick p ++ rest) ≡ 39 = rw spelled-One at e in omega (arith, pick-front p rest))
+    (λ c rest e. let h : 0 ≡ 39 = rw spelled-ChainParen at e in omega arith)
 
 -- ---- meets
 
 abbrev distinct_primary : Bool × Primary → Kinds
 distinct_primary x = flag fixed.Distinct x.0 ++ spelled_primary x.1
 
-distinct-primary-law : (inner : Inner) (n : ℕ) → InnerLaw inner n → Lawful true (flagged fixed.Distinct (read_primary inner)) distinct_primary (n + 2) 29
-distinct-primary-law inner n l = flagged-law fixed.Distinct (read_primary inner) spelled_primary (n + 2) 29 (primary-law inner n l) (λ e. omega arith) (λ e. omega arith) (λ x rest f e. primary-front x rest e)
+distinct-primary-law : (inner : Inner) (n : ℕ) → InnerLaw inner n → Lawful true (flagged fixed.Distinct (read_primary inner)) distinct_primary (n + 2) 30
+distinct-primary-law inner n l = flagged-law fixed.Distinct (read_primary inner) spelled_primary (n + 2) 30 (primary-law inner n l) (λ e. omega arith) (λ e. omega arith) (λ x rest f e. primary-front x rest e)
 
-pub meet-link-law : (inner : Inner) (n : ℕ) → InnerLaw inner n → Lawful true (read_meet_link inner) spelled_meet_link (n + 2) 29
+pub meet-link-law : (inner : Inner) (n : ℕ) → InnerLaw inner n → Lawful true (read_meet_link inner) spelled_meet_link (n + 2) 30
 unfolding read_meet_link
 meet-link-law inner n l = made-law (lead fixed.Intersect (flagged fixed.Distinct (read_primary inner))) meet_link_of (λ (x : MeetLink). ((out-MeetLink x).distinct, (out-MeetLink x).of))
-    (λ (x : Bool × Primary). terminal.Fixed fixed.Intersect ∷ distinct_primary x) spelled_meet_link (n + 2) 29
-    (lead-law fixed.Intersect (flagged fixed.Distinct (read_primary inner)) distinct_primary (n + 2) 29 (distinct-primary-law inner n l) (λ e. omega arith) (λ e. omega arith))
+    (λ (x : Bool × Primary). terminal.Fixed fixed.Intersect ∷ distinct_primary x) spelled_meet_link (n + 2) 30
+    (lead-law fixed.Intersect (flagged fixed.Distinct (read_primary inner)) distinct_primary (n + 2) 30 (distinct-primary-law inner n l) (λ e. omega arith) (λ e. omega arith))
     roll-out-MeetLink (λ x. spelled-MeetLink x.0 x.1)
 
 meet-link-holds : (P : Kinds → Type 0) → ((ks : Kinds) → P (terminal.Fixed fixed.Intersect ∷ ks)) → (x : MeetLink) (rest : Kinds) → P (spelled_meet_link x ++ rest)
@@ -347,22 +344,22 @@ meet-link-holds P f x rest = subst (λ (x : MeetLink). P (spelled_meet_link x ++
 meet-link-some : (x : MeetLink) → 0 < length (spelled_meet_link x)
 meet-link-some x = subst (λ (x : MeetLink). 0 < length (spelled_meet_link x)) (roll-out-MeetLink x) (omega (arith, ap length (spelled-MeetLink (out-MeetLink x).distinct (out-MeetLink x).of)))
 
-pub meet-step-law : (inner : Inner) (n : ℕ) → InnerLaw inner n → StepLaw true (meet_step inner) spelled_meet_link (n + 2) 29 30
-meet-step-law inner n l = when-law (starts fixed.Intersect) (read_meet_link inner) spelled_meet_link (n + 2) 29 30 (meet-link-law inner n l) meet-link-some
-    (meet-link-holds (λ ks. 29 ≤ front ks) (λ ks. omega arith)) (meet-link-holds (λ ks. starts fixed.Intersect ks ≡ true) (λ ks. refl)) (λ rest f. other-nat (front rest) 29 (λ e. omega arith)) (omega arith)
+pub meet-step-law : (inner : Inner) (n : ℕ) → InnerLaw inner n → StepLaw true (meet_step inner) spelled_meet_link (n + 2) 30 31
+meet-step-law inner n l = when-law (starts fixed.Intersect) (read_meet_link inner) spelled_meet_link (n + 2) 30 31 (meet-link-law inner n l) meet-link-some
+    (meet-link-holds (λ ks. 30 ≤ front ks) (λ ks. omega arith)) (meet-link-holds (λ ks. starts fixed.Intersect ks ≡ true) (λ ks. refl)) (λ rest f. other-nat (front rest) 30 (λ e. omega arith)) (omega arith)
 
-pub meet-law : (inner : Inner) (n : ℕ) → InnerLaw inner n → Lawful true (read_meet inner) spelled_meet (n + 2) 30
+pub meet-law : (inner : Inner) (n : ℕ) → InnerLaw inner n → Lawful true (read_meet inner) spelled_meet (n + 2) 31
 unfolding read_meet
 meet-law inner n l =
     let step = meet-step-law inner n l in
     made-law (both (read_primary inner) (list_of (meet_step inner))) meet_of (λ (x : Meet). ((out-Meet x).head, (out-Meet x).tail))
-    (λ (x : Primary × List MeetLink). spelled_primary x.0 ++ flat_map spelled_meet_link x.1) spelled_meet (n + 2) 30
-    (both-law (read_primary inner) (list_of (meet_step inner)) spelled_primary (flat_map spelled_meet_link) (n + 2) 29 30 (primary-law inner n l) (list-law (meet_step inner) spelled_meet_link (n + 2) 29 30 step)
-    (λ xs rest f. follows spelled_meet_link 29 step.starts xs rest (omega arith)))
+    (λ (x : Primary × List MeetLink). spelled_primary x.0 ++ flat_map spelled_meet_link x.1) spelled_meet (n + 2) 31
+    (both-law (read_primary inner) (list_of (meet_step inner)) spelled_primary (flat_map spelled_meet_link) (n + 2) 30 31 (primary-law inner n l) (list-law (meet_step inner) spelled_meet_link (n + 2) 30 31 step)
+    (λ xs rest f. follows spelled_meet_link 30 step.starts xs rest (omega arith)))
     roll-out-Meet (λ x. spelled-Meet x.0 x.1)
 
-meet-front : (x : Meet) (rest : Kinds) → front (spelled_meet x ++ rest) ≡ 38 → ⊥
-meet-front x rest = subst (λ (x : Meet). front (spelled_meet x ++ rest) ≡ 38 → ⊥) (roll-out-Meet x)
+meet-front : (x : Meet) (rest : Kinds) → front (spelled_meet x ++ rest) ≡ 39 → ⊥
+meet-front x rest = subst (λ (x : Meet). front (spelled_meet x ++ rest) ≡ 39 → ⊥) (roll-out-Meet x)
     (λ e. primary-front (out-Meet x).head (flat_map spelled_meet_link (out-Meet x).tail ++ rest) (rw (spelled-Meet (out-Meet x).head (out-Meet x).tail, append_assoc (spelled_primary (out-Meet x).head) (flat_map spelled_meet_link (out-Meet x).tail) rest) at e))
 
 -- ---- chains
@@ -370,18 +367,18 @@ meet-front x rest = subst (λ (x : Meet). front (spelled_meet x ++ rest) ≡ 38 
 abbrev distinct_meet : Bool × Meet → Kinds
 distinct_meet x = flag fixed.Distinct x.0 ++ spelled_meet x.1
 
-distinct-meet-law : (inner : Inner) (n : ℕ) → InnerLaw inner n → Lawful true (flagged fixed.Distinct (read_meet inner)) distinct_meet (n + 2) 30
-distinct-meet-law inner n l = flagged-law fixed.Distinct (read_meet inner) spelled_meet (n + 2) 30 (meet-law inner n l) (λ e. omega arith) (λ e. omega arith) (λ x rest f e. meet-front x rest e)
+distinct-meet-law : (inner : Inner) (n : ℕ) → InnerLaw inner n → Lawful true (flagged fixed.Distinct (read_meet inner)) distinct_meet (n + 2) 31
+distinct-meet-law inner n l = flagged-law fixed.Distinct (read_meet inner) spelled_meet (n + 2) 31 (meet-law inner n l) (λ e. omega arith) (λ e. omega arith) (λ x rest f e. meet-front x rest e)
 
 abbrev union_kinds : Bool → Bool × Meet → Kinds
 union_kinds e x = terminal.Fixed (union_word e) ∷ distinct_meet x
 
-union-law : (inner : Inner) (n : ℕ) → InnerLaw inner n → (e : Bool) → Lawful true (lead (union_word e) (flagged fixed.Distinct (read_meet inner))) (union_kinds e) (n + 2) 30
-union-law inner n l true = lead-law fixed.Except (flagged fixed.Distinct (read_meet inner)) distinct_meet (n + 2) 30 (distinct-meet-law inner n l) (λ e. omega arith) (λ e. omega arith)
-union-law inner n l false = lead-law fixed.Union (flagged fixed.Distinct (read_meet inner)) distinct_meet (n + 2) 30 (distinct-meet-law inner n l) (λ e. omega arith) (λ e. omega arith)
+union-law : (inner : Inner) (n : ℕ) → InnerLaw inner n → (e : Bool) → Lawful true (lead (union_word e) (flagged fixed.Distinct (read_meet inner))) (union_kinds e) (n + 2) 31
+union-law inner n l true = lead-law fixed.Except (flagged fixed.Distinct (read_meet inner)) distinct_meet (n + 2) 31 (distinct-meet-law inner n l) (λ e. omega arith) (λ e. omega arith)
+union-law inner n l false = lead-law fixed.Union (flagged fixed.Distinct (read_meet inner)) distinct_meet (n + 2) 31 (distinct-meet-law inner n l) (λ e. omega arith) (λ e. omega arith)
 
 abbrev LinkReads : Inner → ℕ → ChainLink → Type 0
-LinkReads inner n x = (rest : Kinds) → length (spelled_chain_link x) < n + 2 → 30 ≤ front rest → read_chain_link inner (spelled_chain_link x ++ rest) ≡ Some (x, rest)
+LinkReads inner n x = (rest : Kinds) → length (spelled_chain_link x) < n + 2 → 31 ≤ front rest → read_chain_link inner (spelled_chain_link x ++ rest) ≡ Some (x, rest)
 
 link-reads : (inner : Inner) (n : ℕ) → InnerLaw inner n → (e : Bool) (x : Bool × Meet) → LinkReads inner n (chain_link_of e x)
 unfolding read_chain_link
@@ -397,10 +394,10 @@ link-reads inner n l false x rest h f =
 link-passed : (inner : Inner) (n : ℕ) → InnerLaw inner n → (e : Bool) (x : Bool × Meet) → length (spelled_chain_link (chain_link_of e x)) < n + 2 → Passed (spelled_chain_link (chain_link_of e x))
 link-passed inner n l e x h = let q = spelled-ChainLink e x.0 x.1 in rw q ((union-law inner n l e).passed refl x (omega (arith, h, ap length q)))
 
-link-calm : (inner : Inner) (n : ℕ) → InnerLaw inner n → (e : Bool) (x : Bool × Meet) (rest : Kinds) → length (spelled_chain_link (chain_link_of e x)) < n + 2 → 30 ≤ front rest → IsCalm rest → IsCalm (spelled_chain_link (chain_link_of e x) ++ rest)
+link-calm : (inner : Inner) (n : ℕ) → InnerLaw inner n → (e : Bool) (x : Bool × Meet) (rest : Kinds) → length (spelled_chain_link (chain_link_of e x)) < n + 2 → 31 ≤ front rest → IsCalm rest → IsCalm (spelled_chain_link (chain_link_of e x) ++ rest)
 link-calm inner n l e x rest h f k = let q = spelled-ChainLink e x.0 x.1 in rw q ((union-law inner n l e).calm refl x rest (omega (arith, h, ap length q)) f k)
 
-pub chain-link-law : (inner : Inner) (n : ℕ) → InnerLaw inner n → Lawful true (read_chain_link inner) spelled_chain_link (n + 2) 30
+pub chain-link-law : (inner : Inner) (n : ℕ) → InnerLaw inner n → Lawful true (read_chain_link inner) spelled_chain_link (n + 2) 31
 unfolding read_chain_link
 chain-link-law inner n l = record {
   sound = either-sound (starts fixed.Except) (made (chain_link_of true) (lead fixed.Except (flagged fixed.Distinct (read_meet inner)))) (made (chain_link_of false) (lead fixed.Union (flagged fixed.Distinct (read_meet inner)))) spelled_chain_link
@@ -408,7 +405,7 @@ chain-link-law inner n l = record {
       (made-sound (lead fixed.Union (flagged fixed.Distinct (read_meet inner))) (chain_link_of false) (union_kinds false) spelled_chain_link (union-law inner n l false).sound (λ x. spelled-ChainLink false x.0 x.1));
   reads = λ x. subst (LinkReads inner n) (roll-out-ChainLink x) (link-reads inner n l (out-ChainLink x).except ((out-ChainLink x).distinct, (out-ChainLink x).of));
   passed = λ s x. subst (λ (x : ChainLink). length (spelled_chain_link x) < n + 2 → Passed (spelled_chain_link x)) (roll-out-ChainLink x) (link-passed inner n l (out-ChainLink x).except ((out-ChainLink x).distinct, (out-ChainLink x).of));
-  calm = λ s x. subst (λ (x : ChainLink). (rest : Kinds) → length (spelled_chain_link x) < n + 2 → 30 ≤ front rest → IsCalm rest → IsCalm (spelled_chain_link x ++ rest)) (roll-out-ChainLink x) (link-calm inner n l (out-ChainLink x).except ((out-ChainLink x).distinct, (out-ChainLink x).of));
+  calm = λ s x. subst (λ (x : ChainLink). (rest : Kinds) → length (spelled_chain_link x) < n + 2 → 31 ≤ front rest → IsCalm rest → IsCalm (spelled_chain_link x ++ rest)) (roll-out-ChainLink x) (link-calm inner n l (out-ChainLink x).except ((out-ChainLink x).distinct, (out-ChainLink x).of));
 }
 
 link-holds : (P : Kinds → Type 0) → ((e : Bool) (ks : Kinds) → P (terminal.Fixed (union_word e) ∷ ks)) → (x : ChainLink) (rest : Kinds) → P (spelled_chain_link x ++ rest)
@@ -417,7 +414,7 @@ link-holds P f x rest = subst (λ (x : ChainLink). P (spelled_chain_link x ++ re
 link-some : (x : ChainLink) → 0 < length (spelled_chain_link x)
 link-some x = subst (λ (x : ChainLink). 0 < length (spelled_chain_link x)) (roll-out-ChainLink x) (omega (arith, ap length (spelled-ChainLink (out-ChainLink x).except (out-ChainLink x).distinct (out-ChainLink x).of)))
 
-union-at-least : (e : Bool) (ks : Kinds) → 30 ≤ front (terminal.Fixed (union_word e) ∷ ks)
+union-at-least : (e : Bool) (ks : Kinds) → 31 ≤ front (terminal.Fixed (union_word e) ∷ ks)
 union-at-least true ks = omega arith
 union-at-least false ks = omega arith
 
@@ -425,21 +422,21 @@ union-there : (e : Bool) (ks : Kinds) → is_union (terminal.Fixed (union_word e
 union-there true ks = refl
 union-there false ks = refl
 
-no-union : (rest : Kinds) → 32 ≤ front rest → is_union rest ≡ false
-no-union rest h = rw (other-nat (front rest) 30 (λ e. omega arith), other-nat (front rest) 31 (λ e. omega arith)) refl
+no-union : (rest : Kinds) → 33 ≤ front rest → is_union rest ≡ false
+no-union rest h = rw (other-nat (front rest) 31 (λ e. omega arith), other-nat (front rest) 32 (λ e. omega arith)) refl
 
-pub chain-step-law : (inner : Inner) (n : ℕ) → InnerLaw inner n → StepLaw true (chain_step inner) spelled_chain_link (n + 2) 30 32
-chain-step-law inner n l = when-law is_union (read_chain_link inner) spelled_chain_link (n + 2) 30 32 (chain-link-law inner n l) link-some
-    (link-holds (λ ks. 30 ≤ front ks) union-at-least) (link-holds (λ ks. is_union ks ≡ true) union-there) no-union (omega arith)
+pub chain-step-law : (inner : Inner) (n : ℕ) → InnerLaw inner n → StepLaw true (chain_step inner) spelled_chain_link (n + 2) 31 33
+chain-step-law inner n l = when-law is_union (read_chain_link inner) spelled_chain_link (n + 2) 31 33 (chain-link-law inner n l) link-some
+    (link-holds (λ ks. 31 ≤ front ks) union-at-least) (link-holds (λ ks. is_union ks ≡ true) union-there) no-union (omega arith)
 
-pub chain-law : (inner : Inner) (n : ℕ) → InnerLaw inner n → Lawful true (read_chain inner) spelled_chain (n + 2) 32
+pub chain-law : (inner : Inner) (n : ℕ) → InnerLaw inner n → Lawful true (read_chain inner) spelled_chain (n + 2) 33
 unfolding read_chain
 chain-law inner n l =
     let step = chain-step-law inner n l in
     made-law (both (read_meet inner) (list_of (chain_step inner))) chain_of (λ (x : Chain). ((out-Chain x).head, (out-Chain x).tail))
-    (λ (x : Meet × List ChainLink). spelled_meet x.0 ++ flat_map spelled_chain_link x.1) spelled_chain (n + 2) 32
-    (both-law (read_meet inner) (list_of (chain_step inner)) spelled_meet (flat_map spelled_chain_link) (n + 2) 30 32 (meet-law inner n l) (list-law (chain_step inner) spelled_chain_link (n + 2) 30 32 step)
-    (λ xs rest f. follows spelled_chain_link 30 step.starts xs rest (omega arith)))
+    (λ (x : Meet × List ChainLink). spelled_meet x.0 ++ flat_map spelled_chain_link x.1) spelled_chain (n + 2) 33
+    (both-law (read_meet inner) (list_of (chain_step inner)) spelled_meet (flat_map spelled_chain_link) (n + 2) 31 33 (meet-law inner n l) (list-law (chain_step inner) spelled_chain_link (n + 2) 31 33 step)
+    (λ xs rest f. follows spelled_chain_link 31 step.starts xs rest (omega arith)))
     roll-out-Chain (λ x. spelled-Chain x.0 x.1)
 
 -- conditions and chains of fewer than n terminals are read
@@ -451,7 +448,7 @@ level-law zero = record {
 }
 level-law (suc n) = record {
   cond = weaker (read_cond (level n)) spelled_cond (n + 2) 22 (suc n) 22 (cond-law (level n) n (level-law n)) (omega arith) (omega arith);
-  chain = weaker (read_chain (level n)) spelled_chain (n + 2) 32 (suc n) 32 (chain-law (level n) n (level-law n)) (omega arith) (omega arith);
+  chain = weaker (read_chain (level n)) spelled_chain (n + 2) 33 (suc n) 33 (chain-law (level n) n (level-law n)) (omega arith) (omega arith);
 }
 
 -- ---- all the terminals

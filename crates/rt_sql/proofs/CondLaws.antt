@@ -7,12 +7,10 @@ use Rattle.rt_grammar.specs.declared.fixed.Fixed.TheVariants as fixed
 use Rattle.rt_grammar.specs.declared.terminal.Terminal.{Terminal}
 use Rattle.rt_grammar.specs.declared.terminal.Terminal.TheVariants as terminal
 use Rattle.rt_grammar.specs.Terminals.{Kinds, after, code, code_of, flag, front, in_paren}
-use Rattle.rt_grammar.specs.Readers.{Parser, both, done, either, lead, list_of, made, paren, read_name, repeated, starts, starts_name}
-use Rattle.rt_tree.specs.Flags.{flagged}
+use Rattle.rt_grammar.specs.Readers.{Parser, both, done, either, flagged, lead, list_of, made, paren, read_name, repeated, starts, starts_name}
 use Rattle.rt_grammar.proofs.ManyLemmas.{bind-some, some-is}
 use Rattle.rt_grammar.proofs.FrontLemmas.{Passed, after-sound, other-nat, passed-cons, passed-nil}
-use Rattle.rt_grammar.proofs.Laws.{Lawful, both-law, done-law, either-sound, lead-law, made-law, made-sound, paren-law, repeated-law}
-use Rattle.rt_tree.proofs.FlagLaws.{flagged-law}
+use Rattle.rt_grammar.proofs.Laws.{Lawful, both-law, done-law, either-sound, flagged-law, lead-law, made-law, made-sound, paren-law, repeated-law}
 use Rattle.rt_grammar.proofs.ListLaws.{StepLaw, after-law, follows, list-law}
 use Rattle.rt_tree.specs.declared.tree.Op.{Op}
 use Rattle.rt_tree.specs.declared.tree.Op.TheVariants as op
@@ -48,22 +46,22 @@ use Rattle.rt_grammar.proofs.CalmLemmas.{IsCalm, calm-name}
 -- readers of what stands in parentheses, for trees of fewer than n terminals
 pub record InnerLaw (inner : Inner) (n : ℕ) : Type 0 where
   pub cond : Lawful true inner.cond spelled_cond n 22
-  pub chain : Lawful true inner.chain spelled_chain n 32
+  pub chain : Lawful true inner.chain spelled_chain n 33
 
 -- ---- lists of sums
 
 abbrev comma_sum : Sum → Kinds
 comma_sum x = terminal.Fixed fixed.Comma ∷ spelled_sum x
 
-pub comma-sum-law : (n : ℕ) → StepLaw true comma_sum_step comma_sum n 5 28
+pub comma-sum-law : (n : ℕ) → StepLaw true comma_sum_step comma_sum n 5 29
 comma-sum-law n = after-law fixed.Comma sum_at spelled_sum n 5 (sum-at-law n) (λ e. omega arith) (λ e. omega arith) (omega arith)
 
 abbrev sums_of : Sum × List Sum → Kinds
 sums_of x = spelled_sums x.0 x.1
 
-sums-law : (n : ℕ) → Lawful true read_sums sums_of n 28
+sums-law : (n : ℕ) → Lawful true read_sums sums_of n 29
 unfolding read_sums
-sums-law n = both-law sum_at (list_of comma_sum_step) spelled_sum (flat_map comma_sum) n 5 28 (sum-at-law n) (list-law comma_sum_step comma_sum n 5 28 (comma-sum-law n))
+sums-law n = both-law sum_at (list_of comma_sum_step) spelled_sum (flat_map comma_sum) n 5 29 (sum-at-law n) (list-law comma_sum_step comma_sum n 5 29 (comma-sum-law n))
     (λ xs rest f. follows comma_sum 5 (comma-sum-law n).starts xs rest (omega arith))
 
 -- ---- ranges
@@ -77,13 +75,13 @@ abbrev in_chain : Chain → Kinds
 in_chain q = terminal.Fixed fixed.In ∷ in_paren (spelled_chain q)
 
 in-chain-law : (inner : Inner) (n : ℕ) → InnerLaw inner n → Lawful true (lead fixed.In (paren inner.chain)) in_chain (n + 2) 0
-in-chain-law inner n l = lead-law fixed.In (paren inner.chain) (λ (q : Chain). in_paren (spelled_chain q)) (n + 2) 0 (paren-law inner.chain spelled_chain n 32 l.chain (omega arith)) (λ e. omega arith) (λ e. omega arith)
+in-chain-law inner n l = lead-law fixed.In (paren inner.chain) (λ (q : Chain). in_paren (spelled_chain q)) (n + 2) 0 (paren-law inner.chain spelled_chain n 33 l.chain (omega arith)) (λ e. omega arith) (λ e. omega arith)
 
 abbrev in_list : Sum × List Sum → Kinds
 in_list x = terminal.Fixed fixed.In ∷ in_paren (sums_of x)
 
 in-list-law : (n : ℕ) → Lawful true (lead fixed.In (paren read_sums)) in_list (n + 2) 0
-in-list-law n = lead-law fixed.In (paren read_sums) (λ (x : Sum × List Sum). in_paren (sums_of x)) (n + 2) 0 (paren-law read_sums sums_of n 28 (sums-law n) (omega arith)) (λ e. omega arith) (λ e. omega arith)
+in-list-law n = lead-law fixed.In (paren read_sums) (λ (x : Sum × List Sum). in_paren (sums_of x)) (n + 2) 0 (paren-law read_sums sums_of n 29 (sums-law n) (omega arith)) (λ e. omega arith) (λ e. omega arith)
 
 abbrev read_bounds : Parser (Sum × Sum)
 read_bounds = lead fixed.Between (both sum_at (lead fixed.And sum_at))
@@ -318,7 +316,7 @@ abbrev exists_kinds : Chain → Kinds
 exists_kinds q = terminal.Fixed fixed.Exists ∷ in_paren (spelled_chain q)
 
 exists-law : (inner : Inner) (n : ℕ) → InnerLaw inner n → Lawful true (lead fixed.Exists (paren inner.chain)) exists_kinds (n + 2) 0
-exists-law inner n l = lead-law fixed.Exists (paren inner.chain) (λ (q : Chain). in_paren (spelled_chain q)) (n + 2) 0 (paren-law inner.chain spelled_chain n 32 l.chain (omega arith)) (λ e. omega arith) (λ e. omega arith)
+exists-law inner n l = lead-law fixed.Exists (paren inner.chain) (λ (q : Chain). in_paren (spelled_chain q)) (n + 2) 0 (paren-law inner.chain spelled_chain n 33 l.chain (omega arith)) (λ e. omega arith) (λ e. omega arith)
 
 group-law : (inner : Inner) (n : ℕ) → InnerLaw inner n → Lawful true (paren inner.cond) (λ (c : Cond). in_paren (spelled_cond c)) (n + 2) 0
 group-law inner n l = paren-law inner.cond spelled_cond n 22 l.cond (omega arith)
@@ -333,8 +331,8 @@ tested-reads inner n l a t rest h f =
     let one = (tested-law inner n l).reads (a, t) rest (omega (arith, h, ap length e)) (omega arith) in
     let as_one = append_assoc (spelled_sum a) (spelled_test t) rest in
     let b = test-front t rest in
-    let x : (front ((spelled_sum a ++ spelled_test t) ++ rest) == 39) ≡ false =
-    rw as_one (other-nat (front (spelled_sum a ++ (spelled_test t ++ rest))) 39 (not-front starts_sum _ 39 (sum-front a (spelled_test t ++ rest)) refl)) in
+    let x : (front ((spelled_sum a ++ spelled_test t) ++ rest) == 40) ≡ false =
+    rw as_one (other-nat (front (spelled_sum a ++ (spelled_test t ++ rest))) 40 (not-front starts_sum _ 40 (sum-front a (spelled_test t ++ rest)) refl)) in
     let y : is_group ((spelled_sum a ++ spelled_test t) ++ rest) ≡ false = rw as_one (sum-no-group a (spelled_test t ++ rest) b.1) in
     rw (e, x, y, one) refl
 
@@ -377,7 +375,7 @@ atom-law inner n l = record {
 atom-front : (x : Atom) (rest : Kinds) → front (spelled_atom x ++ rest) ≡ 17 → ⊥
 atom-front = atom-cases (λ x. (rest : Kinds) → front (spelled_atom x ++ rest) ≡ 17 → ⊥)
     (λ a t rest e. not-front starts_sum (front (spelled_sum a ++ (spelled_test t ++ rest))) 17 (sum-front a (spelled_test t ++ rest)) refl (rw (spelled-tested a t, append_assoc (spelled_sum a) (spelled_test t) rest) at e))
-    (λ q rest e. let h : 39 ≡ 17 = rw (spelled-Exists q) at e in omega arith)
+    (λ q rest e. let h : 40 ≡ 17 = rw (spelled-Exists q) at e in omega arith)
     (λ c rest e. let h : 0 ≡ 17 = rw (spelled-CondParen c) at e in omega arith)
 
 -- ---- conditions

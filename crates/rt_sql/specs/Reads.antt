@@ -1,9 +1,9 @@
 -- The grammar of queries above sums and items, as readers of terminals from the left.
 --
--- Contracts of private functions alone cite them: what a query is, the spelling of trees says.
+-- What the reading of a query answers is defined by them; by the law `read_is_tree` it is the tree that
+-- the tokens spell.
 use Rattle.std.specs.Prelude.{ℕ, zero, suc, ◌+◌, ◌==◌, nat_le, ◌&&◌, ◌||◌, Bool, true, false, if◌then◌else◌, List, [], ◌∷◌, length, Option, Some, None, option_map}
-use Rattle.rt_grammar.specs.Readers.{Parser, Step, ◌>>=◌, both, done, either, lead, list_of, made, optional, paren, read_end, read_name, repeated, starts, starts_name, step_after, step_when}
-use Rattle.rt_tree.specs.Flags.{flagged}
+use Rattle.rt_grammar.specs.Readers.{Parser, Step, both, done, either, flagged, lead, list_of, made, optional, paren, read_end, read_name, repeated, starts, starts_name, step_after, step_when, ◌>>=◌}
 use Rattle.rt_grammar.specs.Terminals.{Kinds, after, code, code_of, front, skip, tail_of}
 use Rattle.rt_grammar.specs.declared.fixed.Fixed.TheVariants as fixed
 use Rattle.rt_grammar.specs.declared.terminal.Name.{Name}

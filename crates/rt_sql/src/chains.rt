@@ -7,8 +7,8 @@ ghost use Rattle.rt_sql.specs.Reads as spec;
 
 use crate::looks::is_union;
 use crate::sources::{maybe_where, more_sources, source};
-use rt_grammar::{Fixed, ReadFault, Terminal, expect, starts};
-use rt_tree::{Chain, ChainLink, Meet, MeetLink, Pick, Primary, flag, read_items};
+use rt_grammar::{Fixed, ReadFault, Terminal, expect, flag, starts};
+use rt_tree::{Chain, ChainLink, Meet, MeetLink, Pick, Primary, read_items};
 use rt_value::{Boxed, List};
 use std::alloc::Global;
 
@@ -24,14 +24,16 @@ fn pick<'t>(
     let rest = expect(terminals, Fixed::Select)?;
     let (distinct, rest) = flag(rest, Fixed::Distinct);
     let (items, rest) = read_items(alloc, rest)?;
+    let items = Boxed::new(alloc, items)?;
     let rest = expect(rest, Fixed::From)?;
     let (head, rest) = source(alloc, depth, rest)?;
+    let head = Boxed::new(alloc, head)?;
     let (tail, rest) = more_sources(alloc, depth, rest)?;
     let (cond, rest) = maybe_where(alloc, depth, rest)?;
     let pick = Pick {
         distinct,
-        items,
-        head,
+        items: items.into_inner(),
+        head: head.into_inner(),
         tail,
         cond,
     };
@@ -53,8 +55,9 @@ fn primary<'t>(
     }
     let rest = expect(terminals, Fixed::Left)?;
     let (inner, rest) = chain(alloc, depth, rest)?;
+    let inner = Boxed::new(alloc, inner)?;
     let rest = expect(rest, Fixed::Right)?;
-    Ok((Primary::Paren(Boxed::new(alloc, inner)?), rest))
+    Ok((Primary::Paren(inner), rest))
 }
 
 #[tactic(auto, unfolding(crate::specs::Reads::read_meet_link))]

@@ -9,8 +9,8 @@ use crate::chains::chain;
 use crate::looks::{is_group, is_in_chain, is_op};
 use crate::ranges::{between, compared, in_list, is_null};
 use crate::tested::{Range, Test, atom_of};
-use rt_grammar::{Fixed, ReadFault, Terminal, after, counted, expect, starts};
-use rt_tree::{Atom, Cond, Conj, Neg, flag, sum_at};
+use rt_grammar::{Fixed, ReadFault, Terminal, after, counted, expect, flag, starts};
+use rt_tree::{Atom, Cond, Conj, Neg, sum_at};
 use rt_value::{Boxed, List};
 use std::alloc::Global;
 
@@ -33,8 +33,9 @@ fn range<'t>(
     let rest = expect(terminals, Fixed::In)?;
     let rest = expect(rest, Fixed::Left)?;
     let (inner, rest) = chain(alloc, depth, rest)?;
+    let inner = Boxed::new(alloc, inner)?;
     let rest = expect(rest, Fixed::Right)?;
-    Ok((Range::OfChain(Boxed::new(alloc, inner)?), rest))
+    Ok((Range::OfChain(inner), rest))
 }
 
 #[tactic(auto, unfolding(crate::specs::Reads::read_test))]
@@ -68,8 +69,9 @@ fn exists<'t>(
     let rest = expect(terminals, Fixed::Exists)?;
     let rest = expect(rest, Fixed::Left)?;
     let (inner, rest) = chain(alloc, depth, rest)?;
+    let inner = Boxed::new(alloc, inner)?;
     let rest = expect(rest, Fixed::Right)?;
-    Ok((Atom::Exists(Boxed::new(alloc, inner)?), rest))
+    Ok((Atom::Exists(inner), rest))
 }
 
 // A condition in parentheses.
@@ -83,8 +85,9 @@ fn group<'t>(
 {
     let rest = expect(terminals, Fixed::Left)?;
     let (inner, rest) = inner_cond(alloc, depth, rest)?;
+    let inner = Boxed::new(alloc, inner)?;
     let rest = expect(rest, Fixed::Right)?;
-    Ok((Atom::Paren(Boxed::new(alloc, inner)?), rest))
+    Ok((Atom::Paren(inner), rest))
 }
 
 #[tactic(auto, unfolding(crate::specs::Reads::read_atom))]
@@ -149,7 +152,9 @@ fn conj<'t>(
     ensures { Reads result (spec.read_conj (spec.level depth) terminals.now) }
 {
     let (head, rest) = neg(alloc, depth, terminals)?;
+    let head = Boxed::new(alloc, head)?;
     let (tail, rest) = more_negs(alloc, depth, rest)?;
+    let head = head.into_inner();
     Ok((Conj { head, tail }, rest))
 }
 
@@ -181,7 +186,9 @@ pub fn cond<'t>(
     ensures { Reads result (spec.read_cond (spec.level depth) terminals.now) }
 {
     let (head, rest) = conj(alloc, depth, terminals)?;
+    let head = Boxed::new(alloc, head)?;
     let (tail, rest) = more_conjs(alloc, depth, rest)?;
+    let head = head.into_inner();
     Ok((Cond { head, tail }, rest))
 }
 

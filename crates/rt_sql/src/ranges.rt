@@ -6,9 +6,9 @@ ghost use Rattle.rt_grammar.specs.Reads.{Reads};
 ghost use Rattle.rt_sql.specs.Reads as spec;
 
 use crate::tested::{Range, Test};
-use rt_grammar::{Fixed, ReadFault, Terminal, after, code, expect, front};
-use rt_tree::{Op, Sum, flag, sum_at, tail};
-use rt_value::List;
+use rt_grammar::{Fixed, ReadFault, Terminal, after, code, expect, flag, front, tail};
+use rt_tree::{Op, Sum, sum_at};
+use rt_value::{Boxed, List};
 use std::alloc::Global;
 
 fn more_sums<'t>(
@@ -38,9 +38,10 @@ pub fn in_list<'t>(
     let rest = expect(terminals, Fixed::In)?;
     let rest = expect(rest, Fixed::Left)?;
     let (head, rest) = sum_at(alloc, rest)?;
+    let head = Boxed::new(alloc, head)?;
     let (more, rest) = more_sums(alloc, rest)?;
     let rest = expect(rest, Fixed::Right)?;
-    Ok((Range::OfList(head, more), rest))
+    Ok((Range::OfList(head.into_inner(), more), rest))
 }
 
 /// BETWEEN and its bounds.
@@ -52,9 +53,10 @@ pub fn between<'t>(
 {
     let rest = expect(terminals, Fixed::Between)?;
     let (low, rest) = sum_at(alloc, rest)?;
+    let low = Boxed::new(alloc, low)?;
     let rest = expect(rest, Fixed::And)?;
     let (high, rest) = sum_at(alloc, rest)?;
-    Ok((Range::OfBounds(low, high), rest))
+    Ok((Range::OfBounds(low.into_inner(), high), rest))
 }
 
 fn op_at(place: u8) -> Option<Op>

@@ -29,9 +29,10 @@ fn base<'t>(
     }
     let rest = expect(terminals, Fixed::Left)?;
     let (inner, rest) = chain(alloc, depth, rest)?;
+    let inner = Boxed::new(alloc, inner)?;
     let rest = expect(rest, Fixed::Right)?;
     let (alias, rest) = alias(alloc, rest)?;
-    Ok((Base::Sub(Boxed::new(alloc, inner)?, alias), rest))
+    Ok((Base::Sub(inner, alias), rest))
 }
 
 // A base, ON and a condition.
@@ -45,9 +46,10 @@ fn on<'t>(
     ensures { Reads result (spec.read_on (spec.level depth) terminals.now) }
 {
     let (base, rest) = base(alloc, depth, terminals)?;
+    let base = Boxed::new(alloc, base)?;
     let rest = expect(rest, Fixed::On)?;
     let (cond, rest) = cond(alloc, depth, rest)?;
-    Ok(((base, cond), rest))
+    Ok(((base.into_inner(), cond), rest))
 }
 
 #[cycle(chain_reader)]

@@ -1,7 +1,8 @@
+use crate::checks::rules;
 use rt_ddl::{Excess, SchemaFault, read_schema};
 use rt_schema::{ColKind, Column, Foreign, Rule, Schema, Table};
 use rt_value::{List, NoMemory, Txt};
-use std::alloc::Global;
+use std::alloc::{AllocError, Global};
 
 fn column(alloc: Global, name: &str, kind: ColKind) -> Result<Column, NoMemory> {
     let name = Txt::of(alloc, name)?;
@@ -89,6 +90,7 @@ fn told(alloc: Global, read: Result<Schema, SchemaFault>) -> Result<String, Sche
         Err(SchemaFault::DuplicateName(name)) => format!(in alloc; "twice {}", name.as_str()),
         Err(SchemaFault::UnknownName(name)) => format!(in alloc; "unknown {}", name.as_str()),
         Err(SchemaFault::KeyTypes(name)) => format!(in alloc; "key of {}", name.as_str()),
+        Err(SchemaFault::CheckTypes(name)) => format!(in alloc; "check of {}", name.as_str()),
         Err(SchemaFault::TooMany(Excess::Tables)) => format!(in alloc; "tables"),
         Err(SchemaFault::TooMany(Excess::Columns(name))) => {
             format!(in alloc; "columns of {}", name.as_str())
@@ -133,6 +135,183 @@ fn tells_faults(rt: HostRuntime) {
         ("CREATE TABLE \"a", "lex"),
     ] {
         assert_eq!(rt; is_told(rt.alloc(), text, wanted), true, "{text}");
+    }
+}
+
+// The rules of the first table as a text.
+fn rules_told(alloc: Global, schema: &Schema) -> Result<String, AllocError> {
+    let mut text = String::new(alloc);
+    if let [table, ..] = schema.tables() {
+        rules(alloc, &mut text, table.rules.as_slice())?;
+    }
+    Ok(text)
+}
+
+fn are_told(alloc: Global, text: &str, wanted: &str) -> bool {
+    match read_schema(alloc, text.as_bytes()) {
+        Ok(schema) => match rules_told(alloc, &schema) {
+            Ok(told) => told.as_str() == wanted,
+            Err(_) => false,
+        },
+        Err(_) => false,
+    }
+}
+
+// Each line of the grammar of conditions, and the two NOTs.
+#[test]
+fn reads_checks(rt: HostRuntime) {
+    for (text, wanted) in [
+        ("CREATE TABLE t (a INT CHECK (a > 0), b INT)", "[#0>0]"),
+        (
+            "CREATE TABLE t (a INT NOT NULL CONSTRAINT k CHECK (b <> a) UNIQUE, b INT)",
+            ".[#1<>#0].",
+        ),
+        (
+            "CREATE TABLE t (a INT, CHECK (a = 1), CONSTRAINT k CHECK (NULL <= a), b INT)",
+            "[#0=1][N<=#0]",
+        ),
+        (
+            "CREATE TABLE t (a INT, b TEXT, CHECK (b >= 'x' OR a < -1 AND 'y' = b OR b = ''))",
+            "[#1>='x' | #0<-1 & 'y'=#1 | #1='']",
+        ),
+        (
+            "CREATE TABLE t (a INT, CHECK (a IS NULL AND a IS NOT NULL AND NOT a IS NULL AND NOT a IS NOT NULL))",
+            "[#0 null & !#0 null & !#0 null & #0 null]",
+        ),
+        (
+            "CREATE TABLE t (a INT, CHECK (a BETWEEN 1 AND 2 AND NOT a NOT BETWEEN -2 AND a OR NOT a BETWEEN NULL AND 3))",
+            "[#0 between 1 2 & #0 between -2 #0 | !#0 between N 3]",
+        ),
+        (
+            "CREATE TABLE t (a INT, CHECK (a IN (1) OR a NOT IN (a, -1, NULL) OR NOT 5 IN (1, 2)))",
+            "[#0 in 1 | !#0 in #0 -1 N | !5 in 1 2]",
+        ),
+        (
+            "CREATE TABLE t (a INT, CHECK (a = -170141183460469231731687303715884105727))",
+            "[#0=-170141183460469231731687303715884105727]",
+        ),
+        (
+            "CREATE TABLE t (a INT, b INT, c INT, DEPENDENCY (a, b) DETERMINES (c, a), CONSTRAINT k DEPENDENCY (c) DETERMINES (b))",
+            "[ 0 1 -> 2 0][ 2 -> 1]",
+        ),
+        (
+            "CREATE TABLE h (dependency INTEGER, CHECK (dependency BETWEEN 0 AND 100 OR dependency IN (-1)));",
+            "[#0 between 0 100 | #0 in -1]",
+        ),
+        (
+            "CREATE TABLE determines (dependency INT, determines TEXT, DEPENDENCY (dependency) DETERMINES (determines))",
+            "[ 0 -> 1]",
+        ),
+    ] {
+        assert_eq!(rt; are_told(rt.alloc(), text, wanted), true, "{text}");
+    }
+}
+
+// Nesting, arithmetic, names of tables, and rules that stand in the wrong place.
+#[test]
+fn tells_what_is_no_check(rt: HostRuntime) {
+    for text in [
+        "CREATE TABLE t (a INT CHECK a > 0)",
+        "CREATE TABLE t (a INT, CHECK ((a > 0)))",
+        "CREATE TABLE t (a INT, CHECK (a + 1 > 0))",
+        "CREATE TABLE t (a INT, CHECK (- - 1 < a))",
+        "CREATE TABLE t (a INT, CHECK (- a < 1))",
+        "CREATE TABLE t (a INT, CHECK (NOT NOT a = 1))",
+        "CREATE TABLE t (a INT, CHECK (a = 1 = 1))",
+        "CREATE TABLE t (a INT, CHECK (a IN ()))",
+        "CREATE TABLE t (a INT, CHECK (t.a = 1))",
+        "CREATE TABLE t (a INT, CHECK ())",
+        "CREATE TABLE t (a INT, check INT)",
+        "CREATE TABLE t (a INT DEPENDENCY (a) DETERMINES (a))",
+        "CREATE TABLE t (a INT, DEPENDENCY (a))",
+        "CREATE TABLE t (a INT, DEPENDENCY (a) DETERMINES ())",
+    ] {
+        let is_syntax = match read_schema(rt.alloc(), text.as_bytes()) {
+            Err(SchemaFault::Syntax(_)) => true,
+            _ => false,
+        };
+        assert_eq!(rt; is_syntax, true, "{text}");
+    }
+}
+
+// The order of the faults of checks and dependencies.
+#[test]
+fn tells_faults_of_checks(rt: HostRuntime) {
+    for (text, wanted) in [
+        ("CREATE TABLE h (dependency INTEGER)", "tables 1"),
+        (
+            "CREATE TABLE t (a INT, b INT, DEPENDENCY (a, b, a) DETERMINES (b), CHECK (c = 1))",
+            "twice a",
+        ),
+        (
+            "CREATE TABLE t (a INT, b INT, DEPENDENCY (a) DETERMINES (b, b))",
+            "twice b",
+        ),
+        (
+            "CREATE TABLE t (a INT, b INT, DEPENDENCY (a, b) DETERMINES (b, a))",
+            "tables 1",
+        ),
+        (
+            "CREATE TABLE t (a INT CHECK (a = 1 OR a IN (2, x) AND y = a), CHECK (z = 1))",
+            "unknown x",
+        ),
+        (
+            "CREATE TABLE t (a INT, CHECK (a BETWEEN 'x' AND u), FOREIGN KEY (v) REFERENCES w)",
+            "unknown u",
+        ),
+        (
+            "CREATE TABLE t (a INT, DEPENDENCY (x) DETERMINES (y))",
+            "unknown x",
+        ),
+        (
+            "CREATE TABLE t (a INT, DEPENDENCY (a) DETERMINES (y))",
+            "unknown y",
+        ),
+        (
+            "CREATE TABLE s (b TEXT PRIMARY KEY, CHECK (b = 1)); CREATE TABLE t (a INT REFERENCES s)",
+            "key of t",
+        ),
+        ("CREATE TABLE h (a INTEGER CHECK (a > 'x'));", "check of h"),
+        (
+            "CREATE TABLE t (a INT CHECK (a = a)); CREATE TABLE u (a TEXT CHECK ('x' IN ('y', 1))); CREATE TABLE v (a INT CHECK (a = 'x'))",
+            "check of u",
+        ),
+        (
+            "CREATE TABLE t (a INT, b TEXT, CHECK (a BETWEEN 1 AND b))",
+            "check of t",
+        ),
+        (
+            "CREATE TABLE t (a INT, b TEXT, CHECK (NULL BETWEEN a AND b AND NULL IN (1, 'x') AND a IS NULL))",
+            "tables 1",
+        ),
+    ] {
+        assert_eq!(rt; is_told(rt.alloc(), text, wanted), true, "{text}");
+    }
+}
+
+// A table with a key, a foreign key, this many checks and a dependency; the last check compares a
+// whole number with a text.
+fn checked(alloc: Global, checks: usize) -> Result<String, NoMemory> {
+    let mut text = String::from_str(
+        alloc,
+        "CREATE TABLE t (a INT NOT NULL UNIQUE, b INT REFERENCES t (a), DEPENDENCY (a) DETERMINES (b)",
+    )?;
+    for _ in 1..checks {
+        text.push_str(", CHECK (a = 1)")?;
+    }
+    text.push_str(", CHECK (a = 'x'))")?;
+    Ok(text)
+}
+
+// The rules are counted together, and a check's types are tested last.
+#[test]
+fn counts_rules(rt: HostRuntime) {
+    for (checks, wanted) in [(61, "check of t"), (62, "rules of t")] {
+        let is_right = match checked(rt.alloc(), checks) {
+            Ok(text) => is_told(rt.alloc(), text.as_str(), wanted),
+            Err(_) => false,
+        };
+        assert_eq!(rt; is_right, true, "{checks}");
     }
 }
 

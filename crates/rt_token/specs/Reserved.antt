@@ -1,10 +1,8 @@
--- The reserved words, and what a name is (ISO/IEC 9075-2, 5.2 <reserved word> and 5.4 <identifier>;
--- the list has the words that the statements read here use).
-use Rattle.std.specs.Prelude.{Bool, if◌then◌else◌, List, [], ◌∷◌, Option, Some, None, codes}
+-- The reserved words (ISO/IEC 9075-2, 5.2 <reserved word>; the list has the words that the statements
+-- read here use).
+use Rattle.std.specs.Prelude.{Bool, List, [], ◌∷◌, codes}
 use Rattle.std.specs.List.{list_any}
 use Rattle.std.specs.Str.{bytes_eq}
-use Rattle.rt_token.specs.declared.token.TokenKind.{TokenKind}
-use Rattle.rt_token.specs.declared.token.TokenKind.TheVariants.{Word, Quoted, Number, Str, Sym}
 use Rattle.rt_token.specs.Lexed.{Text}
 
 abbrev pub reserved : List Text
@@ -18,11 +16,3 @@ reserved =
 
 unfoldable pub is_reserved : Text → Bool
 is_reserved word = list_any (λ r. bytes_eq r word) reserved
-
--- the name that a token is: a word that isn't reserved, or a quoted name
-abbrev pub name_of : TokenKind → Option Text
-name_of (Word w) = if is_reserved w then None else Some w
-name_of (Quoted content) = Some content
-name_of (Number n) = None
-name_of (Str content) = None
-name_of (Sym y) = None

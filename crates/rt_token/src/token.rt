@@ -1,8 +1,3 @@
-ghost use Rattle.std.specs.Prelude.{◌≡◌};
-ghost use Rattle.std.specs.Option.{option_copied};
-ghost use Rattle.rt_token.specs.Reserved.{name_of};
-
-use crate::reserved::is_reserved;
 use crate::span::Span;
 use crate::sym::Sym;
 use rt_value::Txt;
@@ -19,19 +14,6 @@ pub enum TokenKind {
     /// A text, as written.
     Str(Txt),
     Sym(Sym),
-}
-
-impl TokenKind {
-    /// The name that this token is: a word that isn't reserved, or a quoted name.
-    pub fn as_name(&self) -> Option<&str>
-        ensures { option_copied result ≡ name_of self.now }
-    {
-        match self {
-            TokenKind::Word(word) if !is_reserved(word.as_str()) => Some(word.as_str()),
-            TokenKind::Quoted(name) => Some(name.as_str()),
-            _ => None,
-        }
-    }
 }
 
 /// A token and the bytes of the text that it was read from.

@@ -1,3 +1,4 @@
 mod EndLemmas
+mod JudgedLemmas
 mod LineLemmas
 mod WriteLemmas

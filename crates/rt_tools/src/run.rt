@@ -1,11 +1,13 @@
 ghost use Rattle.std.specs.Prelude.{◌≡◌, ◌⊎◌, IfOk};
 ghost use Rattle.rt_io.specs.Edge.{NoneFell};
-ghost use Rattle.rt_io.specs.Logs.{Broke, Grew, GrewPartly, IsKept, WritesNothing, at_place, log, other_place};
+ghost use Rattle.rt_io.specs.Logs.{Broke, Grew, GrewPartly, IsKept, NoSinkRose, WritesNothing, at_place, log, other_place};
 ghost use Rattle.rt_top.specs.Answers.{Stop, call, limit_of};
 ghost use Rattle.rt_words.specs.Command.{command};
 ghost use Rattle.rt_row_run.specs.RowVerdicts.{IsRowAnswer};
 ghost use Rattle.rt_tools.specs.Answers.{Ends, EndsBegun, EndsBroken, EndsWritten, IfNoMemory, IfText, IfWriteFault, SaysGrade, SaysRow, SaysVerdict, WritesTo};
+ghost use Rattle.rt_tools.specs.Judged.{HasRoomFor, IsAsJudged, IsNoFault, IsToldTool, IsUsageOrFault, NoCountRose, refusal_of};
 ghost use Rattle.rt_tools.specs.Texts.{place};
+ghost use Rattle.rt_tools.specs.Words.{IsUsage, tool_of};
 ghost use Rattle.rt_tools.specs.declared.outcome.ToolOutcome.{ToolOutcome};
 
 use crate::outcome::ToolOutcome;
@@ -117,6 +119,14 @@ pub fn tool_run<F: Files, O: Sink, E: Sink>(
 ) -> ToolOutcome
     // Each outcome comes only where it may; its whole text went to its sink, and nothing to the other.
     ensures ends { IfText result (EndsWritten (call F.Files words.now files.old files.new) (log O.Sink out.old out.new) (log E.Sink err.old err.new) result) }
+    // A refusal exactly where it is the first; an answer only where there is none.
+    ensures exact { let c = call F.Files words.now files.old files.new in IsToldTool c (tool_of words.now) → IsAsJudged (refusal_of (tool_of words.now) (F.held files.old)) result }
+    // The usage text exactly where the words are those of no tool.
+    ensures usage_exact { IsUsage (tool_of words.now) → IsUsageOrFault result }
+    // Over files and sinks that don't fail, and without a budget for a row that a search can spend,
+    // the answer comes, or the first refusal.
+    ensures complete { let c = call F.Files words.now files.old files.new in
+        NoCountRose c → NoSinkRose (log O.Sink out.old out.new) (log E.Sink err.old err.new) → HasRoomFor c (tool_of words.now) → IsNoFault result }
     // Only where the sink of an outcome that may come failed in this call.
     ensures write_fault { IfWriteFault result ((allowed : ToolOutcome) × EndsBroken (call F.Files words.now files.old files.new) (log O.Sink out.old out.new) (log E.Sink err.old err.new) allowed) }
     // Want of memory may come anywhere; at most a prefix of such a text was written.

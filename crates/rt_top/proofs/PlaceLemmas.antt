@@ -45,6 +45,7 @@ placed_schema text (schema.Syntax at) answer = (refl, ok_and _ (lexed text) answ
 placed_schema text (schema.DuplicateName name) answer = (refl, tt)
 placed_schema text (schema.UnknownName name) answer = (refl, tt)
 placed_schema text (schema.KeyTypes table) answer = (refl, tt)
+placed_schema text (schema.CheckTypes table) answer = (refl, tt)
 placed_schema text (schema.TooMany excess) answer = tt
 placed_schema text schema.NoMemory answer = tt
 

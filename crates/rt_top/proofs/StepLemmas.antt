@@ -87,6 +87,7 @@ refuses_schema text (schema.Syntax at) g = (refl, ap (or_outcome schema_outcome)
 refuses_schema text (schema.DuplicateName name) g = (refl, ap (or_outcome schema_outcome) g)
 refuses_schema text (schema.UnknownName name) g = (refl, ap (or_outcome schema_outcome) g)
 refuses_schema text (schema.KeyTypes table) g = (refl, ap (or_outcome schema_outcome) g)
+refuses_schema text (schema.CheckTypes table) g = (refl, ap (or_outcome schema_outcome) g)
 refuses_schema text (schema.TooMany e) g = refuses_excess (schema_of text) e (ap (or_outcome schema_outcome) g)
 refuses_schema text schema.NoMemory g = tt
 

@@ -6,11 +6,11 @@ use Rattle.std.proofs.lemmas.Bool.Decides.{nat_tests}
 use Rattle.std.proofs.lemmas.List.{take-append-drop, length-take-le, take_more}
 use Rattle.rt_schema.specs.declared.table.Column.{Column}
 use Rattle.rt_schema.specs.declared.table.Table.{Table}
-use Rattle.rt_schema.specs.Given.{Rows, Tables, rows_at, places}
+use Rattle.rt_schema.specs.Given.{Rows, Tables, rows_at, places, row_limit}
 use Rattle.rt_schema.proofs.GivenLemmas.{places-set}
 use Rattle.rt_load.specs.declared.fault.LoadFault.{LoadFault}
 use Rattle.rt_load.specs.declared.fault.LoadFault.TheVariants.{BadHeader, FieldCount, TooManyRows}
-use Rattle.rt_load.specs.Loaded.{Field, begins_with_mark, cells, columns_at, is_header, loaded, row_at, row_limit, rows_behind_header, rows_from, ◌>>=◌}
+use Rattle.rt_load.specs.Loaded.{Field, begins_with_mark, cells, columns_at, is_header, loaded, row_at, rows_behind_header, rows_from, ◌>>=◌}
 use Rattle.rt_top.specs.declared.source.Source.{Source}
 use Rattle.rt_top.specs.declared.outcome.Outcome.{Outcome}
 use Rattle.rt_top.specs.declared.part.Part.TheVariants as part

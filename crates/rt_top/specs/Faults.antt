@@ -46,6 +46,7 @@ schema_outcome (schema.Syntax at) = outcome.Refused part.Schema (Schema (schema.
 schema_outcome (schema.DuplicateName name) = outcome.Refused part.Schema (Schema (schema.DuplicateName name))
 schema_outcome (schema.UnknownName name) = outcome.Refused part.Schema (Schema (schema.UnknownName name))
 schema_outcome (schema.KeyTypes table) = outcome.Refused part.Schema (Schema (schema.KeyTypes table))
+schema_outcome (schema.CheckTypes table) = outcome.Refused part.Schema (Schema (schema.CheckTypes table))
 schema_outcome (schema.TooMany excess) = outcome.Limit (excess_limit excess)
 schema_outcome schema.NoMemory = outcome.NoMemory
 
@@ -89,6 +90,7 @@ is_schema_refusal (schema.Syntax at) = true
 is_schema_refusal (schema.DuplicateName name) = true
 is_schema_refusal (schema.UnknownName name) = true
 is_schema_refusal (schema.KeyTypes table) = true
+is_schema_refusal (schema.CheckTypes table) = true
 is_schema_refusal (schema.TooMany excess) = false
 is_schema_refusal schema.NoMemory = false
 
@@ -132,6 +134,7 @@ placeless_schema (schema.Syntax at) = schema.Syntax 0
 placeless_schema (schema.DuplicateName name) = schema.DuplicateName name
 placeless_schema (schema.UnknownName name) = schema.UnknownName name
 placeless_schema (schema.KeyTypes table) = schema.KeyTypes table
+placeless_schema (schema.CheckTypes table) = schema.CheckTypes table
 placeless_schema (schema.TooMany excess) = schema.TooMany excess
 placeless_schema schema.NoMemory = schema.NoMemory
 

@@ -1,9 +1,8 @@
 -- What a command reads before its second query: the schema, the rows and the first query.
 use Rattle.std.specs.Prelude.{◌≤◌, Result, Ok}
-use Rattle.rt_schema.specs.Given.{IsOf, places}
+use Rattle.rt_schema.specs.Given.{IsOf, places, row_limit}
 use Rattle.rt_algebra.specs.Typed.{IsTypedOf}
 use Rattle.rt_algebra.specs.declared.typed.Typed.{Typed}
-use Rattle.rt_load.specs.Loaded.{row_limit}
 use Rattle.rt_top.specs.declared.first.First.{First}
 use Rattle.rt_top.specs.declared.outcome.Outcome.{Outcome}
 use Rattle.rt_top.specs.declared.part.Part.TheVariants.{Query1}

@@ -27,6 +27,7 @@ SchemaStands text (schema.Syntax at) = IsPlaceIn text at
 SchemaStands text (schema.DuplicateName name) = ⊤
 SchemaStands text (schema.UnknownName name) = ⊤
 SchemaStands text (schema.KeyTypes table) = ⊤
+SchemaStands text (schema.CheckTypes table) = ⊤
 SchemaStands text (schema.TooMany excess) = ⊤
 SchemaStands text schema.NoMemory = ⊤
 

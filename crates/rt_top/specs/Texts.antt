@@ -53,6 +53,7 @@ schema_text (schema.Syntax at) = syntax_text at
 schema_text (schema.DuplicateName name) = codes "name twice: " ++ name
 schema_text (schema.UnknownName name) = codes "unknown name: " ++ name
 schema_text (schema.KeyTypes table) = codes "foreign key of " ++ (table ++ codes " does not match")
+schema_text (schema.CheckTypes table) = codes "check of " ++ (table ++ codes " does not type")
 schema_text (schema.TooMany excess) = []
 schema_text schema.NoMemory = []
 

@@ -82,6 +82,10 @@ fn schema_text(alloc: Global, fault: &SchemaFault) -> Result<String, AllocError>
             let table = table.as_str();
             format!(in alloc; "foreign key of {table} does not match")
         }
+        SchemaFault::CheckTypes(table) => {
+            let table = table.as_str();
+            format!(in alloc; "check of {table} does not type")
+        }
         SchemaFault::TooMany(_) | SchemaFault::NoMemory => Ok(String::new(alloc)),
     }
 }

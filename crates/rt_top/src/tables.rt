@@ -1,8 +1,7 @@
 //! The schema of a command and the rows of its tables.
 ghost use Rattle.std.specs.Prelude.{◌≡◌, ◌≤◌, IsTrue, IfOk, IfErr, OnOk, Ok, Some, length, slice_get, slice_set};
 ghost use Rattle.rt_io.specs.Edge.{NoneFell};
-ghost use Rattle.rt_schema.specs.Given.{IsOf, places, rows_at};
-ghost use Rattle.rt_load.specs.Loaded.{row_limit};
+ghost use Rattle.rt_schema.specs.Given.{IsOf, places, rows_at, row_limit};
 ghost use Rattle.rt_top.specs.Source.{IsKnown, IsMade, tables_in};
 ghost use Rattle.rt_top.specs.Judged.{text_of, schema_of, schema_judged, table_judged, tables_judged, data_judged, no_rows, IsTableReached, Reaches};
 ghost use Rattle.rt_top.specs.Placed.{Placed, PlacedIn};

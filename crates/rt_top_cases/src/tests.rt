@@ -6,6 +6,7 @@ use std::alloc::{AllocError, Global};
 use std::test::Fail;
 
 mod annotated;
+mod checks;
 mod choices;
 mod compared;
 mod failing;

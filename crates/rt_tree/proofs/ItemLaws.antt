@@ -99,7 +99,7 @@ item-front c e n (item.One s a) rest h =
 abbrev comma_item : Item → Kinds
 comma_item x = terminal.Fixed fixed.Comma ∷ spelled_item x
 
-pub item-step-law : (n : ℕ) → StepLaw true item_step comma_item n 24 28
+pub item-step-law : (n : ℕ) → StepLaw true item_step comma_item n 24 29
 item-step-law n = after-law fixed.Comma read_item spelled_item n 24 (item-law n) (λ e. omega arith) (λ e. omega arith) (omega arith)
 
 abbrev read_some : Parser (Item × List Item)
@@ -108,8 +108,8 @@ read_some = both read_item (list_of item_step)
 abbrev spelled_some : Item × List Item → Kinds
 spelled_some x = spelled_item x.0 ++ flat_map comma_item x.1
 
-some-law : (n : ℕ) → Lawful true read_some spelled_some n 28
-some-law n = both-law read_item (list_of item_step) spelled_item (flat_map comma_item) n 24 28 (item-law n) (list-law item_step comma_item n 24 28 (item-step-law n))
+some-law : (n : ℕ) → Lawful true read_some spelled_some n 29
+some-law n = both-law read_item (list_of item_step) spelled_item (flat_map comma_item) n 24 29 (item-law n) (list-law item_step comma_item n 24 29 (item-step-law n))
     (λ is rest f. follows comma_item 24 (item-step-law n).starts is rest (omega arith))
 
 star-sound : (ks : Kinds) (q : Items × Kinds) → read_star ks ≡ Some q → ks ≡ spelled_items q.0 ++ q.1
@@ -118,7 +118,7 @@ star-sound ks q e =
     let h : (items.Star, a.0) ≡ q = some-is _ _ a.2 in
     subst (λ (q : Items × Kinds). ks ≡ spelled_items q.0 ++ q.1) h (after-sound fixed.Star ks a.0 a.1)
 
-items-reads : (n : ℕ) (x : Items) (rest : Kinds) → length (spelled_items x) < n → 28 ≤ front rest → read_items (spelled_items x ++ rest) ≡ Some (x, rest)
+items-reads : (n : ℕ) (x : Items) (rest : Kinds) → length (spelled_items x) < n → 29 ≤ front rest → read_items (spelled_items x ++ rest) ≡ Some (x, rest)
 unfolding read_items
 items-reads n items.Star rest h f = refl
 items-reads n (items.Some i is) rest h f =
@@ -131,11 +131,11 @@ items-passed : (n : ℕ) (x : Items) → length (spelled_items x) < n → Passed
 items-passed n items.Star h = passed-cons (terminal.Fixed fixed.Star) [] (λ e. omega arith) (λ e. omega arith) passed-nil
 items-passed n (items.Some i is) h = (some-law n).passed refl (i, is) h
 
-items-calm : (n : ℕ) (x : Items) (rest : Kinds) → length (spelled_items x) < n → 28 ≤ front rest → IsCalm rest → IsCalm (spelled_items x ++ rest)
+items-calm : (n : ℕ) (x : Items) (rest : Kinds) → length (spelled_items x) < n → 29 ≤ front rest → IsCalm rest → IsCalm (spelled_items x ++ rest)
 items-calm n items.Star rest h f k = k
 items-calm n (items.Some i is) rest h f k = (some-law n).calm refl (i, is) rest h f k
 
-pub items-law : (n : ℕ) → Lawful true read_items spelled_items n 28
+pub items-law : (n : ℕ) → Lawful true read_items spelled_items n 29
 unfolding read_items
 items-law n = record {
   sound = either-sound (starts fixed.Star) read_star (made some_of read_some) spelled_items star-sound (made-sound read_some some_of spelled_some spelled_items (some-law n).sound (λ x. refl));
@@ -145,6 +145,6 @@ items-law n = record {
 }
 
 -- items do not begin with DISTINCT
-pub items-front : (x : Items) (rest : Kinds) → front (spelled_items x ++ rest) ≡ 38 → ⊥
+pub items-front : (x : Items) (rest : Kinds) → front (spelled_items x ++ rest) ≡ 39 → ⊥
 items-front items.Star rest h = omega arith
-items-front (items.Some i is) rest h = item-front 38 refl (λ e. omega arith) i (flat_map comma_item is ++ rest) (rw append_assoc at h)
+items-front (items.Some i is) rest h = item-front 39 refl (λ e. omega arith) i (flat_map comma_item is ++ rest) (rw append_assoc at h)

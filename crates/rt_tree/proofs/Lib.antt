@@ -1,4 +1,3 @@
-pub mod FlagLaws
 pub mod ItemLaws
 pub mod SpelledLemmas
 pub mod SumLaws

@@ -6,13 +6,11 @@ use Rattle.rt_grammar.specs.declared.fixed.Fixed.TheVariants as fixed
 use Rattle.rt_grammar.specs.declared.terminal.Name.{Name}
 use Rattle.rt_grammar.specs.declared.terminal.Terminal.TheVariants as terminal
 use Rattle.rt_grammar.specs.Terminals.{Kinds, after, code, flag, front, in_paren, maybe}
-use Rattle.rt_grammar.specs.Readers.{Parser, both, either, lead, list_of, made, optional, paren, read_name, repeated, starts, starts_name}
-use Rattle.rt_tree.specs.Flags.{flagged}
+use Rattle.rt_grammar.specs.Readers.{Parser, both, either, flagged, lead, list_of, made, optional, paren, read_name, repeated, starts, starts_name}
 use Rattle.rt_grammar.proofs.CalmLemmas.{IsCalm, calm-name}
 use Rattle.rt_grammar.proofs.ManyLemmas.{bind-some, some-is}
 use Rattle.rt_grammar.proofs.FrontLemmas.{Passed, after-none, after-sound, other-nat, passed-cons, passed-nil}
-use Rattle.rt_grammar.proofs.Laws.{Lawful, both-law, either-sound, lead-law, made-law, made-sound, name-law, optional-law, paren-law, repeated-law, weaker}
-use Rattle.rt_tree.proofs.FlagLaws.{flagged-law}
+use Rattle.rt_grammar.proofs.Laws.{Lawful, both-law, either-sound, flagged-law, lead-law, made-law, made-sound, name-law, optional-law, paren-law, repeated-law, weaker}
 use Rattle.rt_grammar.proofs.ListLaws.{StepLaw, after-law, follows, list-law, when-law}
 use Rattle.rt_tree.specs.declared.tree.Alias.{Alias}
 use Rattle.rt_tree.specs.declared.tree.Leaf.{Leaf, out-Leaf, roll-Leaf, roll-out-Leaf}
@@ -149,7 +147,7 @@ leaf-law inner n l = record {
 -- ---- how leaves and sums begin
 
 abbrev pub starts_leaf : ℕ → Bool
-starts_leaf c = (c == 23) || ((c == 0) || ((c == 6) || ((c == 43) || (c == 44))))
+starts_leaf c = (c == 23) || ((c == 0) || ((c == 6) || ((c == 44) || (c == 45))))
 
 abbrev pub starts_sum : ℕ → Bool
 starts_sum c = (c == 4) || starts_leaf c

@@ -2,8 +2,7 @@
 --
 -- Contracts of readers alone cite them: what a query is, `Spelled` says.
 use Rattle.std.specs.Prelude.{ℕ, zero, suc, ◌+◌, ◌&&◌, ◌||◌, Bool, true, false, List, [], ◌∷◌, length, Option, Some, None}
-use Rattle.rt_grammar.specs.Readers.{Parser, Step, ◌>>=◌, both, either, lead, list_of, made, optional, paren, read_name, repeated, starts, starts_name, step_after, step_when}
-use Rattle.rt_tree.specs.Flags.{flagged}
+use Rattle.rt_grammar.specs.Readers.{Parser, Step, both, either, flagged, lead, list_of, made, optional, paren, read_name, repeated, starts, starts_name, step_after, step_when, ◌>>=◌}
 use Rattle.rt_grammar.specs.Terminals.{Kinds, after, tail_of}
 use Rattle.rt_grammar.specs.declared.fixed.Fixed.TheVariants as fixed
 use Rattle.rt_grammar.specs.declared.terminal.Name.{Name}

@@ -5,11 +5,10 @@ ghost use Rattle.rt_grammar.specs.Readers.{list_of};
 ghost use Rattle.rt_grammar.specs.Reads.{Reads};
 ghost use Rattle.rt_tree.specs.Reads as spec;
 
-use crate::flags::tail;
 use crate::names::maybe_alias;
 use crate::sums::sum_at;
 use crate::tree::{Item, Items};
-use rt_grammar::{Fixed, ReadFault, Terminal, after, expect, name, starts, starts_name};
+use rt_grammar::{Fixed, ReadFault, Terminal, after, expect, name, starts, starts_name, tail};
 use rt_value::List;
 use std::alloc::Global;
 

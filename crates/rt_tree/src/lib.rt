@@ -5,13 +5,11 @@
 //! has. Lists that may not be empty are a first member and the others.
 #![tactic(auto)]
 
-mod flags;
 mod items;
 mod names;
 mod sums;
 mod tree;
 
-pub use flags::{flag, tail};
 pub use items::items as read_items;
 pub use names::{alias, maybe_alias};
 pub use sums::sum_at;

@@ -5,9 +5,8 @@ ghost use Rattle.rt_grammar.specs.Readers.{optional};
 ghost use Rattle.rt_grammar.specs.Reads.{Reads};
 ghost use Rattle.rt_tree.specs.Reads as spec;
 
-use crate::flags::flag;
 use crate::tree::Alias;
-use rt_grammar::{Fixed, NAME, ReadFault, Terminal, code, front, name};
+use rt_grammar::{Fixed, NAME, ReadFault, Terminal, code, flag, front, name};
 use std::alloc::Global;
 
 /// Whether an alias stands at the front.

@@ -1,5 +1,5 @@
--- Values: when two are the same, their order, and the comparison of SQL
--- (ISO/IEC 9075-2, comparison predicate).
+-- Values: when two are the same, their order, the comparison of SQL, and IS NULL
+-- (ISO/IEC 9075-2, comparison predicate, null predicate).
 use Rattle.std.specs.Prelude.{Bool, true, false, ◌==◌}
 use Rattle.std.specs.declared.cmp.Ordering.{Ordering}
 use Rattle.std.specs.declared.cmp.Ordering.TheVariants.{Less, Equal, Greater}
@@ -54,3 +54,9 @@ value_truth op (Int x) (Text t) = op_truth op (value_cmp (Int x) (Text t))
 value_truth op (Text s) Null = Unknown
 value_truth op (Text s) (Int y) = op_truth op (value_cmp (Text s) (Int y))
 value_truth op (Text s) (Text t) = op_truth op (value_cmp (Text s) (Text t))
+
+-- IS NULL, which is never unknown
+abbrev pub null_truth : Value → Truth
+null_truth Null = Yes
+null_truth (Int n) = No
+null_truth (Text t) = No

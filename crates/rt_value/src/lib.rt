@@ -24,4 +24,4 @@ pub use numeral::{all_digits, decimal_up_to};
 pub use row::Row;
 pub use truth::Truth;
 pub use txt::Txt;
-pub use value::{Op, Value, compare};
+pub use value::{Op, Value, compare, null_truth};

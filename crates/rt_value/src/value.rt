@@ -3,7 +3,7 @@ ghost use Rattle.std.specs.Cmp.{partial_order_from_own_ties};
 ghost use Rattle.std.specs.Ordering.{as_partial_cmp};
 ghost use Rattle.std.specs.Cmp.Rules.{comparing};
 ghost use Rattle.std.proofs.Common.{rules};
-ghost use Rattle.rt_value.specs.Value.{value_eq, value_cmp, value_truth, op_truth};
+ghost use Rattle.rt_value.specs.Value.{value_eq, value_cmp, value_truth, op_truth, null_truth};
 ghost use Rattle.rt_value.specs.Order.{value_eq_equiv, value_cmp_total, value_ties};
 
 use crate::no_memory::NoMemory;
@@ -53,6 +53,16 @@ pub fn compare(a: &Value, b: &Value, op: Op) -> Truth
     match (a, b) {
         (Value::Null, _) | (_, Value::Null) => Truth::Unknown,
         _ => op_truth(op, a.cmp(b)),
+    }
+}
+
+/// IS NULL (ISO/IEC 9075-2, null predicate), which is never unknown.
+pub fn null_truth(value: &Value) -> Truth
+    ensures { result ≡ null_truth value.now }
+{
+    match value {
+        Value::Null => Truth::Yes,
+        _ => Truth::No,
     }
 }
 

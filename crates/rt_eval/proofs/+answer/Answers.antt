@@ -37,7 +37,7 @@ query::product_selected-returns-in-empty t c =
     let env = map (λ s. s.now) c.args.env.now in
     let wide = ap (λ (ws : List ℕ). are_wide ws c.args.members.now) (c.as_slice-2.ensures ∙ sym c.as_slice.ensures) ∙ sym c.are_wide.ensures ∙ c.if-not-are_wide.false in
     let none = sym c.as_slice-3.ensures ∙ nothing c.as_slice-3.result.now c.in-empty.len_below in
-    c.in_ok-rows-2.ensures ∙ c.in_ok-chosen.ensures ∙ c.in_ok-parts.ensures.joins_whole wrapped db env c.args.members.now wide none
+    c.in_ok-rows-2.ensures ∙ c.in_ok-parts.ensures.joins_whole wrapped db env c.args.members.now wide none
 
 pub query::product_selected-returns : goal.query::product_selected-returns
 query::product_selected-returns t c =
@@ -45,7 +45,7 @@ query::product_selected-returns t c =
     let env = map (λ s. s.now) c.args.env.now in
     let wide = ap (λ (ws : List ℕ). are_wide ws c.args.members.now) (c.as_slice-2.ensures ∙ sym c.as_slice.ensures) ∙ sym c.are_wide.ensures ∙ c.if-not-are_wide.false in
     c.in_ok-out-in-len1-up.ensures
-    ∙ ap (filter (λ r. is_yes (pred_by wrapped c.args.condition.now db (r ∷ env)))) (c.as_slice-in-len1-up.ensures ∙ c.in_ok-rows-2.ensures ∙ c.in_ok-chosen.ensures)
+    ∙ ap (filter (λ r. is_yes (pred_by wrapped c.args.condition.now db (r ∷ env)))) (c.as_slice-in-len1-up.ensures ∙ c.in_ok-rows-2.ensures)
     ∙ c.in_ok-parts.ensures.joins wrapped db env c.args.members.now wide
 
 pub query::answer-returns-in_ok-out-in-Except : goal.query::answer-returns-in_ok-out-in-Except

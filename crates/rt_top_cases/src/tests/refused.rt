@@ -71,6 +71,14 @@ fn schemas_and_tables(rt: HostRuntime) -> Result<(), Fail> {
     assert!(rt;
         all_refused(
             alloc,
+            "CREATE TABLE h (a INTEGER CHECK (a > 'x'));",
+            &[("d/h.csv", "a\n")],
+            &[(ALL, 3, "schema: check of h does not type"),],
+        )?
+    );
+    assert!(rt;
+        all_refused(
+            alloc,
             "CREATE TABLE t (a FLOAT);",
             &[TABLE],
             &[(ALL, 3, "schema: syntax fault near byte 18"),],

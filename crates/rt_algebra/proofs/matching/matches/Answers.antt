@@ -1,14 +1,6 @@
-use Rattle.std.proofs.Common.{◌∙◌, ◌++◌, ◌∷◌, [], ℕ, List, ap₂, sym, map}
-use Rattle.rt_algebra.specs.Join.{before_key}
-use Rattle.rt_algebra.proofs.Keys.{found_where, matches_more}
+use Rattle.std.proofs.Common.{map}
+use Rattle.rt_algebra.proofs.Keys.{all_found}
 use Rattle.rt_algebra.proofs.matching.matches.Goals as goal
 
-pub loop-before-preserved : goal.loop-before-preserved
-loop-before-preserved c =
-    let ks = c.args.keys.now in
-    let b = c.before-item.result in
-    let rows = map (λ r. r.now) c.args.rows.now in
-    c.in_ok-push.ensures.ok
-    ∙ ap₂ (λ (xs : List (List ℕ)) (x : List ℕ). xs ++ x ∷ []) c.loop-before.invariant
-    (c.in_ok-places.ensures ∙ found_where ks b.now rows _ (c.in_ok-index.ensures (before_key ks b.now)))
-    ∙ sym (matches_more ks c.args.befores.now c.loop-before.before-index b rows c.loop-before-test.true c.before-item.is)
+pub returns : goal.returns
+returns c = all_found _ c.args.keys.now c.args.befores.now (map (λ r. r.now) c.args.rows.now) _ c.found_for-out.result c.in_ok-index.ensures c.found_for-out.ensures

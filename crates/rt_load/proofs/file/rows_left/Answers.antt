@@ -1,7 +1,7 @@
 use Rattle.std.proofs.Common.{◌≡◌, ◌≤◌, ◌+◌, ◌++◌, ◌∷◌, [], ◌∙◌, arith, length, length-append}
 use Rattle.std.proofs.lemmas.Result.{err_from_is_err_and}
 use Rattle.csv.specs.Records.{fields_of}
-use Rattle.rt_load.specs.Loaded.{row_limit}
+use Rattle.rt_schema.specs.Given.{row_limit}
 use Rattle.rt_load.specs.Records.{left_of}
 use Rattle.rt_load.proofs.LoadLemmas.{passes, rows-end, rows-fault, rows-step}
 use Rattle.rt_load.proofs.file.rows_left.Goals as goal

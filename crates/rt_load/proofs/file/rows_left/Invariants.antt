@@ -1,5 +1,6 @@
 use Rattle.std.proofs.Common.{◌≡◌, ◌≤◌, ◌+◌, ◌-◌, length}
-use Rattle.rt_load.specs.Loaded.{row_limit, rows_from}
+use Rattle.rt_schema.specs.Given.{row_limit}
+use Rattle.rt_load.specs.Loaded.{rows_from}
 use Rattle.rt_load.specs.Records.{IsReading, left_of}
 use Rattle.rt_load.proofs.LoadLemmas.{with_front}
 use Rattle.rt_load.proofs.file.rows_left.Given as goal

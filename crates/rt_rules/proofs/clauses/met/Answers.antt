@@ -3,7 +3,7 @@ use Rattle.std.specs.List.{list_any}
 use Rattle.rt_value.specs.declared.value.Value.{Value}
 use Rattle.rt_value.specs.Row.{row_eq}
 use Rattle.rt_schema.specs.Kept.{kept_rows}
-use Rattle.rt_schema.specs.Law.{agree, cells, is_null}
+use Rattle.rt_schema.specs.Cells.{agree, cells, is_null}
 use Rattle.rt_formula.specs.Shared.{val}
 use Rattle.rt_formula.proofs.Meaning.{val-grown}
 use Rattle.rt_rules.proofs.KeptLemmas.{agree-same}

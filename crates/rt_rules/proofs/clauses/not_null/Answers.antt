@@ -1,5 +1,6 @@
 use Rattle.std.proofs.Common.{◌≡◌, ◌+◌, ◌-◌, ℕ, List, not, subst, sym, ap, ◌∙◌, arith}
-use Rattle.rt_schema.specs.Law.{cell, is_null, not_null_holds}
+use Rattle.rt_schema.specs.Cells.{cell, is_null}
+use Rattle.rt_schema.specs.Law.{not_null_holds}
 use Rattle.rt_formula.specs.Shared.{bool_at}
 use Rattle.rt_rules.specs.Meaning.{MeanAll, filled}
 use Rattle.rt_rules.proofs.KeptLemmas.{since, since-at, all-kept}

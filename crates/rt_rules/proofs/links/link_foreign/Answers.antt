@@ -1,6 +1,6 @@
 use Rattle.std.proofs.Common.{◌≡◌, ◌∙◌, ◌+◌, ◌++◌, map, ap, arith}
 use Rattle.rt_schema.specs.Given.{base_of, rows_at}
-use Rattle.rt_schema.specs.Law.{agree}
+use Rattle.rt_schema.specs.Cells.{agree}
 use Rattle.rt_rules.specs.Cone.{link, places_where}
 use Rattle.rt_rules.proofs.LinkLemmas.{foreign-more, links-more}
 use Rattle.rt_rules.proofs.links.link_foreign.Goals as goal

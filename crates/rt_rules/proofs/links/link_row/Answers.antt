@@ -1,7 +1,7 @@
 use Rattle.std.proofs.Common.{◌≡◌, ◌∙◌, ◌++◌, ℕ, List, true, map, sym, ap, subst}
 use Rattle.std.proofs.lemmas.List.{append-nil}
 use Rattle.std.specs.List.{list_any}
-use Rattle.rt_schema.specs.Law.{cells, is_null}
+use Rattle.rt_schema.specs.Cells.{cells, is_null}
 use Rattle.rt_rules.specs.Cone.{link}
 use Rattle.rt_rules.proofs.LinkLemmas.{null-none}
 use Rattle.rt_rules.proofs.links.link_row.Goals as goal

@@ -1,6 +1,6 @@
 use Rattle.std.proofs.Common.{◌≡◌, drop}
 use Rattle.std.specs.List.{list_any}
-use Rattle.rt_schema.specs.Law.{cells, is_null}
+use Rattle.rt_schema.specs.Cells.{cells, is_null}
 use Rattle.rt_schema.proofs.cells.has_null.Given as goal
 
 abbrev pub invariant-loop-column : goal.invariant-loop-column

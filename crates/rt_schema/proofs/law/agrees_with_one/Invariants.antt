@@ -1,7 +1,7 @@
 use Rattle.std.proofs.Common.{◌≡◌, ◌+◌, drop}
 use Rattle.std.specs.List.{list_any}
 use Rattle.rt_schema.specs.Kept.{kept_rows}
-use Rattle.rt_schema.specs.Law.{agree}
+use Rattle.rt_schema.specs.Cells.{agree}
 use Rattle.rt_schema.proofs.law.agrees_with_one.Given as goal
 
 abbrev pub invariant-loop-at : goal.invariant-loop-at

@@ -1,7 +1,6 @@
 use Rattle.std.proofs.Common.{◌≡◌, ◌≤◌, ℕ, take, Ok, length}
 use Rattle.rt_io.specs.Edge.{NoneFell}
-use Rattle.rt_schema.specs.Given.{IsOf, places, rows_at}
-use Rattle.rt_load.specs.Loaded.{row_limit}
+use Rattle.rt_schema.specs.Given.{IsOf, places, rows_at, row_limit}
 use Rattle.rt_top.specs.Judged.{IsTableReached, no_rows, tables_judged}
 use Rattle.rt_top.specs.Source.{IsKnown, IsMade}
 use Rattle.rt_top.specs.Steps.{BeginsOnly}

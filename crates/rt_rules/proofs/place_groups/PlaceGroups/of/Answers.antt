@@ -1,6 +1,6 @@
 use Rattle.std.proofs.Common.{◌∙◌, ◌+◌, sym, ap, cond, take, ◌++◌, ◌∷◌, []}
 use Rattle.rt_value.specs.Row.{row_eq}
-use Rattle.rt_schema.specs.Law.{cells}
+use Rattle.rt_schema.specs.Cells.{cells}
 use Rattle.rt_rules.specs.Cone.{places_where}
 use Rattle.rt_rules.proofs.LinkLemmas.{places-more}
 use Rattle.rt_rules.proofs.place_groups.PlaceGroups.of.Goals as goal

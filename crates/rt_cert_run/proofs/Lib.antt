@@ -1,0 +1,4 @@
+mod ExactLemmas
+mod FileLemmas
+mod SayLemmas
+mod WriteLemmas

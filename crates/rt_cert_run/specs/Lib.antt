@@ -1,0 +1,5 @@
+pub mod Answers
+pub mod CertFile
+pub mod Steps
+pub mod Texts
+pub mod Words

@@ -1,0 +1,102 @@
+//! The certificate of the verdict on an input.
+ghost use Rattle.std.specs.Prelude.{◌≡◌, IfOk, Some};
+ghost use Rattle.rt_cert.specs.Least.{IsSmallestOrNone};
+ghost use Rattle.rt_io.specs.Edge.{NoneFell};
+ghost use Rattle.rt_top.specs.Answers.{call};
+ghost use Rattle.rt_top.specs.Smallest.{IsGivenUp};
+ghost use Rattle.rt_top.specs.Texts.{spent_of};
+ghost use Rattle.rt_cert_run.specs.Steps.{ProvesIn, SaysProve};
+
+use crate::outcome::CertOutcome;
+use crate::told::{Told, stopped};
+use rt_cert::{Proof, prove};
+use rt_cert_text::cert_text;
+use rt_io::Files;
+use rt_print::{MadeVerdict, made_text, spent_text};
+use rt_search::{Best, SpentBest};
+use rt_top::{Input, Outcome, Spent, decide, read_input};
+use rt_value::{Bytes, Keep, NoMemory, Txt};
+use std::alloc::Global;
+
+/// What is to be said of a verdict: its certificate.
+fn certified(alloc: Global, input: &Input, keep: &Option<Keep>) -> Result<Told, NoMemory>
+    requires { IsSmallestOrNone input.now keep.now }
+    ensures { IfOk result (λ t. ProvesIn input.now t.outcome t.text) }
+{
+    let Proof { cert, encoded } = prove(alloc, input, keep)?;
+    let text = cert_text(alloc, &cert)?;
+    let outcome = CertOutcome::Proved(cert, encoded);
+    Ok(Told { outcome, text })
+}
+
+fn spent_of(alloc: Global, input: &Input, spent: &Spent) -> Result<Bytes, NoMemory>
+    requires { IsGivenUp input.now spent.now.budget spent.now.best spent.now.least spent.now.nogoods }
+    ensures { IfOk result (λ text. text ≡ spent_of input.now spent.now) }
+{
+    let schema = input.schema();
+    if let Some(n) = input.made() {
+        return made_text(alloc, n, MadeVerdict::Undecided(spent.budget));
+    }
+    spent_text(
+        alloc,
+        schema,
+        input.given(),
+        spent.budget,
+        spent.best.as_ref(),
+    )
+}
+
+fn given_up(alloc: Global, input: &Input, budget: u64, found: SpentBest) -> Result<Told, NoMemory>
+    requires budget { input.now.conflicts ≡ Some budget }
+    requires given_up { IsGivenUp input.now budget found.best found.least found.nogoods }
+    ensures { IfOk result (λ t. ProvesIn input.now t.outcome t.text) }
+{
+    let spent = Spent {
+        budget,
+        best: found.best,
+        least: found.least,
+        nogoods: found.nogoods,
+    };
+    let text = spent_of(alloc, input, &spent)?;
+    let outcome = CertOutcome::Verdict(Outcome::Spent(spent));
+    Ok(Told { outcome, text })
+}
+
+/// What is to be said of an input: the certificate of its verdict, or that the budget is spent.
+fn proved(alloc: Global, input: &Input) -> Result<Told, NoMemory>
+    ensures { IfOk result (λ t. ProvesIn input.now t.outcome t.text) }
+{
+    match decide(alloc, input)? {
+        Best::Never => certified(alloc, input, &None),
+        Best::Least(keep) => {
+            let keep = Some(keep);
+            let told = certified(alloc, input, &keep);
+            drop(keep);
+            told
+        }
+        Best::Spent(found) => match input.conflicts() {
+            Some(budget) => given_up(alloc, input, budget, found),
+            None => unreachable!(),
+        },
+    }
+}
+
+/// What is to be said of the words `prove ARGS`; these are ARGS.
+pub(crate) fn prove_told<F: Files>(
+    alloc: Global,
+    words: &[Txt],
+    files: &mut F,
+) -> Result<Told, NoMemory>
+    ensures says { IfOk result (λ t. SaysProve (call F.Files words.now files.old files.new) t.outcome t.text) }
+    ensures held { F.held files.new ≡ F.held files.old }
+    ensures rises { NoneFell (F.faults files.old) (F.faults files.new) }
+{
+    match read_input(alloc, words, files) {
+        Ok(input) => {
+            let told = proved(alloc, &input);
+            drop(input);
+            told
+        }
+        Err(outcome) => stopped(alloc, words, outcome),
+    }
+}

@@ -1,5 +1,0 @@
-use Rattle.rt_ddl.proofs.TreeLemmas.{one_tree}
-use Rattle.rt_ddl.proofs.reader.one_tree.Goals as goal
-
-pub returns : goal.returns
-returns c = one_tree

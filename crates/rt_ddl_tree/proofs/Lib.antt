@@ -1,0 +1,5 @@
+pub mod ColumnLaws
+pub mod ReaderLaws
+pub mod TestLaws
+pub mod TextLaws
+pub mod TreeLemmas

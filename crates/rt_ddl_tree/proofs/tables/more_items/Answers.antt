@@ -1,0 +1,19 @@
+use Rattle.rt_grammar.proofs.Loops.{after-ends, after-fails, after-more, after-shorter, passed-on}
+use Rattle.rt_grammar.specs.declared.fixed.Fixed.TheVariants as fixed
+use Rattle.rt_ddl_tree.specs.Reads.{read_item}
+use Rattle.rt_ddl_tree.proofs.TextLaws.{item-step-law}
+use Rattle.rt_ddl_tree.proofs.tables.more_items.Goals as goal
+
+pub returns-in_err-item : goal.returns-in_err-item
+returns-in_err-item c = passed-on c.from_residual.result c.in_err-item.field-0.0 _ c.from_residual.ensures.1
+    (after-fails fixed.Comma read_item c.items.items c.items.rest.now c.in-Some.next.now c.args.terminals.now c.in_err-item.field-0.0 c.items.invariant c.in-Some.ensures c.in_err-item.ensures)
+
+pub items-smaller : goal.items-smaller
+items-smaller c = after-shorter fixed.Comma read_item _ _ _ _ (item-step-law 0) c.items.rest.now c.in-Some.next.now c.in_ok-item.more.now c.in_ok-item.item c.in-Some.ensures c.in_ok-item.ensures
+
+pub items-preserved : goal.items-preserved
+items-preserved c = rw c.in_ok-push.ensures.ok
+    (after-more fixed.Comma read_item _ _ _ _ (item-step-law 0) c.items.items c.items.rest.now c.in-Some.next.now c.args.terminals.now c.in_ok-item.more.now c.in_ok-item.item c.items.invariant c.in-Some.ensures c.in_ok-item.ensures)
+
+pub returns : goal.returns
+returns c = after-ends fixed.Comma read_item c.items.items c.items.rest.now c.args.terminals.now c.items.invariant c.in_default.ensures

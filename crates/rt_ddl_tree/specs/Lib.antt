@@ -1,0 +1,5 @@
+pub mod Reads
+pub mod Spelled
+pub mod TestReads
+pub mod TestSpelled
+pub mod Trees

@@ -1,0 +1,85 @@
+//! The tree of a schema text, one type a line of the grammar.
+
+use crate::test_tree::Test;
+use rt_grammar::Name;
+use rt_value::List;
+
+/// `[ create { ";" create } [ ";" ] ]`
+#[derive(PartialEq, Eq, Debug, Drop)]
+pub enum SchemaText {
+    Empty,
+    /// The first table, the others, and whether a semicolon ends the text.
+    Creates(Create, List<Create>, bool),
+}
+
+/// `CREATE TABLE [ IF NOT EXISTS ] name "(" item { "," item } ")"`
+#[derive(PartialEq, Eq, Debug, Drop)]
+pub struct Create {
+    pub if_not_exists: bool,
+    pub name: Name,
+    pub head: Item,
+    pub tail: List<Item>,
+}
+
+/// `column | [ CONSTRAINT name ] table rule`
+#[derive(PartialEq, Eq, Debug, Drop)]
+pub enum Item {
+    Column(Column),
+    Rule(Option<Name>, TableRule),
+}
+
+/// `name kind { [ CONSTRAINT name ] column rule }`
+#[derive(PartialEq, Eq, Debug, Drop)]
+pub struct Column {
+    pub name: Name,
+    pub kind: KindWord,
+    pub rules: List<ColumnConstraint>,
+}
+
+/// `INTEGER | INT | BIGINT | TEXT | ( CHAR | VARCHAR ) [ "(" number ")" ]`
+#[derive(PartialEq, Eq, Debug, Drop)]
+pub enum KindWord {
+    Integer,
+    Int,
+    BigInt,
+    Text,
+    Char(Option<i128>),
+    VarChar(Option<i128>),
+}
+
+/// `[ CONSTRAINT name ] column rule`
+#[derive(PartialEq, Eq, Debug, Drop)]
+pub struct ColumnConstraint {
+    pub name: Option<Name>,
+    pub rule: ColumnRule,
+}
+
+/// `NOT NULL | NULL | PRIMARY KEY | UNIQUE | REFERENCES name [ "(" name ")" ]
+/// | CHECK "(" test ")"`
+#[derive(PartialEq, Eq, Debug, Drop)]
+pub enum ColumnRule {
+    NotNull,
+    Null,
+    PrimaryKey,
+    Unique,
+    References(Name, Option<Name>),
+    Check(Test),
+}
+
+/// `PRIMARY KEY names | UNIQUE names | FOREIGN KEY names REFERENCES name [ names ]
+/// | CHECK "(" test ")" | DEPENDENCY names DETERMINES names`
+#[derive(PartialEq, Eq, Debug, Drop)]
+pub enum TableRule {
+    PrimaryKey(Names),
+    Unique(Names),
+    Foreign(Names, Name, Option<Names>),
+    Check(Test),
+    Depend(Names, Names),
+}
+
+/// `"(" name { "," name } ")"`
+#[derive(PartialEq, Eq, Debug, Drop)]
+pub struct Names {
+    pub head: Name,
+    pub tail: List<Name>,
+}

@@ -1,0 +1,30 @@
+use Rattle.std.proofs.Common.{◌≡◌, ◌+◌, ◌-◌, ℕ, List, subst, sym, ap, ◌∙◌, arith}
+use Rattle.rt_schema.specs.Check.{check_truth}
+use Rattle.rt_schema.specs.Law.{check_holds, passes}
+use Rattle.rt_formula.specs.Shared.{bool_at}
+use Rattle.rt_rules.specs.Meaning.{MeanAll, allowed}
+use Rattle.rt_rules.proofs.KeptLemmas.{since, since-at, all-kept}
+use Rattle.rt_rules.proofs.Meanings.{grown-on, clauses-more}
+use Rattle.rt_rules.proofs.clauses.check.Goals as goal
+
+pub rows-preserved : goal.rows-preserved
+rows-preserved c =
+    let at = c.rows.at - 1 in
+    let v = c.rows.invariant in
+    let row = c.index-rows-at.result in
+    let again : c.rows.at ≡ at + 1 = (let t = c.rows-test.true in omega arith) in
+    let P : ℕ → Type 0 = λ k. MeanAll c.rows.dag c.rows.clauses (λ keep. check_holds c.args.check.now (since c.args.rows.now c.args.base k keep)) in
+    let w = v.within in
+    let r = v.grown.rows in
+    let q = c.in_ok-allowed.ensures.grown.rows in
+    let b = c.requires in
+    let C : List ℕ → Type 0 = λ ns. MeanAll c.allowed.new.dag ns (λ keep. check_holds c.args.check.now (since c.args.rows.now c.args.base at keep)) in
+    record {
+      grown = grown-on _ _ _ v.grown c.in_ok-allowed.ensures.grown;
+      within = omega (arith, w);
+      clauses = subst C (sym c.in_ok-push.ensures.ok)
+          (clauses-more c.rows.dag c.allowed.new.dag c.rows.clauses c.in_ok-allowed.field-0 _ (allowed c.args.check.now row (c.args.base + at)) _ c.in_ok-allowed.ensures.grown (subst P again v.clauses) c.in_ok-allowed.ensures.means
+          (λ keep l.
+          ap (check_holds c.args.check.now) (since-at c.args.rows.now c.args.base at row keep (omega (arith, again, w)) c.index-rows-at.is (omega (arith, l, r, q, b, again, w)))
+          ∙ all-kept (λ x. passes (check_truth x c.args.check.now)) (bool_at keep (c.args.base + at)) row (since c.args.rows.now c.args.base (at + 1) keep)));
+    }

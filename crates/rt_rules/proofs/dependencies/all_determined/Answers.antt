@@ -1,0 +1,72 @@
+use Rattle.std.proofs.Common.{◌≡◌, ◌+◌, ◌-◌, ℕ, List, length, drop, subst, sym, ap, ◌∙◌, arith}
+use Rattle.std.proofs.lemmas.List.{drop_all}
+use Rattle.rt_schema.specs.Given.{Rows}
+use Rattle.rt_schema.specs.Law.{depend_holds}
+use Rattle.rt_formula.specs.Groups.{group_at}
+use Rattle.rt_formula.specs.Shared.{bool_at}
+use Rattle.rt_rules.specs.Meaning.{Means, MeanAll, IsIndexed, IsNoted, determined}
+use Rattle.rt_rules.proofs.DependLemmas.{depend-kept}
+use Rattle.rt_rules.proofs.KeptLemmas.{since, since-at, since-end}
+use Rattle.rt_rules.proofs.Meanings.{each-grown, grown-none, grown-on, clauses-none, clauses-more, all-grown, indexed-none, indexed-grown, indexed-more}
+use Rattle.rt_rules.proofs.dependencies.all_determined.Goals as goal
+
+pub rows-init : goal.rows-init
+rows-init c = record {
+  grown = grown-none _;
+  within = omega arith;
+  alike = indexed-none _ _ _ _ _ c.new-alike.ensures (drop_all _ c.args.rows.now (omega arith));
+  same = indexed-none _ _ _ _ _ c.new-same.ensures (drop_all _ c.args.rows.now (omega arith));
+  clauses = (let C : List ℕ → Type 0 = λ ns. MeanAll c.args.dag.now ns (λ keep. depend_holds c.args.rule.now.from c.args.rule.now.to (since c.args.rows.now c.args.base (length c.args.rows.now) keep)) in
+      subst C (sym c.new-clauses.ensures) (clauses-none _ _ (λ keep. ap (depend_holds c.args.rule.now.from c.args.rule.now.to) (since-end c.args.rows.now c.args.base keep))));
+}
+
+pub note-requires-clause-nodes : goal.note-requires-clause-nodes
+note-requires-clause-nodes c key = each-grown c.rows.dag c.determined.new.dag c.in_ok-clause.ensures.grown (group_at c.rows.alike key) (c.rows.invariant.alike.below key)
+
+pub note-requires-in-rows-clause-nodes : goal.note-requires-in-rows-clause-nodes
+note-requires-in-rows-clause-nodes c key =
+    each-grown c.rows.dag c.note.new.dag (grown-on _ _ _ c.in_ok-clause.ensures.grown c.in_ok-note.ensures.grown) (group_at c.rows.same key) (c.rows.invariant.same.below key)
+
+pub rows-preserved : goal.rows-preserved
+rows-preserved c =
+    let at = c.rows.at - 1 in
+    let v = c.rows.invariant in
+    let row = c.index-rows-at.result in
+    let from = c.args.rule.now.from in
+    let to = c.args.rule.now.to in
+    let columns = c.args.columns.now in
+    let rows = c.args.rows.now in
+    let base = c.args.base in
+    let again : c.rows.at ≡ at + 1 = (let t = c.rows-test.true in omega arith) in
+    let P : ℕ → Type 0 = λ k. MeanAll c.rows.dag c.rows.clauses (λ keep. depend_holds from to (since rows base k keep)) in
+    let Q : ℕ → Type 0 = λ k. IsIndexed c.rows.dag c.rows.alike from (drop k rows) (base + k) in
+    let R : ℕ → Type 0 = λ k. IsIndexed c.rows.dag c.rows.same columns (drop k rows) (base + k) in
+    let w = v.within in
+    let r = v.grown.rows in
+    let g1 = c.in_ok-clause.ensures.grown in
+    let g2 = c.in_ok-note.ensures.grown in
+    let g3 = c.in_ok-note-2.ensures.grown in
+    let q1 = g1.rows in
+    let q2 = g2.rows in
+    let q3 = g3.rows in
+    let b = c.requires.rows in
+    let next : c.args.base + at + 1 ≡ base + (at + 1) = omega arith in
+    let M : Rows → ℕ → Type 0 = λ rs p. Means c.determined.new.dag c.in_ok-clause.clause (determined from to row (base + at) rs p) in
+    let M1 : Rows → Type 0 = λ rs. M rs (base + at + 1) in
+    let clause = subst (M (drop (at + 1) rows)) next (subst M1 c.from-later.ensures c.in_ok-clause.ensures.means) in
+    let C : List ℕ → Type 0 = λ ns. MeanAll c.determined.new.dag ns (λ keep. depend_holds from to (since rows base at keep)) in
+    let N : List ℕ → Type 0 = λ cs. IsNoted c.determined.new.dag c.note.new.dag c.rows.alike c.note.new.groups cs row (base + at) in
+    record {
+      grown = grown-on _ _ _ (grown-on _ _ _ (grown-on _ _ _ v.grown g1) g2) g3;
+      within = omega (arith, w);
+      alike = indexed-grown _ _ g3 _ from (drop at rows) (base + at)
+          (indexed-more c.determined.new.dag _ c.rows.alike _ from rows base at row (omega (arith, again, w)) c.index-rows-at.is (omega (arith, r, q1, q2, b)) g2
+          (indexed-grown _ _ g1 c.rows.alike from (drop (at + 1) rows) (base + (at + 1)) (subst Q again v.alike)) (subst N c.as_slice.ensures c.in_ok-note.ensures.noted));
+      same = indexed-more c.note.new.dag _ c.rows.same _ columns rows base at row (omega (arith, again, w)) c.index-rows-at.is (omega (arith, r, q1, q2, q3, b)) g3
+          (indexed-grown _ _ (grown-on _ _ _ g1 g2) c.rows.same columns (drop (at + 1) rows) (base + (at + 1)) (subst R again v.same)) c.in_ok-note-2.ensures.noted;
+      clauses = all-grown _ _ (grown-on _ _ _ g2 g3) _ _ (subst C (sym c.in_ok-push.ensures.ok)
+          (clauses-more c.rows.dag c.determined.new.dag c.rows.clauses c.in_ok-clause.clause _ (determined from to row (base + at) (drop (at + 1) rows) (base + (at + 1))) _ g1 (subst P again v.clauses) clause
+          (λ keep l.
+          ap (depend_holds from to) (since-at rows base at row keep (omega (arith, again, w)) c.index-rows-at.is (omega (arith, l, r, q1, b, again, w)))
+          ∙ depend-kept from to (bool_at keep (base + at)) row (since rows base (at + 1) keep))));
+    }

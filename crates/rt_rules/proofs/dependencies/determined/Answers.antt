@@ -1,0 +1,35 @@
+use Rattle.std.proofs.Common.{◌≡◌, ◌+◌, ℕ, List, false, not, ◌&&◌, subst, sym, ap, ap₂, ◌∙◌, drop}
+use Rattle.std.specs.List.{list_any}
+use Rattle.rt_value.specs.Row.{row_eq}
+use Rattle.rt_schema.specs.Cells.{agree, cells, is_null}
+use Rattle.rt_schema.specs.Kept.{kept_rows}
+use Rattle.rt_formula.specs.Shared.{val, bool_at}
+use Rattle.rt_rules.proofs.DependLemmas.{met-same, met_by}
+use Rattle.rt_rules.proofs.KeptLemmas.{agree-same}
+use Rattle.rt_rules.proofs.Meanings.{indexed-grown, means-grown}
+use Rattle.rt_rules.proofs.dependencies.determined.Goals as goal
+
+pub found-requires-2 : goal.found-requires-2
+found-requires-2 c = indexed-grown _ _ c.in_ok-agreeing.ensures.grown c.args.same.now c.args.columns.now c.args.later.now (c.args.place + 1) c.requires.same
+
+pub returns-clause-means : goal.returns-clause-means
+returns-clause-means c = record {
+  below = c.in_ok-clause.ensures.means.below;
+  same = λ keep l.
+      let from = c.args.rule.now.from in
+      let to = c.args.rule.now.to in
+      let row = c.args.row.now in
+      let K = kept_rows c.args.later.now (drop (c.args.place + 1) keep) in
+      let k = l ∙ c.in_ok-clause.ensures.grown.rows in
+      let N : List ℕ → Type 0 = λ cs. list_any is_null (cells cs row) ≡ false in
+      let filled : list_any is_null (cells from row) ≡ false = subst N c.as_slice-from.ensures (sym c.has_null.ensures ∙ c.if-has_null.false) in
+      let agreeing : val c.found-2.new.dag keep c.in_ok-agreeing.agreeing ≡ list_any (agree from from row) K =
+      (means-grown c.found.new.dag c.found-2.new.dag c.in_ok-met.ensures.grown c.in_ok-agreeing.agreeing _ c.in_ok-agreeing.ensures.means).same keep k
+      ∙ ap (λ (cs : List ℕ). list_any (λ r. row_eq (cells cs row) (cells cs r)) K) c.as_slice-from.ensures
+      ∙ agree-same from from row K filled in
+      let met : val c.found-2.new.dag keep c.in_ok-met.met ≡ list_any (met_by from to row) K =
+      c.in_ok-met.ensures.means.same keep k
+      ∙ ap (λ (cs : List ℕ). list_any (λ r. row_eq (cells cs row) (cells cs r)) K) c.requires.columns
+      ∙ met-same from to row K filled in
+      c.in_ok-clause.ensures.means.same keep l ∙ ap₂ (λ a b. not (bool_at keep c.args.place && (a && not b))) agreeing met;
+}

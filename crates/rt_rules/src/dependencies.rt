@@ -1,0 +1,155 @@
+//! The clauses of a functional dependency, one for each row.
+//!
+//! Where the dependency holds for the later rows, all of them that agree with a row on the determining
+//! columns are the same in the others. So it is enough that one of them is the same as the row, and a
+//! group of rows has a few gates a row and not one for each pair.
+ghost use Rattle.std.specs.Prelude.{◌≡◌, ◌<◌, ◌≤◌, ◌+◌, ◌++◌, ◌&&◌, not, length, drop, IfOk};
+ghost use Rattle.std.specs.List.{list_any};
+ghost use Rattle.rt_value.specs.Row.{row_eq};
+ghost use Rattle.rt_schema.specs.Cells.{cells};
+ghost use Rattle.rt_schema.specs.Kept.{kept_rows};
+ghost use Rattle.rt_schema.specs.Law.{depend_holds};
+ghost use Rattle.rt_formula.specs.Shared.{IsGrown, bool_at, val};
+ghost use Rattle.rt_rules.specs.Meaning.{Means, IsIndexed, determined};
+
+use crate::cells::cells;
+use crate::clauses::from;
+use crate::index::note;
+use rt_formula::{Dag, Groups, Node};
+use rt_schema::{Depend, has_null};
+use rt_value::{List, NoMemory, Row};
+use std::alloc::Global;
+
+/// That kept rows that agree on the columns `from` are the same in the columns `to`, `base` being the
+/// place of the first row.
+pub(crate) fn depend(
+    alloc: Global,
+    dag: &mut Dag,
+    rule: &Depend,
+    rows: &[Row],
+    base: usize,
+) -> Result<Node, NoMemory>
+    requires { base + length rows.now ≤ dag.old.rows }
+    ensures grown { IsGrown dag.old dag.new }
+    ensures means { IfOk result (λ n. Means dag.new n (λ keep. depend_holds rule.now.from rule.now.to (kept_rows rows.now (drop base keep)))) }
+{
+    let columns = all_columns(alloc, rule)?;
+    all_determined(alloc, dag, rule, columns.as_slice(), rows, base)
+}
+
+// The determining columns, then the others.
+fn all_columns(alloc: Global, rule: &Depend) -> Result<List<usize>, NoMemory>
+    ensures { IfOk result (λ columns. columns ≡ rule.now.from ++ rule.now.to) }
+{
+    let mut columns = List::from_slice(alloc, rule.from.as_slice())?;
+    columns.extend(rule.to.as_slice())?;
+    Ok(columns)
+}
+
+// The clauses of all rows; `columns` are the determining columns, then the others.
+fn all_determined(
+    alloc: Global,
+    dag: &mut Dag,
+    rule: &Depend,
+    columns: &[usize],
+    rows: &[Row],
+    base: usize,
+) -> Result<Node, NoMemory>
+    requires rows { base + length rows.now ≤ dag.old.rows }
+    requires columns { columns.now ≡ rule.now.from ++ rule.now.to }
+    ensures grown { IsGrown dag.old dag.new }
+    ensures means { IfOk result (λ n. Means dag.new n (λ keep. depend_holds rule.now.from rule.now.to (kept_rows rows.now (drop base keep)))) }
+{
+    let mut clauses = List::new(alloc);
+    let mut alike = Groups::new(alloc);
+    let mut same = Groups::new(alloc);
+    let _places = dag.rows();
+    let mut at = rows.len();
+    'rows: while at > 0 {
+        at -= 1;
+        let row = &rows[at];
+        let later = from(rows, at + 1);
+        let clause = determined(
+            alloc,
+            dag,
+            rule,
+            columns,
+            &alike,
+            &same,
+            row,
+            base + at,
+            later,
+        )?;
+        clauses.push(clause)?;
+        note(alloc, dag, &mut alike, rule.from.as_slice(), row, base + at)?;
+        note(alloc, dag, &mut same, columns, row, base + at)?;
+    }
+    dag.all(clauses.as_slice())
+}
+
+// That the row is not kept, or agrees with no kept one of the later rows, or with one that is the
+// same. These rows are grouped by the determining columns in `alike`, and by all columns in `same`.
+fn determined(
+    alloc: Global,
+    dag: &mut Dag,
+    rule: &Depend,
+    columns: &[usize],
+    alike: &Groups,
+    same: &Groups,
+    row: &Row,
+    place: usize,
+    later: &[Row],
+) -> Result<Node, NoMemory>
+    requires place { place < dag.old.rows }
+    requires columns { columns.now ≡ rule.now.from ++ rule.now.to }
+    requires alike { IsIndexed dag.old alike.now rule.now.from later.now (place + 1) }
+    requires same { IsIndexed dag.old same.now columns.now later.now (place + 1) }
+    ensures grown { IsGrown dag.old dag.new }
+    ensures means { IfOk result (λ n. Means dag.new n (determined rule.now.from rule.now.to row.now place later.now (place + 1))) }
+{
+    let _places = dag.rows();
+    let from = rule.from.as_slice();
+    if has_null(row, from) {
+        return Ok(dag.yes());
+    }
+    let agreeing = found(alloc, dag, alike, from, row, later, place + 1)?;
+    let met = found(alloc, dag, same, columns, row, later, place + 1)?;
+    let clause = unless(dag, place, agreeing, met)?;
+    Ok(clause)
+}
+
+// That the row at a place is not kept, or the one node is false, or the other is true.
+fn unless(dag: &mut Dag, place: usize, agreeing: Node, met: Node) -> Result<Node, NoMemory>
+    requires place { place < dag.old.rows }
+    requires agreeing { agreeing < length dag.old.entries }
+    requires met { met < length dag.old.entries }
+    ensures grown { IsGrown dag.old dag.new }
+    ensures means { IfOk result (λ n. Means dag.new n (λ keep. not (bool_at keep place && (val dag.old keep agreeing && not (val dag.old keep met))))) }
+{
+    let unmet = dag.not(met)?;
+    let kept = dag.row(place)?;
+    let broken = dag.all(&[kept, agreeing, unmet])?;
+    let clause = dag.not(broken)?;
+    Ok(clause)
+}
+
+// That a kept one of the rows has this row's values in the columns, by which they are grouped; `base`
+// is the place of the first of them.
+fn found(
+    alloc: Global,
+    dag: &mut Dag,
+    groups: &Groups,
+    columns: &[usize],
+    row: &Row,
+    rows: &[Row],
+    base: usize,
+) -> Result<Node, NoMemory>
+    requires { IsIndexed dag.old groups.now columns.now rows.now base }
+    ensures grown { IsGrown dag.old dag.new }
+    ensures means { IfOk result (λ n. Means dag.new n (λ keep. list_any (λ r. row_eq (cells columns.now row.now) (cells columns.now r)) (kept_rows rows.now (drop base keep)))) }
+{
+    let _rows = rows.len();
+    let values = cells(alloc, columns, row)?;
+    let node = dag.any(groups.get(&values))?;
+    Ok(node)
+}

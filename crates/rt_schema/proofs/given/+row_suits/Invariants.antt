@@ -1,5 +1,0 @@
-use Rattle.std.proofs.Common.{length}
-use Rattle.rt_schema.proofs.given.+row_suits.Given as goal
-
-abbrev pub decreases-row_suits : goal.decreases-row_suits
-decreases-row_suits l = length l.kinds.now

@@ -1,0 +1,313 @@
+-- The outcome of a tool is the one that is judged, and over files and sinks that don't fail there is
+-- no fault.
+use Rattle.std.proofs.Common.{◌≡◌, ◌∙◌, Bool, List, Result, Ok, Err, refl, sym, ap, subst, inl, inr, arith}
+use Rattle.std.specs.Prelude.{◌<◌, ◌≤◌, ◌^◌, ℕ, IsOk, IsSome, IsSomeAnd, IsTrue, Option, None, Some}
+use Rattle.std.specs.Option.{ForSome}
+use Rattle.rt_io.specs.Logs.{Broke, Log, NoSinkRose, at_place}
+use Rattle.rt_io.specs.declared.place.Place.{Place}
+use Rattle.rt_io.specs.declared.place.Place.TheVariants as at
+use Rattle.rt_schema.specs.Given.{places}
+use Rattle.rt_words.specs.Command.{command}
+use Rattle.rt_words.specs.Ranges.{Command}
+use Rattle.rt_row.specs.Rows.{row_read}
+use Rattle.rt_top.specs.declared.first.First.{First}
+use Rattle.rt_top.specs.declared.outcome.Fault.{Fault}
+use Rattle.rt_top.specs.declared.outcome.Limit.{Limit}
+use Rattle.rt_top.specs.declared.outcome.Outcome.{Outcome}
+use Rattle.rt_top.specs.declared.outcome.Outcome.TheVariants as outcome
+use Rattle.rt_top.specs.declared.outcome.Spent.{Spent}
+use Rattle.rt_top.specs.declared.part.Part.{Part}
+use Rattle.rt_top.specs.Accepted.{Accepted, HasOptions}
+use Rattle.rt_top.specs.Answers.{Call, ReadFaultAt}
+use Rattle.rt_top.specs.Faults.{placeless}
+use Rattle.rt_top.specs.Judged.{command_judged, judged}
+use Rattle.rt_top.specs.Source.{IsKnown, Text, file_of, source_from, source_of}
+use Rattle.rt_top.specs.Steps.{Failed, Seen}
+use Rattle.rt_row_run.specs.RowVerdicts.{IsRowAnswer, Judges}
+use Rattle.rt_row_run.specs.declared.answer.RowVerdict.{RowVerdict}
+use Rattle.rt_row_run.specs.declared.answer.RowVerdict.TheVariants as rows
+use Rattle.rt_grade.specs.declared.grade.Grade.{Grade}
+use Rattle.rt_grading.specs.Answers.{AreGradedBy, FailsToRead, RefusesList, Stops, StopsFirst, StopsOf}
+use Rattle.rt_grading.specs.Words.{grade_words}
+use Rattle.rt_grading.specs.declared.fault.GradeFault.{GradeFault}
+use Rattle.rt_grading.specs.declared.fault.GradeFault.TheVariants as faults
+use Rattle.rt_grading.specs.declared.words.GradeWords.{GradeWords}
+use Rattle.rt_tools.specs.declared.outcome.ToolOutcome.{ToolOutcome}
+use Rattle.rt_tools.specs.declared.outcome.ToolOutcome.TheVariants.{RowWitness, RowNever, RowSpent, RowRefused, BadList, TooManyPaths, ListLong, FileRead, Grades, Verdict}
+use Rattle.rt_tools.specs.Answers.{Ends, EndsGrades, StopsTool, WritesTo, with_words}
+use Rattle.rt_tools.specs.Judged.{HasRoomFor, IsAsJudged, IsNoFault, IsToldTool, IsUsageOrFault, NoCountRose, cells_refusal, grade_refusal, list_refusal, paths_refusal, refusal_of, row_refusal}
+use Rattle.rt_tools.specs.Outcomes.{of_fault}
+use Rattle.rt_tools.specs.Texts.{fault_line, place}
+use Rattle.rt_tools.specs.Words.{IsGradeAnd, IsRowAnd, IsUsage, Tool, grade, neither, row, tool_of}
+
+known : (tells : Bool) (k : Command) → IsTrue tells → IsKnown tells (source_of k)
+known tells k told = by_case k.made
+  where
+    by_case : (made : Option ℕ) → IsKnown tells (source_from made k.paths)
+    by_case None = told
+    by_case (Some n) = tt
+
+-- ---- a row
+
+-- what a verdict on a row says of refusals
+abbrev refused_row : RowVerdict → Option ToolOutcome
+refused_row (rows.Witness keep) = None
+refused_row rows.Never = None
+refused_row (rows.Spent s) = None
+refused_row (rows.Refused fault) = Some (RowRefused fault)
+
+of_cells : (input : Accepted) (text : Text) (v : RowVerdict) → Judges input text v → cells_refusal (row_read text input.left.kinds) ≡ refused_row v
+of_cells input text (rows.Witness keep) j = ap cells_refusal j.1
+of_cells input text rows.Never j = ap cells_refusal j.1
+of_cells input text (rows.Spent s) j = ap cells_refusal j.1
+of_cells input text (rows.Refused fault) j = ap cells_refusal j.1
+
+of_row : (c : Call) (t : Tool) (v : RowVerdict) (said : Text) → IsRowAnd t (λ text args. IsRowAnswer (with_words c args) text (record { verdict = v; text = said }))
+    → IsToldTool c t → refusal_of t c.files.held ≡ refused_row v
+of_row c (row text args) v said answer told = ap (row_refusal text) (answer.read.told told) ∙ of_cells answer.input text v answer.judges
+of_row c (grade args) v said answer told = absurd answer
+of_row c neither v said answer told = absurd answer
+
+-- ---- a list of candidates
+
+of_paths : (first : Result First Outcome) (list : Result (List Text) GradeFault) (fault : GradeFault) → IsOk first → list ≡ Err fault
+    → list_refusal list first ≡ Some (of_fault fault)
+of_paths (Ok first) list fault ok is = ap paths_refusal is
+of_paths (Err o) list fault ok is = absurd (cc)
+
+of_list : (s : Seen) (fault : GradeFault) (w : Option GradeWords) → IsSomeAnd w (RefusesList s fault) → IsTrue s.tells → grade_refusal s.held w ≡ Some (of_fault fault)
+of_list s fault None refuses told = absurd refuses
+of_list s fault (Some w) refuses told = of_paths _ _ fault (refuses.accepted told) (refuses.judged told)
+
+no_refusal : (first : Result First Outcome) (list : Result (List Text) GradeFault) (paths : List Text) → IsOk first → list ≡ Ok paths → list_refusal list first ≡ None
+no_refusal (Ok first) list paths ok is = ap paths_refusal is
+no_refusal (Err o) list paths ok is = absurd (cc)
+
+of_grades : (c : Call) (t : Tool) (grades : List Grade) (said : Text) → IsGradeAnd t (EndsGrades c grades said) → IsToldTool c t → refusal_of t c.files.held ≡ None
+of_grades c (row text args) grades said ends told = absurd ends
+of_grades c (grade args) grades said ends told = by_words (grade_words args) ends.graded
+  where
+    by_words : (w : Option GradeWords) → IsSomeAnd w (AreGradedBy c.files (record { paths = ends.paths; grades = grades })) → grade_refusal c.files.held w ≡ None
+    by_words None graded = absurd graded
+    by_words (Some w) graded = no_refusal _ _ ends.paths (graded.accepted told) (graded.listed told)
+of_grades c neither grades said ends told = absurd ends
+
+-- ---- what `ratest` too ends with
+
+of_usage : (c : Call) (t : Tool) → IsUsage t → refusal_of t c.files.held ≡ Some (Verdict outcome.Usage)
+of_usage c (row text args) is = ap (λ k. row_refusal text (command_judged c.files.held k)) is
+of_usage c (grade args) is = ap (grade_refusal c.files.held) is
+of_usage c neither is = refl
+
+first_refused : (s : Seen) (part : Part) (fault : Fault) (w : Option GradeWords) → IsSomeAnd w (StopsFirst s (outcome.Refused part fault)) → IsTrue s.tells
+    → grade_refusal s.held w ≡ Some (Verdict (outcome.Refused part (placeless fault)))
+first_refused s part fault None stops told = absurd stops
+first_refused s part fault (Some w) stops told = ap (list_refusal _) (stops.stops.1 (known s.tells w.command told))
+
+of_refused : (c : Call) (part : Part) (fault : Fault) (said : Text) (t : Tool) → StopsTool c (outcome.Refused part fault) said t → IsToldTool c t
+    → refusal_of t c.files.held ≡ Some (Verdict (outcome.Refused part (placeless fault)))
+of_refused c part fault said (row text args) stops told = ap (row_refusal text) (stops.0.2 told)
+of_refused c part fault said (grade args) stops told = first_refused c.files part fault (grade_words args) stops.0 told
+of_refused c part fault said neither stops told = absurd stops
+
+first_limited : (s : Seen) (limit : Limit) (w : Option GradeWords) → IsSomeAnd w (StopsFirst s (outcome.Limit limit)) → IsTrue s.tells
+    → grade_refusal s.held w ≡ Some (Verdict (outcome.Limit limit))
+first_limited s limit None stops told = absurd stops
+first_limited s limit (Some w) stops told = ap (list_refusal _) (stops.stops.1 (known s.tells w.command told))
+
+of_limited : (c : Call) (limit : Limit) (said : Text) (t : Tool) → StopsTool c (outcome.Limit limit) said t → IsToldTool c t
+    → refusal_of t c.files.held ≡ Some (Verdict (outcome.Limit limit))
+of_limited c limit said (row text args) stops told = ap (row_refusal text) (stops.0.1 told)
+of_limited c limit said (grade args) stops told = first_limited c.files limit (grade_words args) stops.0 told
+of_limited c limit said neither stops told = absurd stops
+
+-- ---- each outcome
+
+of_fault_list : (c : Call) (fault : GradeFault) (said : Text) (t : Tool) → (IsGradeAnd t (λ args. IsSomeAnd (grade_words args) (RefusesList c.files fault))) → IsToldTool c t
+    → refusal_of t c.files.held ≡ Some (of_fault fault)
+of_fault_list c fault said (row text args) stops told = absurd stops
+of_fault_list c fault said (grade args) stops told = of_list c.files fault (grade_words args) stops told
+of_fault_list c fault said neither stops told = absurd stops
+
+-- the words of a list that is too long are those of a list that is refused
+long_refused : (c : Call) (t : Tool) (said : Text) → IsGradeAnd t (λ args. Stops (with_words c args) faults.ListLong × (said ≡ fault_line faults.ListLong))
+    → IsGradeAnd t (λ args. IsSomeAnd (grade_words args) (RefusesList c.files faults.ListLong))
+long_refused c (row text args) said ends = ends
+long_refused c (grade args) said ends = by_words (grade_words args) ends.0
+  where
+    by_words : (w : Option GradeWords) → IsSomeAnd w (StopsOf c.files faults.ListLong) → IsSomeAnd w (RefusesList c.files faults.ListLong)
+    by_words None stops = stops
+    by_words (Some w) stops = stops.1
+long_refused c neither said ends = ends
+
+own_refused : (c : Call) (fault : GradeFault) (t : Tool) (said : Text) → IsGradeAnd t (λ args. IsSomeAnd (grade_words args) (RefusesList c.files fault) × (said ≡ fault_line fault))
+    → IsGradeAnd t (λ args. IsSomeAnd (grade_words args) (RefusesList c.files fault))
+own_refused c fault (row text args) said ends = ends
+own_refused c fault (grade args) said ends = ends.0
+own_refused c fault neither said ends = ends
+
+pub as_judged : (c : Call) (o : ToolOutcome) (said : Text) → Ends c o said → IsToldTool c (tool_of c.words) → IsAsJudged (refusal_of (tool_of c.words) c.files.held) o
+as_judged c (RowWitness keep) said ends told = of_row c _ (rows.Witness keep) said ends told
+as_judged c RowNever said ends told = of_row c _ rows.Never said ends told
+as_judged c (RowSpent s) said ends told = of_row c _ (rows.Spent s) said ends told
+as_judged c (RowRefused fault) said ends told = of_row c _ (rows.Refused fault) said ends told
+as_judged c (BadList at) said ends told = of_fault_list c (faults.BadList at) said _ (own_refused c (faults.BadList at) _ said ends) told
+as_judged c TooManyPaths said ends told = of_fault_list c faults.TooManyPaths said _ (own_refused c faults.TooManyPaths _ said ends) told
+as_judged c ListLong said ends told = of_fault_list c faults.ListLong said _ (long_refused c _ said ends) told
+as_judged c (FileRead name) said ends told = tt
+as_judged c (Grades grades) said ends told = of_grades c _ grades said ends told
+as_judged c (Verdict outcome.Agree) said ends told = ends
+as_judged c (Verdict (outcome.Witness keep)) said ends told = ends
+as_judged c (Verdict outcome.Usage) said ends told = of_usage c _ ends.0
+as_judged c (Verdict (outcome.Refused part fault)) said ends told = of_refused c part fault said _ ends told
+as_judged c (Verdict (outcome.Spent s)) said ends told = ends
+as_judged c (Verdict (outcome.Limit limit)) said ends told = of_limited c limit said _ ends told
+as_judged c (Verdict (outcome.ReadFault part)) said ends told = tt
+as_judged c (Verdict outcome.WriteFault) said ends told = tt
+as_judged c (Verdict outcome.NoMemory) said ends told = tt
+
+-- ---- words of no tool
+
+not_none : {T : Type 0} (P : T → Type 0) (o : Option T) → IsSomeAnd o P → o ≡ None → ⊥
+not_none P None is none = is
+not_none P (Some x) is none = cc
+
+not_nothing : {T : Type 0} (o : Option T) → IsSome o → o ≡ None → ⊥
+not_nothing None is none = cc
+not_nothing (Some x) is none = cc
+
+no_row : (c : Call) (t : Tool) (v : RowVerdict) (said : Text) → IsRowAnd t (λ text args. IsRowAnswer (with_words c args) text (record { verdict = v; text = said })) → IsUsage t → ⊥
+no_row c (row text args) v said answer none = not_none (λ k. HasOptions k answer.input) (command args) answer.read.options none
+no_row c (grade args) v said answer none = answer
+no_row c neither v said answer none = answer
+
+no_stop : (c : Call) (fault : GradeFault) (t : Tool) (said : Text) → IsGradeAnd t (λ args. IsSomeAnd (grade_words args) (StopsOf c.files fault) × (said ≡ fault_line fault)) → IsUsage t → ⊥
+no_stop c fault (row text args) said ends none = ends
+no_stop c fault (grade args) said ends none = not_none (StopsOf c.files fault) (grade_words args) ends.0 none
+no_stop c fault neither said ends none = ends
+
+no_grades : (c : Call) (t : Tool) (grades : List Grade) (said : Text) → IsGradeAnd t (EndsGrades c grades said) → IsUsage t → ⊥
+no_grades c (row text args) grades said ends none = ends
+no_grades c (grade args) grades said ends none = not_none (AreGradedBy c.files (record { paths = ends.paths; grades = grades })) (grade_words args) ends.graded none
+no_grades c neither grades said ends none = ends
+
+no_refused : (c : Call) (part : Part) (fault : Fault) (said : Text) (t : Tool) → StopsTool c (outcome.Refused part fault) said t → IsUsage t → ⊥
+no_refused c part fault said (row text args) stops none = not_nothing (command args) stops.0.0 none
+no_refused c part fault said (grade args) stops none = not_none (StopsFirst c.files (outcome.Refused part fault)) (grade_words args) stops.0 none
+no_refused c part fault said neither stops none = stops
+
+no_limited : (c : Call) (limit : Limit) (said : Text) (t : Tool) → StopsTool c (outcome.Limit limit) said t → IsUsage t → ⊥
+no_limited c limit said (row text args) stops none = not_none _ (command args) stops.0.0 none
+no_limited c limit said (grade args) stops none = not_none (StopsFirst c.files (outcome.Limit limit)) (grade_words args) stops.0 none
+no_limited c limit said neither stops none = stops
+
+no_failed : (c : Call) (part : Part) (said : Text) (t : Tool) → StopsTool c (outcome.ReadFault part) said t → IsUsage t → ⊥
+no_failed c part said (row text args) stops none = not_none (ReadFaultAt c.files part) (command args) stops.0 none
+no_failed c part said (grade args) stops none = not_none (StopsFirst c.files (outcome.ReadFault part)) (grade_words args) stops.0 none
+no_failed c part said neither stops none = stops
+
+pub usage_ends : (c : Call) (o : ToolOutcome) (said : Text) → Ends c o said → IsUsage (tool_of c.words) → IsUsageOrFault o
+usage_ends c (RowWitness keep) said ends none = no_row c _ (rows.Witness keep) said ends none
+usage_ends c RowNever said ends none = no_row c _ rows.Never said ends none
+usage_ends c (RowSpent s) said ends none = no_row c _ (rows.Spent s) said ends none
+usage_ends c (RowRefused fault) said ends none = no_row c _ (rows.Refused fault) said ends none
+usage_ends c (BadList at) said ends none = no_stop c (faults.BadList at) _ said ends none
+usage_ends c TooManyPaths said ends none = no_stop c faults.TooManyPaths _ said ends none
+usage_ends c ListLong said ends none = no_stop c faults.ListLong _ said ends none
+usage_ends c (FileRead name) said ends none = no_stop c (faults.FileRead name) _ said ends none
+usage_ends c (Grades grades) said ends none = no_grades c _ grades said ends none
+usage_ends c (Verdict outcome.Agree) said ends none = ends
+usage_ends c (Verdict (outcome.Witness keep)) said ends none = ends
+usage_ends c (Verdict outcome.Usage) said ends none = tt
+usage_ends c (Verdict (outcome.Refused part fault)) said ends none = no_refused c part fault said _ ends none
+usage_ends c (Verdict (outcome.Spent s)) said ends none = ends
+usage_ends c (Verdict (outcome.Limit limit)) said ends none = no_limited c limit said _ ends none
+usage_ends c (Verdict (outcome.ReadFault part)) said ends none = no_failed c part said _ ends none
+usage_ends c (Verdict outcome.WriteFault) said ends none = tt
+usage_ends c (Verdict outcome.NoMemory) said ends none = tt
+
+-- ---- where nothing fails
+
+no_room : (conflicts : Option ℕ) (budget most : ℕ) → conflicts ≡ Some budget → budget < most → ForSome conflicts (λ b. most ≤ b) → ⊥
+no_room None budget most is small room = cc
+no_room (Some b) budget most is small room = let same : b ≡ budget = cc in omega (arith, same, small, room)
+
+not_spent : (c : Call) (t : Tool) (s : Spent) (said : Text) → IsRowAnd t (λ text args. IsRowAnswer (with_words c args) text (record { verdict = rows.Spent s; text = said })) → HasRoomFor c t → ⊥
+not_spent c (row text args) s said answer room =
+    no_room answer.input.conflicts s.budget (2 ^ places answer.input.given.tables) answer.judges.2.0 answer.judges.2.1.small (room answer.input answer.read)
+not_spent c (grade args) s said answer room = answer
+not_spent c neither s said answer room = answer
+
+no_rise : (c : Call) (name : Option Text) → NoCountRose c → Failed c.files name → ⊥
+no_rise c None calm failed = failed
+no_rise c (Some name) calm failed = calm name failed
+
+some_case : {T : Type 0} (P : T → Type 0) (Q : Type 0) (o : Option T) → ((x : T) → P x → Q) → IsSomeAnd o P → Q
+some_case P Q None f is = absurd is
+some_case P Q (Some x) f is = f x is
+
+not_failed : (c : Call) (part : Part) (said : Text) (t : Tool) → StopsTool c (outcome.ReadFault part) said t → NoCountRose c → ⊥
+not_failed c part said (row text args) stops calm = some_case (ReadFaultAt c.files part) ⊥ (command args) (λ k at. no_rise c (file_of (source_of k) part) calm at.failed) stops.0
+not_failed c part said (grade args) stops calm = some_case (StopsFirst c.files (outcome.ReadFault part)) ⊥ (grade_words args)
+    (λ w at. no_rise c (file_of (source_of w.command) part) calm at.stops.0) stops.0
+not_failed c part said neither stops calm = stops
+
+not_unread : (c : Call) (name : Text) (said : Text) (t : Tool) → IsGradeAnd t (λ args. IsSomeAnd (grade_words args) (StopsOf c.files (faults.FileRead name)) × (said ≡ fault_line (faults.FileRead name)))
+    → NoCountRose c → ⊥
+not_unread c name said (row text args) ends calm = ends
+not_unread c name said (grade args) ends calm = some_case (FailsToRead c.files name) ⊥ (grade_words args) (λ w fails. calm name fails.rose) ends.0
+not_unread c name said neither ends calm = ends
+
+no_fault : (c : Call) (o : ToolOutcome) (said : Text) → Ends c o said → NoCountRose c → HasRoomFor c (tool_of c.words) → IsNoFault o
+no_fault c (RowWitness keep) said ends calm room = tt
+no_fault c RowNever said ends calm room = tt
+no_fault c (RowSpent s) said ends calm room = not_spent c _ s said ends room
+no_fault c (RowRefused fault) said ends calm room = tt
+no_fault c (BadList at) said ends calm room = tt
+no_fault c TooManyPaths said ends calm room = tt
+no_fault c ListLong said ends calm room = tt
+no_fault c (FileRead name) said ends calm room = not_unread c name said _ ends calm
+no_fault c (Grades grades) said ends calm room = tt
+no_fault c (Verdict outcome.Agree) said ends calm room = tt
+no_fault c (Verdict (outcome.Witness keep)) said ends calm room = tt
+no_fault c (Verdict outcome.Usage) said ends calm room = tt
+no_fault c (Verdict (outcome.Refused part fault)) said ends calm room = tt
+no_fault c (Verdict (outcome.Spent s)) said ends calm room = tt
+no_fault c (Verdict (outcome.Limit limit)) said ends calm room = tt
+no_fault c (Verdict (outcome.ReadFault part)) said ends calm room = not_failed c part said _ ends calm
+no_fault c (Verdict outcome.WriteFault) said ends calm room = ends
+no_fault c (Verdict outcome.NoMemory) said ends calm room = tt
+
+no_sink_fault : (out err : Log) (p : Place) → NoSinkRose out err → Broke (at_place p out err) → ⊥
+no_sink_fault out err at.Out calm broke = calm.out_rose broke
+no_sink_fault out err at.Err calm broke = calm.err_rose broke
+
+-- ---- what was written of it
+
+module _ (c : Call) (out err : Log) (o : ToolOutcome) (said : Text) (result : ToolOutcome) (ends : Ends c o said) (wrote : WritesTo (at_place (place o) out err) o said result) where
+  pub written_as_judged : IsToldTool c (tool_of c.words) → IsAsJudged (refusal_of (tool_of c.words) c.files.held) result
+  written_as_judged told = elim wrote [
+    | inl h ↦ subst (IsAsJudged (refusal_of (tool_of c.words) c.files.held)) (sym h.0) (as_judged c o said ends told)
+    | inr h ↦ elim h [
+      | inl f ↦ subst (IsAsJudged (refusal_of (tool_of c.words) c.files.held)) (sym f.0) tt
+      | inr m ↦ subst (IsAsJudged (refusal_of (tool_of c.words) c.files.held)) (sym m.0) tt
+    ]
+  ]
+
+  pub written_usage : IsUsage (tool_of c.words) → IsUsageOrFault result
+  written_usage none = elim wrote [
+    | inl h ↦ subst IsUsageOrFault (sym h.0) (usage_ends c o said ends none)
+    | inr h ↦ elim h [
+      | inl f ↦ subst IsUsageOrFault (sym f.0) tt
+      | inr m ↦ subst IsUsageOrFault (sym m.0) tt
+    ]
+  ]
+
+  pub written_complete : NoCountRose c → NoSinkRose out err → HasRoomFor c (tool_of c.words) → IsNoFault result
+  written_complete calm sinks room = elim wrote [
+    | inl h ↦ subst IsNoFault (sym h.0) (no_fault c o said ends calm room)
+    | inr h ↦ elim h [
+      | inl f ↦ absurd (no_sink_fault out err (place o) sinks f.1)
+      | inr m ↦ subst IsNoFault (sym m.0) tt
+    ]
+  ]

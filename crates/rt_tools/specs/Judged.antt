@@ -1,0 +1,114 @@
+-- What is judged of the words of a tool over files of known contents: its first refusal, or none.
+use Rattle.std.specs.Prelude.{◌≡◌, IsTrue, List, Option, None, Some, Result, Ok, Err, ⊤}
+use Rattle.rt_value.specs.declared.value.Value.{Value}
+use Rattle.rt_io.specs.Edge.{Rose}
+use Rattle.rt_row.specs.Rows.{row_read}
+use Rattle.rt_row.specs.declared.fault.RowFault.{RowFault}
+use Rattle.rt_top.specs.declared.first.First.{First}
+use Rattle.rt_top.specs.declared.outcome.Outcome.{Outcome}
+use Rattle.rt_top.specs.declared.outcome.Outcome.TheVariants as outcome
+use Rattle.rt_top.specs.Accepted.{Accepted}
+use Rattle.rt_top.specs.Answers.{Call, HasRoom, IsRead, IsTold}
+use Rattle.rt_top.specs.Faults.{placeless}
+use Rattle.rt_top.specs.First.{first_judged}
+use Rattle.rt_top.specs.Judged.{Holding, judged}
+use Rattle.rt_top.specs.Source.{Text, source_of}
+use Rattle.rt_grading.specs.Listing.{list_judged}
+use Rattle.rt_grading.specs.Words.{grade_words}
+use Rattle.rt_grading.specs.declared.fault.GradeFault.{GradeFault}
+use Rattle.rt_grading.specs.declared.words.GradeWords.{GradeWords}
+use Rattle.rt_tools.specs.Answers.{with_words}
+use Rattle.rt_tools.specs.Outcomes.{of_fault}
+use Rattle.rt_tools.specs.Words.{Tool, grade, neither, row}
+use Rattle.rt_tools.specs.declared.outcome.ToolOutcome.{ToolOutcome}
+use Rattle.rt_tools.specs.declared.outcome.ToolOutcome.TheVariants.{RowWitness, RowNever, RowSpent, RowRefused, BadList, TooManyPaths, ListLong, FileRead, Grades, Verdict}
+
+-- ---- the first refusal
+
+abbrev pub cells_refusal : Result (List Value) RowFault → Option ToolOutcome
+cells_refusal (Ok cells) = None
+cells_refusal (Err fault) = Some (RowRefused fault)
+
+-- of an input, and then of the row that a text is in the columns of its first query
+abbrev pub row_refusal : Text → Result Accepted Outcome → Option ToolOutcome
+row_refusal text (Ok input) = cells_refusal (row_read text input.left.kinds)
+row_refusal text (Err o) = Some (Verdict o)
+
+abbrev pub paths_refusal : Result (List Text) GradeFault → Option ToolOutcome
+paths_refusal (Ok paths) = None
+paths_refusal (Err fault) = Some (of_fault fault)
+
+-- of what comes before a list, and then of the list
+abbrev pub list_refusal : Result (List Text) GradeFault → Result First Outcome → Option ToolOutcome
+list_refusal list (Ok first) = paths_refusal list
+list_refusal list (Err o) = Some (Verdict o)
+
+abbrev pub grade_refusal : Holding → Option GradeWords → Option ToolOutcome
+grade_refusal held None = Some (Verdict outcome.Usage)
+grade_refusal held (Some w) = list_refusal (list_judged (held w.list)) (first_judged (source_of w.command) held)
+
+-- the first refusal of a tool, if there is one; a refused candidate is none of them
+abbrev pub refusal_of : Tool → Holding → Option ToolOutcome
+refusal_of (row text args) held = row_refusal text (judged args held)
+refusal_of (grade args) held = grade_refusal held (grade_words args)
+refusal_of neither held = Some (Verdict outcome.Usage)
+
+-- ---- the outcomes that it leaves
+
+-- the contents of the tool's source are known
+abbrev pub IsToldTool : Call → Tool → Type 0
+IsToldTool c (row text args) = IsTold (with_words c args)
+IsToldTool c (grade args) = IsTrue c.files.tells
+IsToldTool c neither = ⊤
+
+abbrev pub IsVerdictAsJudged : Option ToolOutcome → Outcome → Type 0
+IsVerdictAsJudged refusal outcome.Agree = ⊥
+IsVerdictAsJudged refusal (outcome.Witness keep) = ⊥
+IsVerdictAsJudged refusal outcome.Usage = refusal ≡ Some (Verdict outcome.Usage)
+IsVerdictAsJudged refusal (outcome.Refused part fault) = refusal ≡ Some (Verdict (outcome.Refused part (placeless fault)))
+IsVerdictAsJudged refusal (outcome.Spent s) = ⊥
+IsVerdictAsJudged refusal (outcome.Limit limit) = refusal ≡ Some (Verdict (outcome.Limit limit))
+IsVerdictAsJudged refusal (outcome.ReadFault part) = ⊤
+IsVerdictAsJudged refusal outcome.WriteFault = ⊤
+IsVerdictAsJudged refusal outcome.NoMemory = ⊤
+
+-- an answer where nothing is refused, and else the first refusal; a fault of reading or writing and
+-- want of memory may come in their place; which place of its text a syntax fault names is left open
+abbrev pub IsAsJudged : Option ToolOutcome → ToolOutcome → Type 0
+IsAsJudged refusal (RowWitness keep) = refusal ≡ None
+IsAsJudged refusal RowNever = refusal ≡ None
+IsAsJudged refusal (RowSpent s) = refusal ≡ None
+IsAsJudged refusal (RowRefused fault) = refusal ≡ Some (RowRefused fault)
+IsAsJudged refusal (BadList at) = refusal ≡ Some (BadList at)
+IsAsJudged refusal TooManyPaths = refusal ≡ Some TooManyPaths
+IsAsJudged refusal ListLong = refusal ≡ Some ListLong
+IsAsJudged refusal (FileRead name) = ⊤
+IsAsJudged refusal (Grades grades) = refusal ≡ None
+IsAsJudged refusal (Verdict o) = IsVerdictAsJudged refusal o
+
+-- where the words are those of no tool: their usage, or a fault of writing, or want of memory
+abbrev pub IsUsageOrFault : ToolOutcome → Type 0
+IsUsageOrFault (Verdict outcome.Usage) = ⊤
+IsUsageOrFault (Verdict outcome.WriteFault) = ⊤
+IsUsageOrFault (Verdict outcome.NoMemory) = ⊤
+IsUsageOrFault _ = ⊥
+
+-- ---- where nothing fails
+
+-- no count of a file rose
+abbrev pub NoCountRose : Call → Type 0
+NoCountRose c = (name : Text) → Rose (c.files.before name) (c.files.after name) → ⊥
+
+-- there is no budget of conflicts for a row, or one that no search can spend
+abbrev pub HasRoomFor : Call → Tool → Type 0
+HasRoomFor c (row text args) = (input : Accepted) → IsRead (with_words c args) input → HasRoom input
+HasRoomFor c (grade args) = ⊤
+HasRoomFor c neither = ⊤
+
+-- no fault of reading or writing, and no spent budget
+abbrev pub IsNoFault : ToolOutcome → Type 0
+IsNoFault (RowSpent s) = ⊥
+IsNoFault (FileRead name) = ⊥
+IsNoFault (Verdict (outcome.ReadFault part)) = ⊥
+IsNoFault (Verdict outcome.WriteFault) = ⊥
+IsNoFault _ = ⊤
