@@ -42,6 +42,7 @@ class Table:
     columns: list = field(default_factory=list)
     keys: list = field(default_factory=list)
     foreigns: list = field(default_factory=list)
+    checks: list = field(default_factory=list)
     notes: list = field(default_factory=list)        # what else is left out
     count: int = 0
     rows: dict = field(default_factory=dict)         # the cells of a row, by its number in that order

@@ -43,8 +43,8 @@ def choose(reader, names):
 def leave_out(chosen):
     """Takes out the columns that can't be carried over, with their rules, and tells them.
 
-    A key or a NOT NULL that is left out changes nothing, since the rows meet it and so does every part of
-    them. A foreign key is left out only where a column of it is.
+    A key, a CHECK or a NOT NULL that is left out changes nothing, since the rows meet it and so does every
+    part of them. A foreign key is left out only where a column of it is.
     """
     for table in chosen.values():
         where = shown(table.name)
@@ -69,6 +69,7 @@ def leave_out(chosen):
                 table.foreigns.remove(foreign)
                 yield (f"{shown(name)}: left out with its column: FOREIGN KEY ({shown(*foreign.columns)}); "
                        f"a witness may lack the row of {shown(foreign.table)}")
+        yield from leave_out_checks(table, gone[name])
     for name, table in list(chosen.items()):
         table.columns = [column for column in table.columns if not column.why]
         if not table.columns:
@@ -79,6 +80,20 @@ def leave_out(chosen):
     for table in chosen.values():
         for foreign in table.foreigns:
             check_kinds(table, foreign, chosen)
+
+
+def leave_out_checks(table, gone):
+    room = MOST_RULES - len(table.keys) - len(table.foreigns)
+    for check in list(table.checks):
+        if check.columns & gone:
+            note = f"left out with its column: CHECK {check.name}"
+        elif check.why or len(check.conditions) > room:
+            note = f"left out: CHECK {check.name}, which {check.why or f'is past the {MOST_RULES} rules of a table'}"
+        else:
+            room -= len(check.conditions)
+            continue
+        table.checks.remove(check)
+        yield f"{shown(table.name)}: {note}"
 
 
 def check_target(table, foreign, chosen):
@@ -192,6 +207,7 @@ def schema_text(chosen):
             target = {column.name: spelled(column.written) for column in chosen[foreign.table].columns}
             items.append(f"FOREIGN KEY ({', '.join(write[name] for name in foreign.columns)}) REFERENCES "
                          f"{spelled(chosen[foreign.table].written)} ({', '.join(target[name] for name in foreign.to)})")
+        items += [text for check in table.checks for text in check.written(write)]
         texts.append(f"CREATE TABLE {spelled(table.written)} (\n  " + ",\n  ".join(items) + "\n);\n")
     return "\n".join(texts)
 

@@ -127,7 +127,7 @@ def tables_of(schema):
             columns = tables[tokens[at + 1]] = []
         depth += (token == "(") - (token == ")")
         starts = depth == 1 and token in "(,"
-        if starts and tokens[at + 1] not in ("PRIMARY", "UNIQUE", "FOREIGN"):
+        if starts and tokens[at + 1] not in ("PRIMARY", "UNIQUE", "FOREIGN", "CHECK"):
             columns.append((tokens[at + 1], tokens[at + 2]))
         at += 1
     return tables

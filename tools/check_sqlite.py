@@ -1,0 +1,117 @@
+"""The CHECKs and the collations of an SQLite table, of which its catalogue tells in the statement alone that
+made it.
+
+What this reads is a statement that SQLite has accepted. Its words are told from names by their quotes, since
+CHECK, COLLATE and CONSTRAINT can't be names without.
+"""
+import re
+from dataclasses import replace
+
+from check_reader import Reader, pattern, shortened, tokens
+from checks import EQUALITY, NOTHING, ORDER, Side, Unread
+from database import shown
+
+FORM = pattern(r"""'(?:[^']|'')*'|"(?:[^"]|"")*"|`(?:[^`]|``)*`|\[[^\]]*\]""", "<>|<=|>=|==|!=|[|][|]|<<|>>|->>|->")
+ROWID = ("rowid", "_rowid_", "oid")
+
+
+def fold(name):
+    """SQLite compares names without the case of ASCII letters."""
+    return re.sub("[A-Z]+", lambda found: found[0].lower(), name)
+
+
+class Condition(Reader):
+    form = FORM
+
+    def __init__(self, text, sides, table, is_utf8):
+        super().__init__(text, sides)
+        self.table, self.is_utf8 = table, is_utf8
+
+    def named(self, token):
+        side = self.sides.get(fold(token.text))
+        if side is None and token.kind == '"' and fold(token.text) not in ROWID:
+            # What is no column is a text.
+            return Side(value=token.text, kind="TEXT")
+        return side
+
+    def qualified(self):
+        if fold(self.here.text) != fold(self.table):
+            self.stop()
+        self.at += 2
+        side = self.sides.get(fold(self.here.text))
+        if side is None or self.next_is("."):
+            self.stop()
+        self.at += 1
+        return side
+
+    def collated(self, side, name):
+        return replace(side, texts=shared(name, self.is_utf8), told=True)
+
+    def listed(self, left, word, members):
+        if any(member.told for member in members):
+            # Whether it counts hangs on the number of members.
+            raise Unread("has COLLATE in a list")
+        return super().listed(left, word, members)
+
+
+def shared(collation, is_utf8):
+    """Texts of UTF-16 are ordered by the bytes of that."""
+    if fold(collation) != "binary":
+        return NOTHING
+    return ORDER if is_utf8 else EQUALITY
+
+
+def items_of(found):
+    """The items of CREATE TABLE, each a list of pairs: a token, and how many parentheses it stands in."""
+    depth, items = 0, [[]]
+    for token in found:
+        sign = token.text if token.kind == "sign" else ""
+        depth -= sign == ")"
+        if depth == 1 and sign == ",":
+            items.append([])
+        elif depth >= 1:
+            items[-1].append((token, depth))
+        depth += sign == "("
+    return items
+
+
+def collations_of(items):
+    """By the folded names of columns. The last COLLATE of a column counts."""
+    found = {}
+    for item in items:
+        if not item[0][0].says("CONSTRAINT", "PRIMARY", "UNIQUE", "CHECK", "FOREIGN"):
+            for (token, depth), (name, _) in zip(item, item[1:]):
+                if depth == 1 and token.says("COLLATE"):
+                    found[fold(item[0][0].text)] = name.text
+    return found
+
+
+def conditions_of(items):
+    """The name of each CHECK, or None, and the tokens between its parentheses."""
+    for item in items:
+        for at, (token, depth) in enumerate(item):
+            if depth == 1 and token.says("CHECK"):
+                inside = []
+                for part, deeper in item[at + 2:]:
+                    if deeper == 1:
+                        break
+                    inside.append(part)
+                is_named = at >= 2 and item[at - 2][0].says("CONSTRAINT")
+                yield item[at - 1][0].text if is_named else None, inside
+
+
+def has_collation(statement):
+    return any(token.says("COLLATE") for token in tokens(statement, FORM))
+
+
+def checks_of(statement, table, columns, is_utf8):
+    """The CHECKs of a table, which may name these columns."""
+    items = items_of(tokens(statement, FORM))
+    collations = collations_of(items)
+    sides = {fold(column.name): Side(column.name, kind=column.kind,
+                                     texts=shared(collations.get(fold(column.name), "BINARY"), is_utf8))
+             for column in columns}
+    for name, found in conditions_of(items):
+        text = statement[found[0].start:found[-1].stop]
+        told = shown(name) if name is not None else f"({shown(shortened(statement, found))})"
+        yield Condition(text, sides, table, is_utf8).check(told)
