@@ -2,7 +2,7 @@
 from dataclasses import replace
 
 from check_reader import Reader, pattern
-from checks import NOTHING, ORDER, Side, Unread
+from checks import NOTHING, Side, Unread
 
 FORM = pattern(r"""'(?:[^']|'')*'|"(?:[^"]|"")*\"""", r"::|[-+*/<>=~!@\#%^&|?`]+")
 BITS = {"smallint": 16, "integer": 32, "bigint": 64}
@@ -11,6 +11,10 @@ TEXTS = ("text", "character varying", "bpchar")
 
 class Condition(Reader):
     form = FORM
+
+    def __init__(self, text, sides, in_c):
+        super().__init__(text, sides)
+        self.in_c = in_c    # what the collation "C" shares with the order of bytes of UTF-8
 
     def named(self, token):
         return self.sides.get(token.text)
@@ -61,24 +65,29 @@ class Condition(Reader):
         return cast(self.need_side(node), words)
 
     def collated(self, side, name):
-        return replace(side, texts=ORDER if name in ("C", "POSIX") else NOTHING, told=True)
+        return replace(side, texts=self.in_c if name in ("C", "POSIX") else NOTHING, told=True)
 
 
 def stripped(side):
     return side if side.value is None else replace(side, value=side.value.rstrip(" "))
 
 
+def holds(to, side):
+    """Whether an integer type has all values of a side."""
+    if side.column is not None:
+        return BITS[side.type] <= BITS[to]
+    return -2 ** (BITS[to] - 1) <= side.value < 2 ** (BITS[to] - 1)
+
+
 def cast(side, to):
-    """The side as it is after a cast that changes no value of it. An integer's type has to hold all of them."""
+    """The side as it is after a cast that changes no value of it."""
     if side == Side():
         return side
     if to in BITS and side.kind == "TEXT" and side.column is None and not side.type:
         # A constant with its type, as '-5'::integer.
         return Side(value=int(side.value), kind="INTEGER", type=to)
-    if to in BITS and side.kind == "INTEGER":
-        if side.column is None and -2 ** (BITS[to] - 1) <= side.value < 2 ** (BITS[to] - 1) \
-                or side.column is not None and BITS[side.type] <= BITS[to]:
-            return replace(side, type=to)
+    if to in BITS and side.kind == "INTEGER" and holds(to, side):
+        return replace(side, type=to)
     if to in TEXTS and side.kind == "TEXT":
         if side.type == "bpchar":
             return replace(stripped(side), type=to)

@@ -23,9 +23,9 @@ def fold(name):
 class Condition(Reader):
     form = FORM
 
-    def __init__(self, text, sides, table, is_utf8):
+    def __init__(self, text, sides, table, binary):
         super().__init__(text, sides)
-        self.table, self.is_utf8 = table, is_utf8
+        self.table, self.binary = table, binary
 
     def named(self, token):
         side = self.sides.get(fold(token.text))
@@ -45,7 +45,7 @@ class Condition(Reader):
         return side
 
     def collated(self, side, name):
-        return replace(side, texts=shared(name, self.is_utf8), told=True)
+        return replace(side, texts=shared(name, self.binary), told=True)
 
     def listed(self, left, word, members):
         if any(member.told for member in members):
@@ -54,11 +54,8 @@ class Condition(Reader):
         return super().listed(left, word, members)
 
 
-def shared(collation, is_utf8):
-    """Texts of UTF-16 are ordered by the bytes of that."""
-    if fold(collation) != "binary":
-        return NOTHING
-    return ORDER if is_utf8 else EQUALITY
+def shared(collation, binary):
+    return binary if fold(collation) == "binary" else NOTHING
 
 
 def items_of(found):
@@ -86,7 +83,7 @@ def collations_of(items):
     return found
 
 
-def conditions_of(items):
+def bodies_of(items):
     """The name of each CHECK, or None, and the tokens between its parentheses."""
     for item in items:
         for at, (token, depth) in enumerate(item):
@@ -104,14 +101,16 @@ def has_collation(statement):
     return any(token.says("COLLATE") for token in tokens(statement, FORM))
 
 
-def checks_of(statement, table, columns, is_utf8):
+def checks_of(statement, table, columns, encoding):
     """The CHECKs of a table, which may name these columns."""
+    # The collation BINARY orders texts of UTF-16 by the bytes of that.
+    binary = ORDER if encoding == "utf-8" else EQUALITY
     items = items_of(tokens(statement, FORM))
     collations = collations_of(items)
     sides = {fold(column.name): Side(column.name, kind=column.kind,
-                                     texts=shared(collations.get(fold(column.name), "BINARY"), is_utf8))
+                                     texts=shared(collations.get(fold(column.name), "BINARY"), binary))
              for column in columns}
-    for name, found in conditions_of(items):
+    for name, found in bodies_of(items):
         text = statement[found[0].start:found[-1].stop]
         told = shown(name) if name is not None else f"({shown(shortened(statement, found))})"
-        yield Condition(text, sides, table, is_utf8).check(told)
+        yield Condition(text, sides, table, binary).check(told)

@@ -173,7 +173,8 @@ OWN_LEFT = {
                 3), UNIQUE (b) /* CHECK (a) */ CHECK ((abs([a])>4)));""",
              [".price: left out: the type REAL is not read", ": left out: COLLATE; texts are compared by their bytes",
               ': left out: CHECK a "b" c, which calls abs'],
-             [": left out: CHECK (abs ( a ) > 3), which calls abs", ": left out: CHECK ((abs([a])>4)), which calls abs"]),
+             [": left out: CHECK (abs ( a ) > 3), which calls abs",
+              ": left out: CHECK ((abs([a])>4)), which calls abs"]),
     Postgres: ("""CREATE DOMAIN short AS TEXT CHECK (length(VALUE) < 9);
                   CREATE DOMAIN share AS NUMERIC CHECK (VALUE < 9);
                   CREATE TABLE t (a SMALLINT, b INTEGER, g BIGINT, s TEXT, v VARCHAR(9), c CHAR(3), flag BOOLEAN,
@@ -275,9 +276,10 @@ def lawful_checks(title, folder, name, texts, let_in):
 def carried_checks(product, work):
     kind = type(product)
     cases = {f"t{number}": case for number, case in enumerate(cases_of(kind))}
-    product.make(os.path.join(work, f"checks_{kind.__name__.lower()}"), table_text(kind, "rows") + rows_text() + "".join(
+    tables = "".join(
         before + table_text(kind, name, condition.replace("own", name).replace("OWN", name.upper()), domain)
-        for name, (condition, domain, before, _) in cases.items()))
+        for name, (condition, domain, before, _) in cases.items())
+    product.make(os.path.join(work, f"checks_{kind.__name__.lower()}"), table_text(kind, "rows") + rows_text() + tables)
     folder = os.path.join(work, f"checks of {kind.__name__}")
     made = export(product, folder)
     wanted = [f"{product.tool}: {name}: left out: COLLATE; texts are compared by their bytes\n"
