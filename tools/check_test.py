@@ -299,7 +299,7 @@ def carried_checks(product, work):
     texts = content(folder)
     schemas = dict(re.findall(r"^(?=CREATE TABLE (\w+))(.*?^\);\n)", texts["schema.sql"], re.MULTILINE | re.DOTALL))
     for name, (condition, domain, _, written) in cases.items():
-        title = f"{kind.__name__}: {condition or ' '.join(domain)}"
+        title = f"{kind.__name__}: {' '.join(condition.split()) or ' '.join(domain)}"
         told = re.findall(r"^  CHECK \((.*)\),?$", schemas[name], re.MULTILINE)
         check(f"{title}: written", told == written.split("; "), told)
         lawful_checks(title, os.path.join(work, f"{name} of {kind.__name__}"), name,
