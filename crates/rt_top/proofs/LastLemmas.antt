@@ -1,7 +1,6 @@
 -- Which file a reading begins last.
 use Rattle.std.proofs.Common.{◌≡◌, ◌∙◌, Bool, List, ℕ, Result, Ok, refl, sym, ap, inl, inr, subst}
-use Rattle.std.specs.Prelude.{Option, None, Some, IfSome, IsOk, IsOkAnd, ◌⊎◌}
-use Rattle.rt_algebra.specs.declared.typed.Typed.{Typed}
+use Rattle.std.specs.Prelude.{Option, None, Some, IfSome, IsOk}
 use Rattle.rt_top.specs.declared.outcome.Outcome.{Outcome}
 use Rattle.rt_top.specs.declared.part.Part.{Part}
 use Rattle.rt_top.specs.declared.part.Part.TheVariants.{Query1, Query2}
@@ -10,6 +9,9 @@ use Rattle.rt_top.specs.declared.source.Source.{Source}
 use Rattle.rt_io.specs.declared.files.Files.{Ghosts}
 use Rattle.rt_words.specs.Ranges.{Command}
 use Rattle.rt_top.specs.Answers.{LastBegun}
+use Rattle.rt_top.specs.declared.first.First.{First}
+use Rattle.rt_top.specs.First.{first_judged}
+use Rattle.rt_top.proofs.StepLemmas.{first_reaches}
 use Rattle.rt_top.specs.Source.{IsKnown, file_of, source_of}
 use Rattle.rt_top.specs.Steps.{IsFileOf, LastIs}
 
@@ -49,21 +51,12 @@ left_last tells a b c source held d told first second =
     last_then tells a b c source (Reaches source held) first (last_on tells b c source (λ p. p ≡ Query1) (Reaches source held)
     (λ t p named. subst (Reaches source held) (sym named) (subst (λ (r : Result Data Outcome). IsOk r) (sym (told t)) refl)) second)
 
-reaches_right : (source : Source) (held : Holding) (d : Data) (left : Typed) (r : Result Data Outcome) → r ≡ Ok d → query_judged source held Query1 d.schema ≡ Ok left
-    → IsOkAnd r (λ d. IsOk (query_judged source held Query1 d.schema))
-reaches_right source held d left r e q = rw e (rw q refl)
-
 -- and the second query's file after that
-pub right_last : (tells : Bool) (a b c e : Option (List ℕ)) (source s : Source) (held held1 : Holding) (d : Data) (left : Typed) → source ≡ s → held1 ≡ held
-    → (IsKnown tells source → data_judged source held ≡ Ok d) → (IsKnown tells source → query_judged source held1 Query1 d.schema ≡ Ok left)
-    → LastIs tells a b source (Reaches source held) → LastIs tells b c source (λ p. p ≡ Query1) → LastIs tells c e source (λ p. p ≡ Query2)
-    → LastIs tells a e s (Reaches s held)
-right_last tells a b c e source s held held1 d left is same told query first second third =
-    let two = left_last tells a b c source held d told first second in
-    let here : LastIs tells a e source (Reaches source held) = last_then tells a c e source (Reaches source held) two (last_on tells c e source (λ p. p ≡ Query2) (Reaches source held)
-    (λ t p named. subst (Reaches source held) (sym named) (reaches_right source held d left (data_judged source held) (told t)
-    (ap (λ (h : Holding). query_judged source h Query1 d.schema) (sym same) ∙ query t))) third) in
-    subst (λ (x : Source). LastIs tells a e x (Reaches x held)) is here
+pub right_last : (tells : Bool) (a b c : Option (List ℕ)) (source : Source) (held : Holding) (first : First) → (IsKnown tells source → first_judged source held ≡ Ok first)
+    → LastIs tells a b source (Reaches source held) → LastIs tells b c source (λ p. p ≡ Query2) → LastIs tells a c source (Reaches source held)
+right_last tells a b c source held first told two third =
+    last_then tells a b c source (Reaches source held) two (last_on tells b c source (λ p. p ≡ Query2) (Reaches source held)
+    (λ t p named. subst (Reaches source held) (sym named) (first_reaches (data_judged source held) (λ d. query_judged source held Query1 d.schema) first (told t))) third)
 
 -- a call that begins no file
 pub none_begun : {F : Type 0} (files : Ghosts F) (o : Option Command) (f : F) → LastBegun files o f f

@@ -41,6 +41,8 @@ use Rattle.rt_top.specs.declared.source.Paths.{Paths}
 use Rattle.rt_top.specs.declared.source.Source.{Source}
 use Rattle.rt_top.specs.declared.source.Source.TheVariants.{Files}
 use Rattle.rt_top.specs.Faults.{excess_limit, lex_outcome, load_outcome, name_outcome, or_outcome, schema_outcome, sql_outcome}
+use Rattle.rt_top.specs.declared.first.First.{First}
+use Rattle.rt_top.specs.First.{data_in, first_judged, first_of}
 use Rattle.rt_top.specs.Judged.{Data, Holding, Reaches, accepted, data_judged, input_judged, most_bytes, query_judged, right_judged, then_read, within_limit, query_of, query_of_tokens, query_of_tree, file_text, schema_of, text_of}
 use Rattle.rt_top.specs.Source.{IsKnown, file_name, file_of, source_of}
 use Rattle.rt_top.specs.Steps.{Failed, IsLong, IsLongFor, Refuses, Seen, seen, Stops, TextStops, of_contents}
@@ -233,34 +235,70 @@ query_stops s source p q r schema text other (Err o) first second same known ref
     (λ k e is. then_ok (text_of source s.held p) text (query_of p schema) (Err e) (ap (text_of source s.held) (sym first) ∙ known k)
     (ap (λ (x : Part). query_of x schema text) (sym second) ∙ ap (query_of r schema) (sym same) ∙ is)) refuses
 
--- the second query stops the reading of a command
-pub right_stops : (tells : Bool) (held0 held1 held2 : Holding) (before mid after : List ℕ → ℕ) (current : Option (List ℕ)) (taken : ℕ) (source : Source) (k : Command) (d : Data) (left : Typed) (o : Outcome)
-    → source ≡ source_of k → held1 ≡ held0 → held2 ≡ held0 → NoneFell before mid
-    → (IsKnown tells source → data_judged source held0 ≡ Ok d) → (IsKnown tells source → query_judged source held1 Query1 d.schema ≡ Ok left)
-    → Stops (seen tells held2 mid after current taken) source (right_judged source held2 d.schema left) (λ p. p ≡ Query2) o
-    → Stops (seen tells held0 before after current taken) (source_of k) (input_judged held0 k) (Reaches (source_of k) held0) o
-right_stops tells held0 held1 held2 before mid after current taken source k d left o is same1 same2 grew told query stop =
-    let known : IsKnown tells (source_of k) → IsKnown tells source = λ t. subst (IsKnown tells) (sym is) t in
-    let first : IsKnown tells source → query_judged source held0 Query1 d.schema ≡ Ok left = λ t. ap (λ (h : Holding). query_judged source h Query1 d.schema) (sym same1) ∙ query t in
-    let judged : IsKnown tells source → (e : Outcome) → right_judged source held2 d.schema left ≡ Err e → input_judged held0 k ≡ Err e = λ t e err.
-    then_ok _ d _ _ (ap (λ (s : Source). data_judged s held0) (sym is) ∙ told t)
-    (then_ok _ left _ _ (ap (λ (s : Source). query_judged s held0 Query1 d.schema) (sym is) ∙ first t)
-    (then_err _ _ e (ap (λ (s : Source). right_judged s held0 d.schema left) (sym is) ∙ ap (λ (h : Holding). right_judged source h d.schema left) (sym same2) ∙ err))) in
-    let reached : IsKnown tells source → (p : Part) → p ≡ Query2 → Reaches source held0 p = λ t p named. subst (Reaches source held0) (sym named) (reaches (data_judged source held0) (told t) (first t)) in
-    let stop' : Stops (seen tells held2 mid after current taken) (source_of k) (right_judged source held2 d.schema left) (λ p. p ≡ Query2) o =
-    subst (λ (s : Source). Stops (seen tells held2 mid after current taken) s (right_judged source held2 d.schema left) (λ p. p ≡ Query2) o) is stop in
-    stops_on tells held0 held2 before mid after current taken (source_of k) (right_judged source held2 d.schema left) (input_judged held0 k) (λ p. p ≡ Query2) (Reaches (source_of k) held0) o grew
-    (λ t. judged (known t)) (λ t p named. subst (λ (s : Source). Reaches s held0 p) is (reached (known t) p named)) stop'
+-- a reading that comes to its second query goes on with what was read first
+first_then : {T : Type 0} (r : Result Data Outcome) (q : Data → Result Typed Outcome) (f : Data → Typed → Result T Outcome) (first : First)
+    → then_read r (λ d. then_read (q d) (λ left. Ok (first_of d left))) ≡ Ok first → then_read r (λ d. then_read (q d) (f d)) ≡ f (data_in first) first.left
+first_then (Err e) q f first is = absurd cc
+first_then {T = T} (Ok d) q f first is = go (q d) is
   where
-    reaches : (r : Result Data Outcome) → r ≡ Ok d → query_judged source held0 Query1 d.schema ≡ Ok left → IsOkAnd r (λ d. IsOk (query_judged source held0 Query1 d.schema))
-    reaches r e q = rw e (rw q refl)
+    go : (x : Result Typed Outcome) → then_read x (λ left. Ok (first_of d left)) ≡ Ok first → then_read x (f d) ≡ f (data_in first) first.left
+    go (Ok left) same = let is : first_of d left ≡ first = cc in subst (λ (x : First). f d left ≡ f (data_in x) x.left) is refl
+    go (Err e) same = absurd cc
+
+pub first_reaches : (r : Result Data Outcome) (q : Data → Result Typed Outcome) (first : First)
+    → then_read r (λ d. then_read (q d) (λ left. Ok (first_of d left))) ≡ Ok first → IsOkAnd r (λ d. IsOk (q d))
+first_reaches (Err e) q first is = absurd cc
+first_reaches (Ok d) q first is = go (q d) is
+  where
+    go : (x : Result Typed Outcome) → then_read x (λ left. Ok (first_of d left)) ≡ Ok first → IsOk x
+    go (Ok left) same = refl
+    go (Err e) same = absurd cc
+
+first_err : {T : Type 0} (r : Result Data Outcome) (q : Data → Result Typed Outcome) (f : Data → Typed → Result T Outcome) (e : Outcome)
+    → then_read r (λ d. then_read (q d) (λ left. Ok (first_of d left))) ≡ Err e → then_read r (λ d. then_read (q d) (f d)) ≡ Err e
+first_err (Err o) q f e is = let same : o ≡ e = cc in ap Err same
+first_err {T = T} (Ok d) q f e is = go (q d) is
+  where
+    go : (x : Result Typed Outcome) → then_read x (λ left. Ok (first_of d left)) ≡ Err e → then_read x (f d) ≡ Err e
+    go (Ok left) same = absurd cc
+    go (Err o) same = let is : o ≡ e = cc in ap Err is
+
+-- what stops the reading before its second query
+pub first_stops : (tells : Bool) (held : Holding) (before after : List ℕ → ℕ) (current : Option (List ℕ)) (taken : ℕ) (source : Source) (k : Command) (o : Outcome) → source ≡ source_of k
+    → Stops (seen tells held before after current taken) source (first_judged source held) (Reaches source held) o
+    → Stops (seen tells held before after current taken) source (input_judged held k) (Reaches source held) o
+first_stops tells held before after current taken source k o is stop =
+    let judged : (e : Outcome) → first_judged source held ≡ Err e → input_judged held k ≡ Err e = λ e.
+    subst (λ (s : Source). first_judged s held ≡ Err e → input_judged held k ≡ Err e) (sym is)
+    (first_err (data_judged (source_of k) held) (λ d. query_judged (source_of k) held Query1 d.schema)
+    (λ d left. then_read (right_judged (source_of k) held d.schema left) (λ right. within_limit (accepted k d left right))) e) in
+    stops_on tells held held before before after current taken source (first_judged source held) (input_judged held k) (Reaches source held) (Reaches source held) o
+    (λ name. omega arith) (λ t. judged) (λ t p reached. reached) stop
+
+pub input_after : (held : Holding) (source : Source) (k : Command) (first : First) → source ≡ source_of k → first_judged source held ≡ Ok first
+    → input_judged held k ≡ then_read (right_judged source held first.schema first.left) (λ right. within_limit (accepted k (data_in first) first.left right))
+input_after held source k first is told =
+    subst (λ (s : Source). first_judged s held ≡ Ok first
+    → input_judged held k ≡ then_read (right_judged s held first.schema first.left) (λ right. within_limit (accepted k (data_in first) first.left right))) (sym is)
+    (λ t. first_then (data_judged (source_of k) held) (λ d. query_judged (source_of k) held Query1 d.schema)
+    (λ d left. then_read (right_judged (source_of k) held d.schema left) (λ right. within_limit (accepted k d left right))) first t) told
+
+-- the second query stops the reading of a command
+pub right_stops : (tells : Bool) (held0 held1 : Holding) (before mid after : List ℕ → ℕ) (current : Option (List ℕ)) (taken : ℕ) (source : Source) (k : Command) (first : First) (o : Outcome)
+    → source ≡ source_of k → held1 ≡ held0 → NoneFell before mid → (IsKnown tells source → first_judged source held0 ≡ Ok first)
+    → Stops (seen tells held1 mid after current taken) source (right_judged source held1 first.schema first.left) (λ p. p ≡ Query2) o
+    → Stops (seen tells held0 before after current taken) source (input_judged held0 k) (Reaches source held0) o
+right_stops tells held0 held1 before mid after current taken source k first o is same grew told stop =
+    stops_on tells held0 held1 before mid after current taken source (right_judged source held1 first.schema first.left) (input_judged held0 k) (λ p. p ≡ Query2) (Reaches source held0) o grew
+    (λ t e err. input_after held0 source k first is (told t) ∙ then_err _ _ e (ap (λ (h : Holding). right_judged source h first.schema first.left) (sym same) ∙ err))
+    (λ t p named. subst (Reaches source held0) (sym named) (first_reaches (data_judged source held0) (λ d. query_judged source held0 Query1 d.schema) first (told t))) stop
 
 -- the first query stops the reading of a source, whatever comes after it
-left_stops_here : {T : Type 0} (tells : Bool) (held0 held1 : Holding) (before mid after : List ℕ → ℕ) (current : Option (List ℕ)) (taken : ℕ) (source : Source) (f : Data → Typed → Result T Outcome) (d : Data) (o : Outcome)
+pub left_stops : {T : Type 0} (tells : Bool) (held0 held1 : Holding) (before mid after : List ℕ → ℕ) (current : Option (List ℕ)) (taken : ℕ) (source : Source) (f : Data → Typed → Result T Outcome) (d : Data) (o : Outcome)
     → held1 ≡ held0 → NoneFell before mid → (IsKnown tells source → data_judged source held0 ≡ Ok d)
     → Stops (seen tells held1 mid after current taken) source (query_judged source held1 Query1 d.schema) (λ p. p ≡ Query1) o
     → Stops (seen tells held0 before after current taken) source (then_read (data_judged source held0) (λ d. then_read (query_judged source held0 Query1 d.schema) (f d))) (Reaches source held0) o
-left_stops_here {T = T} tells held0 held1 before mid after current taken source f d o same grew told stop =
+left_stops {T = T} tells held0 held1 before mid after current taken source f d o same grew told stop =
     let all : Result T Outcome = then_read (data_judged source held0) (λ d. then_read (query_judged source held0 Query1 d.schema) (f d)) in
     let judged : IsKnown tells source → (e : Outcome) → query_judged source held1 Query1 d.schema ≡ Err e → all ≡ Err e = λ t e err.
     then_ok (data_judged source held0) d _ _ (told t) (then_err _ _ e (ap (λ (h : Holding). query_judged source h Query1 d.schema) (sym same) ∙ err)) in
@@ -268,24 +306,13 @@ left_stops_here {T = T} tells held0 held1 before mid after current taken source 
     subst (Reaches source held0) (sym named) (subst (λ (r : Result Data Outcome). IsOk r) (sym (told t)) refl) in
     stops_on tells held0 held1 before mid after current taken source (query_judged source held1 Query1 d.schema) all (λ p. p ≡ Query1) (Reaches source held0) o grew judged reached stop
 
-pub left_stops : {T : Type 0} (tells : Bool) (held0 held1 : Holding) (before mid after : List ℕ → ℕ) (current : Option (List ℕ)) (taken : ℕ) (source s : Source) (f : Data → Typed → Result T Outcome) (d : Data) (o : Outcome)
-    → source ≡ s → held1 ≡ held0 → NoneFell before mid → (IsKnown tells source → data_judged source held0 ≡ Ok d)
-    → Stops (seen tells held1 mid after current taken) source (query_judged source held1 Query1 d.schema) (λ p. p ≡ Query1) o
-    → Stops (seen tells held0 before after current taken) s (then_read (data_judged s held0) (λ d. then_read (query_judged s held0 Query1 d.schema) (f d))) (Reaches s held0) o
-left_stops tells held0 held1 before mid after current taken source s f d o is same grew told stop =
-    subst (λ (x : Source). Stops (seen tells held0 before after current taken) x (then_read (data_judged x held0) (λ d. then_read (query_judged x held0 Query1 d.schema) (f d))) (Reaches x held0) o) is
-    (left_stops_here tells held0 held1 before mid after current taken source f d o same grew told stop)
-
 -- a command whose texts are all read is judged by its work
-pub judged_all : (held0 held1 held2 : Holding) (source : Source) (k : Command) (d : Data) (left right : Typed) → source ≡ source_of k → held1 ≡ held0 → held2 ≡ held0
-    → data_judged source held0 ≡ Ok d → query_judged source held1 Query1 d.schema ≡ Ok left → right_judged source held2 d.schema left ≡ Ok right
-    → input_judged held0 k ≡ within_limit (accepted k d left right)
-judged_all held0 held1 held2 source k d left right is same1 same2 told first second =
-    then_ok (data_judged (source_of k) held0) d _ _ (ap (λ (s : Source). data_judged s held0) (sym is) ∙ told)
-    (then_ok (query_judged (source_of k) held0 Query1 d.schema) left _ _
-    (ap (λ (s : Source). query_judged s held0 Query1 d.schema) (sym is) ∙ ap (λ (h : Holding). query_judged source h Query1 d.schema) (sym same1) ∙ first)
-    (then_ok (right_judged (source_of k) held0 d.schema left) right _ _
-    (ap (λ (s : Source). right_judged s held0 d.schema left) (sym is) ∙ ap (λ (h : Holding). right_judged source h d.schema left) (sym same2) ∙ second) refl))
+pub judged_all : (held0 held1 : Holding) (source : Source) (k : Command) (first : First) (right : Typed) → source ≡ source_of k → held1 ≡ held0
+    → first_judged source held0 ≡ Ok first → right_judged source held1 first.schema first.left ≡ Ok right
+    → input_judged held0 k ≡ within_limit (accepted k (data_in first) first.left right)
+judged_all held0 held1 source k first right is same told second =
+    input_after held0 source k first is told
+    ∙ then_ok _ right _ _ (ap (λ (h : Holding). right_judged source h first.schema first.left) (sym same) ∙ second) refl
 
 pub if_err : {X : Type 0} (P Q : Outcome → Type 0) (r : Result X Outcome) → ((o : Outcome) → P o → Q o) → IfErr r P → IfErr r Q
 if_err P Q (Ok x) f p = tt

@@ -1,6 +1,6 @@
 -- What the rows of a call's answers follow from, and that an accepted command over files and sinks
 -- that don't fail gets a verdict.
-use Rattle.std.proofs.Common.{◌≡◌, ℕ, List, Result, Ok, Err, refl, sym, ap, subst, inl, inr, ◌∙◌, arith}
+use Rattle.std.proofs.Common.{◌≡◌, ℕ, List, false, Result, Ok, Err, refl, sym, ap, subst, inl, inr, ◌∙◌, arith}
 use Rattle.std.specs.Prelude.{Option, Some, None, IfOk, IsOkAnd, IsSome, IsSomeAnd, ◌<◌, ◌≤◌, ◌^◌}
 use Rattle.std.specs.Option.{ForSome}
 use Rattle.rt_io.specs.Edge.{Rose}
@@ -21,9 +21,9 @@ use Rattle.rt_words.specs.Command.{command}
 use Rattle.rt_words.specs.Ranges.{Command}
 use Rattle.rt_top.specs.Judged.{Holding, command_judged, input_judged, judged, schema_judged, text_of, HasTable, IsNamed, Reaches, TableReached}
 use Rattle.rt_top.specs.Placed.{Placed}
-use Rattle.rt_top.specs.Steps.{IsLongFor, Stops}
-use Rattle.rt_top.specs.Texts.{place}
-use Rattle.rt_top.specs.Answers.{Call, HasRoom, IsVerdictOrMemory, SpentRow, YieldsTo, NoFileRose, ReadFaultAt, ReadFaultRow, Row, IfText, WritesAll, Writes, Stop, Judges, PlacedRow, IsTextOf, IsRead, IsTold}
+use Rattle.rt_top.specs.Steps.{IsLongFor, Stops, is_memory}
+use Rattle.rt_top.specs.Texts.{place, refusal_text}
+use Rattle.rt_top.specs.Answers.{Call, HasRoom, IsVerdictOrMemory, SpentRow, YieldsTo, NoFileRose, ReadFaultAt, ReadFaultRow, Row, IfText, WritesAll, Writes, Stop, Judges, PlacedRow, IsTextOf, IsRead, IsTold, limit_of}
 
 -- ---- from the reading of the files to the rows
 
@@ -87,6 +87,30 @@ verdict_says c input (outcome.Limit limit) said read judges = absurd judges
 verdict_says c input (outcome.ReadFault part) said read judges = absurd judges
 verdict_says c input outcome.WriteFault said read judges = absurd judges
 verdict_says c input outcome.NoMemory said read judges = absurd judges
+
+-- ---- from what stops the reading to the rows
+
+pub stopped_row : (c : Call) (o : Outcome) → is_memory o ≡ false → Stop c o → Row c o
+stopped_row c outcome.Agree calm stop = absurd stop
+stopped_row c (outcome.Witness keep) calm stop = absurd stop
+stopped_row c outcome.Usage calm stop = stop
+stopped_row c (outcome.Refused part fault) calm stop = stop
+stopped_row c (outcome.Spent s) calm stop = absurd stop
+stopped_row c (outcome.Limit l) calm stop = stop
+stopped_row c (outcome.ReadFault part) calm stop = stop
+stopped_row c outcome.WriteFault calm stop = stop
+stopped_row c outcome.NoMemory calm stop = absurd cc
+
+pub stopped_says : (c : Call) (o : Outcome) (said : List ℕ) → Stop c o → said ≡ refusal_text (limit_of (command c.words)) o → IsTextOf c o said
+stopped_says c outcome.Agree said stop is = absurd stop
+stopped_says c (outcome.Witness keep) said stop is = absurd stop
+stopped_says c outcome.Usage said stop is = is
+stopped_says c (outcome.Refused part fault) said stop is = is
+stopped_says c (outcome.Spent s) said stop is = absurd stop
+stopped_says c (outcome.Limit l) said stop is = is
+stopped_says c (outcome.ReadFault part) said stop is = is
+stopped_says c outcome.WriteFault said stop is = absurd stop
+stopped_says c outcome.NoMemory said stop is = is
 
 -- ---- completeness
 

@@ -1,6 +1,6 @@
 -- When each outcome of a call comes, and what the call writes.
 use Rattle.std.specs.Option.{ForSome}
-use Rattle.std.specs.Prelude.{◌≡◌, ℕ, ◌≤◌, ◌^◌, ◌⊎◌, Bool, IsTrue, List, ◌++◌, Option, None, Some, Ok, Err, IsSome, IsSomeAnd, ⊤}
+use Rattle.std.specs.Prelude.{◌≡◌, ℕ, ◌≤◌, ◌^◌, ◌⊎◌, Bool, IsTrue, List, Option, None, Some, Ok, Err, IsSome, IsSomeAnd, ⊤}
 use Rattle.rt_io.specs.Logs.{Log, Grew, GrewPartly, IsKept, Broke, at_place, other_place}
 use Rattle.rt_io.specs.declared.files.Files.{Ghosts as Files}
 use Rattle.rt_top.specs.declared.part.Part.{Part}
@@ -106,17 +106,13 @@ WordsStop o outcome.Usage = o ≡ None
 WordsStop o outcome.NoMemory = ⊤
 WordsStop o _ = ⊥
 
--- what stops the reading of an input: its row, or want of memory
+-- what stops the reading of an input: its row, where it is no verdict, or want of memory
 abbrev pub Stop : Call → Outcome → Type 0
 Stop c outcome.Agree = ⊥
 Stop c (outcome.Witness keep) = ⊥
-Stop c outcome.Usage = UsageRow c
 Stop c (outcome.Spent s) = ⊥
-Stop c (outcome.Refused part fault) = RefusedRow c part fault
-Stop c (outcome.Limit limit) = LimitRow c limit
-Stop c (outcome.ReadFault part) = ReadFaultRow c part
-Stop c outcome.WriteFault = ⊥
 Stop c outcome.NoMemory = ⊤
+Stop c o = Row c o
 
 -- ---- words on one outcome
 

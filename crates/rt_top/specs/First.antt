@@ -18,6 +18,10 @@ pub record IsFirst (first : First) : Type 0 where
 abbrev pub first_of : Data → Typed → First
 first_of d left = record { schema = d.schema; given = d.given; left = left }
 
+-- the schema and the rows of what was read first
+abbrev pub data_in : First → Data
+data_in first = record { schema = first.schema; given = first.given }
+
 -- these three, or the first refusal
 abbrev pub first_judged : Source → Holding → Result First Outcome
 first_judged source held = then_read (data_judged source held) (λ d. then_read (query_judged source held Query1 d.schema) (λ left. Ok (first_of d left)))

@@ -61,6 +61,10 @@ TextStops s name part (outcome.ReadFault p) = (p ≡ part) × Failed s (Some nam
 TextStops s name part outcome.WriteFault = ⊥
 TextStops s name part outcome.NoMemory = ⊤
 
+abbrev pub is_memory : Outcome → Bool
+is_memory outcome.NoMemory = true
+is_memory _ = false
+
 -- a limit other than the length of a file
 abbrev pub of_contents : Limit → Bool
 of_contents (limits.TooLong part) = false

@@ -26,7 +26,31 @@ pub struct First {
     pub left: Typed,
 }
 
-/// The schema, the rows and the first query of a command; its second query isn't read.
+/// The schema, the rows and the first query of a source; its second query isn't read.
+pub(crate) fn first_of<F: Files>(
+    alloc: Global,
+    files: &mut F,
+    source: &Source,
+) -> Result<First, Outcome>
+    ensures sound { IfOk result IsFirst }
+    ensures ok { IfOk result (λ first. IsKnown F.tells source.now → first_judged source.now (F.held files.old) ≡ Ok first) }
+    ensures err { IfErr result (Stops (over F.Files files.old files.new) source.now (first_judged source.now (F.held files.old)) (Reaches source.now (F.held files.old))) }
+    ensures place { IfErr result (λ o. IsKnown F.tells source.now → Placed (text_of source.now (F.held files.old)) o) }
+    ensures last { BeginsOnly F.Files files.old files.new source.now (Reaches source.now (F.held files.old)) }
+    ensures made { IsMade source.now → files.new ≡ files.old }
+    ensures held { F.held files.new ≡ F.held files.old }
+    ensures rises { NoneFell (F.faults files.old) (F.faults files.new) }
+{
+    let Tables { schema, given } = tables_of(alloc, files, source)?;
+    let left = read_query(alloc, files, source, QueryPart::First, &schema)?;
+    Ok(First {
+        schema,
+        given,
+        left,
+    })
+}
+
+/// The same of a command.
 pub fn read_first<F: Files>(alloc: Global, words: &Words, files: &mut F) -> Result<First, Outcome>
     ensures sound { IfOk result IsFirst }
     ensures ok { IfOk result (λ first. IsKnown F.tells (source_of words.now) → first_judged (source_of words.now) (F.held files.old) ≡ Ok first) }
@@ -38,11 +62,7 @@ pub fn read_first<F: Files>(alloc: Global, words: &Words, files: &mut F) -> Resu
     ensures rises { NoneFell (F.faults files.old) (F.faults files.new) }
 {
     let source = Source::of(alloc, words)?;
-    let Tables { schema, given } = tables_of(alloc, files, &source)?;
-    let left = read_query(alloc, files, &source, QueryPart::First, &schema)?;
-    Ok(First {
-        schema,
-        given,
-        left,
-    })
+    let first = first_of(alloc, files, &source);
+    drop(source);
+    first
 }

@@ -1,4 +1,5 @@
 ghost use Rattle.std.specs.Prelude.{◌≡◌};
+ghost use Rattle.rt_top.specs.Steps.{is_memory};
 ghost use Rattle.rt_top.specs.Texts.{status_of};
 
 use crate::part::Part;
@@ -94,6 +95,13 @@ impl Outcome {
             Outcome::ReadFault(_) | Outcome::WriteFault => 6,
             Outcome::NoMemory => 7,
         }
+    }
+
+    /// Whether memory was wanting.
+    pub(crate) fn is_memory(&self) -> bool
+        ensures { result ≡ is_memory self.now }
+    {
+        matches!(self, Outcome::NoMemory)
     }
 }
 

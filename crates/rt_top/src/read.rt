@@ -6,19 +6,20 @@ ghost use Rattle.rt_schema.specs.Given.{IsOf};
 ghost use Rattle.rt_algebra.specs.Typed.{IsTypedOf};
 ghost use Rattle.rt_words.specs.Command.{command};
 ghost use Rattle.rt_top.specs.Source.{IsKnown, IsMade, query_part, source_of};
-ghost use Rattle.rt_top.specs.Judged.{text_of, query_judged, right_judged, input_judged, total_work, within_limit, work_between, Reaches};
+ghost use Rattle.rt_top.specs.First.{IsFirst, data_in};
+ghost use Rattle.rt_top.specs.Judged.{accepted, text_of, query_judged, right_judged, input_judged, total_work, within_limit, work_between, Reaches};
 ghost use Rattle.rt_top.specs.Placed.{IsPlaceless, Placed};
 ghost use Rattle.rt_top.specs.Steps.{over, BeginsOnly, Refuses, Stops};
 ghost use Rattle.rt_top.specs.Answers.{call, LastBegun, IsMadeCall, IsRead, Stop, WordsStop};
 ghost use Rattle.rt_top.specs.declared.part.Part.TheVariants as parts;
 ghost use Rattle.rt_top.specs.Accepted.{HasOptions, IsAccepted};
 
+use crate::first::{First, first_of};
 use crate::input::Input;
 use crate::outcome::{Limit, Outcome};
 use crate::part::QueryPart;
 use crate::query::{like_left, query_of};
 use crate::source::Source;
-use crate::tables::{Tables, tables_of};
 use crate::text::source_text;
 use rt_algebra::{Typed, work};
 use rt_io::Files;
@@ -114,6 +115,53 @@ pub fn within_limit(input: Input) -> Result<Input, Outcome>
     }
 }
 
+/// The input of two queries over the rows of the first, with the numbers of the command.
+fn input_of(words: &Words, first: First, right: Typed) -> Input
+    requires sound { IsFirst first }
+    requires right { IsTypedOf first.schema right }
+    requires kinds { right.kinds ≡ first.left.kinds }
+    ensures same { result ≡ accepted words.now (data_in first) first.left right }
+    ensures sound { IsAccepted result }
+{
+    Input {
+        schema: first.schema,
+        given: first.given,
+        left: first.left,
+        right,
+        conflicts: words.conflicts,
+        work_limit: words.work_limit,
+        made: words.made,
+    }
+}
+
+/// What the texts of a source say, with the numbers of the command.
+fn read_source<F: Files>(
+    alloc: Global,
+    words: &Words,
+    files: &mut F,
+    source: &Source,
+) -> Result<Input, Outcome>
+    requires { source.now ≡ source_of words.now }
+    ensures sound { IfOk result IsAccepted }
+    ensures options { IfOk result (HasOptions words.now) }
+    ensures ok { IfOk result (λ input. IsKnown F.tells source.now → input_judged (F.held files.old) words.now ≡ Ok input) }
+    ensures err { IfErr result (Stops (over F.Files files.old files.new) source.now (input_judged (F.held files.old) words.now) (Reaches source.now (F.held files.old))) }
+    ensures place { IfErr result (λ o. IsKnown F.tells source.now → Placed (text_of source.now (F.held files.old)) o) }
+    ensures last { BeginsOnly F.Files files.old files.new source.now (Reaches source.now (F.held files.old)) }
+    ensures made { IsMade source.now → files.new ≡ files.old }
+    ensures held { F.held files.new ≡ F.held files.old }
+    ensures rises { NoneFell (F.faults files.old) (F.faults files.new) }
+{
+    let first = first_of(alloc, files, source)?;
+    match read_right(alloc, files, source, &first.schema, &first.left) {
+        Ok(right) => within_limit(input_of(words, first, right)),
+        Err(outcome) => {
+            drop(first);
+            Err(outcome)
+        }
+    }
+}
+
 /// What the texts of a command say.
 fn read_command<F: Files>(alloc: Global, words: &Words, files: &mut F) -> Result<Input, Outcome>
     ensures sound { IfOk result IsAccepted }
@@ -127,18 +175,9 @@ fn read_command<F: Files>(alloc: Global, words: &Words, files: &mut F) -> Result
     ensures rises { NoneFell (F.faults files.old) (F.faults files.new) }
 {
     let source = Source::of(alloc, words)?;
-    let Tables { schema, given } = tables_of(alloc, files, &source)?;
-    let left = read_query(alloc, files, &source, QueryPart::First, &schema)?;
-    let right = read_right(alloc, files, &source, &schema, &left)?;
-    within_limit(Input {
-        schema,
-        given,
-        left,
-        right,
-        conflicts: words.conflicts,
-        work_limit: words.work_limit,
-        made: words.made,
-    })
+    let input = read_source(alloc, words, files, &source);
+    drop(source);
+    input
 }
 
 /// The input of a command, or the first refusal.

@@ -1,10 +1,12 @@
-ghost use Rattle.std.specs.Prelude.{◌≡◌, ◌⊎◌, None, IfOk, Ok, Err};
+ghost use Rattle.std.specs.Prelude.{◌≡◌, ◌⊎◌, false, None, IfOk, Ok, Err};
 ghost use Rattle.rt_io.specs.Edge.{NoneFell};
 ghost use Rattle.rt_words.specs.Command.{command};
 ghost use Rattle.rt_top.specs.Judged.{judged};
 ghost use Rattle.rt_top.specs.Accepted.{Accepted};
 ghost use Rattle.rt_io.specs.Logs.{log, NoSinkRose, WritesNothing};
 ghost use Rattle.rt_top.specs.Answers.{call, limit_of, LastBegun, IsTold, IsMadeCall, Row, AgreeRow, WitnessRow, UsageRow, RefusedRow, SpentRow, LimitRow, ReadFaultRow, HasRoom, IfAgree, IfWitness, IfUsage, IfRefused, IfSpent, IfLimit, IfReadFault, IfWriteFault, IfNoMemory, IfText, YieldsTo, YieldsToWrite, IsVerdictOrMemory, NoFileRose, IsTextOf, Writes, WritesAll, WritesPart, WritesUntilFault};
+ghost use Rattle.rt_top.specs.Steps.{is_memory};
+ghost use Rattle.rt_top.specs.Texts.{refusal_text};
 ghost use Rattle.rt_top.specs.declared.outcome.Outcome.{Outcome};
 ghost use Rattle.rt_top.specs.declared.outcome.Outcome.TheVariants as outcome;
 
@@ -13,7 +15,7 @@ use crate::read::read_input;
 use crate::say::refusal_text;
 use crate::verdicts::{Answer, verdict};
 use rt_io::{Files, Sink, SinkFail, write_at};
-use rt_value::{NoMemory, Txt};
+use rt_value::{Bytes, NoMemory, Txt};
 use rt_words::{WordFault, read_words};
 use std::alloc::Global;
 
@@ -28,6 +30,32 @@ fn work_limit(alloc: Global, words: &[Txt]) -> Result<u64, NoMemory>
     }
 }
 
+/// The text of an outcome that is no verdict.
+fn refusal_of(alloc: Global, words: &[Txt], outcome: &Outcome) -> Result<Bytes, NoMemory>
+    ensures { IfOk result (λ text. text ≡ refusal_text (limit_of (command words.now)) outcome.now) }
+{
+    let most = work_limit(alloc, words)?;
+    refusal_text(alloc, most, outcome)
+}
+
+/// What is to be said of what stopped the reading.
+fn refused(alloc: Global, words: &[Txt], outcome: Outcome) -> Result<Answer, NoMemory>
+    ensures stopped { IfOk result (λ a. is_memory outcome ≡ false) }
+    ensures outcome { IfOk result (λ a. a.outcome ≡ outcome) }
+    ensures text { IfOk result (λ a. a.text ≡ refusal_text (limit_of (command words.now)) outcome) }
+{
+    if outcome.is_memory() {
+        return Err(NoMemory);
+    }
+    match refusal_of(alloc, words, &outcome) {
+        Ok(text) => Ok(Answer { outcome, text }),
+        Err(NoMemory) => {
+            drop(outcome);
+            Err(NoMemory)
+        }
+    }
+}
+
 /// What is to be said of a command.
 fn prepare<F: Files>(alloc: Global, words: &[Txt], files: &mut F) -> Result<Answer, NoMemory>
     ensures row { IfOk result (λ a. Row (call F.Files words.now files.old files.new) a.outcome) }
@@ -38,13 +66,12 @@ fn prepare<F: Files>(alloc: Global, words: &[Txt], files: &mut F) -> Result<Answ
     ensures rises { NoneFell (F.faults files.old) (F.faults files.new) }
 {
     match read_input(alloc, words, files) {
-        Ok(input) => verdict(alloc, &input),
-        Err(Outcome::NoMemory) => Err(NoMemory),
-        Err(outcome) => {
-            let most = work_limit(alloc, words)?;
-            let text = refusal_text(alloc, most, &outcome)?;
-            Ok(Answer { outcome, text })
+        Ok(input) => {
+            let answer = verdict(alloc, &input);
+            drop(input);
+            answer
         }
+        Err(outcome) => refused(alloc, words, outcome),
     }
 }
 

@@ -6,11 +6,11 @@ use Rattle.rt_top.proofs.top.prepare.Goals as goal
 pub returns-in-Ok-clause-row : goal.returns-in-Ok-clause-row
 returns-in-Ok-clause-row g c =
     let it = call g.F.Files c.args.words.now c.args.files.now c.read_input.new.files in
-    if_ok (λ (a : Answer). Judges c.in-Ok.input a.outcome a.text) (λ a. Row it a.outcome) c.verdict.result
-    (λ a judges. verdict_row it c.in-Ok.input a.outcome a.text c.in-Ok.ensures.ok judges) c.verdict.ensures
+    if_ok (λ (a : Answer). Judges c.in-Ok.input a.outcome a.text) (λ a. Row it a.outcome) c.verdict-answer.result
+    (λ a judges. verdict_row it c.in-Ok.input a.outcome a.text c.in-Ok.ensures.ok judges) c.verdict-answer.ensures
 
 pub returns-in-Ok-clause-says : goal.returns-in-Ok-clause-says
 returns-in-Ok-clause-says g c =
     let it = call g.F.Files c.args.words.now c.args.files.now c.read_input.new.files in
-    if_ok (λ (a : Answer). Judges c.in-Ok.input a.outcome a.text) (λ a. IsTextOf it a.outcome a.text) c.verdict.result
-    (λ a judges. verdict_says it c.in-Ok.input a.outcome a.text c.in-Ok.ensures.ok judges) c.verdict.ensures
+    if_ok (λ (a : Answer). Judges c.in-Ok.input a.outcome a.text) (λ a. IsTextOf it a.outcome a.text) c.verdict-answer.result
+    (λ a judges. verdict_says it c.in-Ok.input a.outcome a.text c.in-Ok.ensures.ok judges) c.verdict-answer.ensures
