@@ -22,11 +22,16 @@ use Rattle.rt_algebra.specs.declared.query.Pred.TheViews.{roll-Pred, roll-Query}
 use Rattle.rt_algebra.specs.declared.query.Pred.TheFolds.{fold-roll-Pred, fold-roll-Query, map-Pred, map-Query}
 use Rattle.rt_schema.specs.Kept.{kept}
 use Rattle.rt_formula.specs.Shared.{Shared, IsGrown, val}
-use Rattle.rt_annot.specs.Entries.{Formula, Test, Entry, is_no, rows_at, selected, any_entry, member_test}
+use Rattle.rt_annot.specs.Entries.{Formula, Test, Entry, is_no, rows_at, selected, any_entry, member_test, stands}
 use Rattle.rt_annot.proofs.Exact.{yes_and, no_and, yes_or, no_or, append_exact, select_exact, project_exact, any_exact, not_any, member_yes, member_no, stands_exact}
 use Rattle.rt_formula.specs.declared.noted.Noted.{Noted}
 use Rattle.rt_annot.specs.declared.gate.Gate.{Gate}
-use Rattle.rt_annot.specs.Annotated.{formula, entry_of, entries_of, AreMerged, AreNodes, IsNode, IsGate, Mean, Reads, Gives, Choosing, yes_of, no_of, yes_when, no_when, test_all, test_any, standing_test, missing_test, projected_rows}
+use Rattle.rt_annot.specs.declared.gate.Gates.{Gates}
+use Rattle.rt_annot.specs.declared.gate.Junction.{Junction}
+use Rattle.rt_annot.specs.declared.gate.Junction.TheVariants.{All, Any}
+use Rattle.rt_annot.specs.declared.sets.Side.{Side}
+use Rattle.rt_annot.specs.declared.sets.Side.TheVariants.{Standing, Missing}
+use Rattle.rt_annot.specs.Annotated.{formula, entry_of, entries_of, AreMerged, AreNodes, IsNode, IsGate, Mean, Reads, Gives, Choosing, yes_of, no_of, yes_when, no_when, test_joined, gates_joined, deciding, side_test, side_node, projected_rows}
 use Rattle.rt_annot.specs.Known.{exists_test, among_test}
 use Rattle.rt_annot.proofs.Alike.{same_append, same_except, same_intersect, same_map, same_member_no, same_member_yes, same_some_yes}
 use Rattle.rt_annot.proofs.Growing.{grown_trans, node_as, noted_stay, entries_stay}
@@ -180,43 +185,54 @@ module _ (given : Tables) (env : Env) where
       → ((s : List Bool) → u.0 s ≡ is_yes (t s)) → ((s : List Bool) → u.1 s ≡ is_no (t s)) → IsGate d g u → IsGate d g (yes_when p given env, no_when p given env)
   outcome p t e y n i = gate_as (yes_when p given env, no_when p given env) (λ s. y s ∙ ap is_yes (sym (e s))) (λ s. n s ∙ ap is_no (sym (e s))) i
 
-  pub all_gate : (d : Shared) {e : Shared} {g : Gate} {yes no : List ℕ} (ps : List Pred) → Mean d yes (yes_of ps given env) → Mean d no (no_of ps given env)
-      → IsGate e g (λ s. list_all (val d s) yes, λ s. list_any (val d s) no) → IsGate e g (test_all ps given env)
-  all_gate d {e} {g} {yes} {no} ps y n i = gate_as (test_all ps given env)
+  all_gate : (d : Shared) {e : Shared} {g : Gate} {yes no : List ℕ} (ps : List Pred) → Mean d yes (yes_of ps given env) → Mean d no (no_of ps given env)
+      → IsGate e g (λ s. list_all (val d s) yes, λ s. list_any (val d s) no) → IsGate e g (test_joined All ps given env)
+  all_gate d {e} {g} {yes} {no} ps y n i = gate_as (test_joined All ps given env)
       (λ s. all_formulas s d yes ∙ ap (list_all (λ (f : Formula). f s)) y.same ∙ yes_all s ps)
       (λ s. any_formulas s d no ∙ ap (list_any (λ (f : Formula). f s)) n.same ∙ no_any s ps) i
 
-  pub any_gate : (d : Shared) {e : Shared} {g : Gate} {yes no : List ℕ} (ps : List Pred) → Mean d yes (yes_of ps given env) → Mean d no (no_of ps given env)
-      → IsGate e g (λ s. list_any (val d s) yes, λ s. list_all (val d s) no) → IsGate e g (test_any ps given env)
-  any_gate d {e} {g} {yes} {no} ps y n i = gate_as (test_any ps given env)
+  any_gate : (d : Shared) {e : Shared} {g : Gate} {yes no : List ℕ} (ps : List Pred) → Mean d yes (yes_of ps given env) → Mean d no (no_of ps given env)
+      → IsGate e g (λ s. list_any (val d s) yes, λ s. list_all (val d s) no) → IsGate e g (test_joined Any ps given env)
+  any_gate d {e} {g} {yes} {no} ps y n i = gate_as (test_joined Any ps given env)
       (λ s. any_formulas s d yes ∙ ap (list_any (λ (f : Formula). f s)) y.same ∙ yes_any s ps)
       (λ s. all_formulas s d no ∙ ap (list_all (λ (f : Formula). f s)) n.same ∙ no_all s ps) i
 
   -- one that is false at every choice decides all, one that is true decides any
   module _ (ps : List Pred) (i : ℕ) (p : Pred) (l : i < length ps) (e : p ≡ get_or ps i p) where
-    pub all_stops : {d : Shared} {g : Gate} → IsGate d g (yes_when p given env, no_when p given env) → ((s : List Bool) → val d s g.no ≡ true) → IsGate d g (test_all ps given env)
+    all_stops : {d : Shared} {g : Gate} → IsGate d g (yes_when p given env, no_when p given env) → ((s : List Bool) → val d s g.no ≡ true) → IsGate d g (test_joined All ps given env)
     all_stops {d} {g} t h =
         let here : (s : List Bool) → pred_by wrapped p (kept given s) env ≡ No = λ s. no_is _ (sym (t.no.same s) ∙ h s) in
         let there : (s : List Bool) → all_of (map (pred_by wrapped) ps) (kept given s) env ≡ No = λ s. all_no (kept given s) env ps i p l e (here s) in
-        gate_as (test_all ps given env) (λ s. ap is_yes (here s ∙ sym (there s))) (λ s. ap is_no (here s ∙ sym (there s))) t
+        gate_as (test_joined All ps given env) (λ s. ap is_yes (here s ∙ sym (there s))) (λ s. ap is_no (here s ∙ sym (there s))) t
 
-    pub any_stops : {d : Shared} {g : Gate} → IsGate d g (yes_when p given env, no_when p given env) → ((s : List Bool) → val d s g.yes ≡ true) → IsGate d g (test_any ps given env)
+    any_stops : {d : Shared} {g : Gate} → IsGate d g (yes_when p given env, no_when p given env) → ((s : List Bool) → val d s g.yes ≡ true) → IsGate d g (test_joined Any ps given env)
     any_stops {d} {g} t h =
         let here : (s : List Bool) → pred_by wrapped p (kept given s) env ≡ Yes = λ s. yes_is _ (sym (t.yes.same s) ∙ h s) in
         let there : (s : List Bool) → any_of (map (pred_by wrapped) ps) (kept given s) env ≡ Yes = λ s. any_yes (kept given s) env ps i p l e (here s) in
-        gate_as (test_any ps given env) (λ s. ap is_yes (here s ∙ sym (there s))) (λ s. ap is_no (here s ∙ sym (there s))) t
+        gate_as (test_joined Any ps given env) (λ s. ap is_yes (here s ∙ sym (there s))) (λ s. ap is_no (here s ∙ sym (there s))) t
 
-  pub and_gate : {d : Shared} {g : Gate} (p : Pred) (ps : List Pred) → p ≡ w.And ps → IsGate d g (test_all ps given env) → IsGate d g (yes_when p given env, no_when p given env)
+  pub and_gate : {d : Shared} {g : Gate} (p : Pred) (ps : List Pred) → p ≡ w.And ps → IsGate d g (test_joined All ps given env) → IsGate d g (yes_when p given env, no_when p given env)
   and_gate p ps q i = outcome p (λ s. all_of (map (pred_by wrapped) ps) (kept given s) env) (λ s. at_and (kept given s) env ps q) (λ s. refl) (λ s. refl) i
 
-  pub or_gate : {d : Shared} {g : Gate} (p : Pred) (ps : List Pred) → p ≡ w.Or ps → IsGate d g (test_any ps given env) → IsGate d g (yes_when p given env, no_when p given env)
+  pub or_gate : {d : Shared} {g : Gate} (p : Pred) (ps : List Pred) → p ≡ w.Or ps → IsGate d g (test_joined Any ps given env) → IsGate d g (yes_when p given env, no_when p given env)
   or_gate p ps q i = outcome p (λ s. any_of (map (pred_by wrapped) ps) (kept given s) env) (λ s. at_or (kept given s) env ps q) (λ s. refl) (λ s. refl) i
 
-missing_rows : (s : List Bool) (es ds : List Entry) → rows_at s (selected es (missing_test ds)) ≡ filter (λ r. not (has_row (rows_at s ds) r)) (rows_at s es)
-missing_rows s es ds = select_exact s es (missing_test ds) (λ r. not (has_row (rows_at s ds) r)) (λ r. ap not (stands_exact s ds r))
+  -- the same of any that are put together
+  pub joined_gate : (j : Junction) (d : Shared) {e : Shared} {g : Gate} (gates : Gates) (ps : List Pred) → Mean d gates.yes (yes_of ps given env) → Mean d gates.no (no_of ps given env)
+      → IsGate e g (gates_joined j d gates) → IsGate e g (test_joined j ps given env)
+  joined_gate All d gates ps y n i = all_gate d ps y n i
+  joined_gate Any d gates ps y n i = any_gate d ps y n i
 
-standing_rows : (s : List Bool) (es ds : List Entry) → rows_at s (selected es (standing_test ds)) ≡ filter (has_row (rows_at s ds)) (rows_at s es)
-standing_rows s es ds = select_exact s es (standing_test ds) (has_row (rows_at s ds)) (λ r. stands_exact s ds r)
+  pub joined_stops : (j : Junction) (ps : List Pred) (i : ℕ) (p : Pred) (l : i < length ps) (e : p ≡ get_or ps i p) {d : Shared} {g : Gate} → IsGate d g (yes_when p given env, no_when p given env)
+      → ((s : List Bool) → val d s (deciding j g) ≡ true) → IsGate d g (test_joined j ps given env)
+  joined_stops All ps i p l e t h = all_stops ps i p l e t h
+  joined_stops Any ps i p l e t h = any_stops ps i p l e t h
+
+missing_rows : (s : List Bool) (es ds : List Entry) → rows_at s (selected es (side_test Missing ds)) ≡ filter (λ r. not (has_row (rows_at s ds) r)) (rows_at s es)
+missing_rows s es ds = select_exact s es (side_test Missing ds) (λ r. not (has_row (rows_at s ds) r)) (λ r. ap not (stands_exact s ds r))
+
+standing_rows : (s : List Bool) (es ds : List Entry) → rows_at s (selected es (side_test Standing ds)) ≡ filter (has_row (rows_at s ds)) (rows_at s es)
+standing_rows s es ds = select_exact s es (side_test Standing ds) (has_row (rows_at s ds)) (λ r. stands_exact s ds r)
 
 -- noted rows that give an answer
 pub gives_as : {d : Shared} {ns : List Noted} {f : List Bool → Rows} (h : List Bool → Rows) → ((s : List Bool) → f s ≡ h s) → Gives d ns f → Gives d ns h
@@ -253,7 +269,7 @@ gives_merged {old} {now} {ns} {out} m i = record {
   same = λ s r. sym (stands_exact s (entries_of now out) r) ∙ m.same r s ∙ stands_exact s (entries_of old ns) r ∙ i.same s r;
 }
 
-pub gives_except : {d now : Shared} {ms ns out : List Noted} {f h : List Bool → Rows} → Gives d ms f → Gives d ns h → Reads now out (selected (entries_of d ms) (missing_test (entries_of d ns)))
+pub gives_except : {d now : Shared} {ms ns out : List Noted} {f h : List Bool → Rows} → Gives d ms f → Gives d ns h → Reads now out (selected (entries_of d ms) (side_test Missing (entries_of d ns)))
     → Gives now out (λ s. filter (λ r. not (has_row (h s) r)) (f s))
 gives_except {d} {now} {ms} {ns} {out} {f} {h} i j k = record {
   below = k.below;
@@ -261,13 +277,18 @@ gives_except {d} {now} {ms} {ns} {out} {f} {h} i j k = record {
       ∙ same_except (rows_at s (entries_of d ms)) (f s) (rows_at s (entries_of d ns)) (h s) (i.same s) (j.same s) r;
 }
 
-pub gives_intersect : {d now : Shared} {ms ns out : List Noted} {f h : List Bool → Rows} → Gives d ms f → Gives d ns h → Reads now out (selected (entries_of d ms) (standing_test (entries_of d ns)))
+pub gives_intersect : {d now : Shared} {ms ns out : List Noted} {f h : List Bool → Rows} → Gives d ms f → Gives d ns h → Reads now out (selected (entries_of d ms) (side_test Standing (entries_of d ns)))
     → Gives now out (λ s. filter (has_row (h s)) (f s))
 gives_intersect {d} {now} {ms} {ns} {out} {f} {h} i j k = record {
   below = k.below;
   same = λ s r. ap (λ rows. has_row rows r) (ap (rows_at s) k.same ∙ standing_rows s (entries_of d ms) (entries_of d ns))
       ∙ same_intersect (rows_at s (entries_of d ms)) (f s) (rows_at s (entries_of d ns)) (h s) (i.same s) (j.same s) r;
 }
+
+-- the node of a side, of a gate that says where a row stands
+pub side_is : (side : Side) (es : List Entry) (r : List Value) {d : Shared} {g : Gate} → IsGate d g (stands es r, λ s. not (stands es r s)) → IsNode d (side_node side g) (side_test side es r).0
+side_is Standing es r i = i.yes
+side_is Missing es r i = i.no
 
 -- the next entry is chosen, or never comes
 module _ {old now next : Shared} {out : List Noted} {rest more whole : List Entry} (r : List Value) (f : Formula) (a : Choosing old now out rest whole) (c : rest ≡ (r, f) ∷ more) (g : IsGrown now next) where

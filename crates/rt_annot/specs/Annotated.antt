@@ -1,6 +1,6 @@
 -- What nodes and noted rows mean: formulas on the Keep.
 use Rattle.std.specs.Prelude.{◌≡◌, ℕ, ◌<◌, ◌+◌, nat_eq, Bool, false, not, List, [], ◌∷◌, ◌++◌, map, length}
-use Rattle.std.specs.List.{All as Each, IsDistinct, list_any}
+use Rattle.std.specs.List.{All as Each, IsDistinct, list_all, list_any}
 use Rattle.rt_schema.specs.Kept.{kept}
 use Rattle.rt_value.specs.declared.value.Value.{Value}
 use Rattle.rt_value.specs.Row.{row_eq}
@@ -14,6 +14,11 @@ use Rattle.rt_formula.specs.Groups.{Grouped, group_at, nodes_where}
 use Rattle.rt_annot.specs.Entries.{Formula, Test, Entry, is_no, rows_at, stands}
 use Rattle.rt_formula.specs.declared.noted.Noted.{Noted}
 use Rattle.rt_annot.specs.declared.gate.Gate.{Gate}
+use Rattle.rt_annot.specs.declared.gate.Gates.{Gates}
+use Rattle.rt_annot.specs.declared.gate.Junction.{Junction}
+use Rattle.rt_annot.specs.declared.gate.Junction.TheVariants.{All, Any}
+use Rattle.rt_annot.specs.declared.sets.Side.{Side}
+use Rattle.rt_annot.specs.declared.sets.Side.TheVariants.{Standing, Missing}
 
 -- a node as a formula
 abbrev pub formula : Shared → ℕ → Formula
@@ -51,12 +56,15 @@ pub record Reads (d : Shared) (ns : List Noted) (es : List Entry) : Type 0 where
   pub below : AreNoted d ns
   pub same : entries_of d ns ≡ es
 
--- whether a row stands among entries, and whether it doesn't, as conditions on rows
-abbrev pub standing_test : List Entry → List Value → Test
-standing_test es r = (stands es r, λ s. false)
+-- whether a row is on this side of entries, as a condition on rows
+abbrev pub side_test : Side → List Entry → List Value → Test
+side_test Standing es r = (stands es r, λ s. false)
+side_test Missing es r = (λ s. not (stands es r s), λ s. false)
 
-abbrev pub missing_test : List Entry → List Value → Test
-missing_test es r = (λ s. not (stands es r s), λ s. false)
+-- the node of that, of a gate that says where a row stands among them
+abbrev pub side_node : Side → Gate → ℕ
+side_node Standing g = g.yes
+side_node Missing g = g.no
 
 -- rows in order, each where its place is kept
 abbrev pub placed : ℕ → Rows → List Entry
@@ -96,14 +104,22 @@ pub record Choosing (old now : Shared) (out : List Noted) (rest whole : List Ent
 abbrev pub test_under : Pred → Tables → Env → List Value → Test
 test_under p given env r = (yes_when p given (r ∷ env), no_when p given (r ∷ env))
 
--- all of several conditions, and any of them
-abbrev pub test_all : List Pred → Tables → Env → Test
-test_all ps given env =
+-- conditions together
+abbrev pub test_joined : Junction → List Pred → Tables → Env → Test
+test_joined All ps given env =
     (λ s. is_yes (all_of (map (pred_by wrapped) ps) (kept given s) env), λ s. is_no (all_of (map (pred_by wrapped) ps) (kept given s) env))
-
-abbrev pub test_any : List Pred → Tables → Env → Test
-test_any ps given env =
+test_joined Any ps given env =
     (λ s. is_yes (any_of (map (pred_by wrapped) ps) (kept given s) env), λ s. is_no (any_of (map (pred_by wrapped) ps) (kept given s) env))
+
+-- the nodes of conditions together
+abbrev pub gates_joined : Junction → Shared → Gates → Test
+gates_joined All d gates = (λ s. list_all (val d s) gates.yes, λ s. list_any (val d s) gates.no)
+gates_joined Any d gates = (λ s. list_any (val d s) gates.yes, λ s. list_all (val d s) gates.no)
+
+-- the node of a condition that decides these, where it is true at every choice
+abbrev pub deciding : Junction → Gate → ℕ
+deciding All g = g.no
+deciding Any g = g.yes
 
 abbrev pub nodes_of : List Noted → List ℕ
 nodes_of ns = map (λ n. n.node) ns

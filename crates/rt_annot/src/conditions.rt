@@ -5,11 +5,11 @@ ghost use Rattle.rt_algebra.specs.Expression.{wrapped};
 ghost use Rattle.rt_schema.specs.Given.{places};
 ghost use Rattle.rt_schema.specs.Kept.{kept};
 ghost use Rattle.rt_formula.specs.Shared.{IsGrown};
-ghost use Rattle.rt_annot.specs.Annotated.{IsGate, yes_when, no_when, test_under, test_all, test_any};
+ghost use Rattle.rt_annot.specs.Annotated.{IsGate, yes_when, no_when, test_under, test_joined};
 ghost use Rattle.rt_annot.specs.Known.{AreKnown, Tells, exists_test, among_test};
 
 use crate::evaluate::annotated;
-use crate::gate::{Gate, Gates, all, any, constant, is_always};
+use crate::gate::{Gate, Gates, Junction, constant, is_always};
 use crate::known::{Found, find, known};
 use crate::member::{exists, member};
 use rt_algebra::{Pred, Query, one_of_truth, scope, value};
@@ -50,11 +50,13 @@ pub fn test(
             Ok(constant(dag, truth))
         }
         Pred::And(ps) => {
-            let gate = all_hold(alloc, dag, tables, queries, founds, ps.as_slice(), env)?;
+            let all = &Junction::All;
+            let gate = together(alloc, dag, tables, queries, founds, all, ps.as_slice(), env)?;
             Ok(gate)
         }
         Pred::Or(ps) => {
-            let gate = any_holds(alloc, dag, tables, queries, founds, ps.as_slice(), env)?;
+            let any = &Junction::Any;
+            let gate = together(alloc, dag, tables, queries, founds, any, ps.as_slice(), env)?;
             Ok(gate)
         }
         Pred::Not(p) => {
@@ -171,15 +173,16 @@ fn newly(
     Ok(found)
 }
 
-/// Where all of the conditions are true, and where one is false. One that is false at every choice
-/// decides at once.
+/// Where the conditions together are true and where they are false. One that decides them at every
+/// choice is the last that is looked at.
 #[cycle(annotate)]
-fn all_hold(
+fn together(
     alloc: Global,
     dag: &mut Dag,
     tables: &[List<Row>],
     queries: &[&Query],
     founds: &mut List<Option<Found>>,
+    junction: &Junction,
     ps: &[Pred],
     env: &[&Row],
 ) -> Result<Gate, NoMemory>
@@ -187,54 +190,21 @@ fn all_hold(
     requires known { AreKnown dag.old tables.now (map (λ q. q.now) queries.now) founds.old }
     ensures grown { IsGrown dag.old dag.new }
     ensures known { AreKnown dag.new tables.now (map (λ q. q.now) queries.now) founds.new }
-    ensures gate { IfOk result (λ g. IsGate dag.new g (test_all ps.now tables.now (map (λ r. r.now) env.now))) }
+    ensures gate { IfOk result (λ g. IsGate dag.new g (test_joined junction.now ps.now tables.now (map (λ r. r.now) env.now))) }
 {
     let mut yes = List::new(alloc);
     let mut no = List::new(alloc);
     for p in ps {
         let gate = test(alloc, dag, tables, queries, founds, p, env)?;
-        if is_always(dag, gate.no) {
+        if is_always(dag, junction.deciding(&gate)) {
             return Ok(gate);
         }
         yes.push(gate.yes)?;
         no.push(gate.no)?;
     }
     let gates = Gates { yes, no };
-    let together = all(dag, &gates)?;
-    Ok(together)
-}
-
-/// Where one of the conditions is true, and where all are false. One that is true at every choice
-/// decides at once.
-#[cycle(annotate)]
-fn any_holds(
-    alloc: Global,
-    dag: &mut Dag,
-    tables: &[List<Row>],
-    queries: &[&Query],
-    founds: &mut List<Option<Found>>,
-    ps: &[Pred],
-    env: &[&Row],
-) -> Result<Gate, NoMemory>
-    requires places { dag.old.rows ≡ places tables.now }
-    requires known { AreKnown dag.old tables.now (map (λ q. q.now) queries.now) founds.old }
-    ensures grown { IsGrown dag.old dag.new }
-    ensures known { AreKnown dag.new tables.now (map (λ q. q.now) queries.now) founds.new }
-    ensures gate { IfOk result (λ g. IsGate dag.new g (test_any ps.now tables.now (map (λ r. r.now) env.now))) }
-{
-    let mut yes = List::new(alloc);
-    let mut no = List::new(alloc);
-    for p in ps {
-        let gate = test(alloc, dag, tables, queries, founds, p, env)?;
-        if is_always(dag, gate.yes) {
-            return Ok(gate);
-        }
-        yes.push(gate.yes)?;
-        no.push(gate.no)?;
-    }
-    let gates = Gates { yes, no };
-    let together = any(dag, &gates)?;
-    Ok(together)
+    let joined = junction.of(dag, &gates)?;
+    Ok(joined)
 }
 
 /// The condition with the row as the innermost in scope.

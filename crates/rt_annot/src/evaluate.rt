@@ -16,7 +16,7 @@ use crate::join::narrowed;
 use crate::joint::{Joint, meeting, noted, product};
 use crate::known::Found;
 use crate::rows::{appended, merged, projected, table};
-use crate::sets::{common, difference};
+use crate::sets::{Side, sifted};
 use rt_algebra::{Pred, Query};
 use rt_formula::{Dag, Noted};
 use rt_value::{List, NoMemory, Row};
@@ -168,13 +168,15 @@ pub fn annotated(
         Query::Except(a, b) => {
             let first = annotated(alloc, dag, tables, queries, founds, a.get(), env)?;
             let second = annotated(alloc, dag, tables, queries, founds, b.get(), env)?;
-            let out = difference(alloc, dag, first.as_slice(), second.as_slice())?;
+            let side = Side::Missing;
+            let out = sifted(alloc, dag, first.as_slice(), second.as_slice(), side)?;
             Ok(out)
         }
         Query::Intersect(a, b) => {
             let first = annotated(alloc, dag, tables, queries, founds, a.get(), env)?;
             let second = annotated(alloc, dag, tables, queries, founds, b.get(), env)?;
-            let out = common(alloc, dag, first.as_slice(), second.as_slice())?;
+            let side = Side::Standing;
+            let out = sifted(alloc, dag, first.as_slice(), second.as_slice(), side)?;
             Ok(out)
         }
     }

@@ -3,7 +3,7 @@ ghost use Rattle.std.specs.Prelude.{◌≡◌, ◌<◌, List, Bool, true, false,
 ghost use Rattle.std.specs.List.{list_all, list_any};
 ghost use Rattle.rt_formula.specs.Shared.{val, IsGrown};
 ghost use Rattle.rt_annot.specs.Entries.{constant};
-ghost use Rattle.rt_annot.specs.Annotated.{AreNodes, IsNode, IsGate};
+ghost use Rattle.rt_annot.specs.Annotated.{AreNodes, IsNode, IsGate, deciding, gates_joined};
 
 use rt_formula::{Dag, Node};
 use rt_value::{List, NoMemory, Truth};
@@ -65,8 +65,41 @@ pub fn both(dag: &mut Dag, a: Node, b: Node) -> Result<Node, NoMemory>
     dag.all(&[a, b])
 }
 
+/// How conditions are put together: true where all are true and false where one is false, or true
+/// where one is true and false where all are false.
+#[derive(Clone, Copy)]
+pub enum Junction {
+    All,
+    Any,
+}
+
+impl Junction {
+    /// The node of a condition that decides all of them where it is always true.
+    pub fn deciding(&self, gate: &Gate) -> Node
+        ensures { result ≡ deciding self.now gate.now }
+    {
+        match self {
+            Junction::All => gate.no,
+            Junction::Any => gate.yes,
+        }
+    }
+
+    /// The conditions together.
+    pub fn of(&self, dag: &mut Dag, gates: &Gates) -> Result<Gate, NoMemory>
+        requires yes { AreNodes dag.old gates.now.yes }
+        requires no { AreNodes dag.old gates.now.no }
+        ensures grown { IsGrown dag.old dag.new }
+        ensures gate { IfOk result (λ g. IsGate dag.new g (gates_joined self.now dag.old gates.now)) }
+    {
+        match self {
+            Junction::All => all(dag, gates),
+            Junction::Any => any(dag, gates),
+        }
+    }
+}
+
 /// True where all are true, false where one is false.
-pub fn all(dag: &mut Dag, gates: &Gates) -> Result<Gate, NoMemory>
+fn all(dag: &mut Dag, gates: &Gates) -> Result<Gate, NoMemory>
     requires yes { AreNodes dag.old gates.now.yes }
     requires no { AreNodes dag.old gates.now.no }
     ensures grown { IsGrown dag.old dag.new }
@@ -78,7 +111,7 @@ pub fn all(dag: &mut Dag, gates: &Gates) -> Result<Gate, NoMemory>
 }
 
 /// True where one is true, false where all are false.
-pub fn any(dag: &mut Dag, gates: &Gates) -> Result<Gate, NoMemory>
+fn any(dag: &mut Dag, gates: &Gates) -> Result<Gate, NoMemory>
     requires yes { AreNodes dag.old gates.now.yes }
     requires no { AreNodes dag.old gates.now.no }
     ensures grown { IsGrown dag.old dag.new }

@@ -19,7 +19,7 @@ use Rattle.rt_annot.proofs.Knowing.{known_stay, known_at, known_set, tells_same,
 use Rattle.rt_annot.proofs.Growing.{grown_trans, all_stays, mean_stays, node_as}
 use Rattle.rt_annot.proofs.Distinct.{noted_at}
 use Rattle.rt_annot.proofs.Walking.{next_is, projected_below, table_entries}
-use Rattle.rt_annot.proofs.Layers.{at_table, at_select, at_project, at_union, at_except, at_intersect, mean_push, mean_as, yes_more, no_more, all_gate, any_gate, all_stops, any_stops, and_gate, or_gate, exists_gate, member_gate, exists_of, member_of, gives_as, gives_same, gives_stay, gives_of, gives_append, gives_projected, gives_merged, gives_except, gives_intersect, choose, leave_out, choosing_at}
+use Rattle.rt_annot.proofs.Layers.{at_table, at_select, at_project, at_union, at_except, at_intersect, mean_push, mean_as, yes_more, no_more, joined_gate, joined_stops, and_gate, or_gate, exists_gate, member_gate, exists_of, member_of, gives_as, gives_same, gives_stay, gives_of, gives_append, gives_projected, gives_merged, gives_except, gives_intersect, choose, leave_out, choosing_at}
 use Rattle.rt_annot.proofs.Joining.{joint_below}
 use Rattle.rt_annot.proofs.Members.{choosing_rows, whole_rows, whole_joints, members_same, members_below, makes_product, makes_single, give_push, answers_more}
 use Rattle.rt_annot.proofs.+annotate.Goals as goal
@@ -66,28 +66,6 @@ evaluate::annotated-returns-in_ok-out-in-Union-clause-gives t c =
     let second = gives_same c.as_slice-in-Union.ensures (gives_as (λ s. answer_by wrapped b (kept g s) e) (λ s. ap (λ q. answer_by wrapped q (kept g s) e) c.get-in-Union-2.ensures) c.in_ok-second-in-Union.ensures.gives) in
     gives_as (λ s. answer_by wrapped c.args.q.now (kept g s) e) (λ s. sym (at_union (kept g s) e a b c.in-Union.is)) (gives_same c.in_ok-out-in-Union.ensures (gives_append first second))
 
-pub evaluate::annotated-returns-in_ok-out-in-Except-clause-gives : goal.evaluate::annotated-returns-in_ok-out-in-Except-clause-gives
-evaluate::annotated-returns-in_ok-out-in-Except-clause-gives t c =
-    let g = c.args.tables.now in
-    let e = scope_of c.args.env.now in
-    let a = c.in-Except.a in
-    let b = c.in-Except.b in
-    let first = gives_same c.as_slice-in-Except.ensures (gives_stay c.annotated-in-Except-2.ensures.grown (gives_as (λ s. answer_by wrapped a (kept g s) e) (λ s. ap (λ q. answer_by wrapped q (kept g s) e) c.get-in-Except.ensures) c.in_ok-first-in-Except.ensures.gives)) in
-    let second = gives_same c.as_slice-in-Except-2.ensures (gives_as (λ s. answer_by wrapped b (kept g s) e) (λ s. ap (λ q. answer_by wrapped q (kept g s) e) c.get-in-Except-2.ensures) c.in_ok-second-in-Except.ensures.gives) in
-    gives_as (λ s. answer_by wrapped c.args.q.now (kept g s) e)
-    (λ s. sym (at_except (kept g s) e a b c.in-Except.is)) (gives_except first second c.in_ok-out-in-Except.ensures.reads)
-
-pub evaluate::annotated-returns-in_ok-out-in-Intersect-clause-gives : goal.evaluate::annotated-returns-in_ok-out-in-Intersect-clause-gives
-evaluate::annotated-returns-in_ok-out-in-Intersect-clause-gives t c =
-    let g = c.args.tables.now in
-    let e = scope_of c.args.env.now in
-    let a = c.in-Intersect.a in
-    let b = c.in-Intersect.b in
-    let first = gives_same c.as_slice-in-Intersect.ensures (gives_stay c.annotated-in-Intersect-2.ensures.grown (gives_as (λ s. answer_by wrapped a (kept g s) e) (λ s. ap (λ q. answer_by wrapped q (kept g s) e) c.get-in-Intersect.ensures) c.in_ok-first-in-Intersect.ensures.gives)) in
-    let second = gives_same c.as_slice-in-Intersect-2.ensures (gives_as (λ s. answer_by wrapped b (kept g s) e) (λ s. ap (λ q. answer_by wrapped q (kept g s) e) c.get-in-Intersect-2.ensures) c.in_ok-second-in-Intersect.ensures.gives) in
-    gives_as (λ s. answer_by wrapped c.args.q.now (kept g s) e)
-    (λ s. sym (at_intersect (kept g s) e a b c.in-Intersect.is)) (gives_intersect first second c.in_ok-out-in-Intersect.ensures.reads)
-
 pub evaluate::annotated-returns-in_ok-out-in-Select-clause-gives : goal.evaluate::annotated-returns-in_ok-out-in-Select-clause-gives
 evaluate::annotated-returns-in_ok-out-in-Select-clause-gives t c =
     let g = c.args.tables.now in
@@ -123,12 +101,13 @@ evaluate::source-returns-in_ok-push-in_default t c = record {
   makes = makes_single (c.in_ok-push-in_default.ensures.ok ∙ ap (λ (ms : List (List Noted)). ms ++ c.in_ok-rows-in_default.rows ∷ []) c.new-out.ensures) c.in_ok-rows-in_default.ensures.gives;
 }
 
-pub conditions::all_hold-returns-then-is_always-clause-gate : goal.conditions::all_hold-returns-then-is_always-clause-gate
-conditions::all_hold-returns-then-is_always-clause-gate t c =
-    all_stops c.args.tables.now (scope_of c.args.env.now) c.args.ps.now c.loop-p.p-index c.p-item.result c.loop-p-test.true c.p-item.is c.in_ok-gate.ensures.gate (c.is_always.ensures c.if-is_always.true)
+pub conditions::together-returns-then-is_always-clause-gate : goal.conditions::together-returns-then-is_always-clause-gate
+conditions::together-returns-then-is_always-clause-gate t c =
+    joined_stops c.args.tables.now (scope_of c.args.env.now) c.args.junction.now c.args.ps.now c.loop-p.p-index c.p-item.result c.loop-p-test.true c.p-item.is c.in_ok-gate.ensures.gate
+    (λ s. ap (val c.test.new.dag s) (sym c.deciding.ensures) ∙ c.is_always.ensures c.if-is_always.true s)
 
-pub conditions::all_hold-loop-p-preserved : goal.conditions::all_hold-loop-p-preserved
-conditions::all_hold-loop-p-preserved t c =
+pub conditions::together-loop-p-preserved : goal.conditions::together-loop-p-preserved
+conditions::together-loop-p-preserved t c =
     let g = c.args.tables.now in
     let e = scope_of c.args.env.now in
     let i = c.loop-p.p-index in
@@ -140,38 +119,13 @@ conditions::all_hold-loop-p-preserved t c =
       no = mean_as (no_more g e c.args.ps.now i c.p-item.result c.loop-p-test.true c.p-item.is) (mean_push (mean_stays c.test.ensures.grown v.no) c.in_ok-gate.ensures.gate.no c.in_ok-push-2.ensures.ok);
     }
 
-pub conditions::all_hold-returns-clause-gate : goal.conditions::all_hold-returns-clause-gate
-conditions::all_hold-returns-clause-gate t c =
+pub conditions::together-returns-clause-gate : goal.conditions::together-returns-clause-gate
+conditions::together-returns-clause-gate t c =
     let g = c.args.tables.now in
     let e = scope_of c.args.env.now in
     let ps = c.args.ps.now in
     let all = take_all c.loop-p.p-index ps c.loop-p-test.false in
-    all_gate g e c.loop-p.dag ps (mean_as (ap (λ xs. yes_of xs g e) (sym all)) c.loop-p.invariant.yes) (mean_as (ap (λ xs. no_of xs g e) (sym all)) c.loop-p.invariant.no) c.in_ok-together.ensures.gate
-
-pub conditions::any_holds-returns-then-is_always-clause-gate : goal.conditions::any_holds-returns-then-is_always-clause-gate
-conditions::any_holds-returns-then-is_always-clause-gate t c =
-    any_stops c.args.tables.now (scope_of c.args.env.now) c.args.ps.now c.loop-p.p-index c.p-item.result c.loop-p-test.true c.p-item.is c.in_ok-gate.ensures.gate (c.is_always.ensures c.if-is_always.true)
-
-pub conditions::any_holds-loop-p-preserved : goal.conditions::any_holds-loop-p-preserved
-conditions::any_holds-loop-p-preserved t c =
-    let g = c.args.tables.now in
-    let e = scope_of c.args.env.now in
-    let i = c.loop-p.p-index in
-    let v = c.loop-p.invariant in
-    record {
-      grown = grown_trans v.grown c.test.ensures.grown;
-      known = c.test.ensures.known;
-      yes = mean_as (yes_more g e c.args.ps.now i c.p-item.result c.loop-p-test.true c.p-item.is) (mean_push (mean_stays c.test.ensures.grown v.yes) c.in_ok-gate.ensures.gate.yes c.in_ok-push.ensures.ok);
-      no = mean_as (no_more g e c.args.ps.now i c.p-item.result c.loop-p-test.true c.p-item.is) (mean_push (mean_stays c.test.ensures.grown v.no) c.in_ok-gate.ensures.gate.no c.in_ok-push-2.ensures.ok);
-    }
-
-pub conditions::any_holds-returns-clause-gate : goal.conditions::any_holds-returns-clause-gate
-conditions::any_holds-returns-clause-gate t c =
-    let g = c.args.tables.now in
-    let e = scope_of c.args.env.now in
-    let ps = c.args.ps.now in
-    let all = take_all c.loop-p.p-index ps c.loop-p-test.false in
-    any_gate g e c.loop-p.dag ps (mean_as (ap (λ xs. yes_of xs g e) (sym all)) c.loop-p.invariant.yes) (mean_as (ap (λ xs. no_of xs g e) (sym all)) c.loop-p.invariant.no) c.in_ok-together.ensures.gate
+    joined_gate g e c.args.junction.now c.loop-p.dag (record { yes = c.loop-p.yes; no = c.loop-p.no }) ps (mean_as (ap (λ xs. yes_of xs g e) (sym all)) c.loop-p.invariant.yes) (mean_as (ap (λ xs. no_of xs g e) (sym all)) c.loop-p.invariant.no) c.in_ok-joined.ensures.gate
 
 pub evaluate::chosen-loop-joint-preserved : goal.evaluate::chosen-loop-joint-preserved
 evaluate::chosen-loop-joint-preserved t c =
@@ -239,18 +193,6 @@ evaluate::annotated-returns-in_err-out-in-Product-clause-known t c = known_stay 
 
 pub evaluate::annotated-returns-in_ok-out-in-Product-clause-known : goal.evaluate::annotated-returns-in_ok-out-in-Product-clause-known
 evaluate::annotated-returns-in_ok-out-in-Product-clause-known t c = known_stay c.noted.ensures.grown c.members.ensures.known
-
-pub evaluate::annotated-returns-in_err-out-in-Except-clause-known : goal.evaluate::annotated-returns-in_err-out-in-Except-clause-known
-evaluate::annotated-returns-in_err-out-in-Except-clause-known t c = known_stay c.difference.ensures.grown c.annotated-in-Except-2.ensures.known
-
-pub evaluate::annotated-returns-in_ok-out-in-Except-clause-known : goal.evaluate::annotated-returns-in_ok-out-in-Except-clause-known
-evaluate::annotated-returns-in_ok-out-in-Except-clause-known t c = known_stay c.difference.ensures.grown c.annotated-in-Except-2.ensures.known
-
-pub evaluate::annotated-returns-in_err-out-in-Intersect-clause-known : goal.evaluate::annotated-returns-in_err-out-in-Intersect-clause-known
-evaluate::annotated-returns-in_err-out-in-Intersect-clause-known t c = known_stay c.common.ensures.grown c.annotated-in-Intersect-2.ensures.known
-
-pub evaluate::annotated-returns-in_ok-out-in-Intersect-clause-known : goal.evaluate::annotated-returns-in_ok-out-in-Intersect-clause-known
-evaluate::annotated-returns-in_ok-out-in-Intersect-clause-known t c = known_stay c.common.ensures.grown c.annotated-in-Intersect-2.ensures.known
 
 pub evaluate::chosen-returns-in_err-node-clause-known : goal.evaluate::chosen-returns-in_err-node-clause-known
 evaluate::chosen-returns-in_err-node-clause-known t c = known_stay c.meeting.ensures.grown c.test_row.ensures.known
@@ -326,14 +268,42 @@ conditions::newly-returns-clause-known t c = known_stay c.of.ensures.grown c.ann
 pub conditions::newly-returns-in_err-found-clause-known : goal.conditions::newly-returns-in_err-found-clause-known
 conditions::newly-returns-in_err-found-clause-known t c = known_stay c.of.ensures.grown c.annotated.ensures.known
 
-pub conditions::all_hold-returns-clause-known : goal.conditions::all_hold-returns-clause-known
-conditions::all_hold-returns-clause-known t c = known_stay c.all.ensures.grown c.loop-p.invariant.known
+pub conditions::together-returns-clause-known : goal.conditions::together-returns-clause-known
+conditions::together-returns-clause-known t c = known_stay c.of.ensures.grown c.loop-p.invariant.known
 
-pub conditions::all_hold-returns-in_err-together-clause-known : goal.conditions::all_hold-returns-in_err-together-clause-known
-conditions::all_hold-returns-in_err-together-clause-known t c = known_stay c.all.ensures.grown c.loop-p.invariant.known
+pub conditions::together-returns-in_err-joined-clause-known : goal.conditions::together-returns-in_err-joined-clause-known
+conditions::together-returns-in_err-joined-clause-known t c = known_stay c.of.ensures.grown c.loop-p.invariant.known
 
-pub conditions::any_holds-returns-clause-known : goal.conditions::any_holds-returns-clause-known
-conditions::any_holds-returns-clause-known t c = known_stay c.any.ensures.grown c.loop-p.invariant.known
+pub evaluate::annotated-returns-in_ok-out-in-Except-clause-gives : goal.evaluate::annotated-returns-in_ok-out-in-Except-clause-gives
+evaluate::annotated-returns-in_ok-out-in-Except-clause-gives t c =
+    let g = c.args.tables.now in
+    let e = scope_of c.args.env.now in
+    let a = c.in-Except.a in
+    let b = c.in-Except.b in
+    let first = gives_same c.as_slice-in-Except.ensures (gives_stay c.annotated-in-Except-2.ensures.grown (gives_as (λ s. answer_by wrapped a (kept g s) e) (λ s. ap (λ q. answer_by wrapped q (kept g s) e) c.get-in-Except.ensures) c.in_ok-first-in-Except.ensures.gives)) in
+    let second = gives_same c.as_slice-in-Except-2.ensures (gives_as (λ s. answer_by wrapped b (kept g s) e) (λ s. ap (λ q. answer_by wrapped q (kept g s) e) c.get-in-Except-2.ensures) c.in_ok-second-in-Except.ensures.gives) in
+    gives_as (λ s. answer_by wrapped c.args.q.now (kept g s) e)
+    (λ s. sym (at_except (kept g s) e a b c.in-Except.is)) (gives_except first second c.in_ok-out-in-Except.ensures.reads)
 
-pub conditions::any_holds-returns-in_err-together-clause-known : goal.conditions::any_holds-returns-in_err-together-clause-known
-conditions::any_holds-returns-in_err-together-clause-known t c = known_stay c.any.ensures.grown c.loop-p.invariant.known
+pub evaluate::annotated-returns-in_ok-out-in-Intersect-clause-gives : goal.evaluate::annotated-returns-in_ok-out-in-Intersect-clause-gives
+evaluate::annotated-returns-in_ok-out-in-Intersect-clause-gives t c =
+    let g = c.args.tables.now in
+    let e = scope_of c.args.env.now in
+    let a = c.in-Intersect.a in
+    let b = c.in-Intersect.b in
+    let first = gives_same c.as_slice-in-Intersect.ensures (gives_stay c.annotated-in-Intersect-2.ensures.grown (gives_as (λ s. answer_by wrapped a (kept g s) e) (λ s. ap (λ q. answer_by wrapped q (kept g s) e) c.get-in-Intersect.ensures) c.in_ok-first-in-Intersect.ensures.gives)) in
+    let second = gives_same c.as_slice-in-Intersect-2.ensures (gives_as (λ s. answer_by wrapped b (kept g s) e) (λ s. ap (λ q. answer_by wrapped q (kept g s) e) c.get-in-Intersect-2.ensures) c.in_ok-second-in-Intersect.ensures.gives) in
+    gives_as (λ s. answer_by wrapped c.args.q.now (kept g s) e)
+    (λ s. sym (at_intersect (kept g s) e a b c.in-Intersect.is)) (gives_intersect first second c.in_ok-out-in-Intersect.ensures.reads)
+
+pub evaluate::annotated-returns-in_err-out-in-Except-clause-known : goal.evaluate::annotated-returns-in_err-out-in-Except-clause-known
+evaluate::annotated-returns-in_err-out-in-Except-clause-known t c = known_stay c.sifted.ensures.grown c.annotated-in-Except-2.ensures.known
+
+pub evaluate::annotated-returns-in_ok-out-in-Except-clause-known : goal.evaluate::annotated-returns-in_ok-out-in-Except-clause-known
+evaluate::annotated-returns-in_ok-out-in-Except-clause-known t c = known_stay c.sifted.ensures.grown c.annotated-in-Except-2.ensures.known
+
+pub evaluate::annotated-returns-in_err-out-in-Intersect-clause-known : goal.evaluate::annotated-returns-in_err-out-in-Intersect-clause-known
+evaluate::annotated-returns-in_err-out-in-Intersect-clause-known t c = known_stay c.sifted-in-Intersect.ensures.grown c.annotated-in-Intersect-2.ensures.known
+
+pub evaluate::annotated-returns-in_ok-out-in-Intersect-clause-known : goal.evaluate::annotated-returns-in_ok-out-in-Intersect-clause-known
+evaluate::annotated-returns-in_ok-out-in-Intersect-clause-known t c = known_stay c.sifted-in-Intersect.ensures.grown c.annotated-in-Intersect-2.ensures.known

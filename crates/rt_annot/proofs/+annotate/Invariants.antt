@@ -9,16 +9,8 @@ use Rattle.rt_annot.specs.Known.{AreKnown}
 use Rattle.rt_annot.specs.Joints.{GiveEach, joint_entries}
 use Rattle.rt_annot.proofs.+annotate.Given as goal
 
-abbrev pub invariant-conditions::all_hold-loop-p : goal.invariant-conditions::all_hold-loop-p
-invariant-conditions::all_hold-loop-p l = record {
-  grown : IsGrown l.fn.dag l.dag;
-  known : AreKnown l.dag l.tables (map (λ q. q.now) l.queries) l.founds;
-  yes : Mean l.dag l.yes (yes_of (take l.p-index l.ps) l.tables (map (λ r. r.now) l.env));
-  no : Mean l.dag l.no (no_of (take l.p-index l.ps) l.tables (map (λ r. r.now) l.env));
-}
-
-abbrev pub invariant-conditions::any_holds-loop-p : goal.invariant-conditions::any_holds-loop-p
-invariant-conditions::any_holds-loop-p l = record {
+abbrev pub invariant-conditions::together-loop-p : goal.invariant-conditions::together-loop-p
+invariant-conditions::together-loop-p l = record {
   grown : IsGrown l.fn.dag l.dag;
   known : AreKnown l.dag l.tables (map (λ q. q.now) l.queries) l.founds;
   yes : Mean l.dag l.yes (yes_of (take l.p-index l.ps) l.tables (map (λ r. r.now) l.env));

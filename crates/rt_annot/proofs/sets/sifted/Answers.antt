@@ -1,11 +1,12 @@
-use Rattle.std.proofs.Common.{◌∙◌}
+use Rattle.std.proofs.Common.{◌∙◌, subst, sym}
 use Rattle.rt_annot.specs.Entries.{stands}
 use Rattle.rt_formula.specs.Groups.{standing}
-use Rattle.rt_annot.specs.Annotated.{entries_of, standing_test}
+use Rattle.rt_annot.specs.Annotated.{IsNode, entries_of, side_test}
 use Rattle.rt_annot.proofs.Growing.{grown_trans, nodes_stay, nodes_are, any_stays, either_means}
+use Rattle.rt_annot.proofs.Layers.{side_is}
 use Rattle.rt_annot.proofs.Nodes.{where_below, any_standing}
 use Rattle.rt_annot.proofs.Walking.{along_push, next_selected, node_below, both_over}
-use Rattle.rt_annot.proofs.sets.common.Goals as goal
+use Rattle.rt_annot.proofs.sets.sifted.Goals as goal
 
 pub either-requires : goal.either-requires
 either-requires c = nodes_are c.loop-noted.dag (c.get.ensures ∙ c.in_ok-groups.ensures c.noted-item.result.row)
@@ -18,11 +19,12 @@ loop-noted-preserved c =
     let n = c.noted-item.result in
     let others = c.args.others.now in
     let g = c.loop-noted.invariant.grown in
-    let t = standing_test (entries_of d others) in
+    let t = side_test c.args.side (entries_of d others) in
     let l = node_below d c.args.from.now i n c.loop-noted-test.true c.noted-item.is c.requires.from in
     let found = either_means c.loop-noted.dag _ _ (stands (entries_of d others) n.row) c.in_ok-found.ensures.gate (c.get.ensures ∙ c.in_ok-groups.ensures n.row)
     (λ s. any_stays g (standing n.row others) (where_below d _ others c.requires.others) s ∙ any_standing d s n.row others) in
     along_push _ _ _ c.loop-noted.invariant (next_selected d c.args.from.now i n c.loop-noted-test.true c.noted-item.is t)
     (grown_trans c.either.ensures.grown c.both.ensures.grown) c.in_ok-row.ensures
-    (both_over n.node c.in_ok-found.found.yes c.in_ok-node.node (t n.row).0 (grown_trans g c.either.ensures.grown) l found.yes c.in_ok-node.ensures.node)
+    (both_over n.node c.node.result c.in_ok-node.node (t n.row).0 (grown_trans g c.either.ensures.grown) l
+    (subst (λ k. IsNode c.either.new.dag k (t n.row).0) (sym c.node.ensures) (side_is c.args.side (entries_of d others) n.row found)) c.in_ok-node.ensures.node)
     c.in_ok-push.ensures.ok

@@ -1,9 +1,0 @@
-use Rattle.std.proofs.Common.{drop}
-use Rattle.rt_annot.specs.Entries.{selected}
-use Rattle.rt_annot.specs.Annotated.{Along, entries_of, standing_test}
-use Rattle.rt_annot.proofs.sets.common.Given as goal
-
-abbrev pub invariant-loop-noted : goal.invariant-loop-noted
-invariant-loop-noted l =
-    Along l.fn.dag l.dag l.out (selected (entries_of l.fn.dag (drop l.noted-index l.from)) (standing_test (entries_of l.fn.dag l.others)))
-    (selected (entries_of l.fn.dag l.from) (standing_test (entries_of l.fn.dag l.others)))
