@@ -1,5 +1,5 @@
 //! Files and sinks in memory.
-use rt_cert_run::cert_run;
+use rt_cert_run::{CertOutcome, cert_run};
 use rt_io::{MemFiles, MemSink};
 use rt_value::{Bytes, List, NoMemory, Txt};
 use std::alloc::Global;
@@ -96,6 +96,13 @@ fn list_of(alloc: Global, head: &[&str], args: &[&str]) -> Result<List<Txt>, NoM
     Ok(list)
 }
 
+/// The status of an outcome, which is let go of here.
+pub(crate) fn status_of(outcome: CertOutcome) -> u8 {
+    let status = outcome.status();
+    drop(outcome);
+    status
+}
+
 /// The call on these words, the later ones behind the earlier.
 pub(crate) fn run_on(
     alloc: Global,
@@ -106,8 +113,9 @@ pub(crate) fn run_on(
     let words = list_of(alloc, head, args)?;
     let (mut out, mut err) = (MemSink::new(alloc), MemSink::new(alloc));
     let outcome = cert_run(alloc, words.as_slice(), files, &mut out, &mut err);
+    let status = status_of(outcome);
     Ok(Ended {
-        status: outcome.status(),
+        status,
         out: List::from_slice(alloc, out.bytes())?,
         err: List::from_slice(alloc, err.bytes())?,
     })

@@ -1,5 +1,5 @@
 //! Words, inputs and files that are refused.
-use crate::held::{SECOND, files, run_on};
+use crate::held::{SECOND, files, run_on, status_of};
 use rt_cert_run::{CERT_USAGE, cert_run};
 use rt_io::{MemFiles, MemSink};
 use rt_value::{List, NoMemory, Txt};
@@ -106,7 +106,7 @@ fn files_and_sinks_that_fail(rt: HostRuntime) -> Result<(), Fail> {
     let (mut out, mut err) = (MemSink::new(alloc), MemSink::new(alloc));
     out.room(10);
     let outcome = cert_run(alloc, words.as_slice(), &mut files, &mut out, &mut err);
-    assert_eq!(rt; outcome.status(), 6u8);
+    assert_eq!(rt; status_of(outcome), 6u8);
     assert!(rt; out.bytes() == b"ratest cer".as_slice());
     assert!(rt; err.bytes().is_empty());
     Ok(())

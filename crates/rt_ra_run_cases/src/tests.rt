@@ -1,6 +1,6 @@
 //! What the command says, over files and sinks in memory.
 use rt_io::{MemFiles, MemSink};
-use rt_ra_run::{RA_USAGE, ra_run};
+use rt_ra_run::{RA_USAGE, RaOutcome, ra_run};
 use rt_value::{List, NoMemory, Txt};
 use std::alloc::Global;
 use std::test::Fail;
@@ -55,6 +55,13 @@ fn school(alloc: Global, left: &str, right: &str) -> Result<MemFiles, NoMemory> 
     files(alloc, SCHOOL, &[STUDENT, REG], left, right)
 }
 
+/// The status of an outcome, which is let go of here.
+fn status_of(outcome: RaOutcome) -> u8 {
+    let status = outcome.status();
+    drop(outcome);
+    status
+}
+
 /// Whether the command ends with this status and writes just these texts.
 fn ends(
     alloc: Global,
@@ -67,11 +74,8 @@ fn ends(
     let command = words(alloc, command)?;
     let (mut to_out, mut to_err) = (MemSink::new(alloc), MemSink::new(alloc));
     let outcome = ra_run(alloc, command.as_slice(), files, &mut to_out, &mut to_err);
-    Ok(
-        outcome.status() == status
-            && to_out.bytes() == out.as_bytes()
-            && to_err.bytes() == err.as_bytes(),
-    )
+    let ended = status_of(outcome);
+    Ok(ended == status && to_out.bytes() == out.as_bytes() && to_err.bytes() == err.as_bytes())
 }
 
 #[test]

@@ -1,6 +1,6 @@
 //! Files and sinks in memory.
 use rt_io::{MemFiles, MemSink};
-use rt_tools::tool_run;
+use rt_tools::{ToolOutcome, tool_run};
 use rt_value::{List, NoMemory, Txt};
 use std::alloc::Global;
 
@@ -39,6 +39,13 @@ fn list_of(alloc: Global, words: &[&str]) -> Result<List<Txt>, NoMemory> {
     Ok(list)
 }
 
+/// The status of an outcome, which is let go of here.
+fn status_of(outcome: ToolOutcome) -> u8 {
+    let status = outcome.status();
+    drop(outcome);
+    status
+}
+
 /// Whether the call ends with this status and writes just these texts.
 pub(crate) fn ends(
     alloc: Global,
@@ -51,9 +58,6 @@ pub(crate) fn ends(
     let words = list_of(alloc, words)?;
     let (mut to_out, mut to_err) = (MemSink::new(alloc), MemSink::new(alloc));
     let outcome = tool_run(alloc, words.as_slice(), files, &mut to_out, &mut to_err);
-    Ok(
-        outcome.status() == status
-            && to_out.bytes() == out.as_bytes()
-            && to_err.bytes() == err.as_bytes(),
-    )
+    let ended = status_of(outcome);
+    Ok(ended == status && to_out.bytes() == out.as_bytes() && to_err.bytes() == err.as_bytes())
 }

@@ -53,6 +53,13 @@ fn files(
     Ok(files)
 }
 
+/// The status of an outcome, which is let go of here.
+fn status_of(outcome: Outcome) -> u8 {
+    let status = outcome.status();
+    drop(outcome);
+    status
+}
+
 /// Whether the command ends with this status and writes just these texts.
 fn ends(
     alloc: Global,
@@ -65,11 +72,8 @@ fn ends(
     let command = words(alloc, command)?;
     let (mut to_out, mut to_err) = (MemSink::new(alloc), MemSink::new(alloc));
     let outcome = ratest(alloc, command.as_slice(), files, &mut to_out, &mut to_err);
-    Ok(
-        outcome.status() == status
-            && to_out.bytes() == out.as_bytes()
-            && to_err.bytes() == err.as_bytes(),
-    )
+    let ended = status_of(outcome);
+    Ok(ended == status && to_out.bytes() == out.as_bytes() && to_err.bytes() == err.as_bytes())
 }
 
 #[test]

@@ -1,7 +1,7 @@
 //! Calls that fail and texts that are cut, over the files of the first worked row: the answer is the
 //! right one, or says what failed, and no byte already written is lost.
 use super::worked::{MARY, ONE, REG, SCHOOL, SOME, STUDENT};
-use super::{FOUR, ends, files, words};
+use super::{FOUR, ends, files, status_of, words};
 use rt_io::{MemFiles, MemSink};
 use rt_top::ratest;
 use rt_value::NoMemory;
@@ -29,7 +29,8 @@ fn is_answered_bytewise(alloc: Global) -> Result<bool, NoMemory> {
     let (mut out, mut err) = (MemSink::new(alloc), MemSink::new(alloc));
     out.piece(1);
     let outcome = ratest(alloc, command.as_slice(), &mut files, &mut out, &mut err);
-    Ok(outcome.status() == 1 && out.bytes() == MARY.as_bytes() && err.bytes().is_empty())
+    let status = status_of(outcome);
+    Ok(status == 1 && out.bytes() == MARY.as_bytes() && err.bytes().is_empty())
 }
 
 /// The status where a sink takes so many bytes, if just the first ones of the text are in it.
@@ -39,9 +40,10 @@ fn status_with_room(alloc: Global, room: usize) -> Result<Option<u8>, NoMemory> 
     let (mut out, mut err) = (MemSink::new(alloc), MemSink::new(alloc));
     out.room(room);
     let outcome = ratest(alloc, command.as_slice(), &mut files, &mut out, &mut err);
+    let status = status_of(outcome);
     let held = out.bytes();
     if held.len() == room && MARY.as_bytes().starts_with(held) && err.bytes().is_empty() {
-        return Ok(Some(outcome.status()));
+        return Ok(Some(status));
     }
     Ok(None)
 }
@@ -53,7 +55,8 @@ fn is_refusal_cut(alloc: Global) -> Result<bool, NoMemory> {
     let (mut out, mut err) = (MemSink::new(alloc), MemSink::new(alloc));
     err.room(4);
     let outcome = ratest(alloc, command.as_slice(), &mut files, &mut out, &mut err);
-    Ok(outcome.status() == 6 && out.bytes().is_empty() && err.bytes() == b"rate".as_slice())
+    let status = status_of(outcome);
+    Ok(status == 6 && out.bytes().is_empty() && err.bytes() == b"rate".as_slice())
 }
 
 #[test]
@@ -110,7 +113,7 @@ fn status_of_cut(alloc: Global, len: usize) -> Result<u8, NoMemory> {
     let command = words(alloc, &FOUR)?;
     let (mut out, mut err) = (MemSink::new(alloc), MemSink::new(alloc));
     let outcome = ratest(alloc, command.as_slice(), &mut files, &mut out, &mut err);
-    Ok(outcome.status())
+    Ok(status_of(outcome))
 }
 
 #[test]
