@@ -14,3 +14,4 @@ pub mod Staying
 pub mod Telling
 pub mod Narrowing
 pub mod Members
+pub mod Referring

@@ -4,4 +4,5 @@ pub mod Entries
 pub mod Joints
 pub mod Known
 pub mod Narrowed
+pub mod Reference
 pub mod Stays

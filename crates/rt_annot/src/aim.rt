@@ -5,12 +5,14 @@ ghost use Rattle.rt_schema.specs.Law.{lawful};
 ghost use Rattle.rt_algebra.specs.Answer.{plain, same_rows};
 ghost use Rattle.rt_algebra.specs.Typed.{IsTyped};
 ghost use Rattle.rt_formula.specs.Shared.{val, IsGrown};
+ghost use Rattle.rt_annot.specs.Ann.{rows_of};
+ghost use Rattle.rt_annot.specs.Reference.{StandsOn};
 
 use crate::annotation::annotate;
 use crate::difference::differ;
+use crate::reference::Reference;
 use rt_algebra::Typed;
 use rt_formula::{Dag, Node};
-use rt_rules::law;
 use rt_schema::{Given, Schema};
 use rt_value::NoMemory;
 use std::alloc::Global;
@@ -43,11 +45,31 @@ pub fn goal(
     ensures parts { IfOk result (λ a. (keep : List Bool) → length keep ≡ dag.old.rows → val dag.new keep a.goal ≡ (lawful schema.now (kept given.now.tables keep) && val dag.new keep a.differs)) }
     ensures means { IfOk result (λ a. (keep : List Bool) → length keep ≡ dag.old.rows → val dag.new keep a.goal ≡ (lawful schema.now (kept given.now.tables keep) && not (same_rows (plain left.now.query (kept given.now.tables keep)) (plain right.now.query (kept given.now.tables keep))))) }
 {
-    let lawful = law(alloc, dag, schema, given)?;
-    let first = annotate(alloc, dag, left, given)?;
-    let second = annotate(alloc, dag, right, given)?;
-    let differs = differ(alloc, dag, &first, &second)?;
-    let both = dag.all(&[lawful, differs])?;
+    let reference = Reference::of(alloc, dag, schema, given, left)?;
+    let aim = goal_beside(alloc, dag, given, &reference, right)?;
+    Ok(aim)
+}
+
+/// The same of a query that stands on the Dag and another one beside it.
+pub fn goal_beside(
+    alloc: Global,
+    dag: &mut Dag,
+    given: &Given,
+    reference: &Reference,
+    right: &Typed,
+) -> Result<Aim, NoMemory>
+    requires rows { dag.old.rows ≡ places given.now.tables }
+    requires stands { StandsOn dag.old reference.now }
+    requires right { IsTyped given.now.kinds right.now }
+    ensures grown { IsGrown dag.old dag.new }
+    ensures node { IfOk result (λ a. a.goal < length dag.new.entries) }
+    ensures differs { IfOk result (λ a. a.differs < length dag.new.entries) }
+    ensures parts { IfOk result (λ a. (keep : List Bool) → val dag.new keep a.goal ≡ (val dag.old keep reference.now.lawful && val dag.new keep a.differs)) }
+    ensures means { IfOk result (λ a. (keep : List Bool) → val dag.new keep a.differs ≡ not (same_rows (rows_of dag.old keep reference.now.rows) (plain right.now.query (kept given.now.tables keep)))) }
+{
+    let rows = annotate(alloc, dag, right, given)?;
+    let differs = differ(alloc, dag, &reference.rows, &rows)?;
+    let both = dag.all(&[reference.lawful, differs])?;
     Ok(Aim {
         differs,
         goal: both,

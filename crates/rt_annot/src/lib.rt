@@ -15,12 +15,15 @@ mod gather;
 mod join;
 mod joint;
 mod known;
+pub mod laws;
 mod member;
+mod reference;
 mod rows;
 mod same;
 mod sets;
 
-pub use aim::{Aim, goal};
+pub use aim::{Aim, goal, goal_beside};
 pub use ann::Ann;
 pub use annotation::annotate;
 pub use difference::differ;
+pub use reference::Reference;

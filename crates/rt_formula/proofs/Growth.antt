@@ -1,11 +1,12 @@
 -- Soundness and values as entries are added at the end.
-use Rattle.std.proofs.Common.{◌≡◌, ℕ, ◌+◌, ◌<◌, ◌^◌, zero, suc, Bool, true, false, List, [], ◌∷◌, ◌++◌, length, length-append, slice_get, Some, refl, sym, subst, ap, arith, rules, ◌∙◌, ◌⊎◌, inl, inr}
-use Rattle.std.proofs.lemmas.List.{append-nil}
+use Rattle.std.proofs.Common.{◌≡◌, ℕ, ◌+◌, ◌<◌, ◌≤◌, ◌^◌, zero, suc, Bool, true, false, List, [], ◌∷◌, ◌++◌, length, length-append, slice_get, take, Some, refl, sym, subst, ap, arith, rules, ◌∙◌, ◌⊎◌, inl, inr}
+use Rattle.std.proofs.lemmas.List.{append-nil, length-take}
+use Rattle.std.proofs.Math.Seq.{take-append_seam}
 use Rattle.std.specs.List.{list_any}
 use Rattle.std.specs.Bool.{if◌then◌else◌}
 use Rattle.rt_formula.specs.declared.entry.Entry.{Entry}
 use Rattle.rt_formula.specs.contracts.entry.EntryPartialEq.TheImpl.{eq-value}
-use Rattle.rt_formula.specs.Shared.{IsSound, Fits, IsGrown}
+use Rattle.rt_formula.specs.Shared.{Shared, IsSound, Fits, IsGrown, truncated}
 
 -- the derived `==` decides
 pub eq_same : (x y : Entry) → eq-value.it x y ≡ true → x ≡ y
@@ -76,3 +77,33 @@ insert_grown rows ks new e h =
     let both : (b : Bool) → P (if b then ks else ks ++ e ∷ []) =
     elim [ true ↦ record { rows = refl; more = []; entries = sym (append-nil ks) } | false ↦ record { rows = refl; more = e ∷ []; entries = refl } ] in
     subst P (sym h) (both (list_any (eq-value.it e) ks))
+
+slice_get_taken : {X : Type 0} (xs : List X) (n i : ℕ) (x : X) → slice_get (take n xs) i ≡ Some x → slice_get xs i ≡ Some x
+slice_get_taken [] zero i x h = h
+slice_get_taken [] (suc n) i x h = h
+slice_get_taken (y ∷ xs) zero i x h = cc
+slice_get_taken (y ∷ xs) (suc n) zero x h = h
+slice_get_taken (y ∷ xs) (suc n) (suc i) x h = slice_get_taken xs n i x h
+
+slice_get_take : {X : Type 0} (xs : List X) (n i : ℕ) → i < n → slice_get (take n xs) i ≡ slice_get xs i
+slice_get_take [] zero i h = refl
+slice_get_take [] (suc n) i h = refl
+slice_get_take (y ∷ xs) zero i h = absurd (omega (arith, h))
+slice_get_take (y ∷ xs) (suc n) zero h = refl
+slice_get_take (y ∷ xs) (suc n) (suc i) h = slice_get_take xs n i (omega (arith, h))
+
+pub truncated_sound : (shared : Shared) (len : ℕ) → 2 ≤ len → IsSound shared → IsSound (truncated len shared)
+truncated_sound shared len long s = record {
+  yes = slice_get_take shared.entries len 0 (omega (arith, long)) ∙ s.yes;
+  no = slice_get_take shared.entries len 1 (omega (arith, long)) ∙ s.no;
+  fits = λ i e h. s.fits i e (slice_get_taken shared.entries len i e h);
+  few = (let l = length-take len shared.entries in let f = s.few in omega (arith, l, f));
+  distinct = λ i j e h k. s.distinct i j e (slice_get_taken shared.entries len i e h) (slice_get_taken shared.entries len j e k);
+}
+
+-- what is grown is taken back
+pub taken_back : (old new : Shared) → IsGrown old new → truncated (length old.entries) new ≡ old
+taken_back old new g =
+    let kept : take (length old.entries) new.entries ≡ old.entries = ap (take (length old.entries)) g.entries ∙ take-append_seam old.entries g.more in
+    let rows : new.rows ≡ old.rows = g.rows in
+    rw (kept, rows) refl

@@ -1,5 +1,5 @@
 -- Shared formulas: entries, each over nodes before it, and their values.
-use Rattle.std.specs.Prelude.{◌≡◌, ℕ, ◌<◌, ◌^◌, Bool, true, false, not, List, [], ◌∷◌, ◌++◌, length, slice_get, slice_index_or, fold, Some}
+use Rattle.std.specs.Prelude.{◌≡◌, ℕ, ◌<◌, ◌^◌, Bool, true, false, not, List, [], ◌∷◌, ◌++◌, length, take, slice_get, slice_index_or, fold, Some}
 use Rattle.std.specs.List.{list_all, list_any, All as Each}
 use Rattle.rt_formula.specs.declared.entry.Entry.{Entry}
 use Rattle.rt_formula.specs.declared.entry.Entry.TheVariants.{Yes, No, Row, Not, All, Any}
@@ -67,3 +67,7 @@ pub record IsGrown (old new : Shared) : Type 0 where
   pub rows : new.rows ≡ old.rows
   pub more : List Entry
   pub entries : new.entries ≡ old.entries ++ more
+
+-- the first entries alone
+abbrev pub truncated : ℕ → Shared → Shared
+truncated len shared = record { rows = shared.rows; entries = take len shared.entries }

@@ -38,7 +38,7 @@ impl Dag {
     ghost use Rattle.std.specs.Prelude.{◌≡◌, ℕ, List, [], ◌∷◌, ◌++◌, ◌<◌, ◌≤◌, ◌^◌, Bool, true, false, not, IsTrue, ◌↔◌, IfOk, IfSome, OnErr, OnOk, length, slice_get, Some};
     ghost use Rattle.std.specs.List.{list_all, list_any, All as Each};
     ghost use Rattle.rt_formula.specs.Gathering.{AreContrary, IsGathered, IsSifted};
-    ghost use Rattle.rt_formula.specs.Shared.{val, values, bool_at, entry_value, Fits, IsGrown, IsSound};
+    ghost use Rattle.rt_formula.specs.Shared.{val, values, bool_at, entry_value, truncated, Fits, IsGrown, IsSound};
 
     /// A Dag with two nodes, the one that is always true and the one that never is.
     pub fn new(alloc: Global, rows: usize) -> Result<Dag, NoMemory>
@@ -151,6 +151,14 @@ impl Dag {
                 Err(error)
             }
         }
+    }
+
+    /// Takes back all nodes but the first `len`, as if they had never been asked for.
+    pub fn truncate(&mut self, len: usize)
+        requires { 2 ≤ len }
+        ensures { self.new ≡ truncated len self.old }
+    {
+        self.entries.truncate(len);
     }
 
     /// The value of a node at a choice of rows.

@@ -18,7 +18,7 @@ mod text;
 mod top;
 mod verdicts;
 
-pub use decision::{decide, decide_between};
+pub use decision::{decide, decide_beside, decide_between};
 pub use first::{First, read_first};
 pub use input::Input;
 pub use outcome::{Fault, Limit, Outcome, Spent};
