@@ -1,4 +1,3 @@
-pub mod Columned
 pub mod Conditions
 pub mod Divided
 pub mod Joined

@@ -1,10 +1,10 @@
 -- Each operator keeps the meaning.
-use Rattle.std.proofs.Common.{◌≡◌, ◌∙◌, ℕ, zero, suc, ◌+◌, Bool, true, false, not, ◌&&◌, List, [], ◌∷◌, ◌++◌, map, length, Option, Some, None, Result, Ok, Err, refl, sym, ap, ap₂, subst, arith, slice_get, ◌==◌}
-use Rattle.std.specs.Prelude.{IfOk, bytes_eq, if◌then◌else◌, max}
+use Rattle.std.proofs.Common.{◌≡◌, ◌∙◌, ℕ, suc, ◌+◌, Bool, true, false, not, List, [], ◌∷◌, ◌++◌, map, length, Option, Some, None, Result, Ok, Err, refl, sym, ap, ap₂, subst, arith, slice_get, ◌==◌}
+use Rattle.std.specs.Prelude.{IfOk, bytes_eq, if◌then◌else◌}
 use Rattle.std.specs.List.{filter}
 use Rattle.std.proofs.lemmas.List.{append_assoc}
 use Rattle.std.proofs.lemmas.Slice.Eq.{bytes_eq-Decides}
-use Rattle.rt_algebra.specs.Answer.{answer, has_row, pairs, plain, same_rows}
+use Rattle.rt_algebra.specs.Answer.{answer, has_row, pairs}
 use Rattle.rt_algebra.specs.Expression.{Env, row_of}
 use Rattle.rt_algebra.specs.declared.query.Query.{Query}
 use Rattle.rt_algebra.specs.declared.query.Query.TheVariants as q
@@ -14,8 +14,7 @@ use Rattle.rt_schema.specs.declared.table.Table.{Table}
 use Rattle.rt_value.specs.declared.value.Value.{Value}
 use Rattle.rt_operators.specs.Answers.{Named, all_yes, cells, table_rows}
 use Rattle.rt_operators.specs.Answers as answers
-use Rattle.rt_operators.specs.Columns.{Text, column_at, common_fit, further_columns, if_fit, lacked, known, names, picked, place, renamed, same_kinds, shared, twice, united_columns, unless_twice, widened, wider}
-use Rattle.rt_operators.specs.Fault.{◌>>=◌}
+use Rattle.rt_operators.specs.Columns.{Text, column_at, common_fit, further_columns, if_fit, lacked, known, names, picked, place, renamed, same_kinds, shared, twice, united_columns, unless_twice, widened}
 use Rattle.rt_operators.specs.Operators.{if_further, placed, product, project, quotient, rename, select, table_columns, table_named, two, united, unless_lacked}
 use Rattle.rt_operators.specs.Meaning.{Fit, Has, KeepsOne, Means, Wide}
 use Rattle.rt_operators.specs.Tests.{selected, tests}
@@ -25,7 +24,6 @@ use Rattle.rt_ra_tree.specs.declared.fault.RaFault.{RaFault}
 use Rattle.rt_ra_tree.specs.declared.fault.RaFault.TheVariants as fault
 use Rattle.rt_ra_tree.specs.declared.tree.RaOp.{RaOp}
 use Rattle.rt_ra_tree.specs.declared.tree.RaOp.TheVariants as op
-use Rattle.rt_ra_tree.specs.declared.tree.RaTest.{RaTest}
 use Rattle.rt_ra_tree.specs.declared.tree.RaTests.{RaTests}
 use Rattle.rt_operator_laws.proofs.Conditions.{all_hold, answer-selected, filter-same, tests-mean, then-ok}
 use Rattle.rt_operator_laws.proofs.Divided.{quotient-has}

@@ -1,10 +1,10 @@
 -- What each operator becomes has just its columns.
-use Rattle.std.proofs.Common.{◌≡◌, ◌∙◌, ℕ, zero, suc, ◌+◌, ◌-◌, Bool, true, false, ◌&&◌, List, [], ◌∷◌, ◌++◌, map, length, Option, Some, None, Result, Ok, Err, refl, sym, ap, ap₂, subst, arith, slice_get, max, length-append}
-use Rattle.std.specs.Prelude.{IfOk, if◌then◌else◌, is_some, nat_lt, replicate}
+use Rattle.std.proofs.Common.{◌≡◌, ◌∙◌, ℕ, ◌+◌, ◌-◌, Bool, true, false, List, [], ◌∷◌, ◌++◌, map, length, Option, Some, None, refl, sym, ap, ap₂, subst, arith, slice_get, max, length-append}
+use Rattle.std.specs.Prelude.{if◌then◌else◌, is_some, replicate}
 use Rattle.std.specs.Option.{option_and_then}
-use Rattle.std.proofs.lemmas.List.{append-nil, length-map, map-append}
+use Rattle.std.proofs.lemmas.List.{map-append}
 use Rattle.rt_algebra.specs.Columns as algebra
-use Rattle.rt_algebra.specs.Columns.{all_typed, column, column_at, column_of, comparable, item_columns, merged_column, merged_columns, pred_typed, product_columns, query_columns, set_columns, with_column}
+use Rattle.rt_algebra.specs.Columns.{all_typed, column, column_at, column_of, comparable, item_columns, merged_column, merged_columns, pred_typed, query_columns, set_columns, with_column}
 use Rattle.rt_algebra.specs.declared.expr.Expr.{Expr}
 use Rattle.rt_algebra.specs.declared.expr.Expr.TheVariants as expr
 use Rattle.rt_algebra.specs.declared.query.Pred.{Pred}
@@ -13,15 +13,15 @@ use Rattle.rt_algebra.specs.declared.query.Query.{Query}
 use Rattle.rt_algebra.specs.declared.query.Query.TheVariants as q
 use Rattle.rt_schema.specs.Schema.{kind_eq}
 use Rattle.rt_value.specs.declared.value.Op.TheVariants.{Eq}
-use Rattle.rt_operators.specs.Columns.{Text, common_fit, fits, further_columns, has, lacked, names, place}
+use Rattle.rt_operators.specs.Columns.{common_fit, fits, further_columns, has, lacked, names, place}
 use Rattle.rt_operators.specs.Meaning.{HasColumns, column_as, columns_as}
 use Rattle.rt_operators.specs.Operators.{anti, filled, further, joined, matched, matching, missing, own, pairs_of, placed, product, quotient, rest_of, semi}
 use Rattle.rt_operators.specs.Tests.{all_of, selected}
 use Rattle.rt_operators.specs.declared.column.Column.{Column}
 use Rattle.rt_operators.specs.declared.relation.Relation.{Relation}
-use Rattle.rt_operator_laws.proofs.Columned.{column-Col, columns-Except, columns-Product, columns-Project, columns-Select, columns-Union, typed-And, typed-Cmp, typed-Exists, typed-Not}
-use Rattle.rt_operator_laws.proofs.Typing.{Stand, and-left, and-right, and-true, first-stands, found, further-typed, items-append, kind-self, merged-append, merged-nulls, merged-self, null_columns, nulls-typed, own-typed, rest-stand, stand-left, stand-own, stand-right}
-use Rattle.rt_operator_laws.proofs.Widths.{names-length}
+use Rattle.rt_columns.proofs.Columned.{column-Col, columns-Except, columns-Product, columns-Project, columns-Select, columns-Union, typed-And, typed-Cmp, typed-Exists, typed-Not}
+use Rattle.rt_columns.proofs.Fitting.{and-left, and-right, and-true}
+use Rattle.rt_operator_laws.proofs.Typing.{Stand, first-stands, found, further-typed, items-append, merged-append, merged-nulls, merged-self, null_columns, nulls-typed, own-typed, rest-stand, stand-left, stand-own, stand-right}
 
 module _ (tables : List algebra.Columns) where
   -- ---- conditions

@@ -1,28 +1,18 @@
 -- What the operators become is typed, with the columns that they say.
-use Rattle.std.proofs.Common.{◌≡◌, ◌∙◌, ℕ, zero, suc, ◌+◌, ◌-◌, Bool, true, false, ◌&&◌, List, [], ◌∷◌, ◌++◌, map, length, Option, Some, None, Result, Ok, Err, refl, sym, ap, ap₂, subst, arith, slice_get, max, append_assoc}
-use Rattle.std.specs.Prelude.{IfOk, bytes_eq, if◌then◌else◌, is_some, nat_lt, option_map, replicate, ◌==◌}
-use Rattle.std.specs.Option.{option_and_then}
-use Rattle.std.proofs.lemmas.List.{append-nil, length-map, map-append}
+use Rattle.std.proofs.Common.{◌≡◌, ◌∙◌, ℕ, zero, suc, ◌+◌, ◌-◌, Bool, true, false, List, [], ◌∷◌, ◌++◌, length, Option, Some, None, refl, ap, ap₂, subst, arith, slice_get, max}
+use Rattle.std.specs.Prelude.{if◌then◌else◌, nat_lt, option_map, replicate}
+use Rattle.std.proofs.lemmas.List.{length-map}
 use Rattle.std.proofs.lemmas.Option.{slice_get-map}
 use Rattle.rt_algebra.specs.Columns as algebra
-use Rattle.rt_schema.specs.Schema.{kinds_match, kind_eq}
-use Rattle.rt_algebra.specs.Columns.{all_typed, column, column_at, column_of, comparable, item_columns, merged_column, merged_columns, pred_typed, query_columns, set_columns, with_column}
+use Rattle.rt_algebra.specs.Columns.{column_of, item_columns, merged_column, merged_columns, with_column}
 use Rattle.rt_algebra.specs.declared.expr.Expr.{Expr}
 use Rattle.rt_algebra.specs.declared.expr.Expr.TheVariants as expr
-use Rattle.rt_algebra.specs.declared.query.Pred.{Pred}
-use Rattle.rt_algebra.specs.declared.query.Pred.TheVariants as p
-use Rattle.rt_algebra.specs.declared.query.Query.{Query}
-use Rattle.rt_algebra.specs.declared.query.Query.TheVariants as q
-use Rattle.rt_schema.specs.declared.table.ColKind.{ColKind}
-use Rattle.rt_schema.specs.declared.table.ColKind.TheVariants.{Whole, Text as Texts}
-use Rattle.rt_value.specs.declared.value.Op.TheVariants.{Eq}
-use Rattle.rt_operators.specs.Columns.{Text, common_fit, fits, further_columns, has, lacked, names, place, renamed}
+use Rattle.rt_operators.specs.Columns.{Text, further_columns, has, names, place}
 use Rattle.rt_operators.specs.Meaning.{column_as, columns_as}
-use Rattle.rt_operators.specs.Operators.{anti, filled, further, joined, matched, matching, missing, own, pairs_of, placed, product, quotient, rest_of, semi}
-use Rattle.rt_operators.specs.Tests.{all_of, selected}
+use Rattle.rt_operators.specs.Operators.{further, own}
 use Rattle.rt_operators.specs.declared.column.Column.{Column}
-use Rattle.rt_operators.specs.declared.relation.Relation.{Relation}
-use Rattle.rt_operator_laws.proofs.Columned.{column-Col, column-Null, columns-Except, columns-Product, columns-Project, columns-Select, columns-Union, typed-And, typed-Cmp, typed-Exists, typed-Not}
+use Rattle.rt_columns.proofs.Columned.{column-Col, column-Null}
+use Rattle.rt_columns.proofs.Fitting.{kind-self}
 use Rattle.rt_operator_laws.proofs.Widths.{names-length}
 
 -- the columns stand in the row from a place on
@@ -66,17 +56,6 @@ within (c ∷ cs) (suc k) h = within cs k (grind (arith, h))
 pub found : (n : Text) (os : List Column) → has n (names os) ≡ true → (d : Column) × (slice_get os (place n (names os)) ≡ Some d)
 found n os h = within os (place n (names os)) (subst (λ (m : ℕ). nat_lt (place n (names os)) m ≡ true) (names-length os) h)
 
-pub and-left : (a b : Bool) → (a && b) ≡ true → a ≡ true
-and-left true b h = refl
-and-left false b h = cc h
-
-pub and-right : (a b : Bool) → (a && b) ≡ true → b ≡ true
-and-right true b h = h
-and-right false b h = cc h
-
-pub and-true : (a b : Bool) → a ≡ true → b ≡ true → (a && b) ≡ true
-and-true a b p q = rw (p, q) refl
-
 -- ---- items
 
 module _ (scopes : algebra.Scopes) where
@@ -116,10 +95,6 @@ nulls-typed scopes zero = refl
 nulls-typed scopes (suc n) = ap₂ with_column (column-Null scopes) (nulls-typed scopes n)
 
 -- ---- columns that are put together
-
-pub kind-self : (k : ColKind) → kind_eq k k ≡ true
-kind-self Whole = refl
-kind-self Texts = refl
 
 merged-one : (c : Column) → merged_column (column_as c) (column_as c) ≡ Some (column_as c)
 merged-one c = let e : max c.bound c.bound ≡ c.bound = omega arith in rw (kind-self c.kind, e) refl

@@ -1,25 +1,22 @@
 -- What each operator becomes over typed operands is typed.
-use Rattle.std.proofs.Common.{◌≡◌, ◌∙◌, ℕ, ℤ, zero, suc, ◌+◌, Bool, true, false, ◌&&◌, List, [], ◌∷◌, ◌++◌, map, length, Option, Some, None, Result, Ok, Err, refl, sym, ap, ap₂, subst, arith, slice_get, nat_eq, append_assoc, ◌==◌, IsTrue}
-use Rattle.std.specs.Prelude.{IfOk, bytes_eq, if◌then◌else◌, is_some, max, unsigned_abs, nat_le, ◌^◌, ◌-◌}
-use Rattle.std.proofs.lemmas.List.{append-nil, length-map, map-append}
+use Rattle.std.proofs.Common.{◌≡◌, ◌∙◌, ℕ, ℤ, ◌+◌, Bool, true, false, List, [], ◌∷◌, ◌++◌, map, length, Option, Some, None, Result, Ok, Err, refl, sym, ap, ap₂, arith, slice_get, append_assoc, ◌==◌}
+use Rattle.std.specs.Prelude.{IfOk, bytes_eq, if◌then◌else◌, is_some, unsigned_abs, nat_le, ◌^◌, ◌-◌}
+use Rattle.std.proofs.lemmas.List.{append-nil}
 use Rattle.rt_algebra.specs.Columns as algebra
-use Rattle.rt_algebra.specs.Columns.{all_typed, column, column_of, comparable, item_columns, merged_column, merged_columns, pred_typed, query_columns, set_columns, with_column}
-use Rattle.rt_algebra.specs.declared.expr.Expr.{Expr}
+use Rattle.rt_algebra.specs.Columns.{all_typed, column, column_of, comparable, item_columns, merged_columns, pred_typed, query_columns, set_columns, with_column}
 use Rattle.rt_algebra.specs.declared.expr.Expr.TheVariants as expr
 use Rattle.rt_algebra.specs.declared.query.Pred.{Pred}
 use Rattle.rt_algebra.specs.declared.query.Pred.TheVariants as p
 use Rattle.rt_algebra.specs.declared.query.Query.{Query}
 use Rattle.rt_algebra.specs.declared.query.Query.TheVariants as q
-use Rattle.rt_schema.specs.Schema.{kind_eq, kinds_of, schema_kinds}
-use Rattle.rt_schema.specs.declared.table.ColKind.{ColKind}
-use Rattle.rt_schema.specs.declared.table.ColKind.TheVariants.{Whole, Text as Texts}
-use Rattle.rt_schema.specs.declared.table.Column.{Column as TableColumn}
+use Rattle.rt_schema.specs.Schema.{kind_eq}
+use Rattle.rt_schema.specs.declared.table.ColKind.TheVariants.{Whole}
 use Rattle.rt_schema.specs.declared.table.Table.{Table}
 use Rattle.rt_value.specs.declared.value.Op.{Op}
-use Rattle.rt_operators.specs.Columns.{Text, column_at, common_fit, further_columns, if_fit, known, lacked, names, picked, place, renamed, same_kinds, shared, twice, united_columns, unless_twice, widened, wider}
+use Rattle.rt_operators.specs.Columns.{Text, bounded, column_at, common_fit, further_columns, if_fit, known, lacked, names, picked, place, renamed, same_kinds, shared, twice, united_columns, unless_twice, widened}
 use Rattle.rt_operators.specs.Fault.{◌>>=◌}
 use Rattle.rt_operators.specs.Meaning.{AreTables, HasColumns, column_as, columns_as}
-use Rattle.rt_operators.specs.Operators.{cross, if_further, placed, product, project, quotient, rename, select, table_columns, table_named, two, united, unless_lacked}
+use Rattle.rt_operators.specs.Operators.{if_further, placed, project, quotient, rename, select, table_columns, table_named, two, united, unless_lacked}
 use Rattle.rt_operators.specs.Numbers.{side_fits, test_fits, tests_fit}
 use Rattle.rt_operators.specs.Tests.{column_scalar, compared, negated, number, selected, side, test, tests}
 use Rattle.rt_operators.specs.declared.column.Column.{Column}
@@ -34,10 +31,11 @@ use Rattle.rt_ra_tree.specs.declared.tree.RaSide.TheVariants as side_
 use Rattle.rt_ra_tree.specs.declared.tree.RaTest.{RaTest}
 use Rattle.rt_ra_tree.specs.declared.tree.RaTest.TheVariants as test_
 use Rattle.rt_ra_tree.specs.declared.tree.RaTests.{RaTests}
-use Rattle.rt_operator_laws.proofs.Columned.{column-Col, column-Int, column-Text, column-minus, columns-Except, columns-Intersect, columns-Table, columns-Union, typed-Cmp, typed-IsNull, typed-Not}
+use Rattle.rt_columns.proofs.Columned.{column-Col, column-Int, column-Text, column-minus, columns-Except, columns-Intersect, columns-Table, columns-Union, typed-Cmp, typed-IsNull, typed-Not}
 use Rattle.rt_operator_laws.proofs.Conditions.{then-ok}
 use Rattle.rt_operator_laws.proofs.Relations.{anti-typed, cross-typed, filled-typed, joined-typed, project-typed, quotient-typed, selected-typed, semi-typed}
-use Rattle.rt_operator_laws.proofs.Typing.{and-left, and-right, and-true, get-as}
+use Rattle.rt_columns.proofs.Fitting.{all-merged, and-left, and-right, and-true}
+use Rattle.rt_operator_laws.proofs.Typing.{get-as}
 
 -- ---- columns that are found
 
@@ -57,21 +55,12 @@ renamed-as (n ∷ ns) (c ∷ cs) h = ap (λ (cs : algebra.Columns). column_as c 
 same-number : (m n : ℕ) → (m == n) ≡ true → m ≡ n
 same-number m n h = grind (arith, h)
 
-one-merged : (c d : Column) → kind_eq c.kind d.kind ≡ true → merged_column (column_as c) (column_as d) ≡ Some (column_as (wider c d))
-one-merged c d h = rw h refl
-
-all-merged : (cs ds : List Column) → length cs ≡ length ds → same_kinds cs ds ≡ true → merged_columns (columns_as cs) (columns_as ds) ≡ Some (columns_as (widened cs ds))
-all-merged [] [] n h = refl
-all-merged [] (d ∷ ds) n h = absurd (omega arith)
-all-merged (c ∷ cs) [] n h = absurd (omega arith)
-all-merged (c ∷ cs) (d ∷ ds) n h = ap₂ with_column (one-merged c d (and-left (kind_eq c.kind d.kind) (same_kinds cs ds) h)) (all-merged cs ds (omega (arith, n)) (and-right (kind_eq c.kind d.kind) (same_kinds cs ds) h))
-
 united-merged : (cs ds : List Column) → IfOk (united_columns cs ds) (λ es. merged_columns (columns_as cs) (columns_as ds) ≡ Some (columns_as es))
 united-merged cs ds = by (length cs == length ds) refl (same_kinds cs ds) refl
   where
     by : (b : Bool) → (length cs == length ds) ≡ b → (c : Bool) → same_kinds cs ds ≡ c
         → IfOk (if b then (if c then Ok (widened cs ds) else Err fault.TypeMismatch) else Err fault.Columns) (λ es. merged_columns (columns_as cs) (columns_as ds) ≡ Some (columns_as es))
-    by true e true f = all-merged cs ds (same-number (length cs) (length ds) e) f
+    by true e true f = all-merged Column (λ c. c.kind) (λ c. c.bound) bounded (λ n c. refl) (λ n c. refl) cs ds (same-number (length cs) (length ds) e) f
     by true e false f = tt
     by false e c f = tt
 

@@ -1,6 +1,8 @@
 -- Columns by their names: where a name stands, and what two lists of columns share.
-use Rattle.std.specs.Prelude.{ℕ, ◌+◌, Bool, true, false, not, ◌&&◌, if◌then◌else◌, max, map, List, [], ◌∷◌, ◌++◌, length, Option, Some, None, Result, Ok, Err, nat_lt, ◌==◌, slice_get, bytes_eq, take}
+use Rattle.std.specs.Prelude.{ℕ, ◌+◌, Bool, true, false, ◌&&◌, if◌then◌else◌, map, List, [], ◌∷◌, ◌++◌, length, Option, Some, None, Result, Ok, Err, nat_lt, ◌==◌, slice_get, bytes_eq, take}
+use Rattle.rt_columns.specs.Columns as columns
 use Rattle.rt_schema.specs.Schema.{kind_eq}
+use Rattle.rt_schema.specs.declared.table.ColKind.{ColKind}
 use Rattle.rt_operators.specs.Fault.{◌>>=◌}
 use Rattle.rt_operators.specs.declared.column.Column.{Column}
 use Rattle.rt_ra_tree.specs.declared.fault.RaFault.{RaFault}
@@ -9,6 +11,12 @@ use Rattle.rt_ra_tree.specs.declared.tree.RaNames.{RaNames}
 
 abbrev pub Text : Type 0
 Text = List ℕ
+
+abbrev pub bounded : ℕ → Column → Column
+bounded n c = record c { bound = n }
+
+abbrev pub called : Text → ColKind → ℕ → Column
+called name kind bound = record { name = name; kind = kind; bound = bound }
 
 -- where the name stands among the names, or their number where it does not
 abbrev pub place : Text → List Text → ℕ
@@ -92,19 +100,12 @@ renamed [] cs = []
 renamed (n ∷ ns) [] = []
 renamed (n ∷ ns) (c ∷ cs) = named n c ∷ renamed ns cs
 
--- the first operand's name, and the greater bound
-abbrev pub wider : Column → Column → Column
-wider c d = record c { bound = max c.bound d.bound }
-
+-- the first operand's names, and the greater bounds
 abbrev pub widened : List Column → List Column → List Column
-widened [] ds = []
-widened (c ∷ cs) [] = []
-widened (c ∷ cs) (d ∷ ds) = wider c d ∷ widened cs ds
+widened cs ds = columns.widened (λ c. c.bound) bounded cs ds
 
 abbrev pub same_kinds : List Column → List Column → Bool
-same_kinds [] ds = true
-same_kinds (c ∷ cs) [] = true
-same_kinds (c ∷ cs) (d ∷ ds) = kind_eq c.kind d.kind && same_kinds cs ds
+same_kinds cs ds = columns.same_kinds (λ c. c.kind) cs ds
 
 -- the columns of two operands of a set operator
 abbrev pub united_columns : List Column → List Column → Result (List Column) RaFault

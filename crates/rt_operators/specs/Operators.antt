@@ -1,7 +1,6 @@
 -- What each operator becomes in the algebra over its operands, or its first fault (Codd 1970; the
 -- division and the semijoin as in Ramakrishnan and Gehrke 2003).
-use Rattle.std.specs.Prelude.{ℕ, ◌+◌, ◌-◌, Bool, true, false, if◌then◌else◌, map, List, [], ◌∷◌, ◌++◌, length, Option, Some, None, Result, Ok, Err, replicate, ◌==◌, bytes_eq}
-use Rattle.rt_algebra.specs.Columns as algebra
+use Rattle.std.specs.Prelude.{ℕ, ◌+◌, ◌-◌, if◌then◌else◌, map, List, [], ◌∷◌, ◌++◌, length, Option, Some, None, Result, Ok, Err, replicate, ◌==◌, bytes_eq}
 use Rattle.rt_algebra.specs.declared.expr.Expr.{Expr}
 use Rattle.rt_algebra.specs.declared.expr.Expr.TheVariants as expr
 use Rattle.rt_algebra.specs.declared.query.Pred.{Pred}
@@ -9,10 +8,11 @@ use Rattle.rt_algebra.specs.declared.query.Pred.TheVariants as pred
 use Rattle.rt_algebra.specs.declared.query.Query.{Query}
 use Rattle.rt_algebra.specs.declared.query.Query.TheVariants as query
 use Rattle.rt_algebra.specs.declared.typed.Typed.{Typed}
+use Rattle.rt_columns.specs.Columns as columns
 use Rattle.rt_schema.specs.declared.table.Column.{Column as TableColumn}
 use Rattle.rt_schema.specs.declared.table.Table.{Table}
 use Rattle.rt_value.specs.declared.value.Op.TheVariants.{Eq}
-use Rattle.rt_operators.specs.Columns.{Text, further_columns, has, if_fit, lacked, names, picked, place, renamed, shared, twice, united_columns, unless_twice}
+use Rattle.rt_operators.specs.Columns.{Text, called, further_columns, has, if_fit, lacked, names, picked, place, renamed, shared, twice, united_columns, unless_twice}
 use Rattle.rt_operators.specs.Fault.{◌>>=◌}
 use Rattle.rt_operators.specs.Tests.{selected, tests}
 use Rattle.rt_operators.specs.declared.column.Column.{Column}
@@ -28,11 +28,8 @@ Answer = Result Relation RaFault
 
 -- ---- tables
 
-abbrev pub table_column : TableColumn → Column
-table_column c = record { name = c.name; kind = c.kind; bound = (algebra.table_column c.kind).bound }
-
 abbrev pub table_columns : List TableColumn → List Column
-table_columns cs = map table_column cs
+table_columns cs = columns.table_columns called cs
 
 -- the table of the name, the first of all having the number `at`
 abbrev pub table_named : Text → ℕ → List Table → Answer
@@ -159,4 +156,4 @@ two op.Intersect t u = united (λ a b. query.Intersect a b) t u
 
 -- the query with the kinds, bounds and names of its columns
 abbrev pub typed_of : Relation → Typed
-typed_of r = record { query = r.query; kinds = map (λ c. c.kind) r.columns; bounds = map (λ c. c.bound) r.columns; names = map (λ c. Some c.name) r.columns }
+typed_of r = columns.typed_of (λ c. c.kind) (λ c. c.bound) (λ c. Some c.name) r.query r.columns

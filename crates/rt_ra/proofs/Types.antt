@@ -1,11 +1,10 @@
 -- What a formed text becomes is typed over the schema: by induction over the tree, each layer being
 -- the law of its operator.
-use Rattle.std.proofs.Common.{◌≡◌, ◌∙◌, ℕ, zero, suc, ◌+◌, true, List, [], ◌∷◌, ◌++◌, map, length, Some, Result, Ok, Err, refl, sym, ap, ap₂, subst, arith, slice_get, nat_eq}
+use Rattle.std.proofs.Common.{◌≡◌, ◌∙◌, ℕ, zero, suc, ◌+◌, true, List, [], ◌∷◌, ◌++◌, map, length, Some, Result, Ok, Err, refl, sym, ap, subst, arith, slice_get}
 use Rattle.std.specs.Prelude.{IfOk, codes}
 use Rattle.std.proofs.lemmas.List.{length-map}
 use Rattle.rt_algebra.specs.Columns as algebra
-use Rattle.rt_algebra.specs.Columns.{column}
-use Rattle.rt_algebra.specs.Typed.{IsTypedOf, are_columns}
+use Rattle.rt_algebra.specs.Typed.{IsTypedOf}
 use Rattle.rt_algebra.specs.declared.typed.Typed.{Typed}
 use Rattle.rt_grammar.specs.Readers.{plain_word}
 use Rattle.rt_grammar.specs.Terminals.{Kinds, flag}
@@ -13,11 +12,11 @@ use Rattle.rt_grammar.specs.Words.{all_formed}
 use Rattle.rt_grammar.specs.declared.fixed.Fixed.TheVariants as fixed
 use Rattle.rt_grammar.specs.declared.terminal.Terminal.TheVariants as terminal
 use Rattle.rt_operator_laws.proofs.Conditions.{then-ok}
-use Rattle.rt_operator_laws.proofs.Typing.{kind-self}
 use Rattle.rt_operator_laws.proofs.Typings.{project-ok, rename-ok, select-ok, table-ok, two-ok}
-use Rattle.rt_operators.specs.Columns.{texts}
+use Rattle.rt_columns.proofs.Fitting.{all-fit, table-as}
+use Rattle.rt_operators.specs.Columns.{called, texts}
 use Rattle.rt_operators.specs.Fault.{◌>>=◌}
-use Rattle.rt_operators.specs.Meaning.{AreTables, HasColumns, columns_as}
+use Rattle.rt_operators.specs.Meaning.{AreTables, HasColumns}
 use Rattle.rt_operators.specs.Operators.{project, rename, select, table_columns, two, typed_of}
 use Rattle.rt_operators.specs.declared.column.Column.{Column}
 use Rattle.rt_operators.specs.declared.relation.Relation.{Relation}
@@ -35,9 +34,6 @@ use Rattle.rt_ra_tree.specs.declared.tree.Ra.TheOpen as open_
 use Rattle.rt_ra_tree.specs.declared.tree.Ra.TheViews.{roll-Ra}
 use Rattle.rt_ra_tree.specs.declared.tree.RaText.{RaText}
 use Rattle.rt_schema.specs.Schema.{kinds_of, schema_kinds}
-use Rattle.rt_schema.specs.declared.table.ColKind.{ColKind}
-use Rattle.rt_schema.specs.declared.table.ColKind.TheVariants.{Whole, Text as Texts}
-use Rattle.rt_schema.specs.declared.table.Column.{Column as TableColumn}
 use Rattle.rt_schema.specs.declared.table.Table.{Table}
 use Rattle.rt_value.specs.Gives.{Gives}
 
@@ -78,14 +74,6 @@ module _ (tables : List algebra.Columns) (db : List Table) (fit : AreTables tabl
 
 -- ---- the tables of a schema
 
-table-as : (cs : List TableColumn) → map algebra.table_column (kinds_of cs) ≡ columns_as (table_columns cs)
-table-as [] = refl
-table-as (c ∷ cs) = ap₂ (λ (x : algebra.Column) (xs : algebra.Columns). x ∷ xs) (one c.kind) (table-as cs)
-  where
-    one : (k : ColKind) → algebra.table_column k ≡ column k (algebra.table_column k).bound
-    one Whole = refl
-    one Texts = refl
-
 table-at : (front : List algebra.Columns) (cs : algebra.Columns) (rest : List algebra.Columns) (at : ℕ) → length front ≡ at → slice_get (front ++ cs ∷ rest) at ≡ Some cs
 table-at [] cs rest zero h = refl
 table-at [] cs rest (suc at) h = absurd (omega arith)
@@ -106,20 +94,13 @@ schema-tables [] front at f = tt
 schema-tables (t ∷ ts) front at f =
     let own = map algebra.table_column (kinds_of t.columns) in
     let rest = algebra.table_columns (schema_kinds ts) in (
-      table-at front own rest at f ∙ ap (λ (cs : algebra.Columns). Some cs) (table-as t.columns),
+      table-at front own rest at f ∙ ap (λ (cs : algebra.Columns). Some cs) (table-as Column (λ c. c.kind) (λ c. c.bound) called (λ n k b. refl) (λ n k b. refl) t.columns),
       subst (λ (l : List algebra.Columns). AreTables l (at + 1) ts) (sym (shift-tables front own rest)) (schema-tables ts (front ++ own ∷ []) (at + 1) (longer front own at f)),
     )
 
-same-bound : (n : ℕ) → nat_eq n n ≡ true
-same-bound n = grind (arith)
-
-all-fit : (cs : List Column) → are_columns (map (λ c. c.kind) cs) (map (λ c. c.bound) cs) (columns_as cs) ≡ true
-all-fit [] = refl
-all-fit (c ∷ cs) = rw (kind-self c.kind, same-bound c.bound, all-fit cs) refl
-
 relation-typed : (db : List Table) (r : Relation) → HasColumns (algebra.table_columns (schema_kinds db)) r → IsTypedOf db (typed_of r)
 relation-typed db r h = record {
-  columns = rw (h []) (all-fit r.columns);
+  columns = rw (h []) (all-fit Column (λ c. c.kind) (λ c. c.bound) r.columns);
   names = length-map r.columns (λ c. Some c.name) ∙ sym (length-map r.columns (λ c. c.kind));
 }
 

@@ -4,31 +4,11 @@ ghost use Rattle.std.specs.Prelude.{◌≡◌};
 ghost use Rattle.rt_grammar.specs.Words.{kinds};
 ghost use Rattle.rt_ra_tree.specs.Depth as spec;
 
-use rt_token::{Sym, Token, TokenKind};
-
-/// The most open parentheses.
-pub const NESTED: usize = 64;
+use rt_token::{Token, TokenKind};
+use rt_tree::opens_too_many;
 
 /// The most words LEFTJOIN and DIVIDE, whose meaning repeats their operands.
 pub const DOUBLED: usize = 8;
-
-fn is_left(kind: &TokenKind) -> bool
-    ensures { result ≡ spec.is_left kind.now }
-{
-    match kind {
-        TokenKind::Sym(Sym::Left) => true,
-        _ => false,
-    }
-}
-
-fn is_right(kind: &TokenKind) -> bool
-    ensures { result ≡ spec.is_right kind.now }
-{
-    match kind {
-        TokenKind::Sym(Sym::Right) => true,
-        _ => false,
-    }
-}
 
 fn is_doubling(kind: &TokenKind) -> bool
     ensures { result ≡ spec.is_doubling kind.now }
@@ -37,21 +17,6 @@ fn is_doubling(kind: &TokenKind) -> bool
         TokenKind::Word(text) => *text.as_str() == *"leftjoin" || *text.as_str() == *"divide",
         _ => false,
     }
-}
-
-fn opens_too_many(tokens: &[Token]) -> bool
-    ensures { result ≡ spec.opens_too_many 0 0 (kinds tokens.now) }
-{
-    let mut opened = 0_usize;
-    let mut closed = 0_usize;
-    for token in tokens {
-        opened += usize::from(is_left(&token.kind));
-        closed += usize::from(is_right(&token.kind));
-        if closed + NESTED < opened {
-            return true;
-        }
-    }
-    false
 }
 
 fn doubles_too_many(tokens: &[Token]) -> bool

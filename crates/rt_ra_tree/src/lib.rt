@@ -27,8 +27,9 @@ mod parser;
 mod reader;
 mod tree;
 
-pub use depth::{DOUBLED, NESTED};
+pub use depth::DOUBLED;
 pub use fault::RaFault;
 pub use heads::Head;
 pub use parser::{one_tree, parse_ra, read_is_tree};
+pub use rt_tree::NESTED;
 pub use tree::{Ra, RaNames, RaOp, RaSide, RaTest, RaTests, RaText};

@@ -5,13 +5,12 @@ use Rattle.std.specs.Option.{option_and_then}
 use Rattle.std.specs.Str.{bytes_eq}
 use Rattle.std.proofs.lemmas.List.{map-append, length-map}
 use Rattle.rt_algebra.specs.Columns as algebra
-use Rattle.rt_algebra.specs.Columns.{ConditionTest, QueryColumns, all_typed, item_columns, pred_typed, pred_typed_step, product_columns, query_columns, query_columns_step}
-use Rattle.rt_algebra.specs.declared.expr.Expr.{Expr}
+use Rattle.rt_algebra.specs.Columns.{QueryColumns, item_columns, pred_typed, product_columns, query_columns}
 use Rattle.rt_algebra.specs.declared.query.Pred.{Pred}
 use Rattle.rt_algebra.specs.declared.query.Query.{Query}
 use Rattle.rt_algebra.specs.declared.query.Query.TheVariants as query
-use Rattle.rt_algebra.specs.declared.query.Pred.TheOpen as layer
-use Rattle.rt_algebra.specs.declared.query.Pred.TheFolds.{fold-roll-Query}
+use Rattle.rt_columns.proofs.Columned.{columns-Product, columns-Project, columns-Select, columns-Table}
+use Rattle.rt_columns.proofs.Fitting.{table-as}
 use Rattle.rt_relation.specs.Sources.{no_sources, product_of, select_of, selected, with_base, with_cond}
 use Rattle.rt_relation.specs.Conditions.{all_of}
 use Rattle.rt_relation.specs.Relations.{Tables, table_columns, table_named, table_ref}
@@ -19,10 +18,8 @@ use Rattle.rt_relation.specs.declared.from.FromClause.{FromClause}
 use Rattle.rt_relation.specs.declared.relation.TableRef.{TableRef}
 use Rattle.rt_relation.proofs.Sets.{IsTypedRelation}
 use Rattle.rt_relation.proofs.Tested.{AreTyped, all-of-typed, put-typed}
-use Rattle.rt_schema.specs.Schema.{kinds_of, schema_kinds}
-use Rattle.rt_schema.specs.declared.table.ColKind.{ColKind}
-use Rattle.rt_schema.specs.declared.table.ColKind.TheVariants.{Whole, Text as Texts}
-use Rattle.rt_schema.specs.declared.table.Column.{Column as TableColumn}
+use Rattle.rt_schema.specs.Schema.{schema_kinds}
+use Rattle.rt_scope.specs.Columns.{called}
 use Rattle.rt_scope.specs.Lookup.{Text, source_named}
 use Rattle.rt_scope.specs.declared.column.Column.{Column}
 use Rattle.rt_scope.specs.declared.fault.NameFault.TheVariants as fault
@@ -33,30 +30,7 @@ use Rattle.rt_scope.proofs.Listing.{IsTypedList}
 use Rattle.rt_scope.proofs.Standing.{SourcesStand, Stand, column_as, columns_as}
 use Rattle.rt_scope.proofs.Steps.{if-ok}
 
-query-Table : (at : ℕ) (tables : List algebra.Columns) (rows : algebra.Scopes) → query_columns (query.Table at) tables rows ≡ slice_get tables at
-query-Table at tables rows = ap (λ x. query_columns x tables rows) (sym (query.rolls-Table at)) ∙ ap (λ f. f tables rows) (fold-roll-Query ConditionTest QueryColumns pred_typed_step query_columns_step (layer.Table at))
-
-query-Select : (q : Query) (p : Pred) (tables : List algebra.Columns) (rows : algebra.Scopes)
-    → query_columns (query.Select q p) tables rows ≡ option_and_then (λ cs. if pred_typed p tables (cs ∷ rows) then Some cs else None) (query_columns q tables rows)
-query-Select q p tables rows = ap (λ x. query_columns x tables rows) (sym (query.rolls-Select q p)) ∙ ap (λ f. f tables rows) (fold-roll-Query ConditionTest QueryColumns pred_typed_step query_columns_step (layer.Select q p))
-
-query-Project : (q : Query) (es : List Expr) (tables : List algebra.Columns) (rows : algebra.Scopes)
-    → query_columns (query.Project q es) tables rows ≡ option_and_then (λ cs. item_columns es (cs ∷ rows)) (query_columns q tables rows)
-query-Project q es tables rows = ap (λ x. query_columns x tables rows) (sym (query.rolls-Project q es)) ∙ ap (λ f. f tables rows) (fold-roll-Query ConditionTest QueryColumns pred_typed_step query_columns_step (layer.Project q es))
-
-query-Product : (qs : List Query) (tables : List algebra.Columns) (rows : algebra.Scopes) → query_columns (query.Product qs) tables rows ≡ product_columns [] (map query_columns qs) tables rows
-query-Product qs tables rows = ap (λ x. query_columns x tables rows) (sym (query.rolls-Product qs)) ∙ ap (λ f. f tables rows) (fold-roll-Query ConditionTest QueryColumns pred_typed_step query_columns_step (layer.Product qs))
-
 -- ---- tables
-
-columns-of-kind : (k : ColKind) → algebra.column k (algebra.table_column k).bound ≡ algebra.table_column k
-columns-of-kind Whole = refl
-columns-of-kind Texts = refl
-
-columns-of-table : (cs : List TableColumn) → columns_as (table_columns cs) ≡ map algebra.table_column (kinds_of cs)
-columns-of-table [] = refl
-columns-of-table (c ∷ cs) =
-    ap (λ x. x ∷ columns_as (table_columns cs)) (columns-of-kind c.kind) ∙ ap (λ (xs : algebra.Columns). algebra.table_column c.kind ∷ xs) (columns-of-table cs)
 
 abbrev pub tables_of : Tables → List algebra.Columns
 tables_of db = algebra.table_columns (schema_kinds db)
@@ -74,7 +48,7 @@ table-named-typed tables rows table name at [] from = tt
 table-named-typed tables rows table name at (t ∷ ts) from =
     if-ok (IsTypedTable tables rows) (bytes_eq t.name table) (Ok (table_ref name at t)) (table_named table name (at + 1) ts)
     (λ is. let e : at ≡ at + 0 = omega arith in
-    query-Table at tables rows ∙ ap (slice_get tables) e ∙ from 0 ∙ ap (λ (xs : algebra.Columns). Some xs) (sym (columns-of-table t.columns)))
+    columns-Table tables rows at ∙ ap (slice_get tables) e ∙ from 0 ∙ ap (λ (xs : algebra.Columns). Some xs) (table-as Column (λ c. c.kind) (λ c. c.bound) called (λ n k b. refl) (λ n k b. refl) t.columns))
     (table-named-typed tables rows table name (at + 1) ts (λ k. let e : at + 1 + k ≡ at + suc k = omega arith in ap (slice_get tables) e ∙ from (suc k)))
 
 pub tables-from-first : (db : Tables) → TablesFrom (tables_of db) 0 db
@@ -165,9 +139,9 @@ module _ (tables : List algebra.Columns) (rows : algebra.Scopes) where
   only-product (Some cs) row e = e
 
   product-of-typed : (qs : List Query) (row : algebra.Columns) → product_columns [] (map query_columns qs) tables rows ≡ Some row → Gives (product_of qs) row
-  product-of-typed [] row e = query-Product [] tables rows ∙ e
+  product-of-typed [] row e = columns-Product tables rows [] ∙ e
   product-of-typed (q ∷ []) row e = only-product (query_columns q tables rows) row e
-  product-of-typed (q ∷ r ∷ qs) row e = query-Product (q ∷ r ∷ qs) tables rows ∙ e
+  product-of-typed (q ∷ r ∷ qs) row e = columns-Product tables rows (q ∷ r ∷ qs) ∙ e
 
   chosen : (cs : algebra.Columns) (b : Bool) → b ≡ true → (if b then Some cs else None) ≡ Some cs
   chosen cs b h = rw h refl
@@ -175,12 +149,12 @@ module _ (tables : List algebra.Columns) (rows : algebra.Scopes) where
   selected-typed : (q : Query) (ps : List Pred) (row : algebra.Columns) → Gives q row → AreTyped tables (row ∷ rows) ps → Gives (selected q ps) row
   selected-typed q [] row e h = e
   selected-typed q (p ∷ ps) row e h =
-      query-Select q (all_of (p ∷ ps)) tables rows ∙ ap (option_and_then (λ cs. if pred_typed (all_of (p ∷ ps)) tables (cs ∷ rows) then Some cs else None)) e
+      columns-Select tables rows q (all_of (p ∷ ps)) ∙ ap (option_and_then (λ cs. if pred_typed (all_of (p ∷ ps)) tables (cs ∷ rows) then Some cs else None)) e
       ∙ chosen row (pred_typed (all_of (p ∷ ps)) tables (row ∷ rows)) (all-of-typed tables (row ∷ rows) (p ∷ ps) h)
 
   pub select-of-typed : (from : FromClause) (list : SelectList) (row : algebra.Columns) → product_columns [] (map query_columns from.queries) tables rows ≡ Some row
       → AreTyped tables (row ∷ rows) from.conds → IsTypedList (row ∷ rows) list → IsTypedRelation tables rows (select_of from list)
   select-of-typed from list row e h l =
-      query-Project (selected (product_of from.queries) from.conds) list.exprs tables rows
+      columns-Project tables rows (selected (product_of from.queries) from.conds) list.exprs
       ∙ ap (option_and_then (λ cs. item_columns list.exprs (cs ∷ rows))) (selected-typed (product_of from.queries) from.conds row (product-of-typed from.queries row e) h)
       ∙ l

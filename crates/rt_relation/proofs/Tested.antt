@@ -1,15 +1,15 @@
 -- Each condition without a subquery, and each list of typed conditions, is typed.
-use Rattle.std.proofs.Common.{◌≡◌, ◌∙◌, Bool, true, false, ◌&&◌, List, [], ◌∷◌, ◌++◌, map, Some, Ok, Err, refl, sym, ap}
+use Rattle.std.proofs.Common.{◌≡◌, ◌∙◌, Bool, true, ◌&&◌, List, [], ◌∷◌, ◌++◌, map, Some, Ok, Err, refl, ap}
 use Rattle.std.specs.Prelude.{IfOk, is_some}
 use Rattle.rt_algebra.specs.Columns as algebra
 use Rattle.rt_schema.specs.Schema.{kinds_match}
-use Rattle.rt_algebra.specs.Columns.{ConditionTest, QueryColumns, all_comparable, all_typed, column_of, comparable_member, pred_typed, pred_typed_step, query_columns, query_columns_step}
+use Rattle.rt_algebra.specs.Columns.{all_comparable, all_typed, comparable_member, pred_typed, query_columns}
 use Rattle.rt_algebra.specs.declared.expr.Expr.{Expr}
 use Rattle.rt_algebra.specs.declared.query.Pred.{Pred}
 use Rattle.rt_algebra.specs.declared.query.Pred.TheVariants as pred
-use Rattle.rt_algebra.specs.declared.query.Pred.TheOpen as layer
-use Rattle.rt_algebra.specs.declared.query.Pred.TheFolds.{fold-roll-Pred}
 use Rattle.rt_algebra.specs.declared.query.Query.{Query}
+use Rattle.rt_columns.proofs.Columned.{typed-And, typed-Exists, typed-IsNull, typed-Member, typed-OneOf, typed-Or}
+use Rattle.rt_columns.proofs.Fitting.{and-left, and-right, and-true}
 use Rattle.rt_relation.specs.Conditions.{all_of, any_of, between, between_test, both, comparison, list_test, member, member_in, null_test, only, op_of}
 use Rattle.rt_relation.specs.declared.relation.Relation.{Relation}
 use Rattle.rt_relation.proofs.Sets.{IsTypedRelation}
@@ -28,44 +28,11 @@ use Rattle.rt_tree.specs.declared.tree.Op.{Op as OpTree}
 use Rattle.rt_tree.specs.declared.tree.Sum.{Sum}
 use Rattle.rt_value.specs.declared.value.Op.TheVariants as op
 
--- ---- the types of conditions
-
-typed-IsNull : (e : Expr) (tables : List algebra.Columns) (rows : algebra.Scopes) → pred_typed (pred.IsNull e) tables rows ≡ is_some (column_of e rows)
-typed-IsNull e tables rows = ap (λ x. pred_typed x tables rows) (sym (pred.rolls-IsNull e)) ∙ ap (λ f. f tables rows) (fold-roll-Pred ConditionTest QueryColumns pred_typed_step query_columns_step (layer.IsNull e))
-
-typed-OneOf : (e : Expr) (es : List Expr) (tables : List algebra.Columns) (rows : algebra.Scopes)
-    → pred_typed (pred.OneOf e es) tables rows ≡ (is_some (column_of e rows) && all_comparable (column_of e rows) es rows)
-typed-OneOf e es tables rows = ap (λ x. pred_typed x tables rows) (sym (pred.rolls-OneOf e es)) ∙ ap (λ f. f tables rows) (fold-roll-Pred ConditionTest QueryColumns pred_typed_step query_columns_step (layer.OneOf e es))
-
-typed-And : (ps : List Pred) (tables : List algebra.Columns) (rows : algebra.Scopes) → pred_typed (pred.And ps) tables rows ≡ all_typed (map pred_typed ps) tables rows
-typed-And ps tables rows = ap (λ x. pred_typed x tables rows) (sym (pred.rolls-And ps)) ∙ ap (λ f. f tables rows) (fold-roll-Pred ConditionTest QueryColumns pred_typed_step query_columns_step (layer.And ps))
-
-typed-Or : (ps : List Pred) (tables : List algebra.Columns) (rows : algebra.Scopes) → pred_typed (pred.Or ps) tables rows ≡ all_typed (map pred_typed ps) tables rows
-typed-Or ps tables rows = ap (λ x. pred_typed x tables rows) (sym (pred.rolls-Or ps)) ∙ ap (λ f. f tables rows) (fold-roll-Pred ConditionTest QueryColumns pred_typed_step query_columns_step (layer.Or ps))
-
-typed-Exists : (q : Query) (tables : List algebra.Columns) (rows : algebra.Scopes) → pred_typed (pred.Exists q) tables rows ≡ is_some (query_columns q tables rows)
-typed-Exists q tables rows = ap (λ x. pred_typed x tables rows) (sym (pred.rolls-Exists q)) ∙ ap (λ f. f tables rows) (fold-roll-Pred ConditionTest QueryColumns pred_typed_step query_columns_step (layer.Exists q))
-
-typed-Member : (e : Expr) (q : Query) (tables : List algebra.Columns) (rows : algebra.Scopes)
-    → pred_typed (pred.Member e q) tables rows ≡ comparable_member (column_of e rows) (query_columns q tables rows)
-typed-Member e q tables rows = ap (λ x. pred_typed x tables rows) (sym (pred.rolls-Member e q)) ∙ ap (λ f. f tables rows) (fold-roll-Pred ConditionTest QueryColumns pred_typed_step query_columns_step (layer.Member e q))
-
 module _ (tables : List algebra.Columns) (rows : algebra.Scopes) where
   -- ---- lists of conditions
 
   abbrev pub AreTyped : List Pred → Type 0
   AreTyped ps = all_typed (map pred_typed ps) tables rows ≡ true
-
-  and-true : (a b : Bool) → a ≡ true → b ≡ true → (a && b) ≡ true
-  and-true a b p q = rw (p, q) refl
-
-  and-left : (a b : Bool) → (a && b) ≡ true → a ≡ true
-  and-left true b h = refl
-  and-left false b h = cc
-
-  and-right : (a b : Bool) → (a && b) ≡ true → b ≡ true
-  and-right true b h = h
-  and-right false b h = cc
 
   pub put-typed : (ps : List Pred) (p : Pred) → AreTyped ps → IsTypedPred tables rows p → AreTyped (ps ++ p ∷ [])
   put-typed [] p h k = and-true (pred_typed p tables rows) true k refl
@@ -77,14 +44,14 @@ module _ (tables : List algebra.Columns) (rows : algebra.Scopes) where
   only-typed p k = and-true (pred_typed p tables rows) true k refl
 
   pub all-of-typed : (ps : List Pred) → AreTyped ps → IsTypedPred tables rows (all_of ps)
-  all-of-typed [] h = typed-And [] tables rows
+  all-of-typed [] h = typed-And tables rows []
   all-of-typed (p ∷ []) h = and-left (pred_typed p tables rows) true h
-  all-of-typed (p ∷ q ∷ ps) h = typed-And (p ∷ q ∷ ps) tables rows ∙ h
+  all-of-typed (p ∷ q ∷ ps) h = typed-And tables rows (p ∷ q ∷ ps) ∙ h
 
   pub any-of-typed : (ps : List Pred) → AreTyped ps → IsTypedPred tables rows (any_of ps)
-  any-of-typed [] h = typed-Or [] tables rows
+  any-of-typed [] h = typed-Or tables rows []
   any-of-typed (p ∷ []) h = and-left (pred_typed p tables rows) true h
-  any-of-typed (p ∷ q ∷ ps) h = typed-Or (p ∷ q ∷ ps) tables rows ∙ h
+  any-of-typed (p ∷ q ∷ ps) h = typed-Or tables rows (p ∷ q ∷ ps) ∙ h
 
   -- ---- tests
 
@@ -92,16 +59,16 @@ module _ (tables : List algebra.Columns) (rows : algebra.Scopes) where
   Typed p = IsTypedPred tables rows p
 
   both-typed : (p q : Pred) → Typed p → Typed q → Typed (both p q)
-  both-typed p q h k = typed-And (p ∷ q ∷ []) tables rows ∙ put-typed (p ∷ []) q (only-typed p h) k
+  both-typed p q h k = typed-And tables rows (p ∷ q ∷ []) ∙ put-typed (p ∷ []) q (only-typed p h) k
 
   pub exists-typed : (t : Relation) → IsTypedRelation tables rows t → Typed (pred.Exists t.query)
-  exists-typed t h = typed-Exists t.query tables rows ∙ ap is_some h
+  exists-typed t h = typed-Exists tables rows t.query ∙ ap is_some h
 
   member-in-typed : (x : Scalar) (q : Query) (cs : List Column) → IsTypedScalar rows x → query_columns q tables rows ≡ Some (columns_as cs) → IfOk (member_in x q cs) Typed
   member-in-typed x q [] h k = tt
   member-in-typed x q (c ∷ []) h k =
       if-ok Typed (kinds_match x.kind (Some c.kind)) (Ok (pred.Member x.expr q)) (Err fault.TypeMismatch)
-      (λ fit. typed-Member x.expr q tables rows ∙ ap (λ o. comparable_member o (query_columns q tables rows)) h ∙ ap (comparable_member (Some (kinded x.kind x.bound))) k ∙ fit) tt
+      (λ fit. typed-Member tables rows x.expr q ∙ ap (λ o. comparable_member o (query_columns q tables rows)) h ∙ ap (comparable_member (Some (kinded x.kind x.bound))) k ∙ fit) tt
   member-in-typed x q (c ∷ d ∷ cs) h k = tt
 
   pub member-typed : (x : Scalar) (t : Relation) → IsTypedScalar rows x → IsTypedRelation tables rows t → IfOk (member x t) Typed
@@ -116,10 +83,10 @@ module _ (tables : List algebra.Columns) (rows : algebra.Scopes) where
     pub null-test-typed : (a : Sum) (n : Bool) → IfOk (null_test a n scopes) Typed
     null-test-typed a n =
         then-ok (IsTypedScalar rows) Typed (sum a scopes) (λ x. Ok (negated n (pred.IsNull x.expr))) (sum-typed a scopes rows s)
-        (λ x h. negated-typed tables rows n (pred.IsNull x.expr) (typed-IsNull x.expr tables rows ∙ ap is_some h))
+        (λ x h. negated-typed tables rows n (pred.IsNull x.expr) (typed-IsNull tables rows x.expr ∙ ap is_some h))
 
     one-of-typed : (x : Scalar) (es : List Expr) → IsTypedScalar rows x → AreComparable rows x.kind x.bound es → Typed (pred.OneOf x.expr es)
-    one-of-typed x es h k = typed-OneOf x.expr es tables rows ∙ ap (λ o. is_some o && all_comparable o es rows) h ∙ k
+    one-of-typed x es h k = typed-OneOf tables rows x.expr es ∙ ap (λ o. is_some o && all_comparable o es rows) h ∙ k
 
     pub list-test-typed : (a : Sum) (n : Bool) (head : Sum) (tail : List Sum) → IfOk (list_test a n head tail scopes) Typed
     list-test-typed a n head tail =

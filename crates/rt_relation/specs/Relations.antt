@@ -1,16 +1,16 @@
 -- Tables and set operators: their columns, and when their operands fit (ISO/IEC 9075-2, table
 -- reference, query expression).
-use Rattle.std.specs.Prelude.{ℕ, ◌+◌, ◌==◌, ◌&&◌, Bool, true, false, max, length, map, List, [], ◌∷◌, Option, Some, None, Result, Ok, Err, if◌then◌else◌}
+use Rattle.std.specs.Prelude.{ℕ, ◌+◌, ◌==◌, Bool, true, false, length, List, [], ◌∷◌, Option, Some, None, Result, Ok, Err, if◌then◌else◌}
 use Rattle.std.specs.Str.{bytes_eq}
-use Rattle.rt_algebra.specs.Columns as algebra
+use Rattle.rt_columns.specs.Columns as columns
 use Rattle.rt_algebra.specs.declared.query.Query.{Query}
 use Rattle.rt_algebra.specs.declared.query.Query.TheVariants as q
 use Rattle.rt_algebra.specs.declared.typed.Typed.{Typed}
 use Rattle.rt_relation.specs.declared.relation.Relation.{Relation}
 use Rattle.rt_relation.specs.declared.relation.TableRef.{TableRef}
-use Rattle.rt_schema.specs.Schema.{kind_eq}
 use Rattle.rt_schema.specs.declared.table.Column.{Column as TableColumn}
 use Rattle.rt_schema.specs.declared.table.Table.{Table}
+use Rattle.rt_scope.specs.Columns.{bounded, called}
 use Rattle.rt_scope.specs.Fault.{◌>>=◌}
 use Rattle.rt_scope.specs.Lookup.{Text}
 use Rattle.rt_scope.specs.declared.column.Column.{Column}
@@ -23,15 +23,12 @@ Tables = List Table
 
 -- the query with the kinds, bounds and names of its columns
 abbrev pub typed_of : Relation → Typed
-typed_of r = record { query = r.query; kinds = map (λ c. c.kind) r.columns; bounds = map (λ c. c.bound) r.columns; names = map (λ c. c.name) r.columns }
+typed_of r = columns.typed_of (λ c. c.kind) (λ c. c.bound) (λ c. c.name) r.query r.columns
 
 -- ---- tables
 
-abbrev pub table_column : TableColumn → Column
-table_column c = record { name = Some c.name; kind = c.kind; bound = (algebra.table_column c.kind).bound }
-
 abbrev pub table_columns : List TableColumn → List Column
-table_columns cs = map table_column cs
+table_columns cs = columns.table_columns called cs
 
 abbrev pub table_ref : Text → ℕ → Table → TableRef
 table_ref name at t = record { name = name; relation = record { query = q.Table at; columns = table_columns t.columns } }
@@ -48,19 +45,12 @@ alias_or (Some a) name = a.name.text
 
 -- ---- set operators
 
--- the first operand's name, and the greater bound
-abbrev pub wider : Column → Column → Column
-wider c d = record c { bound = max c.bound d.bound }
-
+-- the first operand's names, and the greater bounds
 abbrev pub widened : List Column → List Column → List Column
-widened [] ds = []
-widened (c ∷ cs) [] = []
-widened (c ∷ cs) (d ∷ ds) = wider c d ∷ widened cs ds
+widened cs ds = columns.widened (λ c. c.bound) bounded cs ds
 
 abbrev pub same_kinds : List Column → List Column → Bool
-same_kinds [] ds = true
-same_kinds (c ∷ cs) [] = true
-same_kinds (c ∷ cs) (d ∷ ds) = kind_eq c.kind d.kind && same_kinds cs ds
+same_kinds cs ds = columns.same_kinds (λ c. c.kind) cs ds
 
 -- the columns of two operands: Columns first, then TypeMismatch
 abbrev pub united_columns : List Column → List Column → Result (List Column) NameFault

@@ -7,35 +7,12 @@ ghost use Rattle.rt_value.specs.Gives.{Gives};
 
 use crate::relation::{Relation, TableRef};
 use rt_algebra::Query;
-use rt_schema::{ColKind, Column as TableColumn, Table};
-use rt_scope::{Column, NameFault, after};
+use rt_columns::table_columns;
+use rt_schema::Table;
+use rt_scope::{NameFault, after};
 use rt_tree::Alias;
-use rt_value::{Boxed, List, NoMemory, Txt};
+use rt_value::{Boxed, NoMemory, Txt};
 use std::alloc::Global;
-
-fn table_column(alloc: Global, column: &TableColumn) -> Result<Column, NoMemory>
-    ensures { IfOk result (λ c. c ≡ spec.table_column column.now) }
-{
-    let bound = match column.kind {
-        ColKind::Whole => 9_223_372_036_854_775_808,
-        ColKind::Text => 0,
-    };
-    Ok(Column {
-        name: Some(column.name.copy(alloc)?),
-        kind: column.kind,
-        bound,
-    })
-}
-
-fn table_columns(alloc: Global, columns: &[TableColumn]) -> Result<List<Column>, NoMemory>
-    ensures { IfOk result (λ all. all ≡ spec.table_columns columns.now) }
-{
-    let mut all = List::new(alloc);
-    for column in columns {
-        all.push(table_column(alloc, column)?)?;
-    }
-    Ok(all)
-}
 
 fn table_ref(alloc: Global, name: Txt, at: usize, table: &Table) -> Result<TableRef, NoMemory>
     ensures { IfOk result (λ t. t ≡ spec.table_ref name at table.now) }

@@ -1,5 +1,6 @@
 -- Kinds that are the same.
-use Rattle.std.proofs.Common.{◌≡◌, Bool, true, false, ◌&&◌, List, [], ◌∷◌, refl}
+use Rattle.std.proofs.Common.{◌≡◌, true, List, [], ◌∷◌, refl}
+use Rattle.rt_columns.proofs.Fitting.{and-left, and-right, kind-self}
 use Rattle.rt_resolve.specs.Shapes.{same_kinds}
 use Rattle.rt_schema.specs.Schema.{kind_eq}
 use Rattle.rt_schema.specs.declared.table.ColKind.{ColKind}
@@ -11,25 +12,13 @@ kind-same Whole Text h = cc
 kind-same Text Whole h = cc
 kind-same Text Text h = refl
 
-pub kind-self : (k : ColKind) → kind_eq k k ≡ true
-kind-self Whole = refl
-kind-self Text = refl
-
-left : (a b : Bool) → (a && b) ≡ true → a ≡ true
-left true b h = refl
-left false b h = cc
-
-right : (a b : Bool) → (a && b) ≡ true → b ≡ true
-right true b h = h
-right false b h = cc
-
 pub kinds-same : (ks ls : List ColKind) → same_kinds ks ls ≡ true → ks ≡ ls
 kinds-same [] [] h = refl
 kinds-same [] (l ∷ ls) h = cc
 kinds-same (k ∷ ks) [] h = cc
 kinds-same (k ∷ ks) (l ∷ ls) h =
-    let head = kind-same k l (left (kind_eq k l) (same_kinds ks ls) h) in
-    let rest = kinds-same ks ls (right (kind_eq k l) (same_kinds ks ls) h) in
+    let head = kind-same k l (and-left (kind_eq k l) (same_kinds ks ls) h) in
+    let rest = kinds-same ks ls (and-right (kind_eq k l) (same_kinds ks ls) h) in
     cc
 
 pub kinds-self : (ks : List ColKind) → same_kinds ks ks ≡ true

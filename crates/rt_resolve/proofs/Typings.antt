@@ -1,34 +1,26 @@
 -- Each query that has a meaning over the tables of a schema is typed over them.
-use Rattle.std.proofs.Common.{◌≡◌, ◌∙◌, ℕ, true, List, [], ◌∷◌, map, Result, Ok, Err, refl, sym, nat_eq, subst, arith}
+use Rattle.std.proofs.Common.{◌∙◌, [], Result, Ok, Err, sym, subst}
 use Rattle.std.specs.Prelude.{IfOk}
 use Rattle.std.proofs.lemmas.List.{length-map}
-use Rattle.rt_algebra.specs.Typed.{IsTypedOf, are_columns}
+use Rattle.rt_algebra.specs.Typed.{IsTypedOf}
 use Rattle.rt_algebra.specs.declared.typed.Typed.{Typed}
+use Rattle.rt_columns.proofs.Fitting.{all-fit}
 use Rattle.rt_resolve.specs.Chains.{chain, lowered}
 use Rattle.rt_relation.specs.Relations.{Tables, typed_of}
 use Rattle.rt_relation.specs.declared.relation.Relation.{Relation}
 use Rattle.rt_resolve.proofs.Inductive.{chain-typed}
 use Rattle.rt_relation.proofs.Sets.{IsTypedRelation}
-use Rattle.rt_resolve.proofs.Shaped.{kind-self}
 use Rattle.rt_relation.proofs.Sources.{tables_of}
 use Rattle.rt_scope.specs.Fault.{is_memory}
 use Rattle.rt_scope.specs.declared.column.Column.{Column}
 use Rattle.rt_scope.specs.declared.fault.NameFault.{NameFault}
-use Rattle.rt_scope.proofs.Standing.{columns_as}
 use Rattle.rt_scope.proofs.Steps.{then-ok}
 use Rattle.rt_tree.specs.declared.tree.Sql.{Sql}
 use Rattle.rt_value.specs.Gives.{Gives}
 
-same-bound : (n : ℕ) → nat_eq n n ≡ true
-same-bound n = grind (arith)
-
-all-fit : (cs : List Column) → are_columns (map (λ c. c.kind) cs) (map (λ c. c.bound) cs) (columns_as cs) ≡ true
-all-fit [] = refl
-all-fit (c ∷ cs) = rw (kind-self c.kind, same-bound c.bound, all-fit cs) refl
-
 relation-typed : (db : Tables) (r : Relation) → IsTypedRelation (tables_of db) [] r → IsTypedOf db (typed_of r)
 relation-typed db r h = record {
-  columns = rw h (all-fit r.columns);
+  columns = rw h (all-fit Column (λ c. c.kind) (λ c. c.bound) r.columns);
   names = length-map r.columns (λ c. c.name) ∙ sym (length-map r.columns (λ c. c.kind));
 }
 

@@ -1,14 +1,14 @@
 -- Each comparison and each list that has a meaning is typed under the rows in scope.
-use Rattle.std.proofs.Common.{◌≡◌, ◌∙◌, ℕ, Bool, true, false, ◌&&◌, List, [], ◌∷◌, ◌++◌, Option, Some, Ok, Err, refl, sym, ap}
+use Rattle.std.proofs.Common.{◌≡◌, ◌∙◌, ℕ, Bool, true, false, List, [], ◌∷◌, ◌++◌, Option, Some, Ok, Err, refl, ap}
 use Rattle.std.specs.Prelude.{IfOk}
 use Rattle.rt_algebra.specs.Columns as algebra
 use Rattle.rt_schema.specs.Schema.{kinds_match}
-use Rattle.rt_algebra.specs.Columns.{ConditionTest, QueryColumns, all_comparable, comparable, column_of, pred_typed, pred_typed_step, query_columns_step}
+use Rattle.rt_algebra.specs.Columns.{all_comparable, comparable, column_of, pred_typed}
 use Rattle.rt_algebra.specs.declared.expr.Expr.{Expr}
 use Rattle.rt_algebra.specs.declared.query.Pred.{Pred}
 use Rattle.rt_algebra.specs.declared.query.Pred.TheVariants as pred
-use Rattle.rt_algebra.specs.declared.query.Pred.TheOpen as layer
-use Rattle.rt_algebra.specs.declared.query.Pred.TheFolds.{fold-roll-Pred}
+use Rattle.rt_columns.proofs.Columned.{typed-Cmp, typed-Not}
+use Rattle.rt_columns.proofs.Fitting.{and-left, and-right, and-true}
 use Rattle.rt_schema.specs.declared.table.ColKind.{ColKind}
 use Rattle.rt_scope.specs.Compare.{compared, listed, listed_one, negated}
 use Rattle.rt_scope.specs.Fault.{◌>>=◌}
@@ -24,40 +24,23 @@ use Rattle.rt_value.specs.declared.value.Op.{Op}
 
 -- ---- the types of conditions
 
-pub typed-Cmp : (op : Op) (a b : Expr) (tables : List algebra.Columns) (rows : algebra.Scopes) → pred_typed (pred.Cmp op a b) tables rows ≡ comparable (column_of a rows) (column_of b rows)
-typed-Cmp op a b tables rows = ap (λ x. pred_typed x tables rows) (sym (pred.rolls-Cmp op a b)) ∙ ap (λ f. f tables rows) (fold-roll-Pred ConditionTest QueryColumns pred_typed_step query_columns_step (layer.Cmp op a b))
-
-typed-Not : (c : Pred) (tables : List algebra.Columns) (rows : algebra.Scopes) → pred_typed (pred.Not c) tables rows ≡ pred_typed c tables rows
-typed-Not c tables rows = ap (λ x. pred_typed x tables rows) (sym (pred.rolls-Not c)) ∙ ap (λ f. f tables rows) (fold-roll-Pred ConditionTest QueryColumns pred_typed_step query_columns_step (layer.Not c))
-
 abbrev pub IsTypedPred : List algebra.Columns → algebra.Scopes → Pred → Type 0
 IsTypedPred tables rows c = pred_typed c tables rows ≡ true
 
 pub negated-typed : (tables : List algebra.Columns) (rows : algebra.Scopes) (n : Bool) (c : Pred) → IsTypedPred tables rows c → IsTypedPred tables rows (negated n c)
-negated-typed tables rows true c h = typed-Not c tables rows ∙ h
+negated-typed tables rows true c h = typed-Not tables rows c ∙ h
 negated-typed tables rows false c h = h
 
 pub compared-typed : (tables : List algebra.Columns) (rows : algebra.Scopes) (op : Op) (x y : Scalar) → IsTypedScalar rows x → IsTypedScalar rows y
     → IfOk (compared op x y) (IsTypedPred tables rows)
 compared-typed tables rows op x y h k =
     if-ok (IsTypedPred tables rows) (kinds_match x.kind y.kind) (Ok (pred.Cmp op x.expr y.expr)) (Err TypeMismatch)
-    (λ fit. typed-Cmp op x.expr y.expr tables rows ∙ ap (λ o. comparable o (column_of y.expr rows)) h ∙ ap (comparable (Some (kinded x.kind x.bound))) k ∙ fit) tt
+    (λ fit. typed-Cmp tables rows op x.expr y.expr ∙ ap (λ o. comparable o (column_of y.expr rows)) h ∙ ap (comparable (Some (kinded x.kind x.bound))) k ∙ fit) tt
 
 -- ---- lists
 
 abbrev pub AreComparable : algebra.Scopes → Option ColKind → ℕ → List Expr → Type 0
 AreComparable rows k n es = all_comparable (Some (kinded k n)) es rows ≡ true
-
-and-true : (a b : Bool) → a ≡ true → b ≡ true → (a && b) ≡ true
-and-true a b p q = rw (p, q) refl
-
-and-left : (a b : Bool) → (a && b) ≡ true → a ≡ true
-and-left true b h = refl
-and-left false b h = cc
-
-and-right : (a b : Bool) → (a && b) ≡ true → b ≡ true
-and-right true b h = h
-and-right false b h = cc
 
 one-more-comparable : (c : Option algebra.Column) (es : List Expr) (e : Expr) (rows : algebra.Scopes) → all_comparable c es rows ≡ true → comparable c (column_of e rows) ≡ true
     → all_comparable c (es ++ e ∷ []) rows ≡ true

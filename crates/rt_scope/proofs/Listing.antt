@@ -7,6 +7,7 @@ use Rattle.rt_algebra.specs.Columns as algebra
 use Rattle.rt_algebra.specs.Columns.{column_of, item_columns, with_column as with_algebra}
 use Rattle.rt_algebra.specs.declared.expr.Expr.{Expr}
 use Rattle.rt_algebra.specs.declared.expr.Expr.TheVariants as expr
+use Rattle.rt_columns.proofs.Columned.{column-Col}
 use Rattle.rt_schema.specs.declared.table.ColKind.{ColKind}
 use Rattle.rt_scope.specs.Lookup.{Scopes, Text, source_named}
 use Rattle.rt_scope.specs.Select.{item_name, no_items, select_list, with_column, with_columns, with_item, with_items, with_source, with_sources, with_value}
@@ -15,7 +16,7 @@ use Rattle.rt_scope.specs.declared.column.Column.{Column}
 use Rattle.rt_scope.specs.declared.scalar.Scalar.{Scalar}
 use Rattle.rt_scope.specs.declared.select.SelectList.{SelectList}
 use Rattle.rt_scope.specs.declared.source.Source.{Source}
-use Rattle.rt_scope.proofs.Standing.{kinded, column_as, columns_as, column-Col, ScopesStand, SourceStands, SourcesStand, Stand, IsTypedScalar, source-stands}
+use Rattle.rt_scope.proofs.Standing.{kinded, column_as, columns_as, ScopesStand, SourceStands, SourcesStand, Stand, IsTypedScalar, source-stands}
 use Rattle.rt_scope.proofs.Steps.{then-ok}
 use Rattle.rt_scope.proofs.Summing.{sum-typed}
 use Rattle.rt_tree.specs.declared.tree.Item.{Item}
@@ -50,7 +51,7 @@ module _ (row : algebra.Columns) (rows : algebra.Scopes) where
   with-columns-typed : (list : SelectList) (at : ℕ) (cs : List Column) → Stand at cs row → IsTypedList (row ∷ rows) list → IsTypedList (row ∷ rows) (with_columns list at cs)
   with-columns-typed list at [] s h = h
   with-columns-typed list at (c ∷ cs) s h =
-      with-columns-typed (with_column list (expr.Col 0 at) c) (at + 1) cs s.1 (with-column-typed (row ∷ rows) list (expr.Col 0 at) c h (column-Col 0 at (row ∷ rows) ∙ s.0))
+      with-columns-typed (with_column list (expr.Col 0 at) c) (at + 1) cs s.1 (with-column-typed (row ∷ rows) list (expr.Col 0 at) c h (column-Col (row ∷ rows) 0 at ∙ s.0))
 
   with-sources-typed : (list : SelectList) (ss : List Source) → SourcesStand ss row → IsTypedList (row ∷ rows) list → IsTypedList (row ∷ rows) (with_sources list ss)
   with-sources-typed list [] s h = h

@@ -1,11 +1,9 @@
 -- Where the columns of the sources stand in the rows in scope, and what names mean there.
-use Rattle.std.proofs.Common.{◌≡◌, ◌∙◌, ℕ, suc, ◌+◌, Bool, true, false, List, [], ◌∷◌, map, Option, None, Some, Result, Err, sym, ap, arith, slice_get}
+use Rattle.std.proofs.Common.{◌≡◌, ◌∙◌, ℕ, suc, ◌+◌, Bool, true, false, List, [], ◌∷◌, map, Option, None, Some, Result, Err, ap, arith, slice_get}
 use Rattle.std.specs.Prelude.{IfOk, if◌then◌else◌}
 use Rattle.std.specs.Str.{bytes_eq}
 use Rattle.rt_algebra.specs.Columns as algebra
-use Rattle.rt_algebra.specs.declared.expr.Expr.TheVariants as expr
-use Rattle.rt_algebra.specs.declared.expr.Expr.TheOpen as expr_layer
-use Rattle.rt_algebra.specs.declared.expr.Expr.TheFolds.{fold-roll-Expr}
+use Rattle.rt_columns.proofs.Columned.{column-Col}
 use Rattle.rt_schema.specs.declared.table.ColKind.{ColKind}
 use Rattle.rt_scope.specs.Lookup.{Text, Scopes, is_named, found, see, seen_columns, seen_sources, meant, find_column, source_named, of_source, find_qualified}
 use Rattle.rt_scope.specs.declared.column.Column.{Column}
@@ -44,10 +42,6 @@ ScopesStand (s ∷ ss) (row ∷ rows) = SourcesStand s row × ScopesStand ss row
 -- an expression is typed under the rows, with its kind and its bound
 abbrev pub IsTypedScalar : algebra.Scopes → Scalar → Type 0
 IsTypedScalar rows x = algebra.column_of x.expr rows ≡ Some (kinded x.kind x.bound)
-
-pub column-Col : (up at : ℕ) (rows : algebra.Scopes) → algebra.column_of (expr.Col up at) rows ≡ algebra.column_at (slice_get rows up) at
-column-Col up at rows = ap (λ x. algebra.column_of x rows) (sym (expr.rolls-Col up at))
-    ∙ ap (λ f. f rows) (fold-roll-Expr (algebra.Scopes → Option algebra.Column) (algebra.Scopes → Option algebra.Column) algebra.expr_column_step algebra.term_column_step (expr_layer.Col up at))
 
 -- ---- columns that are seen
 
@@ -100,7 +94,7 @@ further all up row rows from k = let e : up + 1 + k ≡ up + suc k = omega arith
 meant-typed : (all : algebra.Scopes) (up : ℕ) (name : Text) (seen : Seen) (outer : Result Scalar NameFault) (row : algebra.Columns) → slice_get all up ≡ Some row
     → SeenStands row seen → IfOk outer (IsTypedScalar all) → IfOk (meant up name seen outer) (IsTypedScalar all)
 meant-typed all up name Nobody outer row at h k = k
-meant-typed all up name (One f) outer row at h k = column-Col up f.at all ∙ ap (λ o. algebra.column_at o f.at) at ∙ h
+meant-typed all up name (One f) outer row at h k = column-Col all up f.at ∙ ap (λ o. algebra.column_at o f.at) at ∙ h
 meant-typed all up name Many outer row at h k = tt
 
 pub column-typed : (all : algebra.Scopes) (up : ℕ) (name : Text) (ss : Scopes) (rows : algebra.Scopes) → RowsFrom all up rows → ScopesStand ss rows

@@ -1,27 +1,23 @@
 -- Each sum that has a meaning is typed under the rows in scope.
-use Rattle.std.proofs.Common.{◌≡◌, ◌∙◌, ℕ, ◌+◌, ◌-◌, ◌^◌, ◌*◌, Bool, true, false, List, [], ◌∷◌, ◌++◌, map, Option, None, Some, Result, Ok, Err, refl, sym, ap, subst, ℤ}
-use Rattle.std.specs.Prelude.{IfOk, if◌then◌else◌, nat_le, is_some, unsigned_abs, ◌==◌}
+use Rattle.std.proofs.Common.{◌≡◌, ◌∙◌, ℕ, ◌+◌, ◌-◌, ◌^◌, ◌*◌, Bool, true, false, List, [], ◌∷◌, ◌++◌, map, Option, None, Some, Ok, Err, refl, sym, ap, subst}
+use Rattle.std.specs.Prelude.{IfOk, if◌then◌else◌, nat_le, is_some, ◌==◌}
 use Rattle.std.specs.Option.{option_and_then}
 use Rattle.std.proofs.lemmas.List.{map-append}
 use Rattle.rt_algebra.specs.Columns as algebra
-use Rattle.rt_algebra.specs.Columns.{term_column, sum_bound, mul_bound, member_bound, step_bound, whole_column, kind_bound, expr_column_step, term_column_step}
-use Rattle.rt_algebra.specs.declared.expr.Expr.{Expr}
-use Rattle.rt_algebra.specs.declared.expr.Term.{Term}
+use Rattle.rt_algebra.specs.Columns.{term_column, sum_bound, mul_bound, member_bound, step_bound, whole_column, kind_bound}
 use Rattle.rt_algebra.specs.declared.expr.Expr.TheVariants as expr
-use Rattle.rt_algebra.specs.declared.expr.Expr.TheOpen as expr_layer
-use Rattle.rt_algebra.specs.declared.expr.Expr.TheFolds.{fold-roll-Expr, fold-roll-Term}
+use Rattle.rt_columns.proofs.Columned.{column-Int, column-Mul, column-Null, column-Sum, column-Text, column-term}
 use Rattle.rt_grammar.specs.declared.terminal.Name.{Name}
 use Rattle.rt_schema.specs.declared.table.ColKind.{ColKind}
 use Rattle.rt_schema.specs.declared.table.ColKind.TheVariants.{Whole, Text as Texts}
 use Rattle.rt_scope.specs.Fault.{◌>>=◌}
 use Rattle.rt_scope.specs.Lookup.{Scopes}
 use Rattle.rt_scope.specs.Sums.{Meaning, Link, term, added, no_terms, sum_of, added_all, has_more, sum_more, multiplied, no_factors, product_of, multiplied_all, product_more, is_odd, negative, signed, column_named, leaf_step, factor_step, mul_step, sum_step, link_step, leaf, factor, mul, sum, link}
-use Rattle.rt_scope.specs.declared.fault.NameFault.{NameFault}
 use Rattle.rt_scope.specs.declared.fault.NameFault.TheVariants.{ArithWidth, TypeMismatch}
 use Rattle.rt_scope.specs.declared.scalar.Scalar.{Scalar}
 use Rattle.rt_scope.specs.declared.sums.Factors.{Factors}
 use Rattle.rt_scope.specs.declared.sums.Terms.{Terms}
-use Rattle.rt_scope.proofs.Standing.{kinded, ScopesStand, IsTypedScalar, column-typed, qualified-typed, rows-from-first}
+use Rattle.rt_scope.proofs.Standing.{ScopesStand, IsTypedScalar, column-typed, qualified-typed, rows-from-first}
 use Rattle.rt_scope.proofs.Steps.{then-ok, if-ok}
 use Rattle.rt_tree.specs.declared.tree.Factor.{Factor}
 use Rattle.rt_tree.specs.declared.tree.Leaf.{Leaf}
@@ -32,30 +28,10 @@ use Rattle.rt_tree.specs.declared.tree.Leaf.TheOpen.{Sum-F, SumLink-F, Mul-F, Fa
 use Rattle.rt_tree.specs.declared.tree.Leaf.TheViews.{roll-Leaf, roll-Factor, roll-Mul, roll-Sum, roll-SumLink}
 use Rattle.rt_tree.specs.declared.tree.Leaf.TheFolds.{ind-Sum, map-Leaf, map-Factor, map-Mul, map-Sum, map-SumLink, fold-roll-Leaf, fold-roll-Factor, fold-roll-Mul, fold-roll-Sum, fold-roll-SumLink}
 
--- ---- the columns of the expressions
+-- ---- one member more
 
 abbrev Typing : Type 0
 Typing = algebra.Scopes → Option algebra.Column
-
-column-Int : (n : ℤ) (rows : algebra.Scopes) → algebra.column_of (expr.Int n) rows ≡ Some (algebra.column Whole (unsigned_abs n))
-column-Int n rows = ap (λ x. algebra.column_of x rows) (sym (expr.rolls-Int n)) ∙ ap (λ f. f rows) (fold-roll-Expr Typing Typing expr_column_step term_column_step (expr_layer.Int n))
-
-column-Text : (t : List ℕ) (rows : algebra.Scopes) → algebra.column_of (expr.Text t) rows ≡ Some (algebra.column Texts 0)
-column-Text t rows = ap (λ x. algebra.column_of x rows) (sym (expr.rolls-Text t)) ∙ ap (λ f. f rows) (fold-roll-Expr Typing Typing expr_column_step term_column_step (expr_layer.Text t))
-
-column-Null : (rows : algebra.Scopes) → algebra.column_of expr.Null rows ≡ Some (kinded None 0)
-column-Null rows = ap (λ x. algebra.column_of x rows) (sym expr.rolls-Null) ∙ ap (λ f. f rows) (fold-roll-Expr Typing Typing expr_column_step term_column_step expr_layer.Null)
-
-column-Sum : (ts : List Term) (rows : algebra.Scopes) → algebra.column_of (expr.Sum ts) rows ≡ whole_column (sum_bound 0 (map term_column ts) rows)
-column-Sum ts rows = ap (λ x. algebra.column_of x rows) (sym (expr.rolls-Sum ts)) ∙ ap (λ f. f rows) (fold-roll-Expr Typing Typing expr_column_step term_column_step (expr_layer.Sum ts))
-
-column-Mul : (es : List Expr) (rows : algebra.Scopes) → algebra.column_of (expr.Mul es) rows ≡ whole_column (mul_bound 1 (map algebra.column_of es) rows)
-column-Mul es rows = ap (λ x. algebra.column_of x rows) (sym (expr.rolls-Mul es)) ∙ ap (λ f. f rows) (fold-roll-Expr Typing Typing expr_column_step term_column_step (expr_layer.Mul es))
-
-column-term : (minus : Bool) (e : Expr) (rows : algebra.Scopes) → term_column (term minus e) rows ≡ algebra.column_of e rows
-column-term minus e rows = ap (λ f. f rows) (fold-roll-Term Typing Typing expr_column_step term_column_step (record { minus = minus; of = e }))
-
--- ---- one member more
 
 -- two computations that go on from the same value
 onward : (o : Option ℕ) (f g : ℕ → Option ℕ) (a : ℕ) (r : Option ℕ) → ((b : ℕ) → f b ≡ Some a → g b ≡ r) → option_and_then f o ≡ Some a → option_and_then g o ≡ r
@@ -108,7 +84,7 @@ added-typed rows all minus x s t =
     step plain small =
         ap (λ (fs : List Typing). sum_bound 0 fs rows) (map-append term_column all.terms (term minus x.expr ∷ []))
         ∙ sum-one-more rows (term_column (term minus x.expr)) all.bound (map term_column all.terms) 0 s
-        ∙ ap (λ o. option_and_then (λ b. option_and_then (λ n. Some n) (step_bound (all.bound + b))) (member_bound o)) (column-term minus x.expr rows ∙ t)
+        ∙ ap (λ o. option_and_then (λ b. option_and_then (λ n. Some n) (step_bound (all.bound + b))) (member_bound o)) (column-term rows minus x.expr ∙ t)
         ∙ ap (λ o. option_and_then (λ b. option_and_then (λ n. Some n) (step_bound (all.bound + b))) o) (numeric x.kind x.bound plain)
         ∙ ap (option_and_then (λ n. Some n)) (small-step (all.bound + x.bound) small)
 
@@ -125,10 +101,10 @@ multiplied-typed rows all x s t =
         ∙ ap (option_and_then (λ n. Some n)) (small-step (all.bound * x.bound) small)
 
 sum-of-typed : (rows : algebra.Scopes) (all : Terms) → TermsTyped rows all → IsTypedScalar rows (sum_of all)
-sum-of-typed rows all s = column-Sum all.terms rows ∙ ap whole_column s
+sum-of-typed rows all s = column-Sum rows all.terms ∙ ap whole_column s
 
 product-of-typed : (rows : algebra.Scopes) (all : Factors) → FactorsTyped rows all → IsTypedScalar rows (product_of all)
-product-of-typed rows all s = column-Mul all.factors rows ∙ ap whole_column s
+product-of-typed rows all s = column-Mul rows all.factors ∙ ap whole_column s
 
 -- ---- one layer of a sum, with the laws of its parts
 
@@ -229,8 +205,8 @@ abbrev below_link : SumLink-F SuchLeaf SuchFactor SuchMul SuchSum SuchLink → S
 below_link = map-SumLink SuchLeaf SuchFactor SuchMul SuchSum SuchLink Leaf Factor Mul Sum SumLink (λ t. t.0) (λ t. t.0) (λ t. t.0) (λ t. t.0) (λ t. t.0)
 
 leaf-layer : (y : Leaf-F SuchLeaf SuchFactor SuchMul SuchSum SuchLink) → IsTypedMeaning (leaf_step (map-Leaf Leaf Factor Mul Sum SumLink Meaning Meaning Meaning Meaning Link leaf factor mul sum link (below_leaf y)))
-leaf-layer (Number n) scopes rows s = column-Int n rows
-leaf-layer (Str t) scopes rows s = column-Text t rows
+leaf-layer (Number n) scopes rows s = column-Int rows n
+leaf-layer (Str t) scopes rows s = column-Text rows t
 leaf-layer Null scopes rows s = column-Null rows
 leaf-layer (Col source name) scopes rows s = column-named-typed source name scopes rows s
 leaf-layer (Paren t) scopes rows s = t.1 scopes rows s

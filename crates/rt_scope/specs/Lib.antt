@@ -1,3 +1,4 @@
+pub mod Columns
 pub mod Compare
 pub mod Fault
 pub mod Lookup

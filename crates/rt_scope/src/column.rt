@@ -1,6 +1,7 @@
 ghost use Rattle.std.specs.Prelude.{◌≡◌, IfOk};
 ghost use Rattle.rt_scope.specs.Lookup.{is_named};
 
+use rt_columns::Column as AnyColumn;
 use rt_schema::ColKind;
 use rt_value::{NoMemory, Txt};
 use std::alloc::Global;
@@ -27,14 +28,50 @@ impl Column {
     pub fn copy(&self, alloc: Global) -> Result<Column, NoMemory>
         ensures { IfOk result (λ c. c ≡ self.now) }
     {
-        let name = match &self.name {
-            Some(name) => Some(name.copy(alloc)?),
-            None => None,
-        };
         Ok(Column {
-            name,
+            name: self.name(alloc)?,
             kind: self.kind,
             bound: self.bound,
         })
+    }
+}
+
+impl AnyColumn for Column {
+    ghost use Rattle.rt_scope.specs.Columns.{bounded, called};
+
+    ghost kind_of = { λ c. c.kind };
+
+    ghost bound_of = { λ c. c.bound };
+
+    ghost name_of = { λ c. c.name };
+
+    ghost bounded = { bounded };
+
+    ghost named = { called };
+
+    fn kind(&self) -> ColKind {
+        self.kind
+    }
+
+    fn bound(&self) -> u128 {
+        self.bound
+    }
+
+    fn name(&self, alloc: Global) -> Result<Option<Txt>, NoMemory> {
+        match &self.name {
+            Some(name) => Ok(Some(name.copy(alloc)?)),
+            None => Ok(None),
+        }
+    }
+
+    fn with_bound(&self, alloc: Global, bound: u128) -> Result<Column, NoMemory> {
+        let mut column = self.copy(alloc)?;
+        column.bound = bound;
+        Ok(column)
+    }
+
+    fn new(name: Txt, kind: ColKind, bound: u128) -> Column {
+        let name = Some(name);
+        Column { name, kind, bound }
     }
 }

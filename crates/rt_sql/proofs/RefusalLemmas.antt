@@ -14,7 +14,7 @@ use Rattle.rt_token.specs.Reserved.{is_reserved}
 use Rattle.rt_token.specs.declared.token.Token.{Token}
 use Rattle.rt_token.specs.declared.token.TokenKind.{TokenKind}
 use Rattle.rt_token.specs.declared.token.TokenKind.TheVariants as kind
-use Rattle.rt_sql.specs.Depth.{is_left}
+use Rattle.rt_tree.specs.Nesting.{is_left}
 use Rattle.rt_sql.specs.Refusals.{begins_left, is_unsupported, one_of, refused_at, refused_word, unsupported, unsupported_to_like, unsupported_to_with}
 
 -- ---- words that no query may have are reserved

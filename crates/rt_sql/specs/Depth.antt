@@ -4,25 +4,11 @@ use Rattle.rt_token.specs.declared.sym.Sym.{Sym}
 use Rattle.rt_token.specs.declared.sym.Sym.TheVariants as sign
 use Rattle.rt_token.specs.declared.token.TokenKind.{TokenKind}
 use Rattle.rt_token.specs.declared.token.TokenKind.TheVariants as kind
-
-abbrev pub is_left_sign : Sym → Bool
-is_left_sign sign.Left = true
-is_left_sign y = false
-
-abbrev pub is_right_sign : Sym → Bool
-is_right_sign sign.Right = true
-is_right_sign y = false
+use Rattle.rt_tree.specs.Nesting.{is_sign, opens_too_many}
 
 abbrev pub is_minus_sign : Sym → Bool
 is_minus_sign sign.Minus = true
 is_minus_sign y = false
-
-abbrev pub is_sign : (Sym → Bool) → TokenKind → Bool
-is_sign f (kind.Word w) = false
-is_sign f (kind.Quoted t) = false
-is_sign f (kind.Number n) = false
-is_sign f (kind.Str t) = false
-is_sign f (kind.Sym y) = f y
 
 abbrev pub is_word : List ℕ → TokenKind → Bool
 is_word word (kind.Word w) = bytes_eq w word
@@ -31,26 +17,8 @@ is_word word (kind.Number n) = false
 is_word word (kind.Str t) = false
 is_word word (kind.Sym y) = false
 
-abbrev pub is_left : TokenKind → Bool
-is_left k = is_sign is_left_sign k
-
-abbrev pub is_right : TokenKind → Bool
-is_right k = is_sign is_right_sign k
-
 abbrev pub is_minus : TokenKind → Bool
 is_minus k = is_sign is_minus_sign k
-
-abbrev pub one_if : Bool → ℕ
-one_if true = 1
-one_if false = 0
-
--- at some token the `(` so far, with `opened` before, are more than 64 above the `)` so far, with
--- `closed` before
-abbrev pub opens_too_many : ℕ → ℕ → List TokenKind → Bool
-opens_too_many opened closed [] = false
-opens_too_many opened closed (k ∷ ks) =
-    nat_lt (closed + one_if (is_right k) + 64) (opened + one_if (is_left k))
-    || opens_too_many (opened + one_if (is_left k)) (closed + one_if (is_right k)) ks
 
 -- more than 64 words SELECT
 abbrev pub selects_too_many : List TokenKind → Bool

@@ -3,7 +3,8 @@ use Rattle.std.specs.Prelude.{◌≡◌, ℕ, Bool, true, false, not, ◌&&◌, 
 use Rattle.rt_grammar.specs.Places.{IsPlace}
 use Rattle.rt_grammar.specs.Terminals.{Word}
 use Rattle.rt_grammar.specs.Words.{kinds}
-use Rattle.rt_sql.specs.Depth.{is_deep, is_left}
+use Rattle.rt_sql.specs.Depth.{is_deep}
+use Rattle.rt_tree.specs.Nesting.{is_left}
 use Rattle.rt_sql.specs.Formed.{IsTreeOf}
 use Rattle.rt_sql.specs.declared.fault.SqlFault.{SqlFault}
 use Rattle.rt_sql.specs.declared.fault.SqlFault.TheVariants as fault

@@ -5,30 +5,13 @@ ghost use Rattle.rt_grammar.specs.Words.{kinds};
 ghost use Rattle.rt_sql.specs.Depth as spec;
 
 use rt_token::{Sym, Token, TokenKind};
+use rt_tree::opens_too_many;
 
-/// The most open parentheses, and the most words SELECT.
-pub const NESTED: usize = 64;
+/// The most words SELECT.
+pub const SELECTS: usize = 64;
 
 /// The most words NOT, and the most signs `-`, directly after one another.
 pub const REPEATED: usize = 8;
-
-pub fn is_left(kind: &TokenKind) -> bool
-    ensures { result ≡ spec.is_left kind.now }
-{
-    match kind {
-        TokenKind::Sym(Sym::Left) => true,
-        _ => false,
-    }
-}
-
-fn is_right(kind: &TokenKind) -> bool
-    ensures { result ≡ spec.is_right kind.now }
-{
-    match kind {
-        TokenKind::Sym(Sym::Right) => true,
-        _ => false,
-    }
-}
 
 fn is_minus(kind: &TokenKind) -> bool
     ensures { result ≡ spec.is_minus kind.now }
@@ -48,21 +31,6 @@ fn is_word(kind: &TokenKind, word: &str) -> bool
     }
 }
 
-fn opens_too_many(tokens: &[Token]) -> bool
-    ensures { result ≡ spec.opens_too_many 0 0 (kinds tokens.now) }
-{
-    let mut opened = 0_usize;
-    let mut closed = 0_usize;
-    for token in tokens {
-        opened += usize::from(is_left(&token.kind));
-        closed += usize::from(is_right(&token.kind));
-        if closed + NESTED < opened {
-            return true;
-        }
-    }
-    false
-}
-
 fn selects_too_many(tokens: &[Token]) -> bool
     ensures { result ≡ spec.selects_too_many (kinds tokens.now) }
 {
@@ -72,7 +40,7 @@ fn selects_too_many(tokens: &[Token]) -> bool
             selects += 1;
         }
     }
-    NESTED < selects
+    SELECTS < selects
 }
 
 fn repeats_not(tokens: &[Token]) -> bool

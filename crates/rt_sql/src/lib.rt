@@ -15,7 +15,8 @@ mod sources;
 mod tested;
 mod words;
 
-pub use depth::{NESTED, REPEATED};
+pub use depth::{REPEATED, SELECTS};
 pub use fault::SqlFault;
 pub use parser::{one_tree, parse, read_is_tree};
+pub use rt_tree::NESTED;
 pub use tested::{Range, Test};

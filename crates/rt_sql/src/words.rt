@@ -3,8 +3,8 @@
 ghost use Rattle.std.specs.Prelude.{◌≡◌, bytes_eq, option_map};
 ghost use Rattle.rt_sql.specs.Refusals as spec;
 
-use crate::depth::is_left;
 use rt_token::{Token, TokenKind, is_reserved};
+use rt_tree::is_left;
 use rt_value::Txt;
 
 fn is(word: &str, other: &str) -> bool

@@ -112,17 +112,21 @@ refusal_line most outcome.NoMemory = []
 abbrev pub usage_text : List ℕ
 usage_text = codes "usage: ratest SCHEMA DATADIR QUERY1 QUERY2 [--conflicts N] [--work N]\n       ratest made N [--conflicts N] [--work N]\n"
 
--- the text of an outcome that is no verdict; a fault of writing and want of memory have none
+-- the text of an outcome that is no verdict, for a command whose text for words that are none is
+-- `usage`; a fault of writing and want of memory have none
+abbrev pub stopped_text : List ℕ → ℕ → Outcome → List ℕ
+stopped_text usage most outcome.Agree = []
+stopped_text usage most (outcome.Witness keep) = []
+stopped_text usage most outcome.Usage = usage
+stopped_text usage most (outcome.Refused part fault) = refusal_line most (outcome.Refused part fault)
+stopped_text usage most (outcome.Spent s) = []
+stopped_text usage most (outcome.Limit limit) = refusal_line most (outcome.Limit limit)
+stopped_text usage most (outcome.ReadFault part) = refusal_line most (outcome.ReadFault part)
+stopped_text usage most outcome.WriteFault = []
+stopped_text usage most outcome.NoMemory = []
+
 abbrev pub refusal_text : ℕ → Outcome → List ℕ
-refusal_text most outcome.Agree = []
-refusal_text most (outcome.Witness keep) = []
-refusal_text most outcome.Usage = usage_text
-refusal_text most (outcome.Refused part fault) = refusal_line most (outcome.Refused part fault)
-refusal_text most (outcome.Spent s) = []
-refusal_text most (outcome.Limit limit) = refusal_line most (outcome.Limit limit)
-refusal_text most (outcome.ReadFault part) = refusal_line most (outcome.ReadFault part)
-refusal_text most outcome.WriteFault = []
-refusal_text most outcome.NoMemory = []
+refusal_text most o = stopped_text usage_text most o
 
 -- verdicts belong to the first sink, all other texts to the second
 abbrev pub place : Outcome → Place

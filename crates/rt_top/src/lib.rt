@@ -1,6 +1,7 @@
 //! The whole of a command: its words, its texts, its verdict and what it says.
 #![tactic(auto)]
 
+mod budget;
 mod decision;
 mod faults;
 mod first;
@@ -13,11 +14,13 @@ mod query;
 mod read;
 mod say;
 mod source;
+mod stopped;
 mod tables;
 mod text;
 mod top;
 mod verdicts;
 
+pub use budget::{GivenUp, given_up};
 pub use decision::{decide, decide_beside, decide_between};
 pub use first::{First, read_first};
 pub use input::Input;
@@ -27,6 +30,7 @@ pub use query::{like_left, query_of};
 pub use read::{read_input, read_words, within_limit, work_between};
 pub use rt_search::{Best, SpentBest};
 pub use say::{USAGE, fault_text, lex_text, part_text, refusal_line};
+pub use stopped::stopped_text;
 pub use tables::{Tables, read_tables};
 pub use text::read_text;
 pub use top::ratest;

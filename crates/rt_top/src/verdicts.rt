@@ -1,15 +1,16 @@
 //! Verdicts on an input, and their texts.
-ghost use Rattle.std.specs.Prelude.{◌≡◌, IfOk, Some};
+ghost use Rattle.std.specs.Prelude.{◌≡◌, IfOk};
 ghost use Rattle.rt_top.specs.Answers.{Judges};
-ghost use Rattle.rt_top.specs.Smallest.{IsGivenUp, IsSmallest};
-ghost use Rattle.rt_top.specs.Texts.{agree_of, spent_of, witness_of};
+ghost use Rattle.rt_top.specs.Smallest.{IsSmallest};
+ghost use Rattle.rt_top.specs.Texts.{agree_of, witness_of};
 
+use crate::budget::{GivenUp, given_up};
 use crate::decision::decide;
 use crate::input::Input;
-use crate::outcome::{Outcome, Spent};
+use crate::outcome::Outcome;
 use rt_eval::answers;
-use rt_print::{MadeVerdict, made_text, spent_text, witness_text};
-use rt_search::{Best, SpentBest};
+use rt_print::{MadeVerdict, made_text, witness_text};
+use rt_search::Best;
 use rt_value::{Bytes, Keep, List, NoMemory};
 use std::alloc::Global;
 
@@ -50,39 +51,6 @@ fn witness_of(alloc: Global, input: &Input, keep: &Keep) -> Result<Bytes, NoMemo
     )
 }
 
-fn spent_of(alloc: Global, input: &Input, spent: &Spent) -> Result<Bytes, NoMemory>
-    requires { IsGivenUp input.now spent.now.budget spent.now.best spent.now.least spent.now.nogoods }
-    ensures { IfOk result (λ text. text ≡ spent_of input.now spent.now) }
-{
-    let schema = input.schema();
-    if let Some(n) = input.made() {
-        return made_text(alloc, n, MadeVerdict::Undecided(spent.budget));
-    }
-    spent_text(
-        alloc,
-        schema,
-        input.given(),
-        spent.budget,
-        spent.best.as_ref(),
-    )
-}
-
-fn given_up(alloc: Global, input: &Input, budget: u64, found: SpentBest) -> Result<Answer, NoMemory>
-    requires budget { input.now.conflicts ≡ Some budget }
-    requires given_up { IsGivenUp input.now budget found.best found.least found.nogoods }
-    ensures { IfOk result (λ a. Judges input.now a.outcome a.text) }
-{
-    let spent = Spent {
-        budget,
-        best: found.best,
-        least: found.least,
-        nogoods: found.nogoods,
-    };
-    let text = spent_of(alloc, input, &spent)?;
-    let outcome = Outcome::Spent(spent);
-    Ok(Answer { outcome, text })
-}
-
 /// What is to be said of an accepted input: agreement, a smallest counterexample, or that the budget
 /// is spent.
 pub fn verdict(alloc: Global, input: &Input) -> Result<Answer, NoMemory>
@@ -100,7 +68,11 @@ pub fn verdict(alloc: Global, input: &Input) -> Result<Answer, NoMemory>
             Ok(Answer { outcome, text })
         }
         Best::Spent(found) => match input.conflicts() {
-            Some(budget) => given_up(alloc, input, budget, found),
+            Some(budget) => {
+                let GivenUp { spent, text } = given_up(alloc, input, budget, found)?;
+                let outcome = Outcome::Spent(spent);
+                Ok(Answer { outcome, text })
+            }
             None => unreachable!(),
         },
     }
