@@ -2,8 +2,9 @@
 
 ghost use Rattle.std.specs.Prelude.{◌≡◌};
 ghost use Rattle.rt_ddl_tree.specs.TestReads as spec;
-ghost use Rattle.rt_grammar.specs.Readers.{list_of};
+ghost use Rattle.rt_grammar.specs.Readers.{both, lead, list_of};
 ghost use Rattle.rt_grammar.specs.Reads.{Reads};
+ghost use Rattle.rt_grammar.specs.declared.fixed.Fixed.TheVariants as fixed;
 
 use crate::test_tree::{Test, TestForm, TestLeaf, TestPart, TestSide};
 use rt_grammar::{
@@ -72,6 +73,23 @@ fn more_sides<'t>(
     Ok((items, rest))
 }
 
+// A side and those after it.
+fn side_list<'t>(
+    alloc: Global,
+    terminals: &'t [Terminal],
+) -> Result<((TestSide, List<TestSide>), &'t [Terminal]), ReadFault>
+    ensures { Reads result (both spec.read_side (list_of spec.side_step) terminals.now) }
+{
+    let (head, rest) = side(alloc, terminals)?;
+    match more_sides(alloc, rest) {
+        Ok((tail, rest)) => Ok(((head, tail), rest)),
+        Err(fault) => {
+            drop(head);
+            Err(fault)
+        }
+    }
+}
+
 // Sides in parentheses.
 #[tactic(auto, unfolding(crate::specs::TestReads::read_sides))]
 fn sides<'t>(
@@ -81,9 +99,14 @@ fn sides<'t>(
     ensures { Reads result (spec.read_sides terminals.now) }
 {
     let rest = expect(terminals, Fixed::Left)?;
-    let (head, rest) = side(alloc, rest)?;
-    let (tail, rest) = more_sides(alloc, rest)?;
-    Ok(((head, tail), expect(rest, Fixed::Right)?))
+    let (sides, rest) = side_list(alloc, rest)?;
+    match expect(rest, Fixed::Right) {
+        Ok(rest) => Ok((sides, rest)),
+        Err(fault) => {
+            drop(sides);
+            Err(fault)
+        }
+    }
 }
 
 #[tactic(auto, unfolding(crate::specs::TestReads::read_compared))]
@@ -115,6 +138,16 @@ fn is_null<'t>(
     Ok((TestForm::IsNull(side, not), rest))
 }
 
+// IN and its sides.
+fn listed<'t>(
+    alloc: Global,
+    terminals: &'t [Terminal],
+) -> Result<((TestSide, List<TestSide>), &'t [Terminal]), ReadFault>
+    ensures { Reads result (lead fixed.In spec.read_sides terminals.now) }
+{
+    sides(alloc, expect(terminals, Fixed::In)?)
+}
+
 #[tactic(auto, unfolding(crate::specs::TestReads::read_one_of))]
 fn one_of<'t>(
     alloc: Global,
@@ -124,9 +157,13 @@ fn one_of<'t>(
 {
     let (side, rest) = side(alloc, terminals)?;
     let (not, rest) = flag(rest, Fixed::Not);
-    let rest = expect(rest, Fixed::In)?;
-    let ((head, tail), rest) = sides(alloc, rest)?;
-    Ok((TestForm::OneOf(side, not, head, tail), rest))
+    match listed(alloc, rest) {
+        Ok(((head, tail), rest)) => Ok((TestForm::OneOf(side, not, head, tail), rest)),
+        Err(fault) => {
+            drop(side);
+            Err(fault)
+        }
+    }
 }
 
 // BETWEEN and its bounds.
@@ -241,8 +278,13 @@ fn part<'t>(
     ensures { Reads result (spec.read_part terminals.now) }
 {
     let (head, rest) = leaf(alloc, terminals)?;
-    let (tail, rest) = more_leaves(alloc, rest)?;
-    Ok((TestPart { head, tail }, rest))
+    match more_leaves(alloc, rest) {
+        Ok((tail, rest)) => Ok((TestPart { head, tail }, rest)),
+        Err(fault) => {
+            drop(head);
+            Err(fault)
+        }
+    }
 }
 
 fn more_parts<'t>(
@@ -266,8 +308,13 @@ fn test<'t>(alloc: Global, terminals: &'t [Terminal]) -> Result<(Test, &'t [Term
     ensures { Reads result (spec.read_test terminals.now) }
 {
     let (head, rest) = part(alloc, terminals)?;
-    let (tail, rest) = more_parts(alloc, rest)?;
-    Ok((Test { head, tail }, rest))
+    match more_parts(alloc, rest) {
+        Ok((tail, rest)) => Ok((Test { head, tail }, rest)),
+        Err(fault) => {
+            drop(head);
+            Err(fault)
+        }
+    }
 }
 
 /// A condition in parentheses.
@@ -280,5 +327,11 @@ pub fn condition<'t>(
 {
     let rest = expect(terminals, Fixed::Left)?;
     let (test, rest) = test(alloc, rest)?;
-    Ok((test, expect(rest, Fixed::Right)?))
+    match expect(rest, Fixed::Right) {
+        Ok(rest) => Ok((test, rest)),
+        Err(fault) => {
+            drop(test);
+            Err(fault)
+        }
+    }
 }

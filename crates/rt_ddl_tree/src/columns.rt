@@ -159,13 +159,15 @@ fn column_rule<'t>(
     ensures { Reads result (spec.read_column_rule terminals.now) }
 {
     if let Some(rest) = after(terminals, Fixed::Not) {
-        return Ok((ColumnRule::NotNull, expect(rest, Fixed::Null)?));
+        let rest = expect(rest, Fixed::Null)?;
+        return Ok((ColumnRule::NotNull, rest));
     }
     if let Some(rest) = after(terminals, Fixed::Null) {
         return Ok((ColumnRule::Null, rest));
     }
     if let Some(rest) = after(terminals, Fixed::Primary) {
-        return Ok((ColumnRule::PrimaryKey, expect_word(rest, "key")?));
+        let rest = expect_word(rest, "key")?;
+        return Ok((ColumnRule::PrimaryKey, rest));
     }
     other_column_rule(alloc, terminals)
 }

@@ -2,7 +2,7 @@
 
 ghost use Rattle.std.specs.Prelude.{◌≡◌, codes};
 ghost use Rattle.rt_ddl_tree.specs.Reads as spec;
-ghost use Rattle.rt_grammar.specs.Readers.{lead, lead_word, list_of, made as made_spec};
+ghost use Rattle.rt_grammar.specs.Readers.{both, lead, lead_word, list_of, made as made_spec, read_name};
 ghost use Rattle.rt_grammar.specs.Reads.{Answers, Reads};
 ghost use Rattle.rt_grammar.specs.declared.fixed.Fixed.TheVariants as fixed;
 
@@ -16,6 +16,19 @@ use rt_grammar::{
 use rt_value::List;
 use std::alloc::Global;
 
+// REFERENCES, a table and its columns.
+fn references<'t>(
+    alloc: Global,
+    terminals: &'t [Terminal],
+) -> Result<((Name, Option<Names>), &'t [Terminal]), ReadFault>
+    ensures { Reads result (lead fixed.References (both read_name spec.read_maybe_names) terminals.now) }
+{
+    let rest = expect(terminals, Fixed::References)?;
+    let (table, rest) = name(alloc, rest)?;
+    let (to, rest) = maybe_names(alloc, rest)?;
+    Ok(((table, to), rest))
+}
+
 // What follows the words FOREIGN KEY.
 #[tactic(auto, unfolding(crate::specs::Reads::read_foreign))]
 fn foreign<'t>(
@@ -25,10 +38,8 @@ fn foreign<'t>(
     ensures { Reads result (spec.read_foreign terminals.now) }
 {
     let (from, rest) = names(alloc, terminals)?;
-    let rest = expect(rest, Fixed::References)?;
-    let (table, rest) = name(alloc, rest)?;
-    let (to, rest) = maybe_names(alloc, rest)?;
-    Ok(((from, (table, to)), rest))
+    let (references, rest) = references(alloc, rest)?;
+    Ok(((from, references), rest))
 }
 
 // Names after the word KEY.
@@ -157,6 +168,23 @@ fn more_items<'t>(
     Ok((items, rest))
 }
 
+// An item and those after it.
+fn item_list<'t>(
+    alloc: Global,
+    terminals: &'t [Terminal],
+) -> Result<((Item, List<Item>), &'t [Terminal]), ReadFault>
+    ensures { Reads result (both spec.read_item (list_of spec.item_step) terminals.now) }
+{
+    let (head, rest) = item(alloc, terminals)?;
+    match more_items(alloc, rest) {
+        Ok((tail, rest)) => Ok(((head, tail), rest)),
+        Err(fault) => {
+            drop(head);
+            Err(fault)
+        }
+    }
+}
+
 #[tactic(auto, unfolding(crate::specs::Reads::read_items))]
 fn items<'t>(
     alloc: Global,
@@ -165,9 +193,14 @@ fn items<'t>(
     ensures { Reads result (spec.read_items terminals.now) }
 {
     let rest = expect(terminals, Fixed::Left)?;
-    let (head, rest) = item(alloc, rest)?;
-    let (tail, rest) = more_items(alloc, rest)?;
-    Ok(((head, tail), expect(rest, Fixed::Right)?))
+    let (items, rest) = item_list(alloc, rest)?;
+    match expect(rest, Fixed::Right) {
+        Ok(rest) => Ok((items, rest)),
+        Err(fault) => {
+            drop(items);
+            Err(fault)
+        }
+    }
 }
 
 // A table's name and what it is made of.
@@ -263,6 +296,23 @@ fn more_creates<'t>(
     Ok((items, rest))
 }
 
+// A table and those after it.
+fn creates<'t>(
+    alloc: Global,
+    terminals: &'t [Terminal],
+) -> Result<((Create, List<Create>), &'t [Terminal]), ReadFault>
+    ensures { Reads result (both spec.read_create (list_of spec.create_step) terminals.now) }
+{
+    let (head, rest) = create(alloc, terminals)?;
+    match more_creates(alloc, rest) {
+        Ok((tail, rest)) => Ok(((head, tail), rest)),
+        Err(fault) => {
+            drop(head);
+            Err(fault)
+        }
+    }
+}
+
 /// The tree of all the terminals.
 #[tactic(auto, unfolding(crate::specs::Reads::read_text))]
 pub fn text(alloc: Global, terminals: &[Terminal]) -> Result<SchemaText, ReadFault>
@@ -271,8 +321,12 @@ pub fn text(alloc: Global, terminals: &[Terminal]) -> Result<SchemaText, ReadFau
     if terminals.is_empty() {
         return Ok(SchemaText::Empty);
     }
-    let (head, rest) = create(alloc, terminals)?;
-    let (tail, rest) = more_creates(alloc, rest)?;
-    let semi = end(rest)?;
-    Ok(SchemaText::Creates(head, tail, semi))
+    let ((head, tail), rest) = creates(alloc, terminals)?;
+    match end(rest) {
+        Ok(semi) => Ok(SchemaText::Creates(head, tail, semi)),
+        Err(fault) => {
+            drop((head, tail));
+            Err(fault)
+        }
+    }
 }

@@ -1,6 +1,7 @@
 //! Copies of conditions.
 
 ghost use Rattle.std.specs.Prelude.{◌≡◌, IfOk};
+ghost use Rattle.rt_ddl_tree.specs.declared.test_tree.TestForm.TheVariants as forms;
 
 use crate::test_tree::{Test, TestForm, TestLeaf, TestPart, TestSide};
 use rt_grammar::Name;
@@ -38,26 +39,67 @@ fn sides(alloc: Global, sides: &[TestSide]) -> Result<List<TestSide>, NoMemory>
     Ok(copies)
 }
 
+fn two_sides(
+    alloc: Global,
+    first: &TestSide,
+    second: &TestSide,
+) -> Result<(TestSide, TestSide), NoMemory>
+    ensures { IfOk result (λ two. two ≡ (first.now, second.now)) }
+{
+    let first = side(alloc, first)?;
+    match side(alloc, second) {
+        Ok(second) => Ok((first, second)),
+        Err(error) => {
+            drop(first);
+            Err(error)
+        }
+    }
+}
+
+fn between(
+    alloc: Global,
+    left: &TestSide,
+    not: bool,
+    low: &TestSide,
+    high: &TestSide,
+) -> Result<TestForm, NoMemory>
+    ensures { IfOk result (λ f. f ≡ forms.Between left.now not low.now high.now) }
+{
+    let left = side(alloc, left)?;
+    match two_sides(alloc, low, high) {
+        Ok((low, high)) => Ok(TestForm::Between(left, not, low, high)),
+        Err(error) => {
+            drop(left);
+            Err(error)
+        }
+    }
+}
+
+fn one_of(
+    alloc: Global,
+    left: &TestSide,
+    not: bool,
+    head: &TestSide,
+    tail: &[TestSide],
+) -> Result<TestForm, NoMemory>
+    ensures { IfOk result (λ f. f ≡ forms.OneOf left.now not head.now tail.now) }
+{
+    let tail = sides(alloc, tail)?;
+    let (left, head) = two_sides(alloc, left, head)?;
+    Ok(TestForm::OneOf(left, not, head, tail))
+}
+
 fn form(alloc: Global, form: &TestForm) -> Result<TestForm, NoMemory>
     ensures { IfOk result (λ f. f ≡ form.now) }
 {
     match form {
         TestForm::Cmp(left, op, right) => {
-            let left = side(alloc, left)?;
-            Ok(TestForm::Cmp(left, *op, side(alloc, right)?))
+            let (left, right) = two_sides(alloc, left, right)?;
+            Ok(TestForm::Cmp(left, *op, right))
         }
         TestForm::IsNull(left, not) => Ok(TestForm::IsNull(side(alloc, left)?, *not)),
-        TestForm::Between(left, not, low, high) => {
-            let left = side(alloc, left)?;
-            let low = side(alloc, low)?;
-            Ok(TestForm::Between(left, *not, low, side(alloc, high)?))
-        }
-        TestForm::OneOf(left, not, head, tail) => {
-            let left = side(alloc, left)?;
-            let head = side(alloc, head)?;
-            let tail = sides(alloc, tail.as_slice())?;
-            Ok(TestForm::OneOf(left, *not, head, tail))
-        }
+        TestForm::Between(left, not, low, high) => between(alloc, left, *not, low, high),
+        TestForm::OneOf(left, not, head, tail) => one_of(alloc, left, *not, head, tail.as_slice()),
     }
 }
 
@@ -84,8 +126,8 @@ fn leaves(alloc: Global, leaves: &[TestLeaf]) -> Result<List<TestLeaf>, NoMemory
 fn part(alloc: Global, part: &TestPart) -> Result<TestPart, NoMemory>
     ensures { IfOk result (λ p. p ≡ part.now) }
 {
-    let head = leaf(alloc, &part.head)?;
     let tail = leaves(alloc, part.tail.as_slice())?;
+    let head = leaf(alloc, &part.head)?;
     Ok(TestPart { head, tail })
 }
 
@@ -103,8 +145,8 @@ impl Test {
     pub fn copy(&self, alloc: Global) -> Result<Test, NoMemory>
         ensures { IfOk result (λ t. t ≡ self.now) }
     {
-        let head = part(alloc, &self.head)?;
         let tail = parts(alloc, self.tail.as_slice())?;
+        let head = part(alloc, &self.head)?;
         Ok(Test { head, tail })
     }
 }

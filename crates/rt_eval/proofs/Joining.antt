@@ -60,11 +60,6 @@ pub at_except : {q : Query} (a b : Query) (db : Tables) (env : Env) → q ≡ v.
 at_except a b db env h =
     sym (ap (λ f. f db env) (fold-roll-Query Condition Answer (pred_step wrapped) (query_step wrapped) (Except a b))) ∙ ap (λ x. answer_by wrapped x db env) (v.rolls-Except a b ∙ sym h)
 
--- what is left to test
-pub nothing : {X : Type 0} (xs : List X) → length xs < 1 → xs ≡ []
-nothing [] l = refl
-nothing (x ∷ xs) l = absurd (omega (arith, l))
-
 -- widths
 pub uneven : (widths : List ℕ) (members : List Rows) → length widths ≢ length members → false ≡ are_wide widths members
 uneven [] [] h = absurd (h refl)

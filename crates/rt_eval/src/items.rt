@@ -7,11 +7,12 @@ ghost use Rattle.rt_eval.specs.Items.{items_where};
 ghost use Rattle.rt_eval.specs.Pairs.{all_joined};
 
 use crate::condition::{is_yes, pred};
-use crate::join::{are_wide, chosen, product, widths};
+use crate::join::product;
 use crate::lists::{projected, table_rows};
+use crate::narrow::narrow_pairs;
 use crate::pairs::Pairs;
 use crate::query::{answer, each_answer};
-use rt_algebra::{Expr, Pred, Query, row, scope, split};
+use rt_algebra::{Expr, Pred, Query, row, scope};
 use rt_value::{List, NoMemory, Row};
 use std::alloc::Global;
 
@@ -71,26 +72,25 @@ fn product_items(
 ) -> Result<List<Row>, NoMemory>
     ensures { IfOk result (λ out. out ≡ items_where condition.now items.now tables.now (map (λ s. s.now) env.now) (product_rows ([] ∷ []) members.now)) }
 {
-    let widths = widths(alloc, members)?;
-    if !are_wide(widths.as_slice(), members) {
-        let rows = product(alloc, members)?;
-        let out = row_items(
-            alloc,
-            List::new(alloc),
-            rows.as_slice(),
-            condition,
-            items,
-            tables,
-            env,
-        )?;
-        return Ok(out);
+    match narrow_pairs(alloc, members, condition, env)? {
+        None => {
+            let rows = product(alloc, members)?;
+            let out = row_items(
+                alloc,
+                List::new(alloc),
+                rows.as_slice(),
+                condition,
+                items,
+                tables,
+                env,
+            )?;
+            Ok(out)
+        }
+        Some(pairs) => {
+            let out = pair_items(alloc, &pairs, condition, items, tables, env)?;
+            Ok(out)
+        }
     }
-    let parts = split(alloc, condition, widths.as_slice())?;
-    drop(widths);
-    let pairs = chosen(alloc, members, &parts, env)?;
-    drop(parts);
-    let out = pair_items(alloc, &pairs, condition, items, tables, env)?;
-    Ok(out)
 }
 
 /// The items for each of the joined rows on which the condition is true. Not all of the rows stand

@@ -2,13 +2,13 @@
 ghost use Rattle.std.specs.Prelude.{◌≡◌, ◌∷◌, [], length, map, nat_eq, slice_index_or, IfOk};
 ghost use Rattle.std.specs.List.{filter, list_all};
 ghost use Rattle.rt_algebra.specs.Expression.{wrapped};
-ghost use Rattle.rt_algebra.specs.Join.{are_wide, joined_rows, product_rows};
+ghost use Rattle.rt_algebra.specs.Join.{are_wide, joined_rows, matched, product_rows};
 ghost use Rattle.rt_algebra.specs.Split.{all_simple};
 ghost use Rattle.rt_eval.specs.Pairs.{all_joined};
 
 use crate::lists::joined;
 use crate::pairs::Pairs;
-use rt_algebra::{Pred, Split, all_true, scope};
+use rt_algebra::{KeyPair, Pred, Split, all_true, scope};
 use rt_value::{List, NoMemory, Row};
 use std::alloc::Global;
 
@@ -35,11 +35,33 @@ pub fn chosen(
 {
     let mut pairs = Pairs::matched(alloc, &[], unit(alloc)?, unit(alloc)?)?;
     for (at, rows) in members.iter().enumerate() {
-        let own = own_rows(alloc, rows.as_slice(), parts.own_of(at), env)?;
-        let befores = pairs.joined(alloc)?;
-        pairs = Pairs::matched(alloc, parts.keys_of(at), befores, own)?;
+        pairs = joined_to(
+            alloc,
+            &pairs,
+            rows.as_slice(),
+            parts.own_of(at),
+            parts.keys_of(at),
+            env,
+        )?;
     }
     Ok(pairs)
+}
+
+/// The pairs joined to those rows of one more member on which its own conditions and keys hold.
+fn joined_to(
+    alloc: Global,
+    pairs: &Pairs,
+    rows: &[Row],
+    conditions: &[Pred],
+    keys: &[KeyPair],
+    env: &[&Row],
+) -> Result<Pairs, NoMemory>
+    ensures { IfOk result (λ p. all_joined p.befores p.rows p.places ≡ matched keys.now (all_joined pairs.now.befores pairs.now.rows pairs.now.places) (filter (λ r. all_simple wrapped conditions.now (r ∷ map (λ s. s.now) env.now)) rows.now)) }
+{
+    let own = own_rows(alloc, rows, conditions, env)?;
+    let befores = pairs.joined(alloc)?;
+    let more = Pairs::matched(alloc, keys, befores, own)?;
+    Ok(more)
 }
 
 /// The same, joined.

@@ -7,6 +7,7 @@ mod items;
 mod join;
 mod kept;
 mod lists;
+mod narrow;
 mod pairs;
 mod query;
 mod rows;

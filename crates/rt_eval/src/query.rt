@@ -6,9 +6,10 @@ ghost use Rattle.rt_algebra.specs.Join.{product_rows};
 
 use crate::condition::{is_yes, pred};
 use crate::items::projection;
-use crate::join::{are_wide, chosen_rows, product, widths};
+use crate::join::product;
 use crate::lists::{appended, common, difference, table_rows};
-use rt_algebra::{Pred, Query, scope, split};
+use crate::narrow::narrow;
+use rt_algebra::{Pred, Query, scope};
 use rt_value::{List, NoMemory, Row};
 use std::alloc::Global;
 
@@ -89,8 +90,7 @@ fn selected(
     Ok(out)
 }
 
-/// The rows of a product whose condition is true. Most often the members' own conditions and the
-/// keys are all of it; else the whole condition is tested again, on the rows that they leave.
+/// The rows of a product whose condition is true.
 #[cycle(answer)]
 fn product_selected(
     alloc: Global,
@@ -101,22 +101,12 @@ fn product_selected(
 ) -> Result<List<Row>, NoMemory>
     ensures { IfOk result (λ out. out ≡ filter (λ r. is_yes (pred_by wrapped condition.now tables.now (r ∷ map (λ s. s.now) env.now))) (product_rows ([] ∷ []) members.now)) }
 {
-    let widths = widths(alloc, members)?;
-    if !are_wide(widths.as_slice(), members) {
-        let rows = product(alloc, members)?;
-        let out = selected(alloc, rows.as_slice(), condition, tables, env)?;
-        return Ok(out);
+    let narrowed = narrow(alloc, members, condition, env)?;
+    if narrowed.are_chosen {
+        return Ok(narrowed.rows);
     }
-    let parts = split(alloc, condition, widths.as_slice())?;
-    drop(widths);
-    let rows = chosen_rows(alloc, members, &parts, env)?;
-    match parts.rest.as_slice() {
-        [] => Ok(rows),
-        [_, ..] => {
-            let out = selected(alloc, rows.as_slice(), condition, tables, env)?;
-            Ok(out)
-        }
-    }
+    let out = selected(alloc, narrowed.rows.as_slice(), condition, tables, env)?;
+    Ok(out)
 }
 
 /// The answer of each query, in their order.

@@ -1,6 +1,7 @@
 pub mod Depth
 pub mod Formed
 pub mod Heads
+pub mod Operands
 pub mod Reads
 pub mod Refusals
 pub mod Spelled

@@ -22,8 +22,13 @@ fn text(alloc: Global, terminals: &[Terminal]) -> Result<RaText, ReadFault>
     ensures { Answers result (spec.read_text terminals.now) }
 {
     let (of, rest) = ra(alloc, terminals.len() + 1, terminals)?;
-    let semi = end(rest)?;
-    Ok(RaText { of, semi })
+    match end(rest) {
+        Ok(semi) => Ok(RaText { of, semi }),
+        Err(fault) => {
+            drop(of);
+            Err(fault)
+        }
+    }
 }
 
 fn tree(alloc: Global, tokens: &[Token]) -> Result<RaText, ReadFault>

@@ -66,9 +66,15 @@ pub fn items<'t>(
     ensures { Reads result (spec.read_items terminals.now) }
 {
     if starts(terminals, Fixed::Star) {
-        return Ok((Items::Star, expect(terminals, Fixed::Star)?));
+        let rest = expect(terminals, Fixed::Star)?;
+        return Ok((Items::Star, rest));
     }
     let (head, rest) = item(alloc, terminals)?;
-    let (more, rest) = more_items(alloc, rest)?;
-    Ok((Items::Some(head, more), rest))
+    match more_items(alloc, rest) {
+        Ok((more, rest)) => Ok((Items::Some(head, more), rest)),
+        Err(fault) => {
+            drop(head);
+            Err(fault)
+        }
+    }
 }

@@ -44,7 +44,8 @@ fn plain_leaf<'t>(
     ensures { Reads result (spec.read_plain_leaf terminals.now) }
 {
     if starts(terminals, Fixed::Null) {
-        return Ok((Leaf::Null, expect(terminals, Fixed::Null)?));
+        let rest = expect(terminals, Fixed::Null)?;
+        return Ok((Leaf::Null, rest));
     }
     if starts_name(terminals) {
         column(alloc, terminals)
@@ -68,8 +69,13 @@ fn leaf<'t>(
     }
     let rest = expect(terminals, Fixed::Left)?;
     let (inner, rest) = sum(alloc, depth, rest)?;
-    let rest = expect(rest, Fixed::Right)?;
-    Ok((Leaf::Paren(Boxed::new(alloc, inner)?), rest))
+    match expect(rest, Fixed::Right) {
+        Ok(rest) => Ok((Leaf::Paren(Boxed::new(alloc, inner)?), rest)),
+        Err(fault) => {
+            drop(inner);
+            Err(fault)
+        }
+    }
 }
 
 #[tactic(auto, unfolding(crate::specs::Reads::read_factor))]

@@ -1,14 +1,16 @@
-use Rattle.std.proofs.Common.{◌∙◌, ◌∷◌, ◌++◌, [], arith, drop, refl, ap, ap₂, map, not, sym, List, ℕ}
+use Rattle.std.proofs.Common.{◌∙◌, ◌∷◌, ◌++◌, [], arith, drop, refl, ap, ap₂, map, not, subst, List, Option, IfSome}
 use Rattle.std.specs.List.{filter}
 use Rattle.rt_schema.specs.Given.{Rows}
 use Rattle.rt_algebra.specs.Answer.{answer_by, has_row, is_yes, pred_by}
 use Rattle.rt_algebra.specs.Expression.{wrapped, row_by}
-use Rattle.rt_algebra.specs.Join.{are_wide, product_rows}
+use Rattle.rt_algebra.specs.Join.{product_rows}
 use Rattle.rt_algebra.specs.declared.query.Query.{Query}
 use Rattle.rt_eval.specs.Items.{items_where}
-use Rattle.rt_eval.specs.Pairs.{first_joined}
+use Rattle.rt_eval.specs.Narrow.{AreEnough, rows_where}
+use Rattle.rt_eval.specs.Pairs.{all_joined, first_joined}
+use Rattle.rt_eval.specs.declared.pairs.Pairs.{Pairs}
 use Rattle.rt_eval.proofs.Pairing.{all_made, items_append, joined_step}
-use Rattle.rt_eval.proofs.Joining.{at_except, at_product, at_select, nothing}
+use Rattle.rt_eval.proofs.Joining.{at_except, at_product, at_select}
 use Rattle.rt_eval.proofs.+answer.Goals as goal
 
 pub query::answer-returns-in_ok-out-in-Product : goal.query::answer-returns-in_ok-out-in-Product
@@ -31,23 +33,6 @@ query::answer-returns-in_ok-out-in-Product-get t c =
     ∙ at_product c.in-Product-get.members db env c.in-Product-get.is ∙ ap (λ (q : Query). answer_by wrapped q db env) c.get.ensures)
     ∙ at_select c.in-Select.source c.in-Select.condition db env c.in-Select.is
 
-pub query::product_selected-returns-in-empty : goal.query::product_selected-returns-in-empty
-query::product_selected-returns-in-empty t c =
-    let db = c.args.tables.now in
-    let env = map (λ s. s.now) c.args.env.now in
-    let wide = ap (λ (ws : List ℕ). are_wide ws c.args.members.now) (c.as_slice-2.ensures ∙ sym c.as_slice.ensures) ∙ sym c.are_wide.ensures ∙ c.if-not-are_wide.false in
-    let none = sym c.as_slice-3.ensures ∙ nothing c.as_slice-3.result.now c.in-empty.len_below in
-    c.in_ok-rows-2.ensures ∙ c.in_ok-parts.ensures.joins_whole wrapped db env c.args.members.now wide none
-
-pub query::product_selected-returns : goal.query::product_selected-returns
-query::product_selected-returns t c =
-    let db = c.args.tables.now in
-    let env = map (λ s. s.now) c.args.env.now in
-    let wide = ap (λ (ws : List ℕ). are_wide ws c.args.members.now) (c.as_slice-2.ensures ∙ sym c.as_slice.ensures) ∙ sym c.are_wide.ensures ∙ c.if-not-are_wide.false in
-    c.in_ok-out-in-len1-up.ensures
-    ∙ ap (filter (λ r. is_yes (pred_by wrapped c.args.condition.now db (r ∷ env)))) (c.as_slice-in-len1-up.ensures ∙ c.in_ok-rows-2.ensures)
-    ∙ c.in_ok-parts.ensures.joins wrapped db env c.args.members.now wide
-
 pub query::answer-returns-in_ok-out-in-Except : goal.query::answer-returns-in_ok-out-in-Except
 query::answer-returns-in_ok-out-in-Except t c =
     let db = c.args.tables.now in
@@ -57,16 +42,6 @@ query::answer-returns-in_ok-out-in-Except t c =
     (c.as_slice-in-Except.ensures ∙ c.in_ok-first-in-Except.ensures ∙ ap (λ (q : Query). answer_by wrapped q db env) c.get-in-Except.ensures)
     (c.in_ok-second-in-Except.ensures ∙ ap (λ (q : Query). answer_by wrapped q db env) c.get-in-Except-2.ensures)
     ∙ at_except c.in-Except.a c.in-Except.b db env c.in-Except.is
-
-pub items::product_items-returns : goal.items::product_items-returns
-items::product_items-returns t c =
-    let db = c.args.tables.now in
-    let env = map (λ s. s.now) c.args.env.now in
-    let p = c.args.condition.now in
-    let es = c.args.items.now in
-    let wide = ap (λ (ws : List ℕ). are_wide ws c.args.members.now) (c.as_slice-2.ensures ∙ sym c.as_slice.ensures) ∙ sym c.are_wide.ensures ∙ c.if-not-are_wide.false in
-    c.in_ok-out-2.ensures ∙ ap (items_where p es db env) c.in_ok-pairs.ensures
-    ∙ ap (map (λ r. row_by wrapped es (r ∷ env))) (c.in_ok-parts.ensures.joins wrapped db env c.args.members.now wide)
 
 pub items::pair_items-loop-at-preserved : goal.items::pair_items-loop-at-preserved
 items::pair_items-loop-at-preserved t c =
@@ -110,3 +85,17 @@ items::projection-returns-in_ok-out-in_default-get t c =
     ∙ ap₂ (λ (start rows : Rows). start ++ items_where p es db env rows) c.new-in_default-get.ensures
     (c.as_slice-in_default-get.ensures ∙ c.in_ok-rows-in_default-get.ensures ∙ ap (λ (q : Query). answer_by wrapped q db env) c.get-in_default-get.ensures)
     ∙ ap (map (λ r. row_by wrapped es (r ∷ env))) (at_select c.in-Select.inner p db env c.in-Select.is)
+
+pub query::product_selected-returns-then-narrowed : goal.query::product_selected-returns-then-narrowed
+query::product_selected-returns-then-narrowed t c = c.in_ok-narrowed.ensures.chosen c.if-narrowed.true c.args.tables.now
+
+pub query::product_selected-returns : goal.query::product_selected-returns
+query::product_selected-returns t c =
+    let env = map (λ s. s.now) c.args.env.now in
+    c.in_ok-out.ensures ∙ ap (rows_where c.args.condition.now c.args.tables.now env) c.as_slice.ensures ∙ c.in_ok-narrowed.ensures.enough c.args.tables.now
+
+pub items::product_items-returns-in_ok-out-in-Some : goal.items::product_items-returns-in_ok-out-in-Some
+items::product_items-returns-in_ok-out-in-Some t c =
+    let env = map (λ s. s.now) c.args.env.now in
+    let N : Option Pairs → Type 0 = λ o. IfSome o (λ p. AreEnough c.args.condition.now c.args.members.now env (all_joined p.befores p.rows p.places)) in
+    c.in_ok-out-in-Some.ensures ∙ ap (map (λ r. row_by wrapped c.args.items.now (r ∷ env))) (subst N c.in-Some.is c.in_ok-narrow_pairs.ensures c.args.tables.now)

@@ -1,4 +1,4 @@
-use Rattle.std.proofs.Common.{◌∙◌, ◌∷◌, ap₂, map, List}
+use Rattle.std.proofs.Common.{◌∙◌, ◌∷◌, ap, ap₂, map, List}
 use Rattle.std.specs.List.{filter}
 use Rattle.rt_schema.specs.Given.{Rows}
 use Rattle.rt_algebra.specs.Expression.{wrapped}
@@ -14,8 +14,9 @@ pub loop-at-preserved : goal.loop-at-preserved
 loop-at-preserved c =
     let env = map (λ s. s.now) c.args.env.now in
     let parts = c.args.parts.now in
+    let out = all_joined c.loop-at.pairs.befores c.loop-at.pairs.rows c.loop-at.pairs.places in
     chosen_step wrapped parts.own parts.keys c.args.members.now env c.loop-at.at c.index-members-at.result c.loop-at-test.true c.index-members-at.is
-    (all_joined c.loop-at.pairs.befores c.loop-at.pairs.rows c.loop-at.pairs.places) c.in_ok-own.own _ _
-    (c.in_ok-own.ensures ∙ ap₂ (λ (ps : List Pred) (rs : Rows). filter (λ r. all_simple wrapped ps (r ∷ env)) rs) c.own_of.ensures c.as_slice.ensures)
-    (c.in_ok-pairs-2.ensures ∙ ap₂ (λ (ks : List KeyPair) (rs : Rows). matched ks rs c.in_ok-own.own) c.keys_of.ensures c.in_ok-befores.ensures)
+    out _ _ _
+    (ap₂ (λ (ps : List Pred) (rs : Rows). filter (λ r. all_simple wrapped ps (r ∷ env)) rs) c.own_of.ensures c.as_slice.ensures)
+    (c.in_ok-pairs-2.ensures ∙ ap (λ (ks : List KeyPair). matched ks out (filter (λ r. all_simple wrapped c.own_of.result.now (r ∷ env)) c.as_slice.result.now)) c.keys_of.ensures)
     c.loop-at.invariant

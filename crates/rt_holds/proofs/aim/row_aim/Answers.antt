@@ -1,5 +1,6 @@
 use Rattle.std.proofs.Common.{◌∙◌, sym}
 use Rattle.rt_formula.proofs.Meaning.{val-grown}
+use Rattle.rt_annot.proofs.Growing.{grown_trans}
 use Rattle.rt_rules.proofs.Meanings.{below-grown}
 use Rattle.rt_holds.proofs.Nodes.{both_of}
 use Rattle.rt_holds.proofs.aim.row_aim.Goals as goal
@@ -20,3 +21,12 @@ returns-clause-parts c keep l =
     ∙ both_of _ _ _ _
     (val-grown c.law.new.dag c.told.new.dag c.told.ensures.grown keep c.in_ok-lawful.lawful c.in_ok-lawful.ensures.node ∙ c.in_ok-lawful.ensures.means keep l)
     (sym (val-grown c.told.new.dag c.all.new.self c.in_ok-goal.ensures.grown keep c.in_ok-told.told c.in_ok-told.ensures.node))
+
+pub returns-in_err-told-clause-grown : goal.returns-in_err-told-clause-grown
+returns-in_err-told-clause-grown c = grown_trans c.in_ok-lawful.ensures.grown c.in_err-told.ensures.grown
+
+pub returns-in_err-goal-clause-grown : goal.returns-in_err-goal-clause-grown
+returns-in_err-goal-clause-grown c = grown_trans (grown_trans c.in_ok-lawful.ensures.grown c.in_ok-told.ensures.grown) c.in_err-goal.ensures.grown
+
+pub returns-clause-grown : goal.returns-clause-grown
+returns-clause-grown c = grown_trans (grown_trans c.in_ok-lawful.ensures.grown c.in_ok-told.ensures.grown) c.in_ok-goal.ensures.grown

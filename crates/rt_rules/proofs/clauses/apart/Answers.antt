@@ -7,6 +7,7 @@ use Rattle.rt_schema.specs.Cells.{agree, cells}
 use Rattle.rt_formula.specs.Shared.{val, bool_at}
 use Rattle.rt_formula.proofs.Meaning.{val-grown}
 use Rattle.rt_rules.proofs.KeptLemmas.{no-agree, agree-same}
+use Rattle.rt_rules.proofs.Meanings.{grown-on}
 use Rattle.rt_rules.proofs.clauses.apart.Goals as goal
 
 never : (b x : Bool) → x ≡ false → true ≡ not (b && x)
@@ -45,3 +46,15 @@ returns-clause-means c = record {
       val-grown c.any.new.self c.row.new.self g2 keep c.in_ok-clash.clash c.in_ok-clash.ensures.node ∙ found in
       c.in_ok-clause.ensures.means keep ∙ ap not (c.in_ok-both.ensures.means keep) ∙ two _ _ _ _ (c.in_ok-kept.ensures.means keep) still;
 }
+
+pub returns-in_err-kept-clause-grown : goal.returns-in_err-kept-clause-grown
+returns-in_err-kept-clause-grown c = grown-on _ _ _ c.in_ok-clash.ensures.grown c.in_err-kept.ensures.grown
+
+pub returns-in_err-both-clause-grown : goal.returns-in_err-both-clause-grown
+returns-in_err-both-clause-grown c = grown-on _ _ _ (grown-on _ _ _ c.in_ok-clash.ensures.grown c.in_ok-kept.ensures.grown) c.in_err-both.ensures.grown
+
+pub returns-in_err-clause-clause-grown : goal.returns-in_err-clause-clause-grown
+returns-in_err-clause-clause-grown c = grown-on _ _ _ (grown-on _ _ _ (grown-on _ _ _ c.in_ok-clash.ensures.grown c.in_ok-kept.ensures.grown) c.in_ok-both.ensures.grown) c.in_err-clause.ensures.grown
+
+pub returns-clause-grown : goal.returns-clause-grown
+returns-clause-grown c = grown-on _ _ _ (grown-on _ _ _ (grown-on _ _ _ c.in_ok-clash.ensures.grown c.in_ok-kept.ensures.grown) c.in_ok-both.ensures.grown) c.in_ok-clause.ensures.grown

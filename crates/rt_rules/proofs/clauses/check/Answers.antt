@@ -28,3 +28,12 @@ rows-preserved c =
           ap (check_holds c.args.check.now) (since-at c.args.rows.now c.args.base at row keep (omega (arith, again, w)) c.index-rows-at.is (omega (arith, l, r, q, b, again, w)))
           ∙ all-kept (λ x. passes (check_truth x c.args.check.now)) (bool_at keep (c.args.base + at)) row (since c.args.rows.now c.args.base (at + 1) keep)));
     }
+
+pub returns-in_err-allowed-clause-grown : goal.returns-in_err-allowed-clause-grown
+returns-in_err-allowed-clause-grown c = grown-on _ _ _ c.rows.invariant.grown c.in_err-allowed.ensures.grown
+
+pub returns-in_err-push-clause-grown : goal.returns-in_err-push-clause-grown
+returns-in_err-push-clause-grown c = grown-on _ _ _ c.rows.invariant.grown c.in_ok-allowed.ensures.grown
+
+pub returns-clause-grown : goal.returns-clause-grown
+returns-clause-grown c = grown-on _ _ _ c.rows.invariant.grown c.all.ensures.grown

@@ -35,3 +35,12 @@ rows-preserved c =
           ap (foreign_holds from to others) (since-at rows base at row keep (omega (arith, again, w)) c.index-rows-at.is (omega (arith, l, r, q1, b, again, w)))
           ∙ foreign-kept from to others (bool_at keep (base + at)) row (since rows base (at + 1) keep)));
     }
+
+pub returns-in_err-clause-clause-grown : goal.returns-in_err-clause-clause-grown
+returns-in_err-clause-clause-grown c = grown-on _ _ _ c.rows.invariant.grown c.in_err-clause.ensures.grown
+
+pub returns-in_err-push-clause-grown : goal.returns-in_err-push-clause-grown
+returns-in_err-push-clause-grown c = grown-on _ _ _ c.rows.invariant.grown c.in_ok-clause.ensures.grown
+
+pub returns-clause-grown : goal.returns-clause-grown
+returns-clause-grown c = grown-on _ _ _ c.rows.invariant.grown c.all.ensures.grown

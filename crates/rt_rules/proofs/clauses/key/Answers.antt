@@ -55,3 +55,15 @@ rows-preserved c =
           ap (key_holds columns) (since-at rows base at row keep (omega (arith, again, w)) c.index-rows-at.is (omega (arith, l, r, q1, b, again, w)))
           ∙ key-kept columns (bool_at keep (base + at)) row (since rows base (at + 1) keep))));
     }
+
+pub returns-in_err-clause-clause-grown : goal.returns-in_err-clause-clause-grown
+returns-in_err-clause-clause-grown c = grown-on _ _ _ c.rows.invariant.grown c.in_err-clause.ensures.grown
+
+pub returns-in_err-push-clause-grown : goal.returns-in_err-push-clause-grown
+returns-in_err-push-clause-grown c = grown-on _ _ _ c.rows.invariant.grown c.in_ok-clause.ensures.grown
+
+pub returns-in_err-note-clause-grown : goal.returns-in_err-note-clause-grown
+returns-in_err-note-clause-grown c = grown-on _ _ _ (grown-on _ _ _ c.rows.invariant.grown c.in_ok-clause.ensures.grown) c.in_err-note.ensures.grown
+
+pub returns-clause-grown : goal.returns-clause-grown
+returns-clause-grown c = grown-on _ _ _ c.rows.invariant.grown c.all.ensures.grown

@@ -7,7 +7,7 @@ use Rattle.rt_schema.specs.Cells.{agree, cells, is_null}
 use Rattle.rt_formula.specs.Shared.{val}
 use Rattle.rt_formula.proofs.Meaning.{val-grown}
 use Rattle.rt_rules.proofs.KeptLemmas.{agree-same}
-use Rattle.rt_rules.proofs.Meanings.{below-grown}
+use Rattle.rt_rules.proofs.Meanings.{below-grown, grown-on}
 use Rattle.rt_rules.proofs.clauses.met.Goals as goal
 
 two : (a b x n y : Bool) → a ≡ not x → b ≡ y → n ≡ false → (a || (b || false)) ≡ (not x || (n || y))
@@ -42,3 +42,15 @@ returns-clause-means c = record {
       ∙ val-grown c.any.new.self c.row.new.self g2 keep c.in_ok-found.found c.in_ok-found.ensures.node ∙ found in
       c.in_ok-clause.ensures.means keep ∙ two _ _ _ _ _ (c.in_ok-absent.ensures.means keep ∙ ap not (c.in_ok-kept.ensures.means keep)) still filled;
 }
+
+pub returns-in_err-kept-clause-grown : goal.returns-in_err-kept-clause-grown
+returns-in_err-kept-clause-grown c = grown-on _ _ _ c.in_ok-found.ensures.grown c.in_err-kept.ensures.grown
+
+pub returns-in_err-absent-clause-grown : goal.returns-in_err-absent-clause-grown
+returns-in_err-absent-clause-grown c = grown-on _ _ _ (grown-on _ _ _ c.in_ok-found.ensures.grown c.in_ok-kept.ensures.grown) c.in_err-absent.ensures.grown
+
+pub returns-in_err-clause-clause-grown : goal.returns-in_err-clause-clause-grown
+returns-in_err-clause-clause-grown c = grown-on _ _ _ (grown-on _ _ _ (grown-on _ _ _ c.in_ok-found.ensures.grown c.in_ok-kept.ensures.grown) c.in_ok-absent.ensures.grown) c.in_err-clause.ensures.grown
+
+pub returns-clause-grown : goal.returns-clause-grown
+returns-clause-grown c = grown-on _ _ _ (grown-on _ _ _ (grown-on _ _ _ c.in_ok-found.ensures.grown c.in_ok-kept.ensures.grown) c.in_ok-absent.ensures.grown) c.in_ok-clause.ensures.grown

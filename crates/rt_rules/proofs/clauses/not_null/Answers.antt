@@ -28,3 +28,12 @@ rows-preserved c =
           ap (not_null_holds c.args.column) (since-at c.args.rows.now c.args.base at row keep (omega (arith, again, w)) c.index-rows-at.is (omega (arith, l, r, q, b, again, w)))
           ∙ all-kept (λ x. not (is_null (cell x c.args.column))) (bool_at keep (c.args.base + at)) row (since c.args.rows.now c.args.base (at + 1) keep)));
     }
+
+pub returns-in_err-filled-clause-grown : goal.returns-in_err-filled-clause-grown
+returns-in_err-filled-clause-grown c = grown-on _ _ _ c.rows.invariant.grown c.in_err-filled.ensures.grown
+
+pub returns-in_err-push-clause-grown : goal.returns-in_err-push-clause-grown
+returns-in_err-push-clause-grown c = grown-on _ _ _ c.rows.invariant.grown c.in_ok-filled.ensures.grown
+
+pub returns-clause-grown : goal.returns-clause-grown
+returns-clause-grown c = grown-on _ _ _ c.rows.invariant.grown c.all.ensures.grown

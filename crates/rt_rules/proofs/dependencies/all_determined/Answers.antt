@@ -70,3 +70,18 @@ rows-preserved c =
           ap (depend_holds from to) (since-at rows base at row keep (omega (arith, again, w)) c.index-rows-at.is (omega (arith, l, r, q1, b, again, w)))
           ∙ depend-kept from to (bool_at keep (base + at)) row (since rows base (at + 1) keep))));
     }
+
+pub returns-in_err-clause-clause-grown : goal.returns-in_err-clause-clause-grown
+returns-in_err-clause-clause-grown c = grown-on _ _ _ c.rows.invariant.grown c.in_err-clause.ensures.grown
+
+pub returns-in_err-push-clause-grown : goal.returns-in_err-push-clause-grown
+returns-in_err-push-clause-grown c = grown-on _ _ _ c.rows.invariant.grown c.in_ok-clause.ensures.grown
+
+pub returns-in_err-note-clause-grown : goal.returns-in_err-note-clause-grown
+returns-in_err-note-clause-grown c = grown-on _ _ _ (grown-on _ _ _ c.rows.invariant.grown c.in_ok-clause.ensures.grown) c.in_err-note.ensures.grown
+
+pub returns-in_err-note-2-clause-grown : goal.returns-in_err-note-2-clause-grown
+returns-in_err-note-2-clause-grown c = grown-on _ _ _ (grown-on _ _ _ (grown-on _ _ _ c.rows.invariant.grown c.in_ok-clause.ensures.grown) c.in_ok-note.ensures.grown) c.in_err-note-2.ensures.grown
+
+pub returns-clause-grown : goal.returns-clause-grown
+returns-clause-grown c = grown-on _ _ _ c.rows.invariant.grown c.all.ensures.grown

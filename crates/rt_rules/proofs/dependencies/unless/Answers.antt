@@ -20,3 +20,15 @@ returns-clause-means c = record {
       val-grown c.not.new.self c.row.new.self g2 keep c.in_ok-unmet.unmet c.in_ok-unmet.ensures.node ∙ c.in_ok-unmet.ensures.means keep in
       c.in_ok-clause.ensures.means keep ∙ ap not (c.in_ok-broken.ensures.means keep) ∙ three _ _ _ _ _ _ (c.in_ok-kept.ensures.means keep) agreeing unmet;
 }
+
+pub returns-in_err-kept-clause-grown : goal.returns-in_err-kept-clause-grown
+returns-in_err-kept-clause-grown c = grown-on _ _ _ c.in_ok-unmet.ensures.grown c.in_err-kept.ensures.grown
+
+pub returns-in_err-broken-clause-grown : goal.returns-in_err-broken-clause-grown
+returns-in_err-broken-clause-grown c = grown-on _ _ _ (grown-on _ _ _ c.in_ok-unmet.ensures.grown c.in_ok-kept.ensures.grown) c.in_err-broken.ensures.grown
+
+pub returns-in_err-clause-clause-grown : goal.returns-in_err-clause-clause-grown
+returns-in_err-clause-clause-grown c = grown-on _ _ _ (grown-on _ _ _ (grown-on _ _ _ c.in_ok-unmet.ensures.grown c.in_ok-kept.ensures.grown) c.in_ok-broken.ensures.grown) c.in_err-clause.ensures.grown
+
+pub returns-clause-grown : goal.returns-clause-grown
+returns-clause-grown c = grown-on _ _ _ (grown-on _ _ _ (grown-on _ _ _ c.in_ok-unmet.ensures.grown c.in_ok-kept.ensures.grown) c.in_ok-broken.ensures.grown) c.in_ok-clause.ensures.grown

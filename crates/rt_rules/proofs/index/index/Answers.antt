@@ -27,3 +27,6 @@ rows-preserved c =
       indexed = indexed-more c.rows.dag _ c.rows.groups _ c.args.columns.now c.args.rows.now c.args.base at c.index-rows-at.result (omega (arith, again, w)) c.index-rows-at.is (omega (arith, r, q, b)) c.in_ok-note.ensures.grown
           (subst P again v.indexed) c.in_ok-note.ensures.noted;
     }
+
+pub returns-in_err-note-clause-grown : goal.returns-in_err-note-clause-grown
+returns-in_err-note-clause-grown c = grown-on _ _ _ c.rows.invariant.grown c.in_err-note.ensures.grown

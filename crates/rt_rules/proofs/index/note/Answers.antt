@@ -2,7 +2,7 @@ use Rattle.std.proofs.Common.{◌≡◌, Bool, true, false, ◌||◌, ap, ◌∙
 use Rattle.std.specs.List.{list_any}
 use Rattle.rt_formula.specs.Shared.{val}
 use Rattle.rt_formula.proofs.Meaning.{val-grown}
-use Rattle.rt_rules.proofs.Meanings.{grown-on, noted-one}
+use Rattle.rt_rules.proofs.Meanings.{grown-none, grown-on, noted-one}
 use Rattle.rt_rules.proofs.index.note.Goals as goal
 
 two : (a b x y : Bool) → a ≡ x → b ≡ y → (a || (b || false)) ≡ (x || y)
@@ -19,3 +19,18 @@ returns-clause-noted c =
     (λ keep. c.in_ok-either.ensures.means keep
     ∙ two _ _ _ _ (c.in_ok-kept.ensures.means keep)
     (val-grown c.any.new.self c.row.new.self g2 keep c.in_ok-before.before c.in_ok-before.ensures.node ∙ c.in_ok-before.ensures.means keep ∙ ap (list_any (val c.args.dag.now keep)) c.get.ensures))
+
+pub returns-in_err-key-clause-grown : goal.returns-in_err-key-clause-grown
+returns-in_err-key-clause-grown c = grown-none _
+
+pub returns-in_err-kept-clause-grown : goal.returns-in_err-kept-clause-grown
+returns-in_err-kept-clause-grown c = grown-on _ _ _ c.in_ok-before.ensures.grown c.in_err-kept.ensures.grown
+
+pub returns-in_err-either-clause-grown : goal.returns-in_err-either-clause-grown
+returns-in_err-either-clause-grown c = grown-on _ _ _ (grown-on _ _ _ c.in_ok-before.ensures.grown c.in_ok-kept.ensures.grown) c.in_err-either.ensures.grown
+
+pub returns-in_err-set-clause-grown : goal.returns-in_err-set-clause-grown
+returns-in_err-set-clause-grown c = grown-on _ _ _ (grown-on _ _ _ c.in_ok-before.ensures.grown c.in_ok-kept.ensures.grown) c.in_ok-either.ensures.grown
+
+pub returns-clause-grown : goal.returns-clause-grown
+returns-clause-grown c = grown-on _ _ _ (grown-on _ _ _ c.in_ok-before.ensures.grown c.in_ok-kept.ensures.grown) c.in_ok-either.ensures.grown

@@ -5,7 +5,7 @@ use Rattle.rt_schema.specs.Law.{rules_hold, tables_hold}
 use Rattle.rt_schema.specs.declared.table.Rule.{Rule}
 use Rattle.rt_schema.specs.declared.table.Table.{Table}
 use Rattle.rt_rules.proofs.KeptLemmas.{front, others, kept-rest}
-use Rattle.rt_rules.proofs.Meanings.{pair-means}
+use Rattle.rt_rules.proofs.Meanings.{grown-on, pair-means}
 use Rattle.rt_rules.proofs.tables.+tables_node.Goals as goal
 
 pub returns-in_ok-both-in-len1-up-rest-clause-means : goal.returns-in_ok-both-in-len1-up-rest-clause-means
@@ -23,3 +23,12 @@ returns-in_ok-both-in-len1-up-rest-clause-means t c =
     ∙ ap (λ tables. tables_hold (table ∷ ts) tables all) (kept-rest c.rows-item.result rest c.args.base keep)
     ∙ ap (λ (rows : Rows). rules_hold table.rules (kept_rows rows here) all && tables_hold ts (kept rest (drop (c.args.base + length rows) keep)) all) (sym c.as_slice-rows.ensures)
     ∙ ap (λ (rules : List Rule). rules_hold rules (kept_rows c.as_slice-rows.result.now here) all && tables_hold ts (kept rest (drop (c.args.base + length c.as_slice-rows.result.now) keep)) all) (sym c.as_slice.ensures))
+
+pub returns-in_err-there-in-len1-up-rest-clause-grown : goal.returns-in_err-there-in-len1-up-rest-clause-grown
+returns-in_err-there-in-len1-up-rest-clause-grown t c = grown-on _ _ _ c.in_ok-here-in-len1-up-rest.ensures.grown c.in_err-there-in-len1-up-rest.ensures.grown
+
+pub returns-in_err-both-in-len1-up-rest-clause-grown : goal.returns-in_err-both-in-len1-up-rest-clause-grown
+returns-in_err-both-in-len1-up-rest-clause-grown t c = grown-on _ _ _ (grown-on _ _ _ c.in_ok-here-in-len1-up-rest.ensures.grown c.in_ok-there-in-len1-up-rest.ensures.grown) c.in_err-both-in-len1-up-rest.ensures.grown
+
+pub returns-in_ok-both-in-len1-up-rest-clause-grown : goal.returns-in_ok-both-in-len1-up-rest-clause-grown
+returns-in_ok-both-in-len1-up-rest-clause-grown t c = grown-on _ _ _ (grown-on _ _ _ c.in_ok-here-in-len1-up-rest.ensures.grown c.in_ok-there-in-len1-up-rest.ensures.grown) c.in_ok-both-in-len1-up-rest.ensures.grown

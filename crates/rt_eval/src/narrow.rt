@@ -1,0 +1,79 @@
+//! Selections from products, as far as the parts of the condition bring them.
+ghost use Rattle.std.specs.Prelude.{◌≡◌, ◌∷◌, [], map, IfOk, IfSome, IsTrue};
+ghost use Rattle.rt_algebra.specs.Expression.{Env, wrapped};
+ghost use Rattle.rt_algebra.specs.Join.{joined_rows};
+ghost use Rattle.rt_eval.specs.Narrow.{AreEnough, AreChosen};
+ghost use Rattle.rt_eval.specs.Pairs.{all_joined};
+
+use crate::join::{are_wide, chosen, chosen_rows, product, widths};
+use crate::pairs::Pairs;
+use rt_algebra::{Pred, Split, split};
+use rt_value::{List, NoMemory, Row};
+use std::alloc::Global;
+
+/// Rows from which the condition chooses the same as from a product, and whether it is true on all
+/// of them.
+#[derive(Drop)]
+pub struct Narrowed {
+    pub rows: List<Row>,
+    pub are_chosen: bool,
+}
+
+/// Most often the members' own conditions and the keys are all of the condition.
+pub fn narrow(
+    alloc: Global,
+    members: &[List<Row>],
+    condition: &Pred,
+    env: &[&Row],
+) -> Result<Narrowed, NoMemory>
+    ensures enough { IfOk result (λ n. AreEnough condition.now members.now (map (λ s. s.now) env.now) n.rows) }
+    ensures chosen { IfOk result (λ n. IsTrue n.are_chosen → AreChosen condition.now members.now (map (λ s. s.now) env.now) n.rows) }
+{
+    match parts_of(alloc, members, condition)? {
+        None => {
+            let rows = product(alloc, members)?;
+            Ok(Narrowed {
+                rows,
+                are_chosen: false,
+            })
+        }
+        Some(parts) => {
+            let rows = chosen_rows(alloc, members, &parts, env)?;
+            let are_chosen = parts.rest.is_empty();
+            Ok(Narrowed { rows, are_chosen })
+        }
+    }
+}
+
+/// The same rows, the last member not yet joined to the rows before it; None where the condition
+/// cannot be taken apart.
+pub fn narrow_pairs(
+    alloc: Global,
+    members: &[List<Row>],
+    condition: &Pred,
+    env: &[&Row],
+) -> Result<Option<Pairs>, NoMemory>
+    ensures { IfOk result (λ o. IfSome o (λ p. AreEnough condition.now members.now (map (λ s. s.now) env.now) (all_joined p.befores p.rows p.places))) }
+{
+    match parts_of(alloc, members, condition)? {
+        None => Ok(None),
+        Some(parts) => Ok(Some(chosen(alloc, members, &parts, env)?)),
+    }
+}
+
+/// The condition taken apart, where the rows of each member are of one width.
+fn parts_of(
+    alloc: Global,
+    members: &[List<Row>],
+    condition: &Pred,
+) -> Result<Option<Split>, NoMemory>
+    ensures enough { IfOk result (λ o. IfSome o (λ s. (env : Env) → AreEnough condition.now members.now env (joined_rows wrapped s.own s.keys ([] ∷ []) members.now env))) }
+    ensures chosen { IfOk result (λ o. IfSome o (λ s. s.rest ≡ [] → (env : Env) → AreChosen condition.now members.now env (joined_rows wrapped s.own s.keys ([] ∷ []) members.now env))) }
+{
+    let widths = widths(alloc, members)?;
+    if !are_wide(widths.as_slice(), members) {
+        return Ok(None);
+    }
+    let parts = split(alloc, condition, widths.as_slice())?;
+    Ok(Some(parts))
+}

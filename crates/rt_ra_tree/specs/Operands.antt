@@ -1,0 +1,13 @@
+-- The two operands of an operator, each with what stands beside it.
+use Rattle.std.specs.Prelude.{Some}
+use Rattle.rt_grammar.specs.Readers.{Parser, ◌>>=◌}
+use Rattle.rt_grammar.specs.Terminals.{after}
+use Rattle.rt_grammar.specs.declared.fixed.Fixed.TheVariants as fixed
+
+-- between the parenthesis and the comma
+abbrev pub first_operand : {A : Type 0} → Parser A → Parser A
+first_operand p ks = after fixed.Left ks >>= λ r. p r >>= λ a. after fixed.Comma a.1 >>= λ s. Some (a.0, s)
+
+-- before the closing parenthesis
+abbrev pub last_operand : {A : Type 0} → Parser A → Parser A
+last_operand p ks = p ks >>= λ a. after fixed.Right a.1 >>= λ s. Some (a.0, s)
