@@ -1,6 +1,6 @@
 //! The texts of refusals and faults.
 ghost use Rattle.std.specs.Prelude.{◌≡◌, IfOk, string_bytes};
-ghost use Rattle.rt_top.specs.Texts.{part_text, fault_text, lex_text, limit_text, load_text, name_text, refusal_line, refusal_text, schema_text, sql_text, syntax_text};
+ghost use Rattle.rt_top.specs.Texts.{part_text, fault_text, lex_text, limit_text, load_text, name_text, refusal_line, schema_text, sql_text, syntax_text};
 
 use crate::outcome::{Fault, Limit, Outcome};
 use crate::part::Part;
@@ -187,16 +187,6 @@ pub fn refusal_line(alloc: Global, outcome: &Outcome, work_limit: u64) -> Result
 {
     let text = line(alloc, work_limit, outcome)?;
     List::from_slice(alloc, text.as_bytes())
-}
-
-/// The text of an outcome that is no verdict; `most` is the work limit in force.
-pub(crate) fn refusal_text(alloc: Global, most: u64, outcome: &Outcome) -> Result<Bytes, NoMemory>
-    ensures { IfOk result (λ text. text ≡ refusal_text most outcome.now) }
-{
-    match outcome {
-        Outcome::Usage => List::from_slice(alloc, USAGE.as_bytes()),
-        outcome => refusal_line(alloc, outcome, most),
-    }
 }
 
 fn line(alloc: Global, most: u64, outcome: &Outcome) -> Result<String, AllocError>

@@ -12,31 +12,12 @@ ghost use Rattle.rt_top.specs.declared.outcome.Outcome.TheVariants as outcome;
 
 use crate::outcome::Outcome;
 use crate::read::read_input;
-use crate::say::refusal_text;
+use crate::say::USAGE;
+use crate::stopped::stopped_text;
 use crate::verdicts::{Answer, verdict};
 use rt_io::{Files, Sink, SinkFail, write_at};
-use rt_value::{Bytes, NoMemory, Txt};
-use rt_words::{WordFault, read_words};
+use rt_value::{NoMemory, Txt};
 use std::alloc::Global;
-
-/// The work limit of the command that the words are.
-fn work_limit(alloc: Global, words: &[Txt]) -> Result<u64, NoMemory>
-    ensures { IfOk result (λ most. most ≡ limit_of (command words.now)) }
-{
-    match read_words(alloc, words) {
-        Ok(command) => Ok(command.work_limit),
-        Err(WordFault::Usage) => Ok(0),
-        Err(WordFault::NoMemory) => Err(NoMemory),
-    }
-}
-
-/// The text of an outcome that is no verdict.
-fn refusal_of(alloc: Global, words: &[Txt], outcome: &Outcome) -> Result<Bytes, NoMemory>
-    ensures { IfOk result (λ text. text ≡ refusal_text (limit_of (command words.now)) outcome.now) }
-{
-    let most = work_limit(alloc, words)?;
-    refusal_text(alloc, most, outcome)
-}
 
 /// What is to be said of what stopped the reading.
 fn refused(alloc: Global, words: &[Txt], outcome: Outcome) -> Result<Answer, NoMemory>
@@ -47,7 +28,7 @@ fn refused(alloc: Global, words: &[Txt], outcome: Outcome) -> Result<Answer, NoM
     if outcome.is_memory() {
         return Err(NoMemory);
     }
-    match refusal_of(alloc, words, &outcome) {
+    match stopped_text(alloc, USAGE, words, &outcome) {
         Ok(text) => Ok(Answer { outcome, text }),
         Err(NoMemory) => {
             drop(outcome);
