@@ -1,14 +1,16 @@
-ghost use Rattle.std.specs.Prelude.{◌≡◌, IfOk, IfErr, Ok, Some};
+ghost use Rattle.std.specs.Prelude.{◌≡◌, IfOk, IfErr, IfSome, Ok, Some};
 ghost use Rattle.rt_algebra.specs.Typed.{IsTypedOf};
 ghost use Rattle.rt_top.specs.First.{IsFirst};
 ghost use Rattle.rt_top.specs.Judged.{within_limit};
 ghost use Rattle.rt_top.specs.Steps.{Refuses};
 ghost use Rattle.rt_grade.specs.Grades.{Decides, IsGrade, IsPlacedIn, beside, candidate_judged, outcome_of, right_of};
+ghost use Rattle.rt_grade.specs.Prepared.{IsPreparedOf};
 
 use crate::grade::Grade;
+use crate::prepared::{Prepared, decide_prepared};
 use rt_algebra::Typed;
 use rt_search::Best;
-use rt_top::{First, Outcome, Part, Spent, decide_between, like_left, query_of, work_between};
+use rt_top::{First, Outcome, Part, Spent, like_left, query_of, work_between};
 use rt_value::NoMemory;
 use rt_words::Words;
 use std::alloc::Global;
@@ -26,20 +28,21 @@ fn right_of(alloc: Global, first: &First, text: &[u8]) -> Result<Typed, Outcome>
 }
 
 /// The verdict on the reference and a query beside it.
-fn decided(alloc: Global, words: &Words, first: &First, right: &Typed) -> Result<Grade, NoMemory>
+fn decided(
+    alloc: Global,
+    words: &Words,
+    first: &First,
+    prepared: &mut Option<Prepared>,
+    right: &Typed,
+) -> Result<Grade, NoMemory>
     requires sound { IsFirst first.now }
+    requires prepared { IfSome prepared.old (IsPreparedOf first.now) }
     requires right { IsTypedOf first.now.schema right.now }
-    ensures { IfOk result (Decides (beside words.now first.now right.now)) }
+    ensures grade { IfOk result (Decides (beside words.now first.now right.now)) }
+    ensures prepared { IfSome prepared.new (IsPreparedOf first.now) }
 {
     let conflicts = words.conflicts;
-    match decide_between(
-        alloc,
-        &first.schema,
-        &first.given,
-        &first.left,
-        right,
-        conflicts,
-    )? {
+    match decide_prepared(alloc, first, prepared, right, conflicts)? {
         Best::Never => Ok(Grade::Agree),
         Best::Least(keep) => Ok(Grade::Witness(keep)),
         Best::Spent(found) => match conflicts {
@@ -59,34 +62,41 @@ fn grade_query(
     alloc: Global,
     words: &Words,
     first: &First,
+    prepared: &mut Option<Prepared>,
     right: &Typed,
 ) -> Result<Grade, NoMemory>
     requires sound { IsFirst first.now }
+    requires prepared { IfSome prepared.old (IsPreparedOf first.now) }
     requires right { IsTypedOf first.now.schema right.now }
     requires kinds { right.now.kinds ≡ first.now.left.kinds }
-    ensures { IfOk result (IsGrade (within_limit (beside words.now first.now right.now))) }
+    ensures grade { IfOk result (IsGrade (within_limit (beside words.now first.now right.now))) }
+    ensures prepared { IfSome prepared.new (IsPreparedOf first.now) }
 {
     let work = work_between(&first.schema, &first.given, &first.left, right);
     if work > u128::from(words.work_limit) {
         return Ok(Grade::Work(work));
     }
-    decided(alloc, words, first, right)
+    decided(alloc, words, first, prepared, right)
 }
 
-/// The grade of the candidate that a text is, with the numbers of a command.
+/// The grade of the candidate that a text is, with the numbers of a command. The reference is
+/// prepared for the first candidate that is decided, and stays so for those after it.
 pub fn grade_text(
     alloc: Global,
     words: &Words,
     first: &First,
+    prepared: &mut Option<Prepared>,
     text: &[u8],
 ) -> Result<Grade, NoMemory>
-    requires { IsFirst first.now }
+    requires first { IsFirst first.now }
+    requires prepared { IfSome prepared.old (IsPreparedOf first.now) }
     ensures grade { IfOk result (IsGrade (candidate_judged words.now first.now text.now)) }
     // A syntax fault stands at a token of the text, or at the end of the last one.
     ensures place { IfOk result (λ grade. IsPlacedIn text.now (outcome_of grade)) }
+    ensures prepared { IfSome prepared.new (IsPreparedOf first.now) }
 {
     match right_of(alloc, first, text) {
-        Ok(right) => grade_query(alloc, words, first, &right),
+        Ok(right) => grade_query(alloc, words, first, prepared, &right),
         Err(Outcome::Refused(part, fault)) => Ok(Grade::Refused(part, fault)),
         Err(_) => Err(NoMemory),
     }

@@ -3,6 +3,8 @@
 
 mod grade;
 mod judge;
+mod prepared;
 
 pub use grade::Grade;
 pub use judge::grade_text;
+pub use prepared::Prepared;

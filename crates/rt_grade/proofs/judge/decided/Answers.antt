@@ -10,27 +10,27 @@ unreachable-requires c =
     let same : c.words.inside.conflicts ≡ c.args.words.now.conflicts = ap (λ (w : Command). w.conflicts) c.words.view_is in
     no_budget c.args.words.now c.args.first.now c.args.right.now c.in-Spent.found
     (subst (IsVerdict (beside c.args.words.now c.args.first.now c.args.right.now)) c.in-Spent.is
-    (of_parts c.args.words.now c.args.first.now c.args.right.now c.words.inside.conflicts c.in_ok-decide_between.field-0 same c.in_ok-decide_between.ensures))
+    (of_parts c.args.words.now c.args.first.now c.args.right.now c.words.inside.conflicts c.in_ok-decide_prepared.field-0 same c.in_ok-decide_prepared.ensures.verdict))
     (sym same ∙ c.in-None.is)
 
-pub returns-in-Never : goal.returns-in-Never
-returns-in-Never c =
+pub returns-in-Never-clause-grade : goal.returns-in-Never-clause-grade
+returns-in-Never-clause-grade c =
     let same : c.words.inside.conflicts ≡ c.args.words.now.conflicts = ap (λ (w : Command). w.conflicts) c.words.view_is in
     subst (IsVerdict (beside c.args.words.now c.args.first.now c.args.right.now)) c.in-Never.is
-    (of_parts c.args.words.now c.args.first.now c.args.right.now c.words.inside.conflicts c.in_ok-decide_between.field-0 same c.in_ok-decide_between.ensures)
+    (of_parts c.args.words.now c.args.first.now c.args.right.now c.words.inside.conflicts c.in_ok-decide_prepared.field-0 same c.in_ok-decide_prepared.ensures.verdict)
 
-pub returns-in-Least : goal.returns-in-Least
-returns-in-Least c =
+pub returns-in-Least-clause-grade : goal.returns-in-Least-clause-grade
+returns-in-Least-clause-grade c =
     let same : c.words.inside.conflicts ≡ c.args.words.now.conflicts = ap (λ (w : Command). w.conflicts) c.words.view_is in
     subst (IsVerdict (beside c.args.words.now c.args.first.now c.args.right.now)) c.in-Least.is
-    (of_parts c.args.words.now c.args.first.now c.args.right.now c.words.inside.conflicts c.in_ok-decide_between.field-0 same c.in_ok-decide_between.ensures)
+    (of_parts c.args.words.now c.args.first.now c.args.right.now c.words.inside.conflicts c.in_ok-decide_prepared.field-0 same c.in_ok-decide_prepared.ensures.verdict)
 
-pub returns-in-Some : goal.returns-in-Some
-returns-in-Some c =
+pub returns-in-Some-clause-grade : goal.returns-in-Some-clause-grade
+returns-in-Some-clause-grade c =
     let same : c.words.inside.conflicts ≡ c.args.words.now.conflicts = ap (λ (w : Command). w.conflicts) c.words.view_is in (
       sym same ∙ c.in-Some.is,
       of_budget c.args.words.now c.args.first.now c.args.right.now c.in-Spent.found c.in-Some.budget
           (subst (IsVerdict (beside c.args.words.now c.args.first.now c.args.right.now)) c.in-Spent.is
-          (of_parts c.args.words.now c.args.first.now c.args.right.now c.words.inside.conflicts c.in_ok-decide_between.field-0 same c.in_ok-decide_between.ensures))
+          (of_parts c.args.words.now c.args.first.now c.args.right.now c.words.inside.conflicts c.in_ok-decide_prepared.field-0 same c.in_ok-decide_prepared.ensures.verdict))
           (sym same ∙ c.in-Some.is),
     )
