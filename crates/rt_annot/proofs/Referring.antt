@@ -1,5 +1,5 @@
 -- What the goals of a reference beside other queries mean.
-use Rattle.std.proofs.Common.{◌≡◌, ◌∙◌, ℕ, Bool, not, ◌&&◌, List, length, sym, refl, ap, ap₂}
+use Rattle.std.proofs.Common.{◌≡◌, ◌∙◌, Bool, not, ◌&&◌, List, length, refl, ap}
 use Rattle.rt_schema.specs.declared.table.Table.{Table}
 use Rattle.rt_schema.specs.Given.{Instance, Rows}
 use Rattle.rt_schema.specs.Kept.{kept}
