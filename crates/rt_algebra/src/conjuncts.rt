@@ -2,7 +2,7 @@
 ghost use Rattle.std.specs.Prelude.{◌≡◌, ◌+◌, not, map, is_some, IfOk};
 ghost use Rattle.std.specs.List.{filter, filter_map};
 ghost use Rattle.rt_algebra.specs.Join.{Joins, JoinsWhole};
-ghost use Rattle.rt_algebra.specs.Split.{Splits, split_of, apart, conjuncts, own_of, key_of, pair, place, is_taken};
+ghost use Rattle.rt_algebra.specs.Split.{Splits, split_of, apart, conjuncts, owns, own_of, key_lists, key_of, pair, place, is_taken};
 
 use crate::copy::copy_pred;
 use crate::expr::Expr;
@@ -27,16 +27,44 @@ pub fn split(alloc: Global, pred: &Pred, widths: &[usize]) -> Result<Split, NoMe
 fn apart(alloc: Global, conjuncts: &[Pred], widths: &[usize]) -> Result<Split, NoMemory>
     ensures { IfOk result (λ s. s ≡ apart conjuncts.now widths.now) }
 {
-    let mut own = List::new(alloc);
-    let mut keys = List::new(alloc);
-    let mut base: usize = 0;
-    for width in widths {
-        own.push(owns(alloc, conjuncts, base, *width)?)?;
-        keys.push(keys_of(alloc, conjuncts, base, *width)?)?;
-        base = after(base, *width)?;
-    }
+    let own = each_owns(alloc, conjuncts, widths)?;
+    let keys = each_keys(alloc, conjuncts, widths)?;
     let rest = rest(alloc, conjuncts, widths)?;
     Ok(Split { own, keys, rest })
+}
+
+/// Each member's own conjuncts.
+fn each_owns(
+    alloc: Global,
+    conjuncts: &[Pred],
+    widths: &[usize],
+) -> Result<List<List<Pred>>, NoMemory>
+    ensures { IfOk result (λ out. out ≡ owns 0 widths.now conjuncts.now) }
+{
+    let mut out = List::new(alloc);
+    let mut base: usize = 0;
+    for width in widths {
+        out.push(owns(alloc, conjuncts, base, *width)?)?;
+        base = after(base, *width)?;
+    }
+    Ok(out)
+}
+
+/// Each member's keys.
+fn each_keys(
+    alloc: Global,
+    conjuncts: &[Pred],
+    widths: &[usize],
+) -> Result<List<List<KeyPair>>, NoMemory>
+    ensures { IfOk result (λ out. out ≡ key_lists 0 widths.now conjuncts.now) }
+{
+    let mut out = List::new(alloc);
+    let mut base: usize = 0;
+    for width in widths {
+        out.push(keys_of(alloc, conjuncts, base, *width)?)?;
+        base = after(base, *width)?;
+    }
+    Ok(out)
 }
 
 /// The members of an outermost AND, else the condition itself.

@@ -1,6 +1,7 @@
 //! Copies of queries and of their parts.
 ghost use Rattle.std.specs.Prelude.{◌≡◌, IfOk};
 ghost use Rattle.rt_algebra.specs.declared.query.Pred.TheVariants as preds;
+ghost use Rattle.rt_algebra.specs.declared.query.Query.TheVariants as queries;
 
 use crate::expr::{Expr, Term};
 use crate::query::{Pred, Query};
@@ -79,11 +80,16 @@ pub fn copy_pred(alloc: Global, pred: &Pred) -> Result<Pred, NoMemory>
         Pred::Or(members) => Ok(Pred::Or(copy_preds(alloc, members.as_slice())?)),
         Pred::Not(member) => Ok(Pred::Not(Boxed::new(alloc, copy_pred(alloc, member.get())?)?)),
         Pred::Exists(query) => Ok(Pred::Exists(copy_boxed(alloc, query.get())?)),
-        Pred::Member(expr, query) => {
-            let query = copy_boxed(alloc, query.get())?;
-            Ok(Pred::Member(copy_expr(alloc, expr)?, query))
-        }
+        Pred::Member(expr, query) => copy_member(alloc, expr, query.get()),
     }
+}
+
+#[cycle(copy)]
+fn copy_member(alloc: Global, expr: &Expr, query: &Query) -> Result<Pred, NoMemory>
+    ensures { IfOk result (λ p. p ≡ preds.Member expr.now query.now) }
+{
+    let query = copy_boxed(alloc, query)?;
+    Ok(Pred::Member(copy_expr(alloc, expr)?, query))
 }
 
 #[cycle(copy)]
@@ -103,28 +109,46 @@ fn copy_query(alloc: Global, query: &Query) -> Result<Query, NoMemory>
 {
     match query {
         Query::Table(table) => Ok(Query::Table(*table)),
-        Query::Select(source, condition) => {
-            let source = copy_boxed(alloc, source.get())?;
-            Ok(Query::Select(source, copy_pred(alloc, condition)?))
-        }
-        Query::Project(source, items) => {
-            let source = copy_boxed(alloc, source.get())?;
-            Ok(Query::Project(source, copy_exprs(alloc, items.as_slice())?))
-        }
+        Query::Select(source, condition) => copy_select(alloc, source.get(), condition),
+        Query::Project(source, items) => copy_project(alloc, source.get(), items.as_slice()),
         Query::Product(members) => Ok(Query::Product(copy_queries(alloc, members.as_slice())?)),
         Query::Union(a, b) => {
-            let a = copy_boxed(alloc, a.get())?;
-            Ok(Query::Union(a, copy_boxed(alloc, b.get())?))
+            let (a, b) = copy_both(alloc, a.get(), b.get())?;
+            Ok(Query::Union(a, b))
         }
         Query::Except(a, b) => {
-            let a = copy_boxed(alloc, a.get())?;
-            Ok(Query::Except(a, copy_boxed(alloc, b.get())?))
+            let (a, b) = copy_both(alloc, a.get(), b.get())?;
+            Ok(Query::Except(a, b))
         }
         Query::Intersect(a, b) => {
-            let a = copy_boxed(alloc, a.get())?;
-            Ok(Query::Intersect(a, copy_boxed(alloc, b.get())?))
+            let (a, b) = copy_both(alloc, a.get(), b.get())?;
+            Ok(Query::Intersect(a, b))
         }
     }
+}
+
+#[cycle(copy)]
+fn copy_select(alloc: Global, source: &Query, condition: &Pred) -> Result<Query, NoMemory>
+    ensures { IfOk result (λ q. q ≡ queries.Select source.now condition.now) }
+{
+    let source = copy_boxed(alloc, source)?;
+    Ok(Query::Select(source, copy_pred(alloc, condition)?))
+}
+
+#[cycle(copy)]
+fn copy_project(alloc: Global, source: &Query, items: &[Expr]) -> Result<Query, NoMemory>
+    ensures { IfOk result (λ q. q ≡ queries.Project source.now items.now) }
+{
+    let source = copy_boxed(alloc, source)?;
+    Ok(Query::Project(source, copy_exprs(alloc, items)?))
+}
+
+#[cycle(copy)]
+fn copy_both(alloc: Global, a: &Query, b: &Query) -> Result<(Boxed<Query>, Boxed<Query>), NoMemory>
+    ensures { IfOk result (λ both. both ≡ (a.now, b.now)) }
+{
+    let a = copy_boxed(alloc, a)?;
+    Ok((a, copy_boxed(alloc, b)?))
 }
 
 #[cycle(copy)]

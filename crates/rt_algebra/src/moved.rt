@@ -166,6 +166,51 @@ fn moved_term(
     }
 }
 
+fn compared(op: Op, a: Option<Expr>, b: Option<Expr>) -> Option<Pred>
+    ensures { result ≡ both (p.Cmp op) a b }
+{
+    match (a, b) {
+        (Some(a), Some(b)) => Some(Pred::Cmp(op, a, b)),
+        _ => None,
+    }
+}
+
+fn moved_cmp(
+    alloc: Global,
+    op: Op,
+    a: &Expr,
+    b: &Expr,
+    base: usize,
+    width: usize,
+) -> Result<Option<Pred>, NoMemory>
+    ensures { IfOk result (λ o. o ≡ both (p.Cmp op) (moved base width a.now) (moved base width b.now)) }
+{
+    let a = moved(alloc, a, base, width)?;
+    Ok(compared(op, a, moved(alloc, b, base, width)?))
+}
+
+fn one_of(expr: Option<Expr>, items: Option<List<Expr>>) -> Option<Pred>
+    ensures { result ≡ both p.OneOf expr items }
+{
+    match (expr, items) {
+        (Some(expr), Some(items)) => Some(Pred::OneOf(expr, items)),
+        _ => None,
+    }
+}
+
+fn moved_one_of(
+    alloc: Global,
+    expr: &Expr,
+    items: &[Expr],
+    base: usize,
+    width: usize,
+) -> Result<Option<Pred>, NoMemory>
+    ensures { IfOk result (λ o. o ≡ both p.OneOf (moved base width expr.now) (all_from [] (map (moved base width) items.now))) }
+{
+    let items = moved_exprs(alloc, items, base, width)?;
+    Ok(one_of(moved(alloc, expr, base, width)?, items))
+}
+
 /// The condition over the member's row alone, and None where it has a subquery or a column lies
 /// outside the member.
 #[cycle(moved)]
@@ -178,20 +223,12 @@ fn moved_pred(
     ensures { IfOk result (λ o. o ≡ moved_pred base width pred.now) }
 {
     match pred {
-        Pred::Cmp(op, a, b) => {
-            let a = moved(alloc, a, base, width)?;
-            let b = moved(alloc, b, base, width)?;
-            Ok(compared(*op, a, b))
-        }
+        Pred::Cmp(op, a, b) => moved_cmp(alloc, *op, a, b, base, width),
         Pred::IsNull(expr) => match moved(alloc, expr, base, width)? {
             Some(expr) => Ok(Some(Pred::IsNull(expr))),
             None => Ok(None),
         },
-        Pred::OneOf(expr, items) => {
-            let expr = moved(alloc, expr, base, width)?;
-            let items = moved_exprs(alloc, items.as_slice(), base, width)?;
-            Ok(one_of(expr, items))
-        }
+        Pred::OneOf(expr, items) => moved_one_of(alloc, expr, items.as_slice(), base, width),
         Pred::And(members) => match moved_preds(alloc, members.as_slice(), base, width)? {
             Some(members) => Ok(Some(Pred::And(members))),
             None => Ok(None),
@@ -225,24 +262,6 @@ fn moved_preds(
         }
     }
     Ok(Some(out))
-}
-
-fn compared(op: Op, a: Option<Expr>, b: Option<Expr>) -> Option<Pred>
-    ensures { result ≡ both (p.Cmp op) a b }
-{
-    match (a, b) {
-        (Some(a), Some(b)) => Some(Pred::Cmp(op, a, b)),
-        _ => None,
-    }
-}
-
-fn one_of(expr: Option<Expr>, items: Option<List<Expr>>) -> Option<Pred>
-    ensures { result ≡ both p.OneOf expr items }
-{
-    match (expr, items) {
-        (Some(expr), Some(items)) => Some(Pred::OneOf(expr, items)),
-        _ => None,
-    }
 }
 
 /// The condition as one of the member's own, over the member's row.

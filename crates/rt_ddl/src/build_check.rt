@@ -3,6 +3,7 @@
 ghost use Rattle.std.specs.Prelude.{◌≡◌, ◌∷◌, IfOk, map};
 ghost use Rattle.rt_ddl.specs.Checks as spec;
 ghost use Rattle.rt_ddl.specs.Meaning.{column_at, columns_of};
+ghost use Rattle.rt_schema.specs.declared.check.CheckLeaf.TheVariants as leaves;
 
 use crate::known::KnownTable;
 use rt_ddl_tree::{Test, TestForm, TestLeaf, TestPart, TestSide};
@@ -38,24 +39,56 @@ fn sides_made(
     Ok(made)
 }
 
+fn two_made(
+    alloc: Global,
+    table: &KnownTable,
+    first: &TestSide,
+    second: &TestSide,
+) -> Result<(Side, Side), NoMemory>
+    ensures { let place = column_at (columns_of table.now.parts) in IfOk result (λ two. two ≡ (spec.side_made place first.now, spec.side_made place second.now)) }
+{
+    let first = side_made(alloc, table, first)?;
+    match side_made(alloc, table, second) {
+        Ok(second) => Ok((first, second)),
+        Err(error) => {
+            drop(first);
+            Err(error)
+        }
+    }
+}
+
+fn between_made(
+    alloc: Global,
+    table: &KnownTable,
+    left: &TestSide,
+    low: &TestSide,
+    high: &TestSide,
+) -> Result<CheckLeaf, NoMemory>
+    ensures { let place = column_at (columns_of table.now.parts) in IfOk result (λ l. l ≡ leaves.Between (spec.side_made place left.now) (spec.side_made place low.now) (spec.side_made place high.now)) }
+{
+    let left = side_made(alloc, table, left)?;
+    match two_made(alloc, table, low, high) {
+        Ok((low, high)) => Ok(CheckLeaf::Between(left, low, high)),
+        Err(error) => {
+            drop(left);
+            Err(error)
+        }
+    }
+}
+
 fn form_made(alloc: Global, table: &KnownTable, form: &TestForm) -> Result<CheckLeaf, NoMemory>
     ensures { IfOk result (λ l. l ≡ spec.form_made (column_at (columns_of table.now.parts)) form.now) }
 {
     match form {
         TestForm::Cmp(left, op, right) => {
-            let left = side_made(alloc, table, left)?;
-            Ok(CheckLeaf::Cmp(*op, left, side_made(alloc, table, right)?))
+            let (left, right) = two_made(alloc, table, left, right)?;
+            Ok(CheckLeaf::Cmp(*op, left, right))
         }
         TestForm::IsNull(left, _) => Ok(CheckLeaf::IsNull(side_made(alloc, table, left)?)),
-        TestForm::Between(left, _, low, high) => {
-            let left = side_made(alloc, table, left)?;
-            let low = side_made(alloc, table, low)?;
-            Ok(CheckLeaf::Between(left, low, side_made(alloc, table, high)?))
-        }
+        TestForm::Between(left, _, low, high) => between_made(alloc, table, left, low, high),
         TestForm::OneOf(left, _, head, tail) => {
-            let left = side_made(alloc, table, left)?;
             let items = sides_made(alloc, table, head, tail.as_slice())?;
-            Ok(CheckLeaf::OneOf(left, items))
+            Ok(CheckLeaf::OneOf(side_made(alloc, table, left)?, items))
         }
     }
 }

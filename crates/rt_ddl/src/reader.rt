@@ -56,7 +56,11 @@ pub fn read_schema(alloc: Global, text: &[u8]) -> Result<Schema, SchemaFault>
 {
     let tokens = tokens(alloc, text)?;
     match read_tree(alloc, tokens.as_slice()) {
-        Ok(tree) => made(alloc, &tree),
+        Ok(tree) => {
+            let schema = made(alloc, &tree);
+            drop(tree);
+            schema
+        }
         Err(ReadFault::Syntax(left)) => {
             Err(SchemaFault::Syntax(syntax_place(tokens.as_slice(), left)))
         }

@@ -3,6 +3,7 @@
 ghost use Rattle.std.specs.Prelude.{◌≡◌, ◌++◌, ◌∷◌, [], IfOk, OnOk, map, option_map};
 ghost use Rattle.std.specs.List.{flat_map};
 ghost use Rattle.rt_ddl.specs.Parts as spec;
+ghost use Rattle.rt_ddl.specs.declared.parts.RuleText.TheVariants as rule_texts;
 
 use crate::known::KnownTable;
 use crate::known_tables::KnownTables;
@@ -66,6 +67,20 @@ fn kind_of(kind: &KindWord) -> ColKind
     }
 }
 
+// The foreign key of the column of this name.
+fn column_foreign(
+    alloc: Global,
+    column: &Txt,
+    table: &Txt,
+    to: &Option<Name>,
+) -> Result<RuleText, NoMemory>
+    ensures { IfOk result (λ r. r ≡ rule_texts.Foreign (column.now ∷ []) table.now (option_map (λ n. n.text ∷ []) to.now)) }
+{
+    let from = only(alloc, column)?;
+    let table = table.copy(alloc)?;
+    Ok(RuleText::Foreign(from, table, maybe_only(alloc, to)?))
+}
+
 // The rule that stands with the column of this name, unless it has no effect.
 fn column_rule(alloc: Global, column: &Txt, rule: &ColumnRule) -> Result<Option<RuleText>, NoMemory>
     ensures { IfOk result (λ r. spec.rule_parts r ≡ spec.column_rule_parts column.now rule.now) }
@@ -76,9 +91,7 @@ fn column_rule(alloc: Global, column: &Txt, rule: &ColumnRule) -> Result<Option<
         ColumnRule::PrimaryKey => Ok(Some(RuleText::PrimaryKey(only(alloc, column)?))),
         ColumnRule::Unique => Ok(Some(RuleText::Unique(only(alloc, column)?))),
         ColumnRule::References(table, to) => {
-            let from = only(alloc, column)?;
-            let to = maybe_only(alloc, to)?;
-            Ok(Some(RuleText::Foreign(from, table.text.copy(alloc)?, to)))
+            Ok(Some(column_foreign(alloc, column, &table.text, to)?))
         }
         ColumnRule::Check(test) => Ok(Some(RuleText::Check(test.copy(alloc)?))),
     }
@@ -110,17 +123,26 @@ fn push_column(alloc: Global, parts: &mut List<Part>, column: &Column) -> Result
     push_column_rules(alloc, parts, &column.name.text, column.rules.as_slice())
 }
 
+fn table_foreign(
+    alloc: Global,
+    from: &Names,
+    table: &Txt,
+    to: &Option<Names>,
+) -> Result<RuleText, NoMemory>
+    ensures { IfOk result (λ r. r ≡ rule_texts.Foreign (spec.names_of from.now) table.now (option_map spec.names_of to.now)) }
+{
+    let from = names_of(alloc, from)?;
+    let table = table.copy(alloc)?;
+    Ok(RuleText::Foreign(from, table, maybe_names_of(alloc, to)?))
+}
+
 fn table_rule(alloc: Global, rule: &TableRule) -> Result<RuleText, NoMemory>
     ensures { IfOk result (λ r. r ≡ spec.table_rule_text rule.now) }
 {
     match rule {
         TableRule::PrimaryKey(columns) => Ok(RuleText::PrimaryKey(names_of(alloc, columns)?)),
         TableRule::Unique(columns) => Ok(RuleText::Unique(names_of(alloc, columns)?)),
-        TableRule::Foreign(from, table, to) => {
-            let from = names_of(alloc, from)?;
-            let to = maybe_names_of(alloc, to)?;
-            Ok(RuleText::Foreign(from, table.text.copy(alloc)?, to))
-        }
+        TableRule::Foreign(from, table, to) => table_foreign(alloc, from, &table.text, to),
         TableRule::Check(test) => Ok(RuleText::Check(test.copy(alloc)?)),
         TableRule::Depend(from, to) => {
             let from = names_of(alloc, from)?;
@@ -160,13 +182,24 @@ fn known_table(alloc: Global, create: &Create) -> Result<KnownTable, NoMemory>
     KnownTable::of(alloc, text)
 }
 
+// The tables with one more at the end.
+fn with_created(
+    alloc: Global,
+    tables: KnownTables,
+    create: &Create,
+) -> Result<KnownTables, NoMemory>
+    ensures { IfOk result (λ ts. ts ≡ tables ++ spec.table_text create.now ∷ []) }
+{
+    let table = known_table(alloc, create)?;
+    tables.with(alloc, table)
+}
+
 fn created(alloc: Global, head: &Create, tail: &[Create]) -> Result<KnownTables, NoMemory>
     ensures { IfOk result (λ ts. ts ≡ spec.table_text head.now ∷ map spec.table_text tail.now) }
 {
-    let none = KnownTables::new(alloc);
-    let mut tables = none.with(alloc, known_table(alloc, head)?)?;
+    let mut tables = with_created(alloc, KnownTables::new(alloc), head)?;
     for create in tail {
-        tables = tables.with(alloc, known_table(alloc, create)?)?;
+        tables = with_created(alloc, tables, create)?;
     }
     Ok(tables)
 }

@@ -1,4 +1,4 @@
-ghost use Rattle.std.specs.Prelude.{◌≡◌, ◌≤◌, ◌++◌, IfOk, OnOk};
+ghost use Rattle.std.specs.Prelude.{◌≡◌, ◌≤◌, ◌∷◌, ◌++◌, [], IfOk, OnOk};
 ghost use Rattle.rt_load.specs.Made as spec;
 
 use crate::input::Made;
@@ -19,16 +19,27 @@ pub fn made(alloc: Global, n: u64) -> Result<Made, NoMemory>
     requires { (1 ≤ n) × (n ≤ 400) }
     ensures { IfOk result (λ texts. texts ≡ spec.made n) }
 {
+    let files = files(alloc, n)?;
+    let schema = List::from_slice(alloc, SCHEMA.as_bytes())?;
+    let query1 = List::from_slice(alloc, QUERY1.as_bytes())?;
+    let query2 = List::from_slice(alloc, QUERY2.as_bytes())?;
+    Ok(Made {
+        schema,
+        files,
+        query1,
+        query2,
+    })
+}
+
+fn files(alloc: Global, n: u64) -> Result<List<Bytes>, NoMemory>
+    requires { (1 ≤ n) × (n ≤ 400) }
+    ensures { IfOk result (λ files. files ≡ spec.student_file n ∷ spec.reg_file n ∷ spec.room_file n ∷ []) }
+{
     let mut files = List::new(alloc);
     files.push(student_file(alloc, n)?)?;
     files.push(reg_file(alloc, n)?)?;
     files.push(room_file(alloc, n)?)?;
-    Ok(Made {
-        schema: List::from_slice(alloc, SCHEMA.as_bytes())?,
-        files,
-        query1: List::from_slice(alloc, QUERY1.as_bytes())?,
-        query2: List::from_slice(alloc, QUERY2.as_bytes())?,
-    })
+    Ok(files)
 }
 
 fn student_file(alloc: Global, n: u64) -> Result<Bytes, NoMemory>

@@ -93,6 +93,36 @@ fn values(alloc: Global, trail: &Trail) -> Result<Keep, NoMemory>
     Ok(bools)
 }
 
+// Searches over as many variables as the call speaks of.
+fn find<L: Lines + Drop>(
+    alloc: Global,
+    base: &mut Base<L>,
+    pick: &mut Pick,
+    assume: &Option<Lit>,
+    first: usize,
+    budget: Option<u64>,
+    order: Order,
+) -> Result<Found, NoMemory>
+    requires { IfSome budget (λ b. 1 ≤ b) }
+    ensures searched { HasSearched (L.lines base.old.0) (L.lines base.new.0) (L.derived base.old.0) (L.derived base.new.0) assume.now first (variables (L.lines base.old.0) assume.now first) }
+    ensures found { IfOk result (λ found. IsFound (L.lines base.old.0) (L.lines base.new.0) assume.now first (variables (L.lines base.old.0) assume.now first) budget found) }
+    ensures order { IfOk result (λ found. IsInOrder order (L.lines base.old.0) assume.now first found) }
+    ensures unspent { IfOk result (λ found. IsUnspent (L.lines base.old.0) (L.lines base.new.0) budget found) }
+{
+    let vars = variables_of(first, base.vars(), assume);
+    if vars > MOST_VARIABLES {
+        return Err(NoMemory);
+    }
+    let mut trail = begun(alloc, vars, assume)?;
+    pick.begin(vars, order.bound(first))?;
+    let found = match run(alloc, base, assume, first, budget, order, pick, &mut trail)? {
+        Ending::Whole => Found::Model(values(alloc, &trail)?),
+        Ending::Refuted => Found::Refuted,
+        Ending::Spent(list) => Found::Spent(list),
+    };
+    Ok(found)
+}
+
 impl<L: Lines + Drop> Solver<L> {
     /// A solver over no lines yet, which takes no memory.
     pub fn new(alloc: Global, lines: L) -> Solver<L>
@@ -137,26 +167,15 @@ impl<L: Lines + Drop> Solver<L> {
             return Err(NoMemory);
         }
         self.failed = true;
-        let vars = variables_of(first, self.base.vars(), &assume);
-        if vars > MOST_VARIABLES {
-            return Err(NoMemory);
-        }
-        let mut trail = begun(self.alloc, vars, &assume)?;
-        self.pick.begin(vars, order.bound(first))?;
-        let found = match run(
+        let found = find(
             self.alloc,
             &mut self.base,
+            &mut self.pick,
             &assume,
             first,
             budget,
             order,
-            &mut self.pick,
-            &mut trail,
-        )? {
-            Ending::Whole => Found::Model(values(self.alloc, &trail)?),
-            Ending::Refuted => Found::Refuted,
-            Ending::Spent(list) => Found::Spent(list),
-        };
+        )?;
         self.failed = false;
         Ok(found)
     }

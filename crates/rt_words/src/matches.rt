@@ -30,14 +30,14 @@ pub fn matches_of<'a>(alloc: Global, words: &'a [&'a str]) -> Result<ArgMatches<
 fn command_of<'a>(alloc: Global) -> Result<Command<'a>, AllocError>
     ensures { IfOk result (λ m. app_of m ≡ command_app) }
 {
-    let plain = Arg::new(alloc, "words").action(ArgAction::Append);
-    let conflicts = Arg::new(alloc, "conflicts").long("conflicts");
-    let work = Arg::new(alloc, "work").long("work");
     let empty = Command::new(alloc, "ratest")
         .no_binary_name(true)
         .disable_help_flag(true);
+    let plain = Arg::new(alloc, "words").action(ArgAction::Append);
     let one = empty.arg(plain)?;
+    let conflicts = Arg::new(alloc, "conflicts").long("conflicts");
     let two = one.arg(conflicts)?;
+    let work = Arg::new(alloc, "work").long("work");
     let three = two.arg(work)?;
     Ok(three)
 }

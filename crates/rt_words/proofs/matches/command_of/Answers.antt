@@ -16,7 +16,7 @@ returns c =
     let work_is : rule_of c.long-work.result ≡ work_rule = search rules in
     let empty_is : app_of c.disable_help_flag-empty.result ≡ empty_app =
     ap app_of_fields (c.disable_help_flag-empty.ensures ∙ ap (λ (f : Command-F Command). record f { disable_help_flag = true }) c.no_binary_name.ensures)
-    ∙ ap (λ (a : App). on_top (λ s. record s { no_binary_name = true; disable_help_flag = true }) a) c.new-4.ensures.app in
+    ∙ ap (λ (a : App). on_top (λ s. record s { no_binary_name = true; disable_help_flag = true }) a) c.new.ensures.app in
     let one_is : app_of c.in_ok-one.one ≡ with_rule empty_app plain_rule = c.in_ok-one.ensures.shape (search rules) ∙ ap₂ with_rule empty_is plain_is in
     let two_is : app_of c.in_ok-two.two ≡ with_rule (with_rule empty_app plain_rule) conflicts_rule = c.in_ok-two.ensures.shape (search rules) ∙ ap₂ with_rule one_is conflicts_is in
     c.in_ok-three.ensures.shape (search rules) ∙ ap₂ with_rule two_is work_is
