@@ -8,7 +8,7 @@ use Rattle.rt_cert_text.specs.declared.fault.CertFault.TheVariants as faults
 use Rattle.rt_top.specs.declared.outcome.Outcome.{Outcome}
 use Rattle.rt_top.specs.declared.outcome.Outcome.TheVariants as outcome
 use Rattle.rt_top.specs.Source.{Text}
-use Rattle.rt_top.specs.Texts.{place as place_of_outcome, refusal_line, status_of as status_of_outcome}
+use Rattle.rt_top.specs.Texts.{place as place_of_outcome, status_of as status_of_outcome, stopped_text}
 use Rattle.rt_cert.specs.declared.judgement.Judgement.{Judgement}
 use Rattle.rt_cert.specs.declared.judgement.Judgement.TheVariants as judgement
 use Rattle.rt_cert.specs.declared.judgement.Why.{Why}
@@ -60,15 +60,7 @@ usage_text = codes "usage: ratest_plus prove ARGS\n       ratest_plus check CERT
 
 -- the text of an outcome of `ratest` that is no verdict; `most` is the work limit in force
 abbrev pub verdict_text : ℕ → Outcome → Text
-verdict_text most outcome.Agree = []
-verdict_text most (outcome.Witness keep) = []
-verdict_text most outcome.Usage = usage_text
-verdict_text most (outcome.Refused part fault) = refusal_line most (outcome.Refused part fault)
-verdict_text most (outcome.Spent s) = []
-verdict_text most (outcome.Limit limit) = refusal_line most (outcome.Limit limit)
-verdict_text most (outcome.ReadFault part) = refusal_line most (outcome.ReadFault part)
-verdict_text most outcome.WriteFault = []
-verdict_text most outcome.NoMemory = []
+verdict_text most o = stopped_text usage_text most o
 
 abbrev pub judgement_text : Judgement → Text
 judgement_text (judgement.Valid keep) = valid_text keep

@@ -1,10 +1,8 @@
 //! The certificate of the verdict on an input.
-ghost use Rattle.std.specs.Prelude.{◌≡◌, IfOk, Some};
+ghost use Rattle.std.specs.Prelude.{◌≡◌, IfOk};
 ghost use Rattle.rt_cert.specs.Least.{IsSmallestOrNone};
 ghost use Rattle.rt_io.specs.Edge.{NoneFell};
 ghost use Rattle.rt_top.specs.Answers.{call};
-ghost use Rattle.rt_top.specs.Smallest.{IsGivenUp};
-ghost use Rattle.rt_top.specs.Texts.{spent_of};
 ghost use Rattle.rt_cert_run.specs.Steps.{ProvesIn, SaysProve};
 
 use crate::outcome::CertOutcome;
@@ -12,10 +10,9 @@ use crate::told::{Told, stopped};
 use rt_cert::{Proof, prove};
 use rt_cert_text::cert_text;
 use rt_io::Files;
-use rt_print::{MadeVerdict, made_text, spent_text};
-use rt_search::{Best, SpentBest};
-use rt_top::{Input, Outcome, Spent, decide, read_input};
-use rt_value::{Bytes, Keep, NoMemory, Txt};
+use rt_search::Best;
+use rt_top::{GivenUp, Input, Outcome, decide, given_up, read_input};
+use rt_value::{Keep, NoMemory, Txt};
 use std::alloc::Global;
 
 /// What is to be said of a verdict: its certificate.
@@ -26,39 +23,6 @@ fn certified(alloc: Global, input: &Input, keep: &Option<Keep>) -> Result<Told, 
     let Proof { cert, encoded } = prove(alloc, input, keep)?;
     let text = cert_text(alloc, &cert)?;
     let outcome = CertOutcome::Proved(cert, encoded);
-    Ok(Told { outcome, text })
-}
-
-fn spent_of(alloc: Global, input: &Input, spent: &Spent) -> Result<Bytes, NoMemory>
-    requires { IsGivenUp input.now spent.now.budget spent.now.best spent.now.least spent.now.nogoods }
-    ensures { IfOk result (λ text. text ≡ spent_of input.now spent.now) }
-{
-    let schema = input.schema();
-    if let Some(n) = input.made() {
-        return made_text(alloc, n, MadeVerdict::Undecided(spent.budget));
-    }
-    spent_text(
-        alloc,
-        schema,
-        input.given(),
-        spent.budget,
-        spent.best.as_ref(),
-    )
-}
-
-fn given_up(alloc: Global, input: &Input, budget: u64, found: SpentBest) -> Result<Told, NoMemory>
-    requires budget { input.now.conflicts ≡ Some budget }
-    requires given_up { IsGivenUp input.now budget found.best found.least found.nogoods }
-    ensures { IfOk result (λ t. ProvesIn input.now t.outcome t.text) }
-{
-    let spent = Spent {
-        budget,
-        best: found.best,
-        least: found.least,
-        nogoods: found.nogoods,
-    };
-    let text = spent_of(alloc, input, &spent)?;
-    let outcome = CertOutcome::Verdict(Outcome::Spent(spent));
     Ok(Told { outcome, text })
 }
 
@@ -75,7 +39,11 @@ fn proved(alloc: Global, input: &Input) -> Result<Told, NoMemory>
             told
         }
         Best::Spent(found) => match input.conflicts() {
-            Some(budget) => given_up(alloc, input, budget, found),
+            Some(budget) => {
+                let GivenUp { spent, text } = given_up(alloc, input, budget, found)?;
+                let outcome = CertOutcome::Verdict(Outcome::Spent(spent));
+                Ok(Told { outcome, text })
+            }
             None => unreachable!(),
         },
     }

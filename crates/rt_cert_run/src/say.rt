@@ -1,13 +1,10 @@
 //! The texts of outcomes.
 ghost use Rattle.std.specs.Prelude.{◌≡◌, IfOk, string_bytes};
-ghost use Rattle.rt_words.specs.Command.{command};
-ghost use Rattle.rt_top.specs.Answers.{limit_of};
 ghost use Rattle.rt_cert_run.specs.Texts as spec;
 
 use crate::file::FileFault;
 use rt_cert::{Judgement, Why};
-use rt_top::{Outcome, refusal_line};
-use rt_value::{Bytes, Keep, List, NoMemory, Txt};
+use rt_value::{Bytes, Keep, List, NoMemory};
 use std::alloc::{AllocError, Global};
 
 /// The text for words that are no command.
@@ -78,32 +75,4 @@ pub(crate) fn fault_text(alloc: Global, fault: &FileFault) -> Result<Bytes, NoMe
         FileFault::NoMemory => String::new(alloc),
     };
     List::from_slice(alloc, line.as_str().as_bytes())
-}
-
-/// The work limit of the command that the words are.
-fn work_limit(alloc: Global, words: &[Txt]) -> Result<u64, NoMemory>
-    ensures { IfOk result (λ most. most ≡ limit_of (command words.now)) }
-{
-    match rt_top::read_words(alloc, words) {
-        Ok(command) => Ok(command.work_limit),
-        Err(Outcome::NoMemory) => Err(NoMemory),
-        Err(_) => Ok(0),
-    }
-}
-
-/// The text of an outcome of `ratest` that is no verdict; the words are those of its command.
-pub(crate) fn verdict_text(
-    alloc: Global,
-    words: &[Txt],
-    outcome: &Outcome,
-) -> Result<Bytes, NoMemory>
-    ensures { IfOk result (λ text. text ≡ spec.verdict_text (limit_of (command words.now)) outcome.now) }
-{
-    match outcome {
-        Outcome::Usage => List::from_slice(alloc, CERT_USAGE.as_bytes()),
-        outcome => {
-            let most = work_limit(alloc, words)?;
-            refusal_line(alloc, outcome, most)
-        }
-    }
 }

@@ -2,8 +2,8 @@ ghost use Rattle.std.specs.Prelude.{◌≡◌, IfOk};
 ghost use Rattle.rt_cert_run.specs.Steps.{SaysVerdict};
 
 use crate::outcome::CertOutcome;
-use crate::say::verdict_text;
-use rt_top::Outcome;
+use crate::say::CERT_USAGE;
+use rt_top::{Outcome, stopped_text};
 use rt_value::{Bytes, NoMemory, Txt};
 use std::alloc::Global;
 
@@ -21,7 +21,7 @@ pub(crate) fn stopped(alloc: Global, words: &[Txt], outcome: Outcome) -> Result<
     match outcome {
         Outcome::NoMemory => Err(NoMemory),
         outcome => {
-            let text = verdict_text(alloc, words, &outcome)?;
+            let text = stopped_text(alloc, CERT_USAGE, words, &outcome)?;
             let outcome = CertOutcome::Verdict(outcome);
             Ok(Told { outcome, text })
         }

@@ -4,8 +4,10 @@ use Rattle.rt_clause.specs.Literal.{Literal, negated}
 use Rattle.rt_clause.specs.Lists.{has, IsBelow, AreBelow, Closed, Determined}
 use Rattle.rt_clause.specs.Models.{IsModel}
 use Rattle.rt_clause.specs.Gates.{AgreeBelow}
+use Rattle.rt_value.specs.Keep.{size}
 use Rattle.rt_formula.specs.Shared.{Shared, bool_at, val}
-use Rattle.rt_totalizer.specs.Outputs.{output_at, CountsRows}
+use Rattle.rt_totalizer.specs.Outputs.{output_at, CountsFirst, CountsRows}
+use Rattle.rt_totalizer.specs.declared.counter.Outputs.{Outputs}
 use Rattle.rt_search.specs.Sought.{IsSought, IsWithin, not_kept}
 
 -- the lines have a model over a choice exactly where it is sought, the rows determine the other
@@ -26,3 +28,15 @@ pub record IsCounted (d : Shared) (lines : List (List Literal)) (next : ℕ) (ou
 -- the literal that says that fewer than so many rows are kept
 abbrev pub fewer_than : List Literal → ℕ → Literal
 fewer_than outs most = negated (output_at outs most)
+
+-- a search under way: the lines ask for the goal within the cone, the counter counts under them up to
+-- as many rows as the best choice keeps, and to one more where there are more, and the best choice is
+-- one that is sought
+pub record IsUnderWay (d : Shared) (goal : ℕ) (cone : List Bool) (lines : List (List Literal)) (next : ℕ) (counter : Outputs) (best : List Bool) : Type 0 where
+  pub long : length cone ≡ d.rows
+  pub aimed : IsAimed d goal cone lines next
+  pub counted : IsCounted d lines next counter.outs
+  pub firsts : CountsFirst d.rows (length counter.outs) next lines counter.firsts
+  pub sought : IsSought d goal cone best
+  pub within : size best ≤ length counter.outs
+  pub room : size best < d.rows → size best < length counter.outs

@@ -1,7 +1,5 @@
-ghost use Rattle.std.specs.Prelude.{◌≡◌, ◌≤◌, ◌<◌, IfOk, IfSome, length};
-ghost use Rattle.rt_value.specs.Keep.{size};
-ghost use Rattle.rt_totalizer.specs.Outputs.{CountsFirst};
-ghost use Rattle.rt_search.specs.Aimed.{IsAimed, IsCounted};
+ghost use Rattle.std.specs.Prelude.{◌≡◌, ◌≤◌, IfOk, IfSome};
+ghost use Rattle.rt_search.specs.Aimed.{IsUnderWay};
 ghost use Rattle.rt_search.specs.Least.{HasFewest};
 ghost use Rattle.rt_search.specs.Sought.{IsBestWithin, IsSought};
 
@@ -35,13 +33,8 @@ pub(crate) fn first(
 ) -> Result<Best, NoMemory>
     requires rows { named.rows ≡ dag.now.rows }
     requires budget { IfSome budget (λ b. 1 ≤ b) }
-    requires long { length cone.now ≡ dag.now.rows }
-    requires aimed { IsAimed dag.now goal cone.now solver.old.0.lines named.next }
-    requires counted { IsCounted dag.now solver.old.0.lines named.next counter.now.outs }
-    requires firsts { CountsFirst dag.now.rows (length counter.now.outs) named.next solver.old.0.lines counter.now.firsts }
-    requires best { IsSought dag.now goal cone.now best }
+    requires way { IsUnderWay dag.now goal cone.now solver.old.0.lines named.next counter.now best }
     requires fewest { HasFewest (IsSought dag.now goal cone.now) best }
-    requires room { size best < dag.now.rows → size best < length counter.now.outs }
     ensures { IfOk result (IsBestWithin dag.now goal cone.now budget) }
 {
     let most = best.size();

@@ -1,8 +1,6 @@
 ghost use Rattle.std.specs.Prelude.{◌≡◌, ◌≤◌, ◌<◌, IfOk, IfSome, length};
-ghost use Rattle.rt_value.specs.Keep.{size};
-ghost use Rattle.rt_totalizer.specs.Outputs.{CountsFirst};
-ghost use Rattle.rt_search.specs.Aimed.{IsAimed, IsCounted, fewer_than};
-ghost use Rattle.rt_search.specs.Sought.{IsBestWithin, IsSought};
+ghost use Rattle.rt_search.specs.Aimed.{IsUnderWay, fewer_than};
+ghost use Rattle.rt_search.specs.Sought.{IsBestWithin};
 
 use crate::attempt::attempt;
 use crate::best::{Best, SpentBest};
@@ -40,13 +38,7 @@ pub(crate) fn lower(
 ) -> Result<Best, NoMemory>
     requires rows { named.rows ≡ dag.now.rows }
     requires budget { IfSome budget (λ b. 1 ≤ b) }
-    requires long { length cone.now ≡ dag.now.rows }
-    requires aimed { IsAimed dag.now goal cone.now solver.old.0.lines named.next }
-    requires counted { IsCounted dag.now solver.old.0.lines named.next counter.now.outs }
-    requires firsts { CountsFirst dag.now.rows (length counter.now.outs) named.next solver.old.0.lines counter.now.firsts }
-    requires best { IsSought dag.now goal cone.now best }
-    requires within { size best ≤ length counter.now.outs }
-    requires room { size best < dag.now.rows → size best < length counter.now.outs }
+    requires way { IsUnderWay dag.now goal cone.now solver.old.0.lines named.next counter.now best }
     ensures { IfOk result (IsBestWithin dag.now goal cone.now budget) }
 {
     let rows = named.rows();
