@@ -5,7 +5,7 @@ use Rattle.rt_io.specs.declared.place.Place.TheVariants as at
 use Rattle.rt_top.specs.declared.outcome.Outcome.{Outcome}
 use Rattle.rt_top.specs.declared.outcome.Outcome.TheVariants as outcome
 use Rattle.rt_top.specs.Source.{Text}
-use Rattle.rt_top.specs.Texts.{refusal_line, status_of as status_of_outcome}
+use Rattle.rt_top.specs.Texts.{stopped_text, status_of as status_of_outcome}
 use Rattle.rt_row_run.specs.declared.answer.RowVerdict.{RowVerdict}
 use Rattle.rt_row_run.specs.declared.answer.RowVerdict.TheVariants as row
 use Rattle.rt_row_run.specs.declared.outcome.RowOutcome.{RowOutcome}
@@ -22,15 +22,7 @@ usage_text = codes "usage: ratest_plus row ROW ARGS\n       ratest_plus grade SC
 
 -- the text of an outcome of `ratest` that is no verdict; `most` is the work limit in force
 abbrev pub verdict_text : ℕ → Outcome → Text
-verdict_text most outcome.Agree = []
-verdict_text most (outcome.Witness keep) = []
-verdict_text most outcome.Usage = usage_text
-verdict_text most (outcome.Refused part fault) = refusal_line most (outcome.Refused part fault)
-verdict_text most (outcome.Spent s) = []
-verdict_text most (outcome.Limit limit) = refusal_line most (outcome.Limit limit)
-verdict_text most (outcome.ReadFault part) = refusal_line most (outcome.ReadFault part)
-verdict_text most outcome.WriteFault = []
-verdict_text most outcome.NoMemory = []
+verdict_text most o = stopped_text usage_text most o
 
 -- what is found belongs to the first sink, all other texts to the second
 abbrev pub place : RowOutcome → Place

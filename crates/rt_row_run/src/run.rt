@@ -1,16 +1,15 @@
 ghost use Rattle.std.specs.Prelude.{◌≡◌, ◌⊎◌, None, IfOk};
 ghost use Rattle.rt_io.specs.Edge.{NoneFell};
 ghost use Rattle.rt_io.specs.Logs.{IsKept, WritesNothing, at_place, log, other_place};
-ghost use Rattle.rt_words.specs.Command.{command};
-ghost use Rattle.rt_top.specs.Answers.{call, limit_of};
+ghost use Rattle.rt_top.specs.Answers.{call};
 ghost use Rattle.rt_row_run.specs.Answers.{Ends, EndsBegun, EndsBroken, EndsWritten, IfNoMemory, IfText, IfWriteFault, Says, SaysVerdict, WritesTo};
-ghost use Rattle.rt_row_run.specs.Outcomes.{place, verdict_text};
+ghost use Rattle.rt_row_run.specs.Outcomes.{place};
 ghost use Rattle.rt_row_run.specs.declared.outcome.RowOutcome.{RowOutcome};
 
 use crate::outcome::RowOutcome;
 use crate::verdict::row_answer;
 use rt_io::{Files, Sink, SinkFail, write_at};
-use rt_top::{Outcome, refusal_line};
+use rt_top::{Outcome, stopped_text};
 use rt_value::{Bytes, List, NoMemory, Txt};
 use std::alloc::Global;
 
@@ -25,30 +24,6 @@ struct Told {
     text: Bytes,
 }
 
-/// The work limit of the command that the words are.
-fn work_limit(alloc: Global, words: &[Txt]) -> Result<u64, NoMemory>
-    ensures { IfOk result (λ most. most ≡ limit_of (command words.now)) }
-{
-    match rt_top::read_words(alloc, words) {
-        Ok(command) => Ok(command.work_limit),
-        Err(Outcome::NoMemory) => Err(NoMemory),
-        Err(_) => Ok(0),
-    }
-}
-
-/// The text of an outcome of `ratest` that is no verdict; the words are those of its command.
-fn verdict_text(alloc: Global, words: &[Txt], outcome: &Outcome) -> Result<Bytes, NoMemory>
-    ensures { IfOk result (λ text. text ≡ verdict_text (limit_of (command words.now)) outcome.now) }
-{
-    match outcome {
-        Outcome::Usage => List::from_slice(alloc, USAGE.as_bytes()),
-        outcome => {
-            let most = work_limit(alloc, words)?;
-            refusal_line(alloc, outcome, most)
-        }
-    }
-}
-
 /// Why there is no verdict on a row.
 fn stopped(alloc: Global, words: &[Txt], outcome: Outcome) -> Result<Told, NoMemory>
     ensures { IfOk result (λ t. SaysVerdict words.now outcome t.outcome t.text) }
@@ -56,7 +31,7 @@ fn stopped(alloc: Global, words: &[Txt], outcome: Outcome) -> Result<Told, NoMem
     match outcome {
         Outcome::NoMemory => Err(NoMemory),
         outcome => {
-            let text = verdict_text(alloc, words, &outcome)?;
+            let text = stopped_text(alloc, USAGE, words, &outcome)?;
             let outcome = RowOutcome::Verdict(outcome);
             Ok(Told { outcome, text })
         }

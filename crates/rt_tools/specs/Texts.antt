@@ -6,7 +6,7 @@ use Rattle.rt_value.specs.Keep.{size}
 use Rattle.rt_top.specs.declared.outcome.Outcome.{Outcome}
 use Rattle.rt_top.specs.declared.outcome.Outcome.TheVariants as outcome
 use Rattle.rt_top.specs.Source.{Text}
-use Rattle.rt_top.specs.Texts.{fault_text, refusal_line, status_of as status_of_outcome}
+use Rattle.rt_top.specs.Texts.{fault_text, stopped_text, status_of as status_of_outcome}
 use Rattle.rt_grade.specs.declared.grade.Grade.{Grade}
 use Rattle.rt_grade.specs.declared.grade.Grade.TheVariants as grade
 use Rattle.rt_grading.specs.declared.fault.GradeFault.{GradeFault}
@@ -42,15 +42,7 @@ usage_text = codes "usage: ratest_plus row ROW ARGS\n       ratest_plus grade SC
 
 -- the text of an outcome of `ratest` that is no verdict; `most` is the work limit in force
 abbrev pub verdict_text : ℕ → Outcome → Text
-verdict_text most outcome.Agree = []
-verdict_text most (outcome.Witness keep) = []
-verdict_text most outcome.Usage = usage_text
-verdict_text most (outcome.Refused part fault) = refusal_line most (outcome.Refused part fault)
-verdict_text most (outcome.Spent s) = []
-verdict_text most (outcome.Limit limit) = refusal_line most (outcome.Limit limit)
-verdict_text most (outcome.ReadFault part) = refusal_line most (outcome.ReadFault part)
-verdict_text most outcome.WriteFault = []
-verdict_text most outcome.NoMemory = []
+verdict_text most o = stopped_text usage_text most o
 
 -- the line of what stops a call that grades, where that is no outcome of `ratest`
 abbrev pub fault_line : GradeFault → Text

@@ -11,11 +11,11 @@ ghost use Rattle.rt_tools.specs.Words.{IsUsage, tool_of};
 ghost use Rattle.rt_tools.specs.declared.outcome.ToolOutcome.{ToolOutcome};
 
 use crate::outcome::ToolOutcome;
-use crate::say::{USAGE, fault_line, grades_text, verdict_text};
+use crate::say::{USAGE, fault_line, grades_text};
 use rt_grading::{GradeFault, grades};
 use rt_io::{Files, Sink, SinkFail, write_at};
 use rt_row_run::row_answer;
-use rt_top::Outcome;
+use rt_top::{Outcome, stopped_text};
 use rt_value::{Bytes, List, NoMemory, Txt};
 use std::alloc::Global;
 
@@ -33,7 +33,7 @@ fn stopped(alloc: Global, words: &[Txt], outcome: Outcome) -> Result<ToolAnswer,
     match outcome {
         Outcome::NoMemory => Err(NoMemory),
         outcome => {
-            let text = verdict_text(alloc, words, &outcome)?;
+            let text = stopped_text(alloc, USAGE, words, &outcome)?;
             let outcome = ToolOutcome::Verdict(outcome);
             Ok(ToolAnswer { outcome, text })
         }

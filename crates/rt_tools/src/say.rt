@@ -1,12 +1,10 @@
 //! The texts of outcomes.
 ghost use Rattle.std.specs.Prelude.{◌≡◌, ◌++◌, IfOk, OnOk};
-ghost use Rattle.rt_words.specs.Command.{command};
-ghost use Rattle.rt_top.specs.Answers.{limit_of};
 ghost use Rattle.rt_tools.specs.Texts as spec;
 
 use rt_grade::Grade;
 use rt_grading::GradeFault;
-use rt_top::{Outcome, fault_text, refusal_line};
+use rt_top::fault_text;
 use rt_value::{Bytes, List, NoMemory, Txt};
 use std::alloc::Global;
 
@@ -70,31 +68,6 @@ pub(crate) fn grades_text(alloc: Global, paths: &[Txt], grades: &[Grade]) -> Res
     let last = format!(in alloc; "graded: {count}\n")?;
     text.extend(last.as_str().as_bytes())?;
     Ok(text)
-}
-
-/// The work limit of the command that the words are.
-fn work_limit(alloc: Global, words: &[Txt]) -> Result<u64, NoMemory>
-    ensures { IfOk result (λ most. most ≡ limit_of (command words.now)) }
-{
-    match rt_top::read_words(alloc, words) {
-        Ok(command) => Ok(command.work_limit),
-        Err(Outcome::NoMemory) => Err(NoMemory),
-        Err(_) => Ok(0),
-    }
-}
-
-/// The text of an outcome of `ratest` that is no verdict; the words are those of its command.
-pub(crate) fn verdict_text(
-    alloc: Global,
-    words: &[Txt],
-    outcome: &Outcome,
-) -> Result<Bytes, NoMemory>
-    ensures { IfOk result (λ text. text ≡ spec.verdict_text (limit_of (command words.now)) outcome.now) }
-{
-    match outcome {
-        Outcome::Usage => List::from_slice(alloc, USAGE.as_bytes()),
-        outcome => refusal_line(alloc, outcome, work_limit(alloc, words)?),
-    }
 }
 
 /// The line of what stops a call that grades, where that is no outcome of `ratest`.
