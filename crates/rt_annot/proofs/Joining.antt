@@ -1,24 +1,17 @@
 -- Rows of a product as entries.
-use Rattle.std.proofs.Common.{◌≡◌, ℕ, zero, suc, ◌+◌, ◌<◌, Bool, true, false, ◌&&◌, List, [], ◌∷◌, ◌++◌, length, drop, get_or, refl, sym, subst, ap, ap₂, arith, ◌∙◌}
+use Rattle.std.proofs.Common.{◌≡◌, ℕ, zero, suc, ◌<◌, Bool, true, false, ◌&&◌, List, [], ◌∷◌, ◌++◌, length, get_or, refl, sym, subst, ap, ap₂, arith, ◌∙◌}
 use mathlib.Core.Path.{fun_ext}
-use Rattle.std.proofs.lemmas.List.{map-append, append_assoc, append-nil}
+use Rattle.std.proofs.lemmas.List.{map-append}
 use Rattle.std.proofs.lemmas.List.Elements.{All-append}
 use Rattle.std.proofs.lemmas.List.Folds.{list_all-append}
-use Rattle.std.specs.List.{list_all, filter}
-use Rattle.rt_value.specs.declared.value.Value.{Value}
-use Rattle.rt_schema.specs.Given.{Rows, Tables}
-use Rattle.rt_algebra.specs.Answer.{join_each, pairs}
-use Rattle.rt_algebra.specs.Expression.{Env}
-use Rattle.rt_algebra.specs.declared.query.Pred.{Pred}
+use Rattle.std.specs.List.{list_all}
 use Rattle.rt_formula.specs.Shared.{Shared, IsGrown, val}
 use Rattle.rt_formula.specs.declared.noted.Noted.{Noted}
 use Rattle.rt_annot.specs.declared.joint.Joint.{Joint}
-use Rattle.rt_annot.specs.Entries.{Formula, Test, Entry, rows_at, selected, join_entry, paired}
-use Rattle.rt_annot.specs.Annotated.{entries_of, AreNodes, AreNoted, Gives, Choosing, test_under, yes_when}
-use Rattle.rt_annot.specs.Joints.{joint_entry, joint_entries, AreJoints, join_joint, pair_joints, Makes}
-use Rattle.rt_annot.proofs.Exact.{append_exact, pair_exact, select_exact}
-use Rattle.rt_annot.proofs.Growing.{grown_trans, nodes_stay, all_stays}
-use Rattle.rt_annot.proofs.Walking.{next_is}
+use Rattle.rt_annot.specs.Entries.{Formula, Entry, join_entry, paired}
+use Rattle.rt_annot.specs.Annotated.{entries_of, AreNodes, AreNoted}
+use Rattle.rt_annot.specs.Joints.{joint_entry, joint_entries, AreJoints, join_joint, pair_joints}
+use Rattle.rt_annot.proofs.Growing.{nodes_stay, all_stays}
 
 and_true : (b : Bool) → (b && true) ≡ b
 and_true true = refl

@@ -3,11 +3,11 @@ use Rattle.std.proofs.Common.{◌≡◌, ◌≢◌, ℕ, zero, suc, ◌+◌, ◌
 use Rattle.std.proofs.Math.Seq.{drop-cons}
 use Rattle.std.specs.Prelude.{nat_eq}
 use Rattle.std.specs.List.{filter, filter_map, cons_option, list_all, slice_get}
-use Rattle.std.proofs.lemmas.List.{append_assoc, map-append, get_or-map}
+use Rattle.std.proofs.lemmas.List.{append_assoc, map-append}
 use Rattle.std.proofs.lemmas.List.Elements.{All-append}
 use Rattle.rt_value.specs.declared.value.Value.{Value}
-use Rattle.rt_schema.specs.Given.{Rows, Tables}
-use Rattle.rt_algebra.specs.Answer.{is_yes, join_each, pairs, pred_by}
+use Rattle.rt_schema.specs.Given.{Rows}
+use Rattle.rt_algebra.specs.Answer.{is_yes, join_each, pred_by}
 use Rattle.rt_algebra.specs.Expression.{Env, wrapped}
 use Rattle.rt_algebra.specs.Join.{are_wide, joined_rows, matched, matches, places_where, product_rows, Joins}
 use Rattle.rt_algebra.specs.Split.{all_simple, keys_yes, first, later}

@@ -16,7 +16,7 @@ use Rattle.rt_annot.proofs.Exact.{table_exact}
 use Rattle.rt_annot.specs.declared.known.Found.{Found}
 use Rattle.rt_annot.specs.Known.{AreKnown}
 use Rattle.rt_annot.proofs.Knowing.{known_stay, known_at, known_set, tells_same, tells_stay, tells_under}
-use Rattle.rt_annot.proofs.Growing.{grown_trans, all_stays, mean_stays, node_as}
+use Rattle.rt_annot.proofs.Growing.{grown_refl, grown_trans, all_stays, mean_stays, node_as, nodes_are, nodes_stay, noted_stay}
 use Rattle.rt_annot.proofs.Distinct.{noted_at}
 use Rattle.rt_annot.proofs.Walking.{next_is, projected_below, table_entries}
 use Rattle.rt_annot.proofs.Layers.{at_table, at_select, at_project, at_union, at_except, at_intersect, mean_push, mean_as, yes_more, no_more, joined_gate, joined_stops, and_gate, or_gate, exists_gate, member_gate, exists_of, member_of, gives_as, gives_same, gives_stay, gives_of, gives_append, gives_projected, gives_merged, gives_except, gives_intersect, choose, leave_out, choosing_at}
@@ -307,3 +307,146 @@ evaluate::annotated-returns-in_err-out-in-Intersect-clause-known t c = known_sta
 
 pub evaluate::annotated-returns-in_ok-out-in-Intersect-clause-known : goal.evaluate::annotated-returns-in_ok-out-in-Intersect-clause-known
 evaluate::annotated-returns-in_ok-out-in-Intersect-clause-known t c = known_stay c.sifted-in-Intersect.ensures.grown c.annotated-in-Intersect-2.ensures.known
+
+pub evaluate::chosen-returns-in_err-gate-clause-grown : goal.evaluate::chosen-returns-in_err-gate-clause-grown
+evaluate::chosen-returns-in_err-gate-clause-grown t c = grown_trans c.loop-joint.invariant.choosing.grown c.test_row.ensures.grown
+
+pub evaluate::chosen-returns-in_err-node-clause-grown : goal.evaluate::chosen-returns-in_err-node-clause-grown
+evaluate::chosen-returns-in_err-node-clause-grown t c = grown_trans (grown_trans c.loop-joint.invariant.choosing.grown c.test_row.ensures.grown) c.meeting.ensures.grown
+
+pub evaluate::chosen-returns-in_err-row-clause-grown : goal.evaluate::chosen-returns-in_err-row-clause-grown
+evaluate::chosen-returns-in_err-row-clause-grown t c = grown_trans (grown_trans c.loop-joint.invariant.choosing.grown c.test_row.ensures.grown) c.meeting.ensures.grown
+
+pub evaluate::chosen-returns-in_err-push-clause-grown : goal.evaluate::chosen-returns-in_err-push-clause-grown
+evaluate::chosen-returns-in_err-push-clause-grown t c = grown_trans (grown_trans c.loop-joint.invariant.choosing.grown c.test_row.ensures.grown) c.meeting.ensures.grown
+
+pub evaluate::members-returns-in_err-rows-clause-grown : goal.evaluate::members-returns-in_err-rows-clause-grown
+evaluate::members-returns-in_err-rows-clause-grown t c = grown_trans c.loop-q.invariant.grown c.annotated.ensures.grown
+
+pub evaluate::members-returns-in_err-push-clause-grown : goal.evaluate::members-returns-in_err-push-clause-grown
+evaluate::members-returns-in_err-push-clause-grown t c = grown_trans c.loop-q.invariant.grown c.annotated.ensures.grown
+
+pub evaluate::annotated-returns-in_err-out-in-Select-clause-grown : goal.evaluate::annotated-returns-in_err-out-in-Select-clause-grown
+evaluate::annotated-returns-in_err-out-in-Select-clause-grown t c = grown_trans c.source.ensures.grown c.chosen.ensures.grown
+
+pub evaluate::annotated-returns-in_err-out-in-Project-clause-grown : goal.evaluate::annotated-returns-in_err-out-in-Project-clause-grown
+evaluate::annotated-returns-in_err-out-in-Project-clause-grown t c = grown_trans c.annotated.ensures.grown c.merged.ensures.grown
+
+pub evaluate::annotated-returns-in_err-out-in-Product-clause-grown : goal.evaluate::annotated-returns-in_err-out-in-Product-clause-grown
+evaluate::annotated-returns-in_err-out-in-Product-clause-grown t c = grown_trans c.members.ensures.grown c.noted.ensures.grown
+
+pub evaluate::annotated-returns-in_err-out-in-Union-clause-grown : goal.evaluate::annotated-returns-in_err-out-in-Union-clause-grown
+evaluate::annotated-returns-in_err-out-in-Union-clause-grown t c = grown_trans c.annotated-in-Union.ensures.grown c.annotated-in-Union-2.ensures.grown
+
+pub evaluate::annotated-returns-in_err-out-in-Except-clause-grown : goal.evaluate::annotated-returns-in_err-out-in-Except-clause-grown
+evaluate::annotated-returns-in_err-out-in-Except-clause-grown t c = grown_trans (grown_trans c.annotated-in-Except.ensures.grown c.annotated-in-Except-2.ensures.grown) c.sifted.ensures.grown
+
+pub evaluate::annotated-returns-in_err-out-in-Intersect-clause-grown : goal.evaluate::annotated-returns-in_err-out-in-Intersect-clause-grown
+evaluate::annotated-returns-in_err-out-in-Intersect-clause-grown t c = grown_trans (grown_trans c.annotated-in-Intersect.ensures.grown c.annotated-in-Intersect-2.ensures.grown) c.sifted-in-Intersect.ensures.grown
+
+pub evaluate::annotated-returns-in_ok-out-in-Select-clause-grown : goal.evaluate::annotated-returns-in_ok-out-in-Select-clause-grown
+evaluate::annotated-returns-in_ok-out-in-Select-clause-grown t c = grown_trans c.source.ensures.grown c.chosen.ensures.grown
+
+pub evaluate::annotated-returns-in_ok-out-in-Project-clause-grown : goal.evaluate::annotated-returns-in_ok-out-in-Project-clause-grown
+evaluate::annotated-returns-in_ok-out-in-Project-clause-grown t c = grown_trans c.annotated.ensures.grown c.merged.ensures.grown
+
+pub evaluate::annotated-returns-in_ok-out-in-Product-clause-grown : goal.evaluate::annotated-returns-in_ok-out-in-Product-clause-grown
+evaluate::annotated-returns-in_ok-out-in-Product-clause-grown t c = grown_trans c.members.ensures.grown c.noted.ensures.grown
+
+pub evaluate::annotated-returns-in_ok-out-in-Union-clause-grown : goal.evaluate::annotated-returns-in_ok-out-in-Union-clause-grown
+evaluate::annotated-returns-in_ok-out-in-Union-clause-grown t c = grown_trans c.annotated-in-Union.ensures.grown c.annotated-in-Union-2.ensures.grown
+
+pub evaluate::annotated-returns-in_ok-out-in-Except-clause-grown : goal.evaluate::annotated-returns-in_ok-out-in-Except-clause-grown
+evaluate::annotated-returns-in_ok-out-in-Except-clause-grown t c = grown_trans (grown_trans c.annotated-in-Except.ensures.grown c.annotated-in-Except-2.ensures.grown) c.sifted.ensures.grown
+
+pub evaluate::annotated-returns-in_ok-out-in-Intersect-clause-grown : goal.evaluate::annotated-returns-in_ok-out-in-Intersect-clause-grown
+evaluate::annotated-returns-in_ok-out-in-Intersect-clause-grown t c = grown_trans (grown_trans c.annotated-in-Intersect.ensures.grown c.annotated-in-Intersect-2.ensures.grown) c.sifted-in-Intersect.ensures.grown
+
+pub evaluate::annotated-returns-in_err-second-in-Union-clause-grown : goal.evaluate::annotated-returns-in_err-second-in-Union-clause-grown
+evaluate::annotated-returns-in_err-second-in-Union-clause-grown t c = grown_trans c.annotated-in-Union.ensures.grown c.annotated-in-Union-2.ensures.grown
+
+pub evaluate::annotated-returns-in_err-second-in-Except-clause-grown : goal.evaluate::annotated-returns-in_err-second-in-Except-clause-grown
+evaluate::annotated-returns-in_err-second-in-Except-clause-grown t c = grown_trans c.annotated-in-Except.ensures.grown c.annotated-in-Except-2.ensures.grown
+
+pub evaluate::annotated-returns-in_err-second-in-Intersect-clause-grown : goal.evaluate::annotated-returns-in_err-second-in-Intersect-clause-grown
+evaluate::annotated-returns-in_err-second-in-Intersect-clause-grown t c = grown_trans c.annotated-in-Intersect.ensures.grown c.annotated-in-Intersect-2.ensures.grown
+
+pub conditions::has_rows-returns-in_err-gate-in-None-clause-grown : goal.conditions::has_rows-returns-in_err-gate-in-None-clause-grown
+conditions::has_rows-returns-in_err-gate-in-None-clause-grown t c = grown_trans c.annotated.ensures.grown c.exists.ensures.grown
+
+pub conditions::has_value-returns-in_err-gate-in-None-clause-grown : goal.conditions::has_value-returns-in_err-gate-in-None-clause-grown
+conditions::has_value-returns-in_err-gate-in-None-clause-grown t c = grown_trans c.annotated.ensures.grown c.member-in-None.ensures.grown
+
+pub conditions::has_value-returns-in_err-gate-in-None-known-clause-grown : goal.conditions::has_value-returns-in_err-gate-in-None-known-clause-grown
+conditions::has_value-returns-in_err-gate-in-None-known-clause-grown t c = grown_trans c.newly.ensures.grown c.member-in-None-known.ensures.grown
+
+pub conditions::has_rows-returns-in_ok-gate-in-None-clause-grown : goal.conditions::has_rows-returns-in_ok-gate-in-None-clause-grown
+conditions::has_rows-returns-in_ok-gate-in-None-clause-grown t c = grown_trans c.annotated.ensures.grown c.exists.ensures.grown
+
+pub conditions::has_value-returns-in_ok-gate-in-None-clause-grown : goal.conditions::has_value-returns-in_ok-gate-in-None-clause-grown
+conditions::has_value-returns-in_ok-gate-in-None-clause-grown t c = grown_trans c.annotated.ensures.grown c.member-in-None.ensures.grown
+
+pub conditions::has_value-returns-in_ok-gate-in-None-known-clause-grown : goal.conditions::has_value-returns-in_ok-gate-in-None-known-clause-grown
+conditions::has_value-returns-in_ok-gate-in-None-known-clause-grown t c = grown_trans c.newly.ensures.grown c.member-in-None-known.ensures.grown
+
+pub conditions::has_rows-returns-in-Some-known-clause-grown : goal.conditions::has_rows-returns-in-Some-known-clause-grown
+conditions::has_rows-returns-in-Some-known-clause-grown t c = grown_refl _
+
+pub conditions::newly-returns-in_err-found-clause-grown : goal.conditions::newly-returns-in_err-found-clause-grown
+conditions::newly-returns-in_err-found-clause-grown t c = grown_trans c.annotated.ensures.grown c.of.ensures.grown
+
+pub conditions::newly-returns-clause-grown : goal.conditions::newly-returns-clause-grown
+conditions::newly-returns-clause-grown t c = grown_trans c.annotated.ensures.grown c.of.ensures.grown
+
+pub conditions::together-returns-in_err-gate-clause-grown : goal.conditions::together-returns-in_err-gate-clause-grown
+conditions::together-returns-in_err-gate-clause-grown t c = grown_trans c.loop-p.invariant.grown c.test.ensures.grown
+
+pub conditions::together-returns-then-is_always-clause-grown : goal.conditions::together-returns-then-is_always-clause-grown
+conditions::together-returns-then-is_always-clause-grown t c = grown_trans c.loop-p.invariant.grown c.test.ensures.grown
+
+pub conditions::together-returns-in_err-push-clause-grown : goal.conditions::together-returns-in_err-push-clause-grown
+conditions::together-returns-in_err-push-clause-grown t c = grown_trans c.loop-p.invariant.grown c.test.ensures.grown
+
+pub conditions::together-returns-in_err-push-2-clause-grown : goal.conditions::together-returns-in_err-push-2-clause-grown
+conditions::together-returns-in_err-push-2-clause-grown t c = grown_trans c.loop-p.invariant.grown c.test.ensures.grown
+
+pub conditions::together-returns-in_err-joined-clause-grown : goal.conditions::together-returns-in_err-joined-clause-grown
+conditions::together-returns-in_err-joined-clause-grown t c = grown_trans c.loop-p.invariant.grown c.of.ensures.grown
+
+pub conditions::together-returns-clause-grown : goal.conditions::together-returns-clause-grown
+conditions::together-returns-clause-grown t c = grown_trans c.loop-p.invariant.grown c.of.ensures.grown
+
+pub evaluate::annotated-sifted-requires-clause-from : goal.evaluate::annotated-sifted-requires-clause-from
+evaluate::annotated-sifted-requires-clause-from t c = noted_at c.annotated-in-Except-2.new.dag c.as_slice-in-Except.ensures (noted_stay c.annotated-in-Except-2.ensures.grown _ c.in_ok-first-in-Except.ensures.gives.below)
+
+pub evaluate::annotated-sifted-requires-clause-others : goal.evaluate::annotated-sifted-requires-clause-others
+evaluate::annotated-sifted-requires-clause-others t c = noted_at c.annotated-in-Except-2.new.dag c.as_slice-in-Except-2.ensures c.in_ok-second-in-Except.ensures.gives.below
+
+pub evaluate::annotated-sifted-requires-in-Intersect-clause-from : goal.evaluate::annotated-sifted-requires-in-Intersect-clause-from
+evaluate::annotated-sifted-requires-in-Intersect-clause-from t c = noted_at c.annotated-in-Intersect-2.new.dag c.as_slice-in-Intersect.ensures (noted_stay c.annotated-in-Intersect-2.ensures.grown _ c.in_ok-first-in-Intersect.ensures.gives.below)
+
+pub evaluate::annotated-sifted-requires-in-Intersect-clause-others : goal.evaluate::annotated-sifted-requires-in-Intersect-clause-others
+evaluate::annotated-sifted-requires-in-Intersect-clause-others t c = noted_at c.annotated-in-Intersect-2.new.dag c.as_slice-in-Intersect-2.ensures c.in_ok-second-in-Intersect.ensures.gives.below
+
+pub evaluate::chosen-meeting-requires-clause-nodes : goal.evaluate::chosen-meeting-requires-clause-nodes
+evaluate::chosen-meeting-requires-clause-nodes t c = 
+    nodes_are c.test_row.new.dag c.as_slice.ensures
+    (nodes_stay (grown_trans c.loop-joint.invariant.choosing.grown c.test_row.ensures.grown) c.joint-item.result.nodes (joint_below c.args.dag.now c.args.joints.now c.loop-joint.joint-index c.joint-item.result c.loop-joint-test.true c.joint-item.is c.requires.joints))
+
+pub evaluate::chosen-meeting-requires-clause-condition : goal.evaluate::chosen-meeting-requires-clause-condition
+evaluate::chosen-meeting-requires-clause-condition t c = c.in_ok-gate.ensures.gate.yes.below
+
+pub conditions::has_rows-exists-requires : goal.conditions::has_rows-exists-requires
+conditions::has_rows-exists-requires t c = noted_at c.annotated.new.dag c.as_slice-in-None.ensures c.in_ok-rows-in-None.ensures.gives.below
+
+pub conditions::has_value-member-requires-in-None : goal.conditions::has_value-member-requires-in-None
+conditions::has_value-member-requires-in-None t c = noted_at c.annotated.new.dag c.as_slice-in-None.ensures c.in_ok-rows-in-None.ensures.gives.below
+
+pub conditions::newly-of-requires : goal.conditions::newly-of-requires
+conditions::newly-of-requires t c = noted_at c.annotated.new.dag c.as_slice.ensures c.in_ok-rows.ensures.gives.below
+
+pub conditions::together-of-requires-clause-yes : goal.conditions::together-of-requires-clause-yes
+conditions::together-of-requires-clause-yes t c = c.loop-p.invariant.yes.below
+
+pub conditions::together-of-requires-clause-no : goal.conditions::together-of-requires-clause-no
+conditions::together-of-requires-clause-no t c = c.loop-p.invariant.no.below

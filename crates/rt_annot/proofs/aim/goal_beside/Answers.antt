@@ -33,3 +33,12 @@ returns-clause-means c keep =
     ∙ ap not (same_rows_is _ _ _ _
     (λ r. ap (λ rows. has_row rows r) (rows_stay c.annotate.ensures.grown keep c.args.reference.now.rows c.requires.stands.rows))
     (λ r. c.in_ok-rows.ensures.rows keep r))
+
+pub returns-in_err-differs-clause-grown : goal.returns-in_err-differs-clause-grown
+returns-in_err-differs-clause-grown c = grown_trans c.annotate.ensures.grown c.differ.ensures.grown
+
+pub returns-in_err-both-clause-grown : goal.returns-in_err-both-clause-grown
+returns-in_err-both-clause-grown c = grown_trans (grown_trans c.annotate.ensures.grown c.differ.ensures.grown) c.all.ensures.grown
+
+pub returns-clause-grown : goal.returns-clause-grown
+returns-clause-grown c = grown_trans (grown_trans c.annotate.ensures.grown c.differ.ensures.grown) c.all.ensures.grown

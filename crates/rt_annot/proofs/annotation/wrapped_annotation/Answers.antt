@@ -6,6 +6,7 @@ use Rattle.rt_annot.specs.Entries.{rows_at}
 use Rattle.rt_annot.specs.Annotated.{entries_of}
 use Rattle.rt_annot.proofs.Knowing.{none_known}
 use Rattle.rt_annot.proofs.Merged.{merged_below, annotated_rows, rows_value}
+use Rattle.rt_annot.proofs.Growing.{grown_trans}
 use Rattle.rt_annot.proofs.annotation.wrapped_annotation.Goals as goal
 
 pub annotated-requires-clause-known : goal.annotated-requires-clause-known
@@ -21,3 +22,9 @@ returns-clause-rows c =
 
 pub returns-clause-entries : goal.returns-clause-entries
 returns-clause-entries c keep r = sym (rows_value c.merged.new.dag keep r c.in_ok-ann.ann c.len-len.ensures.sorted) ∙ returns-clause-rows c keep r
+
+pub returns-in_err-ann-clause-grown : goal.returns-in_err-ann-clause-grown
+returns-in_err-ann-clause-grown c = grown_trans c.annotated.ensures.grown c.merged.ensures.grown
+
+pub returns-clause-grown : goal.returns-clause-grown
+returns-clause-grown c = grown_trans c.annotated.ensures.grown c.merged.ensures.grown

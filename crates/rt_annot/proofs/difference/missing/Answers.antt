@@ -22,3 +22,21 @@ loop-row-preserved c =
     losing_push _ c.in_ok-lost.lost m c.in-Some.ensures.steps (grown_trans c.lacks.ensures.grown c.both.ensures.grown)
     (both_over c.in-Some.node.now c.in_ok-none.none c.in_ok-lost.lost (λ s. not (node_value d s (node_at b c.in-Some.row.now))) (grown_trans m.grown c.lacks.ensures.grown) l none c.in_ok-lost.ensures.node)
     c.in_ok-push.ensures.ok
+
+pub returns-in_err-none-clause-grown : goal.returns-in_err-none-clause-grown
+returns-in_err-none-clause-grown c = grown_trans c.loop-row.invariant.grown c.lacks.ensures.grown
+
+pub returns-in_err-lost-clause-grown : goal.returns-in_err-lost-clause-grown
+returns-in_err-lost-clause-grown c = grown_trans (grown_trans c.loop-row.invariant.grown c.lacks.ensures.grown) c.both.ensures.grown
+
+pub returns-in_err-push-clause-grown : goal.returns-in_err-push-clause-grown
+returns-in_err-push-clause-grown c = grown_trans (grown_trans c.loop-row.invariant.grown c.lacks.ensures.grown) c.both.ensures.grown
+
+pub returns-in_err-some-clause-grown : goal.returns-in_err-some-clause-grown
+returns-in_err-some-clause-grown c = grown_trans c.loop-row.invariant.grown c.any.ensures.grown
+
+pub returns-clause-grown : goal.returns-clause-grown
+returns-clause-grown c = grown_trans c.loop-row.invariant.grown c.any.ensures.grown
+
+pub both-requires-clause-b : goal.both-requires-clause-b
+both-requires-clause-b c = c.in_ok-none.ensures.node.below

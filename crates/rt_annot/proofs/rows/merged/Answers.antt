@@ -3,7 +3,7 @@ use Rattle.std.proofs.lemmas.List.{take_all}
 use Rattle.rt_annot.specs.Entries.{stands}
 use Rattle.rt_formula.specs.Groups.{standing}
 use Rattle.rt_annot.specs.Annotated.{entries_of}
-use Rattle.rt_annot.proofs.Growing.{nodes_stay, nodes_are, any_over, node_as}
+use Rattle.rt_annot.proofs.Growing.{nodes_stay, nodes_are, any_over, node_as, grown_trans}
 use Rattle.rt_annot.proofs.Nodes.{where_below, any_standing}
 use Rattle.rt_annot.proofs.Distinct.{collect_start, collect_new, collect_again, collect_at, collected}
 use Rattle.rt_annot.proofs.rows.merged.Goals as goal
@@ -34,3 +34,12 @@ loop-noted-preserved c =
           (collect_new m n l c.noted-item.is _ (ap (λ ks. nat_eq (length ks) 0) (sym c.get.ensures) ∙ sym c.is_empty.ensures ∙ w.if-is_empty.true) w.any.ensures.grown w.in_ok-put.ensures w.in_ok-row.ensures node w.in_ok-push.ensures.ok)
       | else-is_empty w ↦ collect_at w.dag-is w.known-is w.out-is (collect_again m n l c.noted-item.is (ap (λ ks. nat_eq (length ks) 0) (sym c.get.ensures) ∙ sym c.is_empty.ensures ∙ w.if-is_empty.false))
     ]
+
+pub returns-in_err-node-clause-grown : goal.returns-in_err-node-clause-grown
+returns-in_err-node-clause-grown c = grown_trans c.loop-noted.invariant.grown c.any.ensures.grown
+
+pub returns-in_err-row-clause-grown : goal.returns-in_err-row-clause-grown
+returns-in_err-row-clause-grown c = grown_trans c.loop-noted.invariant.grown c.any.ensures.grown
+
+pub returns-in_err-push-clause-grown : goal.returns-in_err-push-clause-grown
+returns-in_err-push-clause-grown c = grown_trans c.loop-noted.invariant.grown c.any.ensures.grown

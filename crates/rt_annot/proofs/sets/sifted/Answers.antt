@@ -1,12 +1,20 @@
-use Rattle.std.proofs.Common.{◌∙◌, subst, sym}
-use Rattle.rt_annot.specs.Entries.{stands}
+use Rattle.std.proofs.Common.{◌∙◌, subst, sym, ◌≡◌, ℕ, ◌<◌, length}
+use Rattle.rt_annot.specs.Entries.{stands, Test}
 use Rattle.rt_formula.specs.Groups.{standing}
-use Rattle.rt_annot.specs.Annotated.{IsNode, entries_of, side_test}
-use Rattle.rt_annot.proofs.Growing.{grown_trans, nodes_stay, nodes_are, any_stays, either_means}
+use Rattle.rt_annot.specs.Annotated.{IsNode, entries_of, side_test, IsGate, side_node}
+use Rattle.rt_annot.proofs.Growing.{grown_trans, nodes_stay, nodes_are, any_stays, either_means, node_stays}
 use Rattle.rt_annot.proofs.Layers.{side_is}
 use Rattle.rt_annot.proofs.Nodes.{where_below, any_standing}
-use Rattle.rt_annot.proofs.Walking.{along_push, next_selected, node_below, both_over}
+use Rattle.rt_annot.proofs.Walking.{along_push, next_selected, node_below, both_over, itself}
+use Rattle.rt_formula.specs.Shared.{Shared}
+use Rattle.rt_annot.specs.declared.gate.Gate.{Gate}
+use Rattle.rt_annot.specs.declared.sets.Side.{Side}
+use Rattle.rt_annot.specs.declared.sets.Side.TheVariants.{Standing, Missing}
 use Rattle.rt_annot.proofs.sets.sifted.Goals as goal
+
+side_below : (side : Side) {d : Shared} {g : Gate} {t : Test} {n : ℕ} → IsGate d g t → n ≡ side_node side g → n < length d.entries
+side_below Standing {d} i e = let P : ℕ → Type 0 = λ k. k < length d.entries in subst P (sym e) i.yes.below
+side_below Missing {d} i e = let P : ℕ → Type 0 = λ k. k < length d.entries in subst P (sym e) i.no.below
 
 pub either-requires : goal.either-requires
 either-requires c = nodes_are c.loop-noted.dag (c.get.ensures ∙ c.in_ok-groups.ensures c.noted-item.result.row)
@@ -28,3 +36,21 @@ loop-noted-preserved c =
     (both_over n.node c.node.result c.in_ok-node.node (t n.row).0 (grown_trans g c.either.ensures.grown) l
     (subst (λ k. IsNode c.either.new.dag k (t n.row).0) (sym c.node.ensures) (side_is c.args.side (entries_of d others) n.row found)) c.in_ok-node.ensures.node)
     c.in_ok-push.ensures.ok
+
+pub returns-in_err-found-clause-grown : goal.returns-in_err-found-clause-grown
+returns-in_err-found-clause-grown c = grown_trans c.loop-noted.invariant.grown c.either.ensures.grown
+
+pub returns-in_err-node-clause-grown : goal.returns-in_err-node-clause-grown
+returns-in_err-node-clause-grown c = grown_trans (grown_trans c.loop-noted.invariant.grown c.either.ensures.grown) c.both.ensures.grown
+
+pub returns-in_err-row-clause-grown : goal.returns-in_err-row-clause-grown
+returns-in_err-row-clause-grown c = grown_trans (grown_trans c.loop-noted.invariant.grown c.either.ensures.grown) c.both.ensures.grown
+
+pub returns-in_err-push-clause-grown : goal.returns-in_err-push-clause-grown
+returns-in_err-push-clause-grown c = grown_trans (grown_trans c.loop-noted.invariant.grown c.either.ensures.grown) c.both.ensures.grown
+
+pub both-requires-clause-a : goal.both-requires-clause-a
+both-requires-clause-a c = (node_stays (grown_trans c.loop-noted.invariant.grown c.either.ensures.grown) (itself c.args.dag.now c.noted-item.result.node (node_below c.args.dag.now c.args.from.now c.loop-noted.noted-index c.noted-item.result c.loop-noted-test.true c.noted-item.is c.requires.from))).below
+
+pub both-requires-clause-b : goal.both-requires-clause-b
+both-requires-clause-b c = side_below c.args.side c.in_ok-found.ensures.gate c.node.ensures

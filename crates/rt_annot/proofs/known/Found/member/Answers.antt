@@ -1,12 +1,18 @@
-use Rattle.std.proofs.Common.{◌∙◌, ◌∷◌, [], ◌||◌, sym, ap, ap₂}
+use Rattle.std.proofs.Common.{◌∙◌, ◌∷◌, [], ◌||◌, sym, ap, ap₂, ℕ, zero, suc, ◌<◌, length, arith}
 use Rattle.rt_value.specs.declared.value.Value.TheVariants.{Null}
-use Rattle.rt_formula.specs.Shared.{val}
+use Rattle.rt_formula.specs.Shared.{val, Shared}
 use Rattle.rt_formula.specs.Groups.{group_at}
-use Rattle.rt_annot.specs.Annotated.{IsNode}
+use Rattle.rt_annot.specs.Annotated.{IsNode, AreNodes}
 use Rattle.rt_annot.specs.Known.{among_test, has_first}
-use Rattle.rt_annot.proofs.Growing.{grown_refl, grown_trans, node_stays, any_over, not_over, node_as}
+use Rattle.rt_annot.proofs.Growing.{grown_refl, grown_trans, node_stays, any_over, not_over, node_as, nodes_are}
 use Rattle.rt_annot.proofs.Telling.{null_yes, null_no, among_yes, among_no, or_false}
+use Rattle.rt_annot.proofs.Walking.{itself}
 use Rattle.rt_annot.proofs.known.Found.member.Goals as goal
+
+two_nodes : (d : Shared) {n m : ℕ} → n < length d.entries → m < length d.entries → AreNodes d (n ∷ m ∷ [])
+two_nodes d p q zero e l = p
+two_nodes d p q (suc zero) e l = q
+two_nodes d p q (suc (suc k)) e l = absurd (omega arith)
 
 pub returns-then-is_null-clause-gate : goal.returns-then-is_null-clause-gate
 returns-then-is_null-clause-gate c answer tells =
@@ -35,3 +41,18 @@ returns-clause-gate c answer tells =
       yes = node_stays (grown_trans c.any-2.ensures.grown c.not.ensures.grown) (node_as (among_test x answer).0 (λ s. among_yes x h (answer s)) yes);
       no = node_as (among_test x answer).1 (λ s. among_no x h (answer s)) (not_over c.in_ok-some.some c.in_ok-no.no some c.in_ok-no.ensures.node c.in_ok-no.ensures.means);
     }
+
+pub returns-in_err-some-clause-grown : goal.returns-in_err-some-clause-grown
+returns-in_err-some-clause-grown c = grown_trans c.any.ensures.grown c.any-2.ensures.grown
+
+pub returns-in_err-no-clause-grown : goal.returns-in_err-no-clause-grown
+returns-in_err-no-clause-grown c = grown_trans (grown_trans c.any.ensures.grown c.any-2.ensures.grown) c.not.ensures.grown
+
+pub returns-clause-grown : goal.returns-clause-grown
+returns-clause-grown c = grown_trans (grown_trans c.any.ensures.grown c.any-2.ensures.grown) c.not.ensures.grown
+
+pub any-requires : goal.any-requires
+any-requires c = nodes_are c.args.dag.now (c.get.ensures ∙ ap (group_at c.args.self.now.groups) c.in_ok-row.ensures) (c.requires.group c.args.x.now)
+
+pub any-requires-2 : goal.any-requires-2
+any-requires-2 c = two_nodes c.any.new.self c.in_ok-yes.ensures.node (node_stays c.any.ensures.grown (itself c.args.dag.now c.args.self.now.null c.requires.null)).below
