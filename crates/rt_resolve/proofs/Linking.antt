@@ -197,7 +197,7 @@ pub conj_ends : (x : Conj) (c : Pred) (start t : Members) (members : List Neg) (
     → whole ≡ all_of t.conds → conj x db scopes ≡ Ok whole
 conj_ends x c start t members i db scopes whole h s m e inv w =
     goes (conj x db scopes) (gathered start (map neg members) db scopes) (λ all. Ok (all_of all.conds)) t (conj_begun x c start members db scopes h s m)
-        (sym inv ∙ ap (λ ns. gathered t (map neg ns) db scopes) e)
+    (sym inv ∙ ap (λ ns. gathered t (map neg ns) db scopes) e)
     ∙ ap (λ (p : Pred). Ok p) (sym w)
 
 -- ---- one SELECT
@@ -216,7 +216,7 @@ sourced x db scopes first = sources_all first (map source_of (out-Pick x).tail) 
 pick_step_is : (distinct : Bool) (items : Items) (head : Source) (tail : List Source) (at : Option Cond) (db : Tables) (scopes : Scopes)
     → pick_step (map-Pick Atom Base Join Primary Chain ChainLink Cond Conj Meet MeetLink Neg Pick Source Condition BaseOf JoinOf Meaning Meaning LinkOf Condition Condition Meaning LinkOf Condition Meaning SourceOf atom base join primary chain chain_link cond conj meet meet_link neg pick source_of (record { distinct = distinct; items = items; head = head; tail = tail; cond = at })) db scopes
     ≡ (source_of head no_sources db scopes >>= λ first. sources_all first (map source_of tail) db scopes >>= λ from. where_on from (option_map cond at) db scopes >>= λ all.
-        select_list items all.sources (all.sources ∷ scopes) >>= λ list. Ok (select_of all list))
+    select_list items all.sources (all.sources ∷ scopes) >>= λ list. Ok (select_of all list))
 pick_step_is distinct items head tail None db scopes = refl
 pick_step_is distinct items head tail (Some c) db scopes = refl
 

@@ -429,7 +429,7 @@ pub evaluate::annotated-sifted-requires-in-Intersect-clause-others : goal.evalua
 evaluate::annotated-sifted-requires-in-Intersect-clause-others t c = noted_at c.annotated-in-Intersect-2.new.dag c.as_slice-in-Intersect-2.ensures c.in_ok-second-in-Intersect.ensures.gives.below
 
 pub evaluate::chosen-meeting-requires-clause-nodes : goal.evaluate::chosen-meeting-requires-clause-nodes
-evaluate::chosen-meeting-requires-clause-nodes t c = 
+evaluate::chosen-meeting-requires-clause-nodes t c =
     nodes_are c.test_row.new.dag c.as_slice.ensures
     (nodes_stay (grown_trans c.loop-joint.invariant.choosing.grown c.test_row.ensures.grown) c.joint-item.result.nodes (joint_below c.args.dag.now c.args.joints.now c.loop-joint.joint-index c.joint-item.result c.loop-joint-test.true c.joint-item.is c.requires.joints))
 
