@@ -16,5 +16,7 @@ fn main(rt: HostRuntime) -> ExitCode {
     let alloc = rt.alloc();
     let mut files = RealFiles::new(rt);
     let outcome = ratest(alloc, words.as_slice(), &mut files, &mut out, &mut err);
-    ExitCode::from(outcome.status())
+    let status = outcome.status();
+    drop(outcome);
+    ExitCode::from(status)
 }

@@ -20,6 +20,48 @@ fn is_tool(word: &str) -> bool {
     word == "row" || word == "grade"
 }
 
+/// Runs a command of certificates, and gives its status.
+fn run_certs<F: Files, O: Sink, E: Sink>(
+    alloc: Global,
+    words: &[Txt],
+    files: &mut F,
+    out: &mut O,
+    err: &mut E,
+) -> u8 {
+    let outcome = cert_run(alloc, words, files, out, err);
+    let status = outcome.status();
+    drop(outcome);
+    status
+}
+
+/// Runs a command of the tools, and gives its status.
+fn run_tool<F: Files, O: Sink, E: Sink>(
+    alloc: Global,
+    words: &[Txt],
+    files: &mut F,
+    out: &mut O,
+    err: &mut E,
+) -> u8 {
+    let outcome = tool_run(alloc, words, files, out, err);
+    let status = outcome.status();
+    drop(outcome);
+    status
+}
+
+/// Runs a command on algebra texts, and gives its status.
+fn run_ra<F: Files, O: Sink, E: Sink>(
+    alloc: Global,
+    words: &[Txt],
+    files: &mut F,
+    out: &mut O,
+    err: &mut E,
+) -> u8 {
+    let outcome = ra_run(alloc, words, files, out, err);
+    let status = outcome.status();
+    drop(outcome);
+    status
+}
+
 /// Runs the command of the first word, and gives its status. Words that begin as no command's do are
 /// answered by `ra`.
 fn run<F: Files, O: Sink, E: Sink>(
@@ -30,9 +72,9 @@ fn run<F: Files, O: Sink, E: Sink>(
     err: &mut E,
 ) -> u8 {
     match words {
-        [first, ..] if is_certs(first.as_str()) => cert_run(alloc, words, files, out, err).status(),
-        [first, ..] if is_tool(first.as_str()) => tool_run(alloc, words, files, out, err).status(),
-        _ => ra_run(alloc, words, files, out, err).status(),
+        [first, ..] if is_certs(first.as_str()) => run_certs(alloc, words, files, out, err),
+        [first, ..] if is_tool(first.as_str()) => run_tool(alloc, words, files, out, err),
+        _ => run_ra(alloc, words, files, out, err),
     }
 }
 

@@ -27,3 +27,4 @@ pub use ann::Ann;
 pub use annotation::annotate;
 pub use difference::differ;
 pub use reference::Reference;
+pub use same::same_query;

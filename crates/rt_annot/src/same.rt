@@ -3,6 +3,7 @@ ghost use Rattle.std.specs.Prelude.{◌≡◌, IsTrue};
 
 use rt_algebra::{Expr, Pred, Query, Term};
 
+/// Whether two queries are the same, part for part. Queries that only mean the same are not.
 #[cycle(same)]
 pub fn same_query(a: &Query, b: &Query) -> bool
     ensures { IsTrue result → a.now ≡ b.now }

@@ -1,5 +1,2 @@
-pub mod Answers
-pub mod Outcomes
 pub mod RowVerdicts
 pub mod Said
-pub mod Words

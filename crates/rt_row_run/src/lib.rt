@@ -3,12 +3,8 @@
 #![tactic(auto)]
 
 mod answer;
-mod outcome;
-mod run;
 mod say;
 mod verdict;
 
 pub use answer::{RowAnswer, RowVerdict};
-pub use outcome::RowOutcome;
-pub use run::{USAGE, row_run};
 pub use verdict::row_answer;
