@@ -1,2 +1,4 @@
 pub mod Grades
+pub mod Known
 pub mod Prepared
+pub mod Review

@@ -3,7 +3,7 @@ ghost use Rattle.rt_algebra.specs.Typed.{IsTypedOf};
 ghost use Rattle.rt_top.specs.First.{IsFirst};
 ghost use Rattle.rt_top.specs.Judged.{within_limit};
 ghost use Rattle.rt_top.specs.Steps.{Refuses};
-ghost use Rattle.rt_grade.specs.Grades.{Decides, IsGrade, IsPlacedIn, beside, candidate_judged, outcome_of, right_of};
+ghost use Rattle.rt_grade.specs.Grades.{Decides, IsGrade, IsPlacedIn, beside, right_of};
 ghost use Rattle.rt_grade.specs.Prepared.{IsPreparedOf};
 
 use crate::grade::Grade;
@@ -16,7 +16,7 @@ use rt_words::Words;
 use std::alloc::Global;
 
 /// The query of a candidate, whose columns are as the reference's.
-fn right_of(alloc: Global, first: &First, text: &[u8]) -> Result<Typed, Outcome>
+pub(crate) fn right_of(alloc: Global, first: &First, text: &[u8]) -> Result<Typed, Outcome>
     ensures typed { IfOk result (IsTypedOf first.now.schema) }
     ensures kinds { IfOk result (λ right. right.kinds ≡ first.now.left.kinds) }
     ensures ok { IfOk result (λ right. right_of first.now text.now ≡ Ok right) }
@@ -58,7 +58,7 @@ fn decided(
 }
 
 /// The grade of a query beside the reference.
-fn grade_query(
+pub(crate) fn grade_query(
     alloc: Global,
     words: &Words,
     first: &First,
@@ -77,27 +77,4 @@ fn grade_query(
         return Ok(Grade::Work(work));
     }
     decided(alloc, words, first, prepared, right)
-}
-
-/// The grade of the candidate that a text is, with the numbers of a command. The reference is
-/// prepared for the first candidate that is decided, and stays so for those after it.
-pub fn grade_text(
-    alloc: Global,
-    words: &Words,
-    first: &First,
-    prepared: &mut Option<Prepared>,
-    text: &[u8],
-) -> Result<Grade, NoMemory>
-    requires first { IsFirst first.now }
-    requires prepared { IfSome prepared.old (IsPreparedOf first.now) }
-    ensures grade { IfOk result (IsGrade (candidate_judged words.now first.now text.now)) }
-    // A syntax fault stands at a token of the text, or at the end of the last one.
-    ensures place { IfOk result (λ grade. IsPlacedIn text.now (outcome_of grade)) }
-    ensures prepared { IfSome prepared.new (IsPreparedOf first.now) }
-{
-    match right_of(alloc, first, text) {
-        Ok(right) => grade_query(alloc, words, first, prepared, &right),
-        Err(Outcome::Refused(part, fault)) => Ok(Grade::Refused(part, fault)),
-        Err(_) => Err(NoMemory),
-    }
 }

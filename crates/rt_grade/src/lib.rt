@@ -3,8 +3,10 @@
 
 mod grade;
 mod judge;
+mod known;
 mod prepared;
+mod review;
+mod small;
 
 pub use grade::Grade;
-pub use judge::grade_text;
-pub use prepared::Prepared;
+pub use review::{Review, grade_text};

@@ -13,9 +13,9 @@ use std::alloc::Global;
 
 /// The law and the reference on a Dag of their own, which each candidate finds as they were made.
 #[derive(Drop)]
-pub struct Prepared {
-    pub dag: Dag,
-    pub reference: Reference,
+pub(crate) struct Prepared {
+    dag: Dag,
+    reference: Reference,
 }
 
 impl Prepared {

@@ -1,5 +1,4 @@
 mod AloneLemmas
 mod FaultLemmas
 mod GradeLemmas
-mod KnownLemmas
 mod WordLemmas

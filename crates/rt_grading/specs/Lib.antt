@@ -1,5 +1,4 @@
 pub mod Answers
 pub mod Candidates
-pub mod Known
 pub mod Listing
 pub mod Words

@@ -3,7 +3,6 @@
 
 mod candidates;
 mod fault;
-mod known;
 mod list;
 mod run;
 mod words;

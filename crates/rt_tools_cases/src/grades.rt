@@ -76,6 +76,25 @@ fn words_of_a_list(rt: HostRuntime) -> Result<(), Fail> {
     Ok(())
 }
 
+/// `b.sql` in another spelling.
+const AGAIN: &str =
+    "-- By Jo.\nselect X.NAME\nfrom REG as X\n  where ((x.dept = 'CS')) and (x.grade > 80)";
+
+/// The same but for one number, than which each grade is larger.
+const EACH: &str = "SELECT r.name FROM reg r WHERE r.dept = 'CS' AND r.grade > 70";
+
+#[test]
+fn spellings_of_a_query(rt: HostRuntime) -> Result<(), Fail> {
+    let alloc = rt.alloc();
+    let mut files = with_list(alloc, b"b.sql\neach.sql\nagain.sql\neach.sql\n")?;
+    files.hold("again.sql", AGAIN.as_bytes())?;
+    files.hold("each.sql", EACH.as_bytes())?;
+    let out =
+        "b.sql: witness 2\neach.sql: agree\nagain.sql: witness 2\neach.sql: agree\ngraded: 4\n";
+    assert!(rt; ends(alloc, &mut files, &WORDS, 0, out, "")?);
+    Ok(())
+}
+
 /// A list with so many lines of one byte.
 fn short_lines(alloc: Global, lines: usize) -> Result<MemFiles, NoMemory> {
     let mut list = String::new(alloc);

@@ -13,8 +13,7 @@ paths-preserved g c =
       graded = one_more (IsGradeOf tells (g.F.Files.held c.args.files.now) w first) c.args.paths.now c.paths.grades c.push.new.self c.paths.path-index c.path-item.result c.in_ok-grade.grade
           c.paths-test.true c.path-item.is c.in_ok-push.ensures.ok c.paths.invariant.graded
           (subst (λ (h : Holding). IsGradeOf tells h w first c.path-item.result c.in_ok-grade.grade) c.paths.invariant.held c.in_ok-grade.ensures.ok);
-      prepared = c.in_ok-grade.ensures.prepared;
-      known = c.in_ok-grade.ensures.known;
+      review = c.in_ok-grade.ensures.review;
       held = c.in_ok-grade.ensures.held ∙ c.paths.invariant.held;
       rises = λ name. let a = c.paths.invariant.rises name in let b = c.in_ok-grade.ensures.rises.rises name in omega (arith, a, b);
     }

@@ -1,17 +1,14 @@
 use Rattle.std.proofs.Common.{◌≡◌, take}
-use Rattle.std.specs.Prelude.{IfSome}
 use Rattle.rt_io.specs.Edge.{NoneFell}
-use Rattle.rt_grade.specs.Prepared.{IsPreparedOf}
+use Rattle.rt_grade.specs.Review.{IsReviewOf}
 use Rattle.rt_grading.specs.Candidates.{IsGradeOf}
-use Rattle.rt_grading.specs.Known.{AreKnown}
 use Rattle.rt_grading.proofs.candidates.grade_each.Given as goal
 use Rattle.std.specs.List.{AllZip}
 
 abbrev pub invariant-paths : goal.invariant-paths
 invariant-paths g l = record {
   graded : AllZip (IsGradeOf g.F.Files.tells (g.F.Files.held l.initial.files) l.words l.first) (take l.path-index l.paths) l.grades;
-  prepared : IfSome l.prepared (IsPreparedOf l.first);
-  known : AreKnown l.words l.first l.known;
+  review : IsReviewOf l.words l.first l.review;
   held : g.F.Files.held l.files ≡ g.F.Files.held l.initial.files;
   rises : NoneFell (g.F.Files.faults l.initial.files) (g.F.Files.faults l.files);
 }
