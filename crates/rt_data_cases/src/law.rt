@@ -5,59 +5,67 @@ use crate::data::{Data, choice, read_data};
 use rt_formula::{Dag, Entry, Node};
 use rt_rules::law;
 use rt_schema::{law_work, lawful};
-use rt_value::{Keep, NoMemory};
-use std::alloc::{AllocError, Global};
-use std::test::Fail;
+use rt_value::Keep;
+use std::alloc::Global;
+use std::process::Abort;
 
 /// Whether the kept rows are lawful.
-fn is_lawful(alloc: Global, tables: &Data, places: &str) -> Result<bool, NoMemory>
+fn is_lawful(rt: &impl Abort, alloc: Global, tables: &Data, places: &str) -> bool
     requires { IsOf tables.now.schema tables.now.given }
 {
-    let keep = choice(alloc, places)?;
-    if keep.len() != tables.given.total() {
-        return Err(NoMemory);
-    }
-    Ok(lawful(&tables.schema, &tables.given, &keep))
+    let keep = choice(rt, alloc, places);
+    assert!(rt; keep.len() == tables.given.total());
+    let found = lawful(&tables.schema, &tables.given, &keep);
+    drop(keep);
+    found
 }
 
 /// Whether the formula of the law is true at the kept rows.
-fn is_true(alloc: Global, tables: &Data, places: &str) -> Result<bool, NoMemory>
+fn is_true(rt: &impl Abort, alloc: Global, tables: &Data, places: &str) -> bool
     requires { IsOf tables.now.schema tables.now.given }
 {
-    let mut dag = Dag::new(alloc, tables.given.total())?;
-    let node = law(alloc, &mut dag, &tables.schema, &tables.given)?;
-    let value = value_at(alloc, &dag, node, places);
+    let mut dag = Dag::new(alloc, tables.given.total()).expect(rt, "memory");
+    let node = law(alloc, &mut dag, &tables.schema, &tables.given).expect(rt, "memory");
+    let value = value_at(rt, alloc, &dag, node, places);
     drop(dag);
     value
 }
 
-fn value_at(alloc: Global, dag: &Dag, node: Node, places: &str) -> Result<bool, NoMemory> {
-    let keep = choice(alloc, places)?;
-    if keep.len() != dag.rows() || node.number() >= dag.len() {
-        return Err(NoMemory);
-    }
-    dag.value(node, &keep)
+fn value_at(rt: &impl Abort, alloc: Global, dag: &Dag, node: Node, places: &str) -> bool {
+    let keep = choice(rt, alloc, places);
+    assert!(rt; keep.len() == dag.rows() && node.number() < dag.len());
+    let value = dag.value(node, &keep).expect(rt, "memory");
+    drop(keep);
+    value
 }
 
 /// Whether the kept rows are lawful, and whether the formula of the law is true at them.
-fn both(alloc: Global, tables: &Data, places: &str) -> Result<[bool; 2], NoMemory>
+fn both(rt: &impl Abort, alloc: Global, tables: &Data, places: &str) -> [bool; 2]
     requires { IsOf tables.now.schema tables.now.given }
 {
-    let lawful = is_lawful(alloc, tables, places)?;
-    let holds = is_true(alloc, tables, places)?;
-    Ok([lawful, holds])
+    let lawful = is_lawful(rt, alloc, tables, places);
+    let holds = is_true(rt, alloc, tables, places);
+    [lawful, holds]
 }
 
 /// The same of the rows of a file.
-fn both_of(alloc: Global, schema: &str, file: &str, places: &str) -> Result<[bool; 2], NoMemory> {
-    let tables = read_data(alloc, schema, &[file])?;
-    let found = both(alloc, &tables, places);
+fn both_of(rt: &impl Abort, alloc: Global, schema: &str, file: &str, places: &str) -> [bool; 2] {
+    let tables = read_data(rt, alloc, schema, &[file]);
+    let found = both(rt, alloc, &tables, places);
     drop(tables);
     found
 }
 
+fn assert_each(rt: &impl Abort, alloc: Global, schema: &str, file: &str, wanted: [bool; 4]) {
+    for (places, want) in ["00", "10", "01", "11"].iter().zip(wanted) {
+        let [lawful, holds] = both_of(rt, alloc, schema, file, *places);
+        assert!(rt; lawful == want, "{schema} {places}");
+        assert!(rt; holds == want, "{schema} {places}");
+    }
+}
+
 #[test]
-fn two_rows_at_each_choice(rt: HostRuntime) -> Result<(), Fail> {
+fn two_rows_at_each_choice(rt: HostRuntime) {
     let alloc = rt.alloc();
     let cases = [
         (
@@ -82,42 +90,44 @@ fn two_rows_at_each_choice(rt: HostRuntime) -> Result<(), Fail> {
         ),
     ];
     for (schema, file, wanted) in cases {
-        for (places, want) in ["00", "10", "01", "11"].iter().zip(wanted) {
-            let [lawful, holds] = both_of(alloc, schema, file, *places)?;
-            assert_eq!(rt; lawful, want, "{schema} {places}");
-            assert_eq!(rt; holds, want, "{schema} {places}");
-        }
+        assert_each(&rt, alloc, schema, file, wanted);
     }
-    Ok(())
 }
 
-/// The choices of three rows that are not lawful. Where the formula of the law says otherwise of a
-/// choice, this ends as want of memory.
-fn refused_of(alloc: Global, tables: &Data) -> Result<String, NoMemory>
+/// The choices of three rows that are not lawful, of which the formula of the law says the same.
+fn refused_of(rt: &impl Abort, alloc: Global, tables: &Data) -> String
     requires { IsOf tables.now.schema tables.now.given }
 {
     let mut refused = String::new(alloc);
     for places in ["000", "100", "010", "001", "110", "101", "011", "111"] {
-        match both(alloc, tables, places)? {
-            [true, true] => {}
-            [false, false] => {
-                refused.push_str(places)?;
-                refused.push_str(" ")?;
-            }
-            _ => return Err(NoMemory),
+        let [lawful, holds] = both(rt, alloc, tables, places);
+        assert!(rt; lawful == holds, "{places}");
+        if !lawful {
+            refused.push_str(places).expect(rt, "memory");
+            refused.push_str(" ").expect(rt, "memory");
         }
     }
-    Ok(refused)
+    refused
 }
 
-/// The same of a table under a rule.
-fn refused(alloc: Global, rule: &str, file: &str) -> Result<String, NoMemory> {
-    let schema = format!(in alloc; "CREATE TABLE t (a INTEGER, b INTEGER, c TEXT, {rule});")?;
-    let tables = read_data(alloc, schema.as_str(), &[file])?;
-    drop(schema);
-    let refused = refused_of(alloc, &tables);
+/// The same of the rows of a file.
+fn refused_in(rt: &impl Abort, alloc: Global, schema: &str, file: &str) -> String {
+    let tables = read_data(rt, alloc, schema, &[file]);
+    let refused = refused_of(rt, alloc, &tables);
     drop(tables);
     refused
+}
+
+/// Whether these are refused of a table under a rule.
+fn refuses(rt: &impl Abort, alloc: Global, rule: &str, file: &str, wanted: &str) -> bool {
+    let schema = format!(in alloc; "CREATE TABLE t (a INTEGER, b INTEGER, c TEXT, {rule});").expect(
+        rt, "memory",
+    );
+    let refused = refused_in(rt, alloc, schema.as_str(), file);
+    drop(schema);
+    let found = refused.as_str() == wanted;
+    drop(refused);
+    found
 }
 
 // The choices that have the first, the second or the third of three rows.
@@ -133,7 +143,7 @@ const FIRST_THIRD: &str = "100 001 110 101 011 111 ";
 
 // A check refuses the rows that make it false, and lets those stand that make it unknown.
 #[test]
-fn checks_of_three_rows(rt: HostRuntime) -> Result<(), Fail> {
+fn checks_of_three_rows(rt: HostRuntime) {
     let alloc = rt.alloc();
     let file = "a,b,c\n1,2,x\n3,,y\n,0,\n";
     let cases = [
@@ -161,14 +171,28 @@ fn checks_of_three_rows(rt: HostRuntime) -> Result<(), Fail> {
         ("CHECK (b = 0 OR a > 1 AND c = 'y')", FIRST),
     ];
     for (rule, wanted) in cases {
-        let said = refused(alloc, rule, file)?;
-        assert_eq!(rt; said.as_str(), wanted, "{rule}");
+        assert!(rt; refuses(&rt, alloc, rule, file, wanted), "{rule}");
     }
-    Ok(())
+}
+
+/// Whether a dependency refuses these of rows without their head.
+fn dependency_refuses(
+    rt: &impl Abort,
+    alloc: Global,
+    rule: &str,
+    rows: &str,
+    wanted: &str,
+) -> bool {
+    let rule = format!(in alloc; "DEPENDENCY {rule}").expect(rt, "memory");
+    let file = format!(in alloc; "a,b,c\n{rows}").expect(rt, "memory");
+    let found = refuses(rt, alloc, rule.as_str(), file.as_str(), wanted);
+    drop(file);
+    drop(rule);
+    found
 }
 
 #[test]
-fn dependencies_of_three_rows(rt: HostRuntime) -> Result<(), Fail> {
+fn dependencies_of_three_rows(rt: HostRuntime) {
     let alloc = rt.alloc();
     let cases = [
         ("(a) DETERMINES (b)", "1,1,\n1,2,\n2,2,\n", "110 111 "),
@@ -189,24 +213,23 @@ fn dependencies_of_three_rows(rt: HostRuntime) -> Result<(), Fail> {
         ("(a, b) DETERMINES (c)", "1,,x\n1,,y\n1,,z\n", ""),
     ];
     for (rule, rows, wanted) in cases {
-        let rule = format!(in alloc; "DEPENDENCY {rule}")?;
-        let file = format!(in alloc; "a,b,c\n{rows}")?;
-        let said = refused(alloc, rule.as_str(), file.as_str())?;
-        assert_eq!(rt; said.as_str(), wanted, "{rule}: {rows}");
+        assert!(rt;
+            dependency_refuses(&rt, alloc, rule, rows, wanted),
+            "{rule}: {rows}"
+        );
     }
-    Ok(())
 }
 
 /// The work of the law of the rows of these files.
-fn work_of(alloc: Global, schema: &str, files: &[&str]) -> Result<u128, NoMemory> {
-    let tables = read_data(alloc, schema, files)?;
+fn work_of(rt: &impl Abort, alloc: Global, schema: &str, files: &[&str]) -> u128 {
+    let tables = read_data(rt, alloc, schema, files);
     let work = law_work(&tables.schema, &tables.given);
     drop(tables);
-    Ok(work)
+    work
 }
 
 #[test]
-fn pairs_of_a_dependency_and_rows_of_a_check(rt: HostRuntime) -> Result<(), Fail> {
+fn pairs_of_a_dependency_and_rows_of_a_check(rt: HostRuntime) {
     let alloc = rt.alloc();
     let file = "a,b\n1,1\n1,2\n1,2\n,2\n,3\n";
     let cases = [
@@ -217,60 +240,59 @@ fn pairs_of_a_dependency_and_rows_of_a_check(rt: HostRuntime) -> Result<(), Fail
         ("CREATE TABLE t (a INTEGER, b INTEGER, CHECK (a > 1));", 5),
     ];
     for (schema, wanted) in cases {
-        assert_eq!(rt; work_of(alloc, schema, &[file])?, wanted, "{schema}");
+        assert!(rt; work_of(&rt, alloc, schema, &[file]) == wanted, "{schema}");
     }
-    Ok(())
 }
 
 #[test]
-fn pairs_of_students_and_registrations(rt: HostRuntime) -> Result<(), Fail> {
+fn pairs_of_students_and_registrations(rt: HostRuntime) {
     let schema =
         "CREATE TABLE student (name TEXT PRIMARY KEY);\nCREATE TABLE reg (name TEXT REFERENCES student (name), num INTEGER, PRIMARY KEY (name, num));";
     let files = [
         "name\nMary\nJohn\n",
         "name,num\nMary,216\nMary,230\nJohn,316\n",
     ];
-    assert_eq!(rt; work_of(rt.alloc(), schema, &files)?, 3);
-    Ok(())
+    assert!(rt; work_of(&rt, rt.alloc(), schema, &files) == 3);
 }
 
 /// A file of 2,000 rows, of which each refers to the next and the last to the first.
-fn ring(alloc: Global) -> Result<String, AllocError> {
+fn ring(rt: &impl Abort, alloc: Global) -> String {
     let mut file = String::new(alloc);
-    file.push_str("a,b\n")?;
+    file.push_str("a,b\n").expect(rt, "memory");
     for n in 0..2_000_usize {
         let next = (n + 1) % 2_000;
-        let line = format!(in alloc; "{n},{next}\n")?;
-        file.push_str(line.as_str())?;
+        let line = format!(in alloc; "{n},{next}\n").expect(rt, "memory");
+        file.push_str(line.as_str()).expect(rt, "memory");
     }
-    Ok(file)
+    file
 }
 
 /// All of 2,000 rows, but for the first perhaps.
-fn places(alloc: Global, first: &str) -> Result<String, AllocError> {
+fn places(rt: &impl Abort, alloc: Global, first: &str) -> String {
     let mut places = String::new(alloc);
-    places.push_str(first)?;
+    places.push_str(first).expect(rt, "memory");
     for _ in 1..2_000 {
-        places.push_str("1")?;
+        places.push_str("1").expect(rt, "memory");
     }
-    Ok(places)
+    places
 }
 
 /// Whether the formula of the law is true at the rows of the ring, but for the first perhaps.
-fn ring_holds(alloc: Global, first: &str) -> Result<bool, NoMemory> {
+fn ring_holds(rt: &impl Abort, alloc: Global, first: &str) -> bool {
     let schema = "CREATE TABLE t (a INTEGER PRIMARY KEY, b INTEGER REFERENCES t (a));";
-    let file = ring(alloc)?;
-    let places = places(alloc, first)?;
-    let [_, holds] = both_of(alloc, schema, file.as_str(), places.as_str())?;
-    Ok(holds)
+    let file = ring(rt, alloc);
+    let places = places(rt, alloc, first);
+    let [_, holds] = both_of(rt, alloc, schema, file.as_str(), places.as_str());
+    drop(places);
+    drop(file);
+    holds
 }
 
 #[test]
-fn two_thousand_rows(rt: HostRuntime) -> Result<(), Fail> {
+fn two_thousand_rows(rt: HostRuntime) {
     let alloc = rt.alloc();
-    assert!(rt; ring_holds(alloc, "1")?);
-    assert!(rt; !ring_holds(alloc, "0")?);
-    Ok(())
+    assert!(rt; ring_holds(&rt, alloc, "1"));
+    assert!(rt; !ring_holds(&rt, alloc, "0"));
 }
 
 /// How many children the gates of a formula have.
@@ -285,14 +307,14 @@ fn children(dag: &Dag) -> usize {
 }
 
 /// A file of 2,000 rows under a head, which are alike but for the first perhaps.
-fn alike(alloc: Global, head: &str, first: &str, other: &str) -> Result<String, AllocError> {
+fn alike(rt: &impl Abort, alloc: Global, head: &str, first: &str, other: &str) -> String {
     let mut file = String::new(alloc);
-    file.push_str(head)?;
-    file.push_str(first)?;
+    file.push_str(head).expect(rt, "memory");
+    file.push_str(first).expect(rt, "memory");
     for _ in 1..2_000 {
-        file.push_str(other)?;
+        file.push_str(other).expect(rt, "memory");
     }
-    Ok(file)
+    file
 }
 
 /// The size of a formula of 2,000 rows, whether it is true where the last row is kept alone, and
@@ -306,44 +328,41 @@ struct Size {
 }
 
 /// Whether the formula is true once this place is kept too.
-fn value_with(dag: &Dag, node: Node, keep: &mut Keep, place: usize) -> Result<bool, NoMemory> {
-    if place >= keep.len() {
-        return Err(NoMemory);
-    }
+fn value_with(rt: &impl Abort, dag: &Dag, node: Node, keep: &mut Keep, place: usize) -> bool {
+    assert!(rt; place < keep.len());
     keep.set(place, true);
-    if keep.len() != dag.rows() || node.number() >= dag.len() {
-        return Err(NoMemory);
-    }
-    dag.value(node, &*keep)
+    assert!(rt; keep.len() == dag.rows() && node.number() < dag.len());
+    dag.value(node, &*keep).expect(rt, "memory")
 }
 
-fn size_of(alloc: Global, dag: &Dag, node: Node) -> Result<Size, NoMemory> {
-    let mut keep = Keep::all(alloc, 2_000, false)?;
-    let one = value_with(dag, node, &mut keep, 1_999)?;
-    let two = value_with(dag, node, &mut keep, 0)?;
-    Ok(Size {
+fn size_of(rt: &impl Abort, alloc: Global, dag: &Dag, node: Node) -> Size {
+    let mut keep = Keep::all(alloc, 2_000, false).expect(rt, "memory");
+    let one = value_with(rt, dag, node, &mut keep, 1_999);
+    let two = value_with(rt, dag, node, &mut keep, 0);
+    drop(keep);
+    Size {
         nodes: dag.len(),
         children: children(dag),
         one,
         two,
-    })
+    }
 }
 
 /// The size of the formula of the law.
-fn law_size(alloc: Global, tables: &Data) -> Result<Size, NoMemory>
+fn law_size(rt: &impl Abort, alloc: Global, tables: &Data) -> Size
     requires { IsOf tables.now.schema tables.now.given }
 {
-    let mut dag = Dag::new(alloc, tables.given.total())?;
-    let node = law(alloc, &mut dag, &tables.schema, &tables.given)?;
-    let size = size_of(alloc, &dag, node);
+    let mut dag = Dag::new(alloc, tables.given.total()).expect(rt, "memory");
+    let node = law(alloc, &mut dag, &tables.schema, &tables.given).expect(rt, "memory");
+    let size = size_of(rt, alloc, &dag, node);
     drop(dag);
     size
 }
 
 /// The same of the rows of a file.
-fn size_over(alloc: Global, schema: &str, file: &str) -> Result<Size, NoMemory> {
-    let tables = read_data(alloc, schema, &[file])?;
-    let size = law_size(alloc, &tables);
+fn size_over(rt: &impl Abort, alloc: Global, schema: &str, file: &str) -> Size {
+    let tables = read_data(rt, alloc, schema, &[file]);
+    let size = law_size(rt, alloc, &tables);
     drop(tables);
     size
 }
@@ -351,7 +370,7 @@ fn size_over(alloc: Global, schema: &str, file: &str) -> Result<Size, NoMemory> 
 // A group of rows with one key value, or with one determining value, costs a few gates a row, and none
 // for each pair of rows.
 #[test]
-fn two_thousand_rows_with_one_value(rt: HostRuntime) -> Result<(), Fail> {
+fn two_thousand_rows_with_one_value(rt: HostRuntime) {
     let alloc = rt.alloc();
     let key = "CREATE TABLE p (k INTEGER PRIMARY KEY)";
     let dependency = "CREATE TABLE g (a INTEGER, b INTEGER, DEPENDENCY (a) DETERMINES (b))";
@@ -360,12 +379,12 @@ fn two_thousand_rows_with_one_value(rt: HostRuntime) -> Result<(), Fail> {
         (dependency, "a,b\n", "7,8\n", "7,7\n"),
     ];
     for (schema, head, first, other) in cases {
-        let file = alike(alloc, head, first, other)?;
-        let size = size_over(alloc, schema, file.as_str())?;
+        let file = alike(&rt, alloc, head, first, other);
+        let size = size_over(&rt, alloc, schema, file.as_str());
+        drop(file);
         assert!(rt; size.nodes <= 20_000, "{schema}");
         assert!(rt; size.children <= 20_000, "{schema}");
         assert!(rt; size.one, "{schema}");
         assert!(rt; !size.two, "{schema}");
     }
-    Ok(())
 }

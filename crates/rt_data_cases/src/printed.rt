@@ -7,7 +7,7 @@ use crate::data::{Data, choice, read_data};
 use rt_print::{MadeVerdict, made_text, spent_text, witness_text};
 use rt_value::{Bytes, Keep, List, NoMemory, Row, Txt, Value};
 use std::alloc::Global;
-use std::test::Fail;
+use std::process::Abort;
 
 const STUDENTS: &str =
     "CREATE TABLE student (name TEXT, major TEXT);\nCREATE TABLE reg (name TEXT, num INTEGER, dept TEXT, grade INTEGER);";
@@ -15,151 +15,150 @@ const STUDENTS: &str =
 const TWO: &str = "CREATE TABLE t (a INTEGER);\nCREATE TABLE u (a INTEGER);";
 
 /// A row whose cells are NULL, whole numbers or texts, as they are written.
-fn row(alloc: Global, cells: &[&str]) -> Result<Row, NoMemory> {
+fn row(rt: &impl Abort, alloc: Global, cells: &[&str]) -> Row {
     let mut row = Row::new(alloc);
     for cell in cells {
         let value = match cell.parse::<i128>() {
             Ok(n) => Value::Int(n),
             Err(_) if *cell == "NULL" => Value::Null,
-            Err(_) => Value::Text(Txt::of(alloc, *cell)?),
+            Err(_) => Value::Text(Txt::of(alloc, *cell).expect(rt, "memory")),
         };
-        row.push(value)?;
+        row.push(value).expect(rt, "memory");
     }
-    Ok(row)
+    row
 }
 
 /// An answer of one row, or of none where there is no cell.
-fn answer(alloc: Global, cells: &[&str]) -> Result<List<Row>, NoMemory>
+fn answer(rt: &impl Abort, alloc: Global, cells: &[&str]) -> Result<List<Row>, NoMemory>
     ensures { IfOk result (λ rows. IsStrictlySortedBy row_cmp rows) }
 {
     let mut rows = List::new(alloc);
     if cells.is_empty() {
         return Ok(rows);
     }
-    rows.push(row(alloc, cells)?)?;
+    rows.push(row(rt, alloc, cells))?;
     Ok(rows)
 }
 
 // The text for the rows of a choice, and for answers of one row or none.
 fn witness(
+    rt: &impl Abort,
     alloc: Global,
     schema: &str,
     files: &[&str],
     places: &str,
     left: &[&str],
     right: &[&str],
-) -> Result<Bytes, NoMemory> {
-    let tables = read_data(alloc, schema, files)?;
-    let text = witness_in(alloc, &tables, places, left, right);
+) -> Bytes {
+    let tables = read_data(rt, alloc, schema, files);
+    let keep = choice(rt, alloc, places);
+    let text = witness_in(rt, alloc, &tables, &keep, left, right);
+    drop(keep);
     drop(tables);
     text
 }
 
 fn witness_in(
+    rt: &impl Abort,
     alloc: Global,
     tables: &Data,
-    places: &str,
+    keep: &Keep,
     left: &[&str],
     right: &[&str],
-) -> Result<Bytes, NoMemory>
+) -> Bytes
     requires { IsOf tables.now.schema tables.now.given }
 {
-    let keep = choice(alloc, places)?;
-    if keep.len() != tables.given.total() {
-        return Err(NoMemory);
-    }
-    let left = answer(alloc, left)?;
-    let right = answer(alloc, right)?;
-    witness_text(
+    assert!(rt; keep.len() == tables.given.total());
+    let left = answer(rt, alloc, left).expect(rt, "memory");
+    let right = answer(rt, alloc, right).expect(rt, "memory");
+    let text = witness_text(
         alloc,
         &tables.schema,
         &tables.given,
-        &keep,
+        keep,
         left.as_slice(),
         right.as_slice(),
     )
+    .expect(rt, "memory");
+    drop(right);
+    drop(left);
+    text
 }
 
 // The text for two students, of whom these are the best so far.
-fn spent(alloc: Global, best: Option<&Keep>) -> Result<Bytes, NoMemory> {
-    let files = ["name,major\nMary,CS\nJohn,ECON\n"];
-    let tables = read_data(alloc, STUDENTS, &files)?;
-    let text = spent_in(alloc, &tables, best);
+fn spent(rt: &impl Abort, alloc: Global, best: Option<&Keep>) -> Bytes {
+    let tables = read_data(rt, alloc, STUDENTS, &["name,major\nMary,CS\nJohn,ECON\n"]);
+    let text = spent_in(rt, alloc, &tables, best);
     drop(tables);
     text
 }
 
-fn spent_in(alloc: Global, tables: &Data, best: Option<&Keep>) -> Result<Bytes, NoMemory>
+fn spent_in(rt: &impl Abort, alloc: Global, tables: &Data, best: Option<&Keep>) -> Bytes
     requires { IsOf tables.now.schema tables.now.given }
 {
-    match best {
-        None => spent_text(alloc, &tables.schema, &tables.given, 7, None),
-        Some(keep) => {
-            if keep.len() != tables.given.total() {
-                return Err(NoMemory);
-            }
-            spent_text(alloc, &tables.schema, &tables.given, 7, Some(keep))
-        }
+    if let Some(keep) = best {
+        assert!(rt; keep.len() == tables.given.total());
     }
+    spent_text(alloc, &tables.schema, &tables.given, 7, best).expect(rt, "memory")
+}
+
+fn is_spent(rt: &impl Abort, alloc: Global, best: Option<&Keep>, want: &str) -> bool {
+    let text = spent(rt, alloc, best);
+    let found = text.as_slice() == want.as_bytes();
+    drop(text);
+    found
 }
 
 #[test]
-fn rows_of_one_query_alone(rt: HostRuntime) -> Result<(), Fail> {
+fn rows_of_one_query_alone(rt: HostRuntime) {
     let files = [
         "name,major\nMary,CS\nJohn,ECON\n",
         "name,num,dept,grade\nMary,216,CS,100\nMary,230,CS,75\nJohn,316,CS,90\n",
     ];
-    let text = witness(rt.alloc(), STUDENTS, &files, "10110", &[], &["Mary"])?;
+    let text = witness(&rt, rt.alloc(), STUDENTS, &files, "10110", &[], &["Mary"]);
     let want =
         "witness: 3\nstudent 1: 'Mary', 'CS'\nreg 1: 'Mary', 216, 'CS', 100\nreg 2: 'Mary', 230, 'CS', 75\nonly query 1: 0\nonly query 2: 1\n  'Mary'\nboth: 0\n";
-    assert_eq!(rt; text.as_slice(), want.as_bytes());
-    Ok(())
+    assert!(rt; text.as_slice() == want.as_bytes());
 }
 
 #[test]
-fn null(rt: HostRuntime) -> Result<(), Fail> {
+fn null(rt: HostRuntime) {
     let files = ["a\n1\n", "a\n\"\"\n"];
-    let text = witness(rt.alloc(), TWO, &files, "11", &[], &["1"])?;
+    let text = witness(&rt, rt.alloc(), TWO, &files, "11", &[], &["1"]);
     let want = "witness: 2\nt 1: 1\nu 1: NULL\nonly query 1: 0\nonly query 2: 1\n  1\nboth: 0\n";
-    assert_eq!(rt; text.as_slice(), want.as_bytes());
-    Ok(())
+    assert!(rt; text.as_slice() == want.as_bytes());
 }
 
 #[test]
-fn numbers_past_64_bits(rt: HostRuntime) -> Result<(), Fail> {
+fn numbers_past_64_bits(rt: HostRuntime) {
     let files = ["a\n-9223372036854775808\n"];
     let left = ["85070591730234615865843651857942052865"];
     let right = ["85070591730234615865843651857942052864"];
-    let text = witness(rt.alloc(), TWO, &files, "1", &left, &right)?;
+    let text = witness(&rt, rt.alloc(), TWO, &files, "1", &left, &right);
     let want =
         "witness: 1\nt 1: -9223372036854775808\nonly query 1: 1\n  85070591730234615865843651857942052865\nonly query 2: 1\n  85070591730234615865843651857942052864\nboth: 0\n";
-    assert_eq!(rt; text.as_slice(), want.as_bytes());
-    Ok(())
+    assert!(rt; text.as_slice() == want.as_bytes());
 }
 
 #[test]
-fn quotes_are_doubled(rt: HostRuntime) -> Result<(), Fail> {
+fn quotes_are_doubled(rt: HostRuntime) {
     let names = ["O'Hara", "NULL"];
-    let text = witness(rt.alloc(), TWO, &["a\n5\n"], "0", &names, &names)?;
+    let text = witness(&rt, rt.alloc(), TWO, &["a\n5\n"], "0", &names, &names);
     let want = "witness: 0\nonly query 1: 0\nonly query 2: 0\nboth: 1\n  'O''Hara', NULL\n";
-    assert_eq!(rt; text.as_slice(), want.as_bytes());
-    Ok(())
+    assert!(rt; text.as_slice() == want.as_bytes());
 }
 
 #[test]
-fn a_spent_budget_is_printed(rt: HostRuntime) -> Result<(), Fail> {
+fn a_spent_budget_is_printed(rt: HostRuntime) {
     let first = "undecided: 7 conflicts\n";
-    let text = spent(rt.alloc(), None)?;
-    assert_eq!(rt; text.as_slice(), first.as_bytes());
-    let keep = choice(rt.alloc(), "10")?;
+    assert!(rt; is_spent(&rt, rt.alloc(), None, first));
     let want = "undecided: 7 conflicts\nbest so far: 1\nstudent 1: 'Mary', 'CS'\n";
-    let text = spent(rt.alloc(), Some(&keep))?;
-    assert_eq!(rt; text.as_slice(), want.as_bytes());
-    Ok(())
+    let keep = choice(&rt, rt.alloc(), "10");
+    assert!(rt; is_spent(&rt, rt.alloc(), Some(&keep), want));
 }
 
 #[test]
-fn summaries_of_generated_inputs(rt: HostRuntime) -> Result<(), Fail> {
+fn summaries_of_generated_inputs(rt: HostRuntime) {
     let texts = [
         (
             400,
@@ -174,8 +173,7 @@ fn summaries_of_generated_inputs(rt: HostRuntime) -> Result<(), Fail> {
         ),
     ];
     for (n, verdict, want) in texts {
-        let text = made_text(rt.alloc(), n, verdict)?;
-        assert_eq!(rt; text.as_slice(), want.as_bytes());
+        let text = made_text(rt.alloc(), n, verdict).expect(&rt, "memory");
+        assert!(rt; text.as_slice() == want.as_bytes(), "{want}");
     }
-    Ok(())
 }

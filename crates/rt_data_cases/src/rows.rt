@@ -2,56 +2,69 @@ use rt_algebra::{Query, Typed};
 use rt_row::{RowFault, read_row};
 use rt_schema::ColKind;
 use rt_token::LexFault;
-use rt_value::{Boxed, List, NoMemory, Row, Txt, Value};
+use rt_value::{Boxed, List, Row, Txt, Value};
 use std::alloc::Global;
-use std::test::Fail;
+use std::process::Abort;
 
 // A query with a column of texts and one of whole numbers.
-fn typed(alloc: Global) -> Result<Typed, NoMemory> {
-    let mut kinds = List::new(alloc);
-    kinds.push(ColKind::Text)?;
-    kinds.push(ColKind::Whole)?;
-    Ok(Typed {
-        query: Boxed::new(alloc, Query::Table(0))?,
-        kinds,
+fn typed(rt: &impl Abort, alloc: Global) -> Typed {
+    Typed {
+        query: Boxed::new(alloc, Query::Table(0)).expect(rt, "memory"),
+        kinds: List::from_slice(alloc, &[ColKind::Text, ColKind::Whole]).expect(rt, "memory"),
         bounds: List::new(alloc),
         names: List::new(alloc),
-    })
+    }
 }
 
-fn read(alloc: Global, text: &str) -> Result<Row, RowFault> {
-    let typed = typed(alloc)?;
-    read_row(alloc, text.as_bytes(), &typed)
+fn read(rt: &impl Abort, alloc: Global, text: &str) -> Result<Row, RowFault> {
+    let typed = typed(rt, alloc);
+    let row = read_row(alloc, text.as_bytes(), &typed);
+    drop(typed);
+    row
+}
+
+fn is_name(value: &Value, name: Option<&str>) -> bool {
+    match (value, name) {
+        (Value::Text(text), Some(name)) => text.as_str() == name,
+        (Value::Null, None) => true,
+        _ => false,
+    }
 }
 
 // Whether the text is read as this text, or NULL, and this number.
-fn is_row(alloc: Global, text: &str, name: Option<&str>, number: i128) -> Result<bool, RowFault> {
-    let name = match name {
-        Some(name) => Value::Text(Txt::of(alloc, name)?),
-        None => Value::Null,
+fn is_row(rt: &impl Abort, alloc: Global, text: &str, name: Option<&str>, number: i128) -> bool {
+    let row = read(rt, alloc, text).expect(rt, "a row");
+    let found = match row.as_slice() {
+        [first, Value::Int(n)] => is_name(first, name) && *n == number,
+        _ => false,
     };
-    let row = read(alloc, text)?;
-    let cells = [name, Value::Int(number)];
-    Ok(row.as_slice() == cells.as_slice())
+    drop(row);
+    found
+}
+
+// Whether the text is refused for this.
+fn is_fault(rt: &impl Abort, alloc: Global, text: &str, fault: RowFault) -> bool {
+    match read(rt, alloc, text) {
+        Ok(_) => false,
+        Err(other) => other == fault,
+    }
 }
 
 #[test]
-fn cells_parted_by_commas(rt: HostRuntime) -> Result<(), Fail> {
+fn cells_parted_by_commas(rt: HostRuntime) {
+    let alloc = rt.alloc();
     for (text, name, number) in [
         ("'Mary', 216", Some("Mary"), 216),
         ("NULL,- 7", None, -7),
         (" 'it''s' -- a comment\n, -0", Some("it's"), 0),
     ] {
-        assert!(rt;
-            matches!(is_row(rt.alloc(), text, name, number), Ok(true)),
-            "{text}"
-        );
+        assert!(rt; is_row(&rt, alloc, text, name, number), "{text}");
     }
-    Ok(())
 }
 
 #[test]
-fn texts_that_are_no_row(rt: HostRuntime) -> Result<(), Fail> {
+fn texts_that_are_no_row(rt: HostRuntime) {
+    let alloc = rt.alloc();
     for (text, fault) in [
         ("'Mary", RowFault::Lex(LexFault::OpenText(0))),
         ("", RowFault::RowSyntax),
@@ -65,10 +78,6 @@ fn texts_that_are_no_row(rt: HostRuntime) -> Result<(), Fail> {
         ("5, 1", RowFault::RowKind),
         ("NULL, 'Mary'", RowFault::RowKind),
     ] {
-        match read(rt.alloc(), text) {
-            Ok(_) => assert!(rt; false, "{text}"),
-            Err(other) => assert_eq!(rt; other, fault),
-        }
+        assert!(rt; is_fault(&rt, alloc, text, fault), "{text}");
     }
-    Ok(())
 }

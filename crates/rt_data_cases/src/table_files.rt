@@ -1,48 +1,79 @@
 use rt_ddl::read_schema;
 use rt_load::{LoadFault, load, made};
-use rt_schema::Given;
+use rt_schema::{Given, Schema};
 use rt_value::Value;
-use std::alloc::{AllocError, Global};
-use std::test::Fail;
+use std::alloc::Global;
+use std::process::Abort;
 
 const TEXTS: &str = "CREATE TABLE t (a TEXT, b TEXT);";
 
 const WHOLES: &str = "CREATE TABLE t (a INTEGER, b INTEGER);";
 
-// The rows of a file for the one table of a schema.
-fn read(alloc: Global, schema: &str, file: &[u8]) -> Result<Given, LoadFault> {
-    let Ok(schema) = read_schema(alloc, schema.as_bytes()) else {
-        return Err(LoadFault::NoMemory);
+// The rows of a file for the one table of a schema, as a text, or why the file is refused.
+fn read(rt: &impl Abort, alloc: Global, schema: &str, file: &[u8]) -> Result<String, LoadFault> {
+    let schema = read_schema(alloc, schema.as_bytes()).expect(rt, "a schema");
+    let text = read_rows(rt, alloc, &schema, file);
+    drop(schema);
+    text
+}
+
+fn read_rows(
+    rt: &impl Abort,
+    alloc: Global,
+    schema: &Schema,
+    file: &[u8],
+) -> Result<String, LoadFault> {
+    let mut given = Given::new(alloc, schema).expect(rt, "memory");
+    assert!(rt; !schema.tables().is_empty() && given.table(0).is_empty());
+    let text = match load(alloc, schema, 0, file, &mut given) {
+        Ok(()) => Ok(shown(rt, alloc, &given)),
+        Err(fault) => Err(fault),
     };
-    let mut given = Given::new(alloc, &schema)?;
-    if schema.tables().is_empty() || !given.table(0).is_empty() {
-        return Err(LoadFault::NoMemory);
+    drop(given);
+    text
+}
+
+fn cell(rt: &impl Abort, alloc: Global, value: &Value) -> String {
+    match value {
+        Value::Null => format!(in alloc; "|NULL"),
+        Value::Int(n) => format!(in alloc; "|{n}"),
+        Value::Text(t) => format!(in alloc; "|{}", t.as_str()),
     }
-    load(alloc, &schema, 0, file, &mut given)?;
-    Ok(given)
+    .expect(rt, "memory")
 }
 
 // The values of all rows, each behind a `|`, and each row behind a `;`.
-fn shown(alloc: Global, given: &Given) -> Result<String, AllocError> {
+fn shown(rt: &impl Abort, alloc: Global, given: &Given) -> String {
     let mut text = String::new(alloc);
     for rows in given.tables() {
         for row in rows.as_slice() {
-            text.push_str(";")?;
+            text.push_str(";").expect(rt, "memory");
             for value in row.as_slice() {
-                let cell = match value {
-                    Value::Null => format!(in alloc; "|NULL")?,
-                    Value::Int(n) => format!(in alloc; "|{n}")?,
-                    Value::Text(t) => format!(in alloc; "|{}", t.as_str())?,
-                };
-                text.push_str(cell.as_str())?;
+                let cell = cell(rt, alloc, value);
+                text.push_str(cell.as_str()).expect(rt, "memory");
             }
         }
     }
-    Ok(text)
+    text
+}
+
+fn is_read(rt: &impl Abort, alloc: Global, schema: &str, file: &[u8], want: &str) -> bool {
+    match read(rt, alloc, schema, file) {
+        Ok(text) => text.as_str() == want,
+        Err(_) => false,
+    }
+}
+
+fn is_refused(rt: &impl Abort, alloc: Global, schema: &str, file: &[u8], want: LoadFault) -> bool {
+    match read(rt, alloc, schema, file) {
+        Ok(_) => false,
+        Err(fault) => fault == want,
+    }
 }
 
 #[test]
-fn records_are_those_of_rfc_4180(rt: HostRuntime) -> Result<(), Fail> {
+fn records_are_those_of_rfc_4180(rt: HostRuntime) {
+    let alloc = rt.alloc();
     let texts = [
         ("a,b\n\"x\"\"y\",z\n", ";|x\"y|z"),
         ("a,b\n\"x\ny\",\"z,\"\n", ";|x\ny|z,"),
@@ -53,24 +84,16 @@ fn records_are_those_of_rfc_4180(rt: HostRuntime) -> Result<(), Fail> {
         ("a,b\n x ,\n\"\",y", ";| x |NULL;|NULL|y"),
     ];
     for (file, want) in texts {
-        match read(rt.alloc(), TEXTS, file.as_bytes()) {
-            Ok(given) => assert_eq!(rt; shown(rt.alloc(), &given)?.as_str(), want),
-            Err(e) => panic!(rt; "{e:?}"),
-        }
+        assert!(rt; is_read(&rt, alloc, TEXTS, file.as_bytes(), want), "{file}");
     }
     let file = b"A , b\n 1 ,+2\n\n3,4\n-9223372036854775808,\n";
-    let Ok(given) = read(rt.alloc(), WHOLES, file) else {
-        panic!(rt; "refused");
-    };
-    assert_eq!(rt;
-        shown(rt.alloc(), &given)?.as_str(),
-        ";|1|2;|3|4;|-9223372036854775808|NULL"
-    );
-    Ok(())
+    let want = ";|1|2;|3|4;|-9223372036854775808|NULL";
+    assert!(rt; is_read(&rt, alloc, WHOLES, file.as_slice(), want));
 }
 
 #[test]
-fn the_first_fault_decides(rt: HostRuntime) -> Result<(), Fail> {
+fn the_first_fault_decides(rt: HostRuntime) {
+    let alloc = rt.alloc();
     let faults = [
         ("", LoadFault::BadHeader),
         ("\u{feff}a,b\n", LoadFault::BadHeader),
@@ -80,41 +103,37 @@ fn the_first_fault_decides(rt: HostRuntime) -> Result<(), Fail> {
         ("a,b\n9223372036854775808,x\n", LoadFault::BadInteger(2, 1)),
     ];
     for (file, want) in faults {
-        match read(rt.alloc(), WHOLES, file.as_bytes()) {
-            Ok(_) => panic!(rt; "accepted"),
-            Err(e) => assert_eq!(rt; e, want),
-        }
+        assert!(rt;
+            is_refused(&rt, alloc, WHOLES, file.as_bytes(), want),
+            "{file}"
+        );
     }
-    match read(rt.alloc(), TEXTS, b"a,b\nx,y\xff\n") {
-        Ok(_) => panic!(rt; "accepted"),
-        Err(e) => assert_eq!(rt; e, LoadFault::BadText(2, 2)),
-    }
-    Ok(())
+    let file = b"a,b\nx,y\xff\n";
+    assert!(rt; is_refused(&rt, alloc, TEXTS, file, LoadFault::BadText(2, 2)));
 }
 
 // Row 2,001 is refused, and the fault behind it is not reached.
 #[test]
-fn row_2001_is_one_too_many(rt: HostRuntime) -> Result<(), Fail> {
-    let mut file = String::new(rt.alloc());
-    file.push_str("a,b\n")?;
+fn row_2001_is_one_too_many(rt: HostRuntime) {
+    let alloc = rt.alloc();
+    let mut file = String::new(alloc);
+    file.push_str("a,b\n").expect(&rt, "memory");
     for _ in 0..2001 {
-        file.push_str("1,1\n")?;
+        file.push_str("1,1\n").expect(&rt, "memory");
     }
-    file.push_str("1\n")?;
-    match read(rt.alloc(), WHOLES, file.as_str().as_bytes()) {
-        Ok(_) => panic!(rt; "accepted"),
-        Err(e) => assert_eq!(rt; e, LoadFault::TooManyRows),
-    }
-    Ok(())
+    file.push_str("1\n").expect(&rt, "memory");
+    let bytes = file.as_str().as_bytes();
+    assert!(rt; is_refused(&rt, alloc, WHOLES, bytes, LoadFault::TooManyRows));
+    drop(file);
 }
 
 #[test]
-fn a_generated_file(rt: HostRuntime) -> Result<(), Fail> {
-    let texts = made(rt.alloc(), 3)?;
+fn a_generated_file(rt: HostRuntime) {
+    let alloc = rt.alloc();
+    let texts = made(alloc, 3).expect(&rt, "memory");
     let want = "id,num,dept\n1,1,CS\n1,4,MA\n2,2,CS\n2,5,MA\n3,3,CS\n3,6,CS\n";
     match texts.files.as_slice() {
-        [_, reg, _] => assert_eq!(rt; reg.as_slice(), want.as_bytes()),
+        [_, reg, _] => assert!(rt; reg.as_slice() == want.as_bytes()),
         _ => panic!(rt; "no three files"),
     }
-    Ok(())
 }

@@ -1,9 +1,9 @@
 use crate::data::read_data;
 use rt_algebra::{Expr, Pred, Query, Typed, work};
 use rt_schema::ColKind;
-use rt_value::{Boxed, List, NoMemory, Op};
+use rt_value::{Boxed, List, Op};
 use std::alloc::Global;
-use std::test::Fail;
+use std::process::Abort;
 
 const SCHEMA: &str =
     "CREATE TABLE student (name TEXT, major TEXT);\nCREATE TABLE reg (name TEXT, num INTEGER, dept TEXT, grade INTEGER);";
@@ -14,51 +14,70 @@ const FILES: [&str; 2] = [
     "name,num,dept,grade\nMary,216,CS,100\nMary,230,CS,75\nJohn,316,CS,90\n",
 ];
 
-/// The first column of a product of tables, under as many comparisons of two columns.
-fn picked(alloc: Global, tables: &[usize], comparisons: usize) -> Result<Boxed<Query>, NoMemory> {
+/// A product of tables.
+fn product(rt: &impl Abort, alloc: Global, tables: &[usize]) -> Boxed<Query> {
     let mut members = List::new(alloc);
     for table in tables {
-        members.push(Query::Table(*table))?;
+        members.push(Query::Table(*table)).expect(rt, "memory");
     }
-    let mut tests = List::new(alloc);
-    for _ in 0..comparisons {
-        tests.push(Pred::Cmp(Op::Eq, Expr::Col(0, 0), Expr::Col(0, 1)))?;
-    }
-    let product = Boxed::new(alloc, Query::Product(members))?;
-    let selected = Boxed::new(alloc, Query::Select(product, Pred::And(tests)))?;
-    let items = List::from_vec(vec![in alloc; Expr::Col(0, 0)]?);
-    Boxed::new(alloc, Query::Project(selected, items))
+    Boxed::new(alloc, Query::Product(members)).expect(rt, "memory")
 }
 
-/// A query with one column of texts.
-fn typed(alloc: Global, query: Boxed<Query>) -> Result<Typed, NoMemory> {
-    Ok(Typed {
-        query,
-        kinds: List::from_slice(alloc, &[ColKind::Text])?,
-        bounds: List::from_slice(alloc, &[0])?,
-        names: List::from_vec(vec![in alloc; None]?),
-    })
+/// As many comparisons of two columns.
+fn comparisons(rt: &impl Abort, alloc: Global, count: usize) -> Pred {
+    let mut tests = List::new(alloc);
+    for _ in 0..count {
+        let test = Pred::Cmp(Op::Eq, Expr::Col(0, 0), Expr::Col(0, 1));
+        tests.push(test).expect(rt, "memory");
+    }
+    Pred::And(tests)
+}
+
+/// The first column of a product of tables, under as many comparisons of two columns.
+fn picked(rt: &impl Abort, alloc: Global, tables: &[usize], count: usize) -> Boxed<Query> {
+    let select = Query::Select(product(rt, alloc, tables), comparisons(rt, alloc, count));
+    let selected = Boxed::new(alloc, select).expect(rt, "memory");
+    let column = vec![in alloc; Expr::Col(0, 0)].expect(rt, "memory");
+    let project = Query::Project(selected, List::from_vec(column));
+    Boxed::new(alloc, project).expect(rt, "memory")
 }
 
 /// The names of one query and not of the other.
-fn difference(alloc: Global, a: Boxed<Query>, b: Boxed<Query>) -> Result<Boxed<Query>, NoMemory> {
-    Boxed::new(alloc, Query::Except(a, b))
+fn difference(rt: &impl Abort, alloc: Global, a: Boxed<Query>, b: Boxed<Query>) -> Boxed<Query> {
+    Boxed::new(alloc, Query::Except(a, b)).expect(rt, "memory")
 }
 
-fn work_on(alloc: Global, query: Boxed<Query>) -> Result<u128, NoMemory> {
-    let query = typed(alloc, query)?;
-    let tables = read_data(alloc, SCHEMA, &FILES)?;
-    Ok(work(&query, &tables.given))
+/// A query with one column of texts.
+fn typed(rt: &impl Abort, alloc: Global, query: Boxed<Query>) -> Typed {
+    let name = vec![in alloc; None].expect(rt, "memory");
+    Typed {
+        query,
+        kinds: List::from_slice(alloc, &[ColKind::Text]).expect(rt, "memory"),
+        bounds: List::from_slice(alloc, &[0]).expect(rt, "memory"),
+        names: List::from_vec(name),
+    }
+}
+
+fn work_of(rt: &impl Abort, alloc: Global, query: &Typed) -> u128 {
+    let tables = read_data(rt, alloc, SCHEMA, &FILES);
+    let work = work(query, &tables.given);
+    drop(tables);
+    work
+}
+
+fn work_on(rt: &impl Abort, alloc: Global, query: Boxed<Query>) -> u128 {
+    let query = typed(rt, alloc, query);
+    let work = work_of(rt, alloc, &query);
+    drop(query);
+    work
 }
 
 #[test]
-fn work_of_students_with_courses(rt: HostRuntime) -> Result<(), Fail> {
+fn work_of_students_with_courses(rt: HostRuntime) {
     let alloc = rt.alloc();
-    let one_or_more = picked(alloc, &[0, 1], 2)?;
-    assert_eq!(rt; work_on(alloc, one_or_more)?, 88);
-    let one_or_more = picked(alloc, &[0, 1], 2)?;
-    let two_or_more = picked(alloc, &[0, 1, 1], 5)?;
-    let exactly_one = difference(alloc, one_or_more, two_or_more)?;
-    assert_eq!(rt; work_on(alloc, exactly_one)?, 572);
-    Ok(())
+    assert!(rt; work_on(&rt, alloc, picked(&rt, alloc, &[0, 1], 2)) == 88);
+    let one_or_more = picked(&rt, alloc, &[0, 1], 2);
+    let two_or_more = picked(&rt, alloc, &[0, 1, 1], 5);
+    let exactly_one = difference(&rt, alloc, one_or_more, two_or_more);
+    assert!(rt; work_on(&rt, alloc, exactly_one) == 572);
 }
