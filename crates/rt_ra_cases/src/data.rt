@@ -1,12 +1,11 @@
 //! A schema and its rows, as texts give them.
-ghost use Rattle.std.specs.Prelude.{IfOk};
 ghost use Rattle.rt_schema.specs.Given.{IsOf};
 
 use rt_ddl::read_schema;
 use rt_load::load;
 use rt_schema::{Given, Schema};
-use rt_value::NoMemory;
 use std::alloc::Global;
+use std::process::Abort;
 
 #[derive(Drop)]
 pub(crate) struct Data {
@@ -14,29 +13,22 @@ pub(crate) struct Data {
     pub(crate) given: Given,
 }
 
-/// The schema of a text, with the rows of a file for each of its first tables. A text that is
-/// refused ends as want of memory, which no test expects.
-pub(crate) fn read_data(alloc: Global, text: &str, files: &[&str]) -> Result<Data, NoMemory>
-    ensures { IfOk result (λ d. IsOf d.schema d.given) }
+/// The schema of a text, with the rows of a file for each of its first tables.
+pub(crate) fn read_data(rt: &impl Abort, alloc: Global, text: &str, files: &[&str]) -> Data
+    ensures { IsOf result.schema result.given }
 {
-    let Ok(schema) = read_schema(alloc, text.as_bytes()) else {
-        return Err(NoMemory);
-    };
-    let given = read_rows(alloc, &schema, files)?;
-    Ok(Data { schema, given })
+    let schema = read_schema(alloc, text.as_bytes()).expect(rt, "a schema");
+    let given = read_rows(rt, alloc, &schema, files);
+    Data { schema, given }
 }
 
-fn read_rows(alloc: Global, schema: &Schema, files: &[&str]) -> Result<Given, NoMemory>
-    ensures { IfOk result (λ given. IsOf schema.now given) }
+fn read_rows(rt: &impl Abort, alloc: Global, schema: &Schema, files: &[&str]) -> Given
+    ensures { IsOf schema.now result }
 {
-    let mut given = Given::new(alloc, schema)?;
+    let mut given = Given::new(alloc, schema).expect(rt, "memory");
     'files: for (at, file) in files.iter().enumerate() {
-        if at >= schema.tables().len() || !given.table(at).is_empty() {
-            return Err(NoMemory);
-        }
-        if load(alloc, schema, at, file.as_bytes(), &mut given).is_err() {
-            return Err(NoMemory);
-        }
+        assert!(rt; at < schema.tables().len() && given.table(at).is_empty());
+        load(alloc, schema, at, file.as_bytes(), &mut given).expect(rt, "rows");
     }
-    Ok(given)
+    given
 }

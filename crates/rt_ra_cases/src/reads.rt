@@ -2,7 +2,7 @@ use rt_ra_tree::{RaFault, parse_ra};
 use rt_token::tokens;
 use std::alloc::Global;
 
-#[derive(Clone, Copy, PartialEq, Eq, Debug)]
+#[derive(Clone, Copy, PartialEq, Eq)]
 enum Told {
     Formed,
     Deep,
@@ -38,7 +38,7 @@ fn reads_each_rule(rt: HostRuntime) {
         "cross(anti(a, b), leftjoin(join(c, d), divide(e, f)))",
         "union(except(a, b), intersect(c, d));",
     ] {
-        assert_eq!(rt; answer_of(rt.alloc(), text), Told::Formed, "{text}");
+        assert!(rt; answer_of(rt.alloc(), text) == Told::Formed, "{text}");
     }
 }
 
@@ -54,7 +54,7 @@ fn refuses_other_texts(rt: HostRuntime) {
         ("select(t, a = 1 OR a = 2)", 16),
         ("t;;", 2),
     ] {
-        assert_eq!(rt; answer_of(rt.alloc(), text), Told::Syntax(at), "{text}");
+        assert!(rt; answer_of(rt.alloc(), text) == Told::Syntax(at), "{text}");
     }
 }
 
@@ -79,6 +79,6 @@ fn refuses_what_is_too_deep(rt: HostRuntime) {
             Told::Deep,
         ),
     ] {
-        assert_eq!(rt; answer_of(rt.alloc(), text), wanted, "{text}");
+        assert!(rt; answer_of(rt.alloc(), text) == wanted, "{text}");
     }
 }

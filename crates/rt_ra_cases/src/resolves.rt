@@ -3,16 +3,16 @@ ghost use Rattle.std.specs.Prelude.{IfOk};
 ghost use Rattle.rt_algebra.specs.Typed.{IsTyped, IsTypedOf};
 ghost use Rattle.rt_schema.specs.Given.{IsOf};
 
-use crate::data::read_data;
+use crate::data::{Data, read_data};
 use rt_algebra::Typed;
 use rt_eval::answers;
 use rt_ra::resolve_ra;
 use rt_ra_tree::{RaFault, parse_ra};
 use rt_schema::{Given, Schema};
 use rt_token::tokens;
-use rt_value::{Bytes, Keep, List, NoMemory, Row, Value};
-use std::alloc::{AllocError, Global};
-use std::test::Fail;
+use rt_value::{Bytes, Keep, List, Row, Value};
+use std::alloc::Global;
+use std::process::Abort;
 
 const SCHEMA: &str =
     "CREATE TABLE student (name TEXT, major TEXT); CREATE TABLE reg (name TEXT, course TEXT); CREATE TABLE t (a INTEGER, b INTEGER); CREATE TABLE u (b INTEGER); CREATE TABLE none (b INTEGER)";
@@ -25,42 +25,47 @@ const FILES: [&str; 4] = [
     "b\n1\n2\n",
 ];
 
-fn cell_text(alloc: Global, cell: &Value) -> Result<String, AllocError> {
-    match cell {
+fn put_cell(rt: &impl Abort, alloc: Global, text: &mut Bytes, cell: &Value) {
+    let cell = match cell {
         Value::Null => format!(in alloc; "NULL"),
         Value::Int(number) => format!(in alloc; "{number}"),
         Value::Text(text) => format!(in alloc; "'{}'", text.as_str()),
     }
+    .expect(rt, "memory");
+    text.extend(cell.as_bytes()).expect(rt, "memory");
 }
 
-fn put_row(alloc: Global, text: &mut Bytes, row: &[Value]) -> Result<(), NoMemory> {
+fn put_row(rt: &impl Abort, alloc: Global, text: &mut Bytes, row: &[Value]) {
     for (at, cell) in row.iter().enumerate() {
         if at > 0 {
-            text.extend(b", ")?;
+            text.extend(b", ").expect(rt, "memory");
         }
-        text.extend(cell_text(alloc, cell)?.as_bytes())?;
+        put_cell(rt, alloc, text, cell);
     }
-    text.extend(b"; ")
+    text.extend(b"; ").expect(rt, "memory");
 }
 
-fn rows_text(alloc: Global, rows: &[Row]) -> Result<Bytes, NoMemory> {
+fn rows_text(rt: &impl Abort, alloc: Global, rows: &[Row]) -> Bytes {
     let mut text = List::new(alloc);
     for row in rows {
-        put_row(alloc, &mut text, row.as_slice())?;
+        put_row(rt, alloc, &mut text, row.as_slice());
     }
-    Ok(text)
+    text
 }
 
 /// The answer on all rows.
-fn answer_text(alloc: Global, typed: &Typed, given: &Given) -> Result<Bytes, NoMemory>
+fn answer_text(rt: &impl Abort, alloc: Global, typed: &Typed, given: &Given) -> Bytes
     requires typed { IsTyped given.now.kinds typed.now }
 {
-    let keep = Keep::all(alloc, given.total(), true)?;
-    let rows = answers(alloc, typed, given, &keep)?;
-    rows_text(alloc, rows.as_slice())
+    let keep = Keep::all(alloc, given.total(), true).expect(rt, "memory");
+    let rows = answers(alloc, typed, given, &keep).expect(rt, "memory");
+    let text = rows_text(rt, alloc, rows.as_slice());
+    drop(rows);
+    drop(keep);
+    text
 }
 
-fn fault_text(alloc: Global, fault: &RaFault) -> Result<Bytes, NoMemory> {
+fn fault_text(rt: &impl Abort, alloc: Global, fault: &RaFault) -> Bytes {
     let text = match fault {
         RaFault::UnknownTable(name) => format!(in alloc; "unknown table: {}", name.as_str()),
         RaFault::UnknownColumn(name) => format!(in alloc; "unknown column: {}", name.as_str()),
@@ -68,36 +73,48 @@ fn fault_text(alloc: Global, fault: &RaFault) -> Result<Bytes, NoMemory> {
         RaFault::TypeMismatch => format!(in alloc; "types"),
         RaFault::Columns => format!(in alloc; "columns"),
         _ => format!(in alloc; "other"),
-    }?;
-    List::from_slice(alloc, text.as_bytes())
+    }
+    .expect(rt, "memory");
+    List::from_slice(alloc, text.as_bytes()).expect(rt, "memory")
 }
 
-fn resolve(alloc: Global, text: &str, schema: &Schema) -> Result<Typed, RaFault>
+fn resolve(rt: &impl Abort, alloc: Global, text: &str, schema: &Schema) -> Result<Typed, RaFault>
     ensures { IfOk result (IsTypedOf schema.now) }
 {
-    let Ok(tokens) = tokens(alloc, text.as_bytes()) else {
-        return Err(RaFault::Syntax(0));
-    };
-    let tree = parse_ra(alloc, tokens.as_slice())?;
-    resolve_ra(alloc, &tree, schema)
+    let tokens = tokens(alloc, text.as_bytes()).expect(rt, "tokens");
+    let tree = parse_ra(alloc, tokens.as_slice()).expect(rt, "a tree");
+    drop(tokens);
+    let typed = resolve_ra(alloc, &tree, schema);
+    drop(tree);
+    typed
 }
 
 /// The rows of the text, or its first fault.
-fn told(alloc: Global, text: &str) -> Result<Bytes, NoMemory> {
-    let data = read_data(alloc, SCHEMA, &FILES)?;
-    match resolve(alloc, text, &data.schema) {
-        Ok(typed) => answer_text(alloc, &typed, &data.given),
-        Err(fault) => fault_text(alloc, &fault),
+fn told_of(rt: &impl Abort, alloc: Global, text: &str, data: &Data) -> Bytes
+    requires { IsOf data.now.schema data.now.given }
+{
+    match resolve(rt, alloc, text, &data.schema) {
+        Ok(typed) => answer_text(rt, alloc, &typed, &data.given),
+        Err(fault) => fault_text(rt, alloc, &fault),
     }
 }
 
-fn tells(alloc: Global, text: &str, wanted: &str) -> Result<bool, NoMemory> {
-    let told = told(alloc, text)?;
-    Ok(told.as_slice() == wanted.as_bytes())
+fn told(rt: &impl Abort, alloc: Global, text: &str) -> Bytes {
+    let data = read_data(rt, alloc, SCHEMA, &FILES);
+    let told = told_of(rt, alloc, text, &data);
+    drop(data);
+    told
+}
+
+fn tells(rt: &impl Abort, alloc: Global, text: &str, wanted: &str) -> bool {
+    let told = told(rt, alloc, text);
+    let found = told.as_slice() == wanted.as_bytes();
+    drop(told);
+    found
 }
 
 #[test]
-fn answers_of_each_operator(rt: HostRuntime) -> Result<(), Fail> {
+fn answers_of_each_operator(rt: HostRuntime) {
     for (text, wanted) in [
         ("select(t, a = 1 AND b IS NOT NULL)", "1, 1; 1, 2; "),
         ("select(t, b > -1)", "1, 1; 1, 2; 2, 1; "),
@@ -131,14 +148,13 @@ fn answers_of_each_operator(rt: HostRuntime) -> Result<(), Fail> {
             "NULL; 1; 2; ",
         ),
     ] {
-        assert!(rt; tells(rt.alloc(), text, wanted)?, "{text}");
+        assert!(rt; tells(&rt, rt.alloc(), text, wanted), "{text}");
     }
-    Ok(())
 }
 
 // Operands come before the tests of their operator, and the left one before the right one.
 #[test]
-fn the_first_fault(rt: HostRuntime) -> Result<(), Fail> {
+fn the_first_fault(rt: HostRuntime) {
     for (text, wanted) in [
         ("regs", "unknown table: regs"),
         ("cross(lost, regs)", "unknown table: lost"),
@@ -161,7 +177,6 @@ fn the_first_fault(rt: HostRuntime) -> Result<(), Fail> {
         ("union(student, t)", "types"),
         ("join(rename(t, (course, name)), reg)", "types"),
     ] {
-        assert!(rt; tells(rt.alloc(), text, wanted)?, "{text}");
+        assert!(rt; tells(&rt, rt.alloc(), text, wanted), "{text}");
     }
-    Ok(())
 }
