@@ -1,4 +1,4 @@
-ghost use Rattle.std.specs.Prelude.{◌<◌};
+ghost use Rattle.std.specs.Prelude.{◌<◌, ◌≤◌, IfSome};
 
 use crate::drawing::{Drawing, Step};
 use rt_clause::{Adds, Lit, Named};
@@ -9,73 +9,79 @@ use rt_totalizer::count;
 use rt_value::NoMemory;
 use std::alloc::Global;
 use std::process::Abort;
-use std::test::Fail;
 
-// The values of both outputs of a counter of three rows, where just these are kept.
-fn outputs(rt: &impl Abort, alloc: Global, kept: [bool; 3]) -> Result<[bool; 2], Fail> {
-    let mut solver = Solver::new(alloc, Checker::new(alloc));
-    let mut named = Named::of(3, 3, Lit::of(0, true));
-    let counter = count(alloc, 2, &mut named, &mut solver)?;
-    for row in 0..3 {
-        solver.add(&[Lit::of(row, kept[row])])?;
-    }
+// The values of two literals in the model that was found.
+fn values_in(rt: &impl Abort, found: &Found, lits: &[Lit]) -> [bool; 2] {
     let mut values = [false; 2];
-    match solver.solve(None, 3, None, Order::Free)? {
+    match found {
         Found::Model(model) => {
-            for (i, out) in counter.outs.as_slice().iter().enumerate() {
-                let lit = *out;
+            for (i, lit) in lits.iter().enumerate() {
                 assert!(rt; i < 2 && lit.var() < model.len());
                 values[i] = model.is(lit.var()) == lit.on();
             }
         }
-        _ => assert!(rt; false, "there is a model"),
+        _ => panic!(rt; "there is a model"),
     }
-    Ok(values)
+    values
+}
+
+// The values of both outputs of a counter of three rows, where just these are kept.
+fn outputs(rt: &impl Abort, alloc: Global, kept: [bool; 3]) -> [bool; 2] {
+    let mut solver = Solver::new(alloc, Checker::new(alloc));
+    let mut named = Named::of(3, 3, Lit::of(0, true));
+    let counter = count(alloc, 2, &mut named, &mut solver).expect(rt, "memory");
+    for row in 0..3 {
+        solver.add(&[Lit::of(row, kept[row])]).expect(rt, "memory");
+    }
+    let found = solver
+        .solve(None, 3, None, Order::Free)
+        .expect(rt, "memory");
+    drop(solver);
+    values_in(rt, &found, counter.outs.as_slice())
 }
 
 #[test]
-fn outputs_of_three_rows(rt: HostRuntime) -> Result<(), Fail> {
+fn outputs_of_three_rows(rt: HostRuntime) {
     let alloc = rt.alloc();
-    assert_eq!(rt; outputs(&rt, alloc, [true, false, true])?, [true, true]);
-    assert_eq!(rt; outputs(&rt, alloc, [false, true, false])?, [true, false]);
-    assert_eq!(rt; outputs(&rt, alloc, [false, false, false])?, [false, false]);
-    Ok(())
+    assert!(rt; outputs(&rt, alloc, [true, false, true]) == [true, true]);
+    assert!(rt; outputs(&rt, alloc, [false, true, false]) == [true, false]);
+    assert!(rt; outputs(&rt, alloc, [false, false, false]) == [false, false]);
 }
 
 // How many rows the least choice has, and None where the goal is true nowhere.
-fn least_size(rt: &impl Abort, drawing: &Drawing, goal: usize) -> Result<Option<usize>, Fail> {
-    match drawing.search(goal, None)?.best {
-        Best::Least(keep) => Ok(Some(keep.size())),
-        Best::Never => Ok(None),
-        Best::Spent(_) => {
-            assert!(rt; false, "there is no budget");
-            Ok(None)
-        }
+fn least_size(rt: &impl Abort, drawing: &Drawing, goal: usize) -> Option<usize> {
+    match drawing.search(goal, None).expect(rt, "memory").best {
+        Best::Least(keep) => Some(keep.size()),
+        Best::Never => None,
+        Best::Spent(_) => panic!(rt; "there is no budget"),
     }
 }
 
 #[test]
-fn goals_over_two_rows(rt: HostRuntime) -> Result<(), Fail> {
-    let mut drawing = Drawing::new(rt.alloc(), 2)?;
-    drawing.draw_all(&[
-        Step::Row(0),
-        Step::Row(1),
-        Step::Any(&[0, 1]),
-        Step::Not(0),
-        Step::All(&[0, 3]),
-        Step::Yes,
-    ])?;
+fn goals_over_two_rows(rt: HostRuntime) {
+    let mut drawing = Drawing::new(rt.alloc(), 2).expect(&rt, "memory");
+    drawing
+        .draw_all(&[
+            Step::Row(0),
+            Step::Row(1),
+            Step::Any(&[0, 1]),
+            Step::Not(0),
+            Step::All(&[0, 3]),
+            Step::Yes,
+        ])
+        .expect(&rt, "memory");
     for (goal, size) in [(2, Some(1)), (4, None), (5, Some(0))] {
-        assert_eq!(rt; least_size(&rt, &drawing, goal)?, size);
+        assert!(rt; least_size(&rt, &drawing, goal) == size, "{goal}");
     }
-    Ok(())
 }
 
 // Whether the least choice keeps just the first and the last of four rows.
-fn keeps_the_outer(best: &Best) -> bool {
-    match best {
-        Best::Least(keep) => keep.as_slice() == [true, false, false, true].as_slice(),
-        _ => false,
+fn keeps_the_outer(drawing: &Drawing, goal: usize, budget: Option<u64>) -> Result<bool, NoMemory>
+    requires { IfSome budget (λ b. 1 ≤ b) }
+{
+    match drawing.search(goal, budget)?.best {
+        Best::Least(keep) => Ok(keep.as_slice() == [true, false, false, true].as_slice()),
+        _ => Ok(false),
     }
 }
 
@@ -83,31 +89,32 @@ fn keeps_the_outer(best: &Best) -> bool {
 // first: without a budget, within one that a search over the rows could spend, and within one that it
 // could not.
 #[test]
-fn first_of_two_pairs(rt: HostRuntime) -> Result<(), Fail> {
-    let mut drawing = Drawing::new(rt.alloc(), 4)?;
-    let goal = drawing.draw_all(&[
-        Step::Row(0),
-        Step::Row(1),
-        Step::Row(2),
-        Step::Row(3),
-        Step::All(&[0, 3]),
-        Step::All(&[1, 2]),
-        Step::Any(&[5, 4]),
-    ])?;
+fn first_of_two_pairs(rt: HostRuntime) {
+    let mut drawing = Drawing::new(rt.alloc(), 4).expect(&rt, "memory");
+    let goal = drawing
+        .draw_all(&[
+            Step::Row(0),
+            Step::Row(1),
+            Step::Row(2),
+            Step::Row(3),
+            Step::All(&[0, 3]),
+            Step::All(&[1, 2]),
+            Step::Any(&[5, 4]),
+        ])
+        .expect(&rt, "memory");
     for budget in [None, Some(15), Some(16)] {
-        let found = drawing.search(goal, budget)?;
-        assert!(rt; keeps_the_outer(&found.best));
+        let outer = keeps_the_outer(&drawing, goal, budget);
+        assert!(rt; outer.expect(&rt, "memory"), "{budget:?}");
     }
-    Ok(())
 }
 
-// Whether one clause spent the budget, before any choice was found.
-fn is_spent_by_one_clause(best: &Best) -> bool {
-    match best {
+// Whether one clause spends the budget, before any choice is found.
+fn is_spent_by_one_clause(drawing: &Drawing, goal: usize) -> Result<bool, NoMemory> {
+    match drawing.search(goal, Some(1))?.best {
         Best::Spent(spent) => {
-            matches!(&spent.best, None) && !spent.least && spent.nogoods.len() == 1
+            Ok(matches!(&spent.best, None) && !spent.least && spent.nogoods.len() == 1)
         }
-        _ => false,
+        _ => Ok(false),
     }
 }
 
@@ -115,24 +122,24 @@ fn is_spent_by_one_clause(best: &Best) -> bool {
 // fails in either pair, and each time that teaches one clause. The first one spends the budget of the
 // search with all variables, and the other one that of the search with the rows.
 #[test]
-fn a_budget_of_one(rt: HostRuntime) -> Result<(), Fail> {
-    let mut drawing = Drawing::new(rt.alloc(), 4)?;
-    let goal = drawing.draw_all(&[
-        Step::Row(0),
-        Step::Row(1),
-        Step::Any(&[0, 1]),
-        Step::Not(1),
-        Step::Any(&[0, 3]),
-        Step::Row(2),
-        Step::Row(3),
-        Step::Any(&[5, 6]),
-        Step::Not(6),
-        Step::Any(&[5, 8]),
-        Step::All(&[2, 4, 7, 9]),
-    ])?;
-    let found = drawing.search(goal, Some(1))?;
-    assert!(rt; is_spent_by_one_clause(&found.best));
-    Ok(())
+fn a_budget_of_one(rt: HostRuntime) {
+    let mut drawing = Drawing::new(rt.alloc(), 4).expect(&rt, "memory");
+    let goal = drawing
+        .draw_all(&[
+            Step::Row(0),
+            Step::Row(1),
+            Step::Any(&[0, 1]),
+            Step::Not(1),
+            Step::Any(&[0, 3]),
+            Step::Row(2),
+            Step::Row(3),
+            Step::Any(&[5, 6]),
+            Step::Not(6),
+            Step::Any(&[5, 8]),
+            Step::All(&[2, 4, 7, 9]),
+        ])
+        .expect(&rt, "memory");
+    assert!(rt; is_spent_by_one_clause(&drawing, goal).expect(&rt, "memory"));
 }
 
 // Any of the five rows of a group.
@@ -146,30 +153,32 @@ fn any_of_five(drawing: &mut Drawing, group: usize) -> Result<usize, NoMemory>
     drawing.draw(Step::Any(&rows))
 }
 
+// After how many conflicts the search ends.
+fn conflicts(drawing: &Drawing, goal: usize) -> Result<u64, NoMemory> {
+    Ok(drawing.search(goal, None)?.conflicts)
+}
+
 // One row of each of twenty groups of five: clauses over all variables refute the bound in about as
 // many conflicts as there are groups, where clauses over rows would be some hundred thousand.
 #[test]
-fn twenty_groups_of_five(rt: HostRuntime) -> Result<(), Fail> {
-    let mut drawing = Drawing::new(rt.alloc(), 100)?;
+fn twenty_groups_of_five(rt: HostRuntime) {
+    let mut drawing = Drawing::new(rt.alloc(), 100).expect(&rt, "memory");
     let mut groups = [0; 20];
     for group in 0..20 {
-        groups[group] = any_of_five(&mut drawing, group)?;
+        groups[group] = any_of_five(&mut drawing, group).expect(&rt, "memory");
     }
-    let goal = drawing.draw(Step::All(&groups))?;
-    let found = drawing.search(goal, None)?;
-    assert!(rt; found.conflicts < 2_000);
-    Ok(())
+    let goal = drawing.draw(Step::All(&groups)).expect(&rt, "memory");
+    assert!(rt; conflicts(&drawing, goal).expect(&rt, "memory") < 2_000);
 }
 
 // The counter goes up to 400, and has 720,200 cells.
 #[test]
-fn every_fifth_of_two_thousand_rows(rt: HostRuntime) -> Result<(), Fail> {
-    let mut drawing = Drawing::new(rt.alloc(), 2_000)?;
+fn every_fifth_of_two_thousand_rows(rt: HostRuntime) {
+    let mut drawing = Drawing::new(rt.alloc(), 2_000).expect(&rt, "memory");
     let mut fifth = [0; 400];
     for i in 0..400 {
-        fifth[i] = drawing.draw(Step::Row(5 * i))?;
+        fifth[i] = drawing.draw(Step::Row(5 * i)).expect(&rt, "memory");
     }
-    let goal = drawing.draw(Step::All(&fifth))?;
-    assert_eq!(rt; least_size(&rt, &drawing, goal)?, Some(400));
-    Ok(())
+    let goal = drawing.draw(Step::All(&fifth)).expect(&rt, "memory");
+    assert!(rt; least_size(&rt, &drawing, goal) == Some(400));
 }

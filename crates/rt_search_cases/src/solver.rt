@@ -1,53 +1,61 @@
-ghost use Rattle.std.specs.Prelude.{◌<◌};
+ghost use Rattle.std.specs.Prelude.{◌<◌, ◌≤◌, IfSome};
 
 use crate::recorded::Recorded;
-use rt_clause::{Adds, Lines, Lit};
+use rt_clause::{Adds, Lines, Lit, LitList};
 use rt_derive::Checker;
 use rt_solver::{Found, Order, Solver};
+use rt_value::{List, NoMemory};
 use std::alloc::Global;
-use std::test::Fail;
+use std::process::Abort;
 
 fn solver(alloc: Global) -> Solver<Checker> {
     Solver::new(alloc, Checker::new(alloc))
 }
 
+// The values of both variables in the model that is found.
+fn model(rt: &impl Abort, solver: &mut Solver<Checker>) -> [bool; 2] {
+    match solver
+        .solve(None, 2, Some(4), Order::Free)
+        .expect(rt, "memory")
+    {
+        Found::Model(keep) => {
+            assert!(rt; keep.len() == 2);
+            [keep.is(0), keep.is(1)]
+        }
+        _ => panic!(rt; "there is a model"),
+    }
+}
+
+// Whether the lines are refuted within the budget.
+fn is_refuted<L: Lines + Drop>(
+    solver: &mut Solver<L>,
+    assume: Option<Lit>,
+    first: usize,
+    budget: Option<u64>,
+) -> Result<bool, NoMemory>
+    requires { IfSome budget (λ b. 1 ≤ b) }
+{
+    let found = solver.solve(assume, first, budget, Order::Free)?;
+    Ok(matches!(&found, Found::Refuted))
+}
+
 #[test]
-fn clauses_may_be_added_between_calls(rt: HostRuntime) -> Result<(), Fail> {
+fn clauses_may_be_added_between_calls(rt: HostRuntime) {
     let first = Lit::of(0, true);
     let second = Lit::of(1, true);
     let mut solver = solver(rt.alloc());
-    solver.add(&[first, second])?;
-    match solver.solve(None, 2, Some(4), Order::Free)? {
-        Found::Model(keep) => {
-            assert_eq!(rt; keep.len(), 2);
-            assert!(rt; keep.is(0) || keep.is(1));
-        }
-        _ => assert!(rt; false, "there is a model"),
-    }
-    solver.add(&[second.negated()])?;
-    assert!(rt;
-        matches!(
-            &solver.solve(Some(first.negated()), 2, Some(4), Order::Free)?,
-            Found::Refuted
-        )
-    );
-    assert!(rt; solver.lines().refutes(Some(first.negated())));
-    match solver.solve(None, 2, Some(4), Order::Free)? {
-        Found::Model(keep) => {
-            assert_eq!(rt; keep.len(), 2);
-            assert!(rt; keep.is(0) && !keep.is(1));
-        }
-        _ => assert!(rt; false, "there is a model"),
-    }
-    solver.add(&[first.negated()])?;
-    assert!(rt;
-        matches!(
-            &solver.solve(None, 2, Some(4), Order::Free)?,
-            Found::Refuted
-        )
-    );
+    solver.add(&[first, second]).expect(&rt, "memory");
+    let either = model(&rt, &mut solver);
+    assert!(rt; either[0] || either[1]);
+    solver.add(&[second.negated()]).expect(&rt, "memory");
+    let denied = Some(first.negated());
+    assert!(rt; is_refuted(&mut solver, denied, 2, Some(4)).expect(&rt, "memory"));
+    assert!(rt; solver.lines().refutes(denied));
+    let alone = model(&rt, &mut solver);
+    assert!(rt; alone[0] && !alone[1]);
+    solver.add(&[first.negated()]).expect(&rt, "memory");
+    assert!(rt; is_refuted(&mut solver, None, 2, Some(4)).expect(&rt, "memory"));
     assert!(rt; solver.lines().refutes(None));
-    Ok(())
 }
 
 // The variable that puts a pigeon into a hole, of three holes or of six.
@@ -67,20 +75,34 @@ enum Holes {
     Six,
 }
 
+// A clause: the pigeon is in one of the holes.
+fn is_in_a_hole(
+    alloc: Global,
+    pigeon: usize,
+    count: usize,
+    holes: Holes,
+) -> Result<LitList, NoMemory>
+    requires pigeon { pigeon < 8 }
+    requires holes { count < 7 }
+{
+    let mut line = LitList::new(alloc);
+    for hole in 0..count {
+        line.push(place(pigeon, hole, holes))?;
+    }
+    Ok(line)
+}
+
 // One pigeon more than there are holes, each in a hole, and no two in one.
 fn add_pigeons<L: Lines + Drop>(
     alloc: Global,
     solver: &mut Solver<L>,
     count: usize,
     holes: Holes,
-) -> Result<(), Fail>
+) -> Result<(), NoMemory>
     requires { count < 7 }
 {
     for pigeon in 0..count + 1 {
-        let mut line: Vec<Lit> = Vec::new(alloc);
-        for hole in 0..count {
-            line.push(place(pigeon, hole, holes))?;
-        }
+        let line = is_in_a_hole(alloc, pigeon, count, holes)?;
         solver.add(line.as_slice())?;
         for hole in 0..count {
             for other in 0..pigeon {
@@ -92,57 +114,65 @@ fn add_pigeons<L: Lines + Drop>(
     Ok(())
 }
 
+// The clauses that spend a budget of one.
+fn spent(rt: &impl Abort, solver: &mut Solver<Recorded>) -> List<List<Lit>> {
+    match solver
+        .solve(None, 12, Some(1), Order::Free)
+        .expect(rt, "memory")
+    {
+        Found::Spent(list) => list,
+        _ => panic!(rt; "the budget is spent"),
+    }
+}
+
 // The clause that spends the budget stands after the 22 given lines, and stays there.
 #[test]
-fn four_pigeons_in_three_holes(rt: HostRuntime) -> Result<(), Fail> {
+fn four_pigeons_in_three_holes(rt: HostRuntime) {
     let mut solver = Solver::new(rt.alloc(), Recorded::new(rt.alloc()));
-    add_pigeons(rt.alloc(), &mut solver, 3, Holes::Three)?;
-    assert_eq!(rt; solver.lines().len(), 22);
-    match solver.solve(None, 12, Some(1), Order::Free)? {
-        Found::Spent(list) => {
-            assert_eq!(rt; list.len(), 1);
-            let learned = list.as_slice()[0].as_slice();
-            assert_eq!(rt; solver.lines().len(), 23);
-            assert!(rt; solver.lines().has(22, learned));
-            assert!(rt;
-                matches!(
-                    &solver.solve(None, 12, Some(4096), Order::Free)?,
-                    Found::Refuted
-                )
-            );
-            assert!(rt; solver.lines().refutes(None));
-            assert!(rt; solver.lines().has(22, learned));
-        }
-        _ => assert!(rt; false, "the budget is spent"),
-    }
-    Ok(())
+    add_pigeons(rt.alloc(), &mut solver, 3, Holes::Three).expect(&rt, "memory");
+    assert!(rt; solver.lines().len() == 22);
+    let list = spent(&rt, &mut solver);
+    assert!(rt; list.len() == 1);
+    let learned = list.as_slice()[0].as_slice();
+    assert!(rt; solver.lines().len() == 23);
+    assert!(rt; solver.lines().has(22, learned));
+    assert!(rt; is_refuted(&mut solver, None, 12, Some(4096)).expect(&rt, "memory"));
+    assert!(rt; solver.lines().refutes(None));
+    assert!(rt; solver.lines().has(22, learned));
 }
 
 #[test]
-fn seven_pigeons_in_six_holes(rt: HostRuntime) -> Result<(), Fail> {
+fn seven_pigeons_in_six_holes(rt: HostRuntime) {
     let mut solver = solver(rt.alloc());
-    add_pigeons(rt.alloc(), &mut solver, 6, Holes::Six)?;
-    assert!(rt; matches!(&solver.solve(None, 42, None, Order::Free)?, Found::Refuted));
-    Ok(())
+    add_pigeons(rt.alloc(), &mut solver, 6, Holes::Six).expect(&rt, "memory");
+    assert!(rt; is_refuted(&mut solver, None, 42, None).expect(&rt, "memory"));
 }
 
-// 200 clauses of three literals over 60 variables, of a fixed sequence of numbers. Each has a
-// literal that is true where the even variables alone are.
+// Three literals over 60 variables, of a sequence of numbers. The first one is true where the even
+// variables alone are.
+fn next_clause(state: &mut u32) -> [Lit; 3] {
+    let mut lits = [Lit::of(0, true); 3];
+    for i in 0..3 {
+        *state = state.wrapping_mul(1_664_525).wrapping_add(1_013_904_223);
+        let var = (*state / 65_536 % 60) as usize;
+        let even = var % 2 == 0;
+        let on = if i == 0 { even } else { *state / 4096 % 2 == 0 };
+        lits[i] = Lit::of(var, on);
+    }
+    lits
+}
+
+// 200 clauses of a fixed sequence, which the even variables alone make true.
 #[test]
-fn two_hundred_clauses(rt: HostRuntime) -> Result<(), Fail> {
+fn two_hundred_clauses(rt: HostRuntime) {
     let mut solver = solver(rt.alloc());
     let mut state: u32 = 1;
     for _ in 0..200 {
-        let mut lits = [Lit::of(0, true); 3];
-        for i in 0..3 {
-            state = state.wrapping_mul(1_664_525).wrapping_add(1_013_904_223);
-            let var = (state / 65_536 % 60) as usize;
-            let even = var % 2 == 0;
-            let on = if i == 0 { even } else { state / 4096 % 2 == 0 };
-            lits[i] = Lit::of(var, on);
-        }
-        solver.add(&lits)?;
+        let lits = next_clause(&mut state);
+        solver.add(&lits).expect(&rt, "memory");
     }
-    assert!(rt; matches!(&solver.solve(None, 60, None, Order::Free)?, Found::Model(_)));
-    Ok(())
+    let found = solver
+        .solve(None, 60, None, Order::Free)
+        .expect(&rt, "memory");
+    assert!(rt; matches!(&found, Found::Model(_)));
 }
