@@ -1,10 +1,11 @@
 use crate::drawing::{Drawing, Step};
-use std::test::Fail;
 
 #[test]
-fn a_row_or_its_negation(rt: HostRuntime) -> Result<(), Fail> {
-    let mut drawing = Drawing::new(rt.alloc(), 2)?;
-    let either = drawing.draw_all(&[Step::Row(0), Step::Not(0), Step::Any(&[0, 1])])?;
+fn a_row_or_its_negation(rt: HostRuntime) {
+    let mut drawing = Drawing::new(rt.alloc(), 2).expect(&rt, "memory");
+    let either = drawing
+        .draw_all(&[Step::Row(0), Step::Not(0), Step::Any(&[0, 1])])
+        .expect(&rt, "memory");
     let choices: [(&[usize], bool); 4] = [
         (&[], false),
         (&[0], true),
@@ -12,57 +13,66 @@ fn a_row_or_its_negation(rt: HostRuntime) -> Result<(), Fail> {
         (&[1], false),
     ];
     for (kept, first) in choices {
-        assert!(rt; drawing.value(either, kept)?);
-        assert_eq!(rt; drawing.value(0, kept)?, first);
+        assert!(rt;
+            drawing.value(either, kept).expect(&rt, "memory"),
+            "{kept:?}"
+        );
+        assert!(rt;
+            drawing.value(0, kept).expect(&rt, "memory") == first,
+            "{kept:?}"
+        );
     }
-    Ok(())
 }
 
 #[test]
-fn gates_that_are_no_gates(rt: HostRuntime) -> Result<(), Fail> {
-    let mut drawing = Drawing::new(rt.alloc(), 2)?;
-    drawing.draw_all(&[
-        Step::Yes,
-        Step::No,
-        Step::Any(&[]),
-        Step::All(&[]),
-        Step::Row(0),
-        Step::All(&[0, 4, 4]),
-        Step::Not(1),
-    ])?;
+fn gates_that_are_no_gates(rt: HostRuntime) {
+    let mut drawing = Drawing::new(rt.alloc(), 2).expect(&rt, "memory");
+    drawing
+        .draw_all(&[
+            Step::Yes,
+            Step::No,
+            Step::Any(&[]),
+            Step::All(&[]),
+            Step::Row(0),
+            Step::All(&[0, 4, 4]),
+            Step::Not(1),
+        ])
+        .expect(&rt, "memory");
     for (gate, same) in [(2, 1), (3, 0), (5, 4), (6, 0)] {
-        assert_eq!(rt; drawing.number(gate), drawing.number(same));
+        assert!(rt; drawing.number(gate) == drawing.number(same));
     }
-    Ok(())
 }
 
 #[test]
-fn a_row_has_one_node(rt: HostRuntime) -> Result<(), Fail> {
-    let mut drawing = Drawing::new(rt.alloc(), 2)?;
+fn a_row_has_one_node(rt: HostRuntime) {
+    let mut drawing = Drawing::new(rt.alloc(), 2).expect(&rt, "memory");
     let before = drawing.len();
-    drawing.draw_all(&[Step::Row(1), Step::Row(1)])?;
-    assert_eq!(rt; drawing.number(0), drawing.number(1));
+    drawing
+        .draw_all(&[Step::Row(1), Step::Row(1)])
+        .expect(&rt, "memory");
+    assert!(rt; drawing.number(0) == drawing.number(1));
     assert!(rt; drawing.len() <= before + 1);
-    Ok(())
 }
 
 // Of children that come one after another and are an `all` over the same first child, that child is
 // written once.
 #[test]
-fn a_run_shares_its_first_child(rt: HostRuntime) -> Result<(), Fail> {
-    let mut drawing = Drawing::new(rt.alloc(), 5)?;
+fn a_run_shares_its_first_child(rt: HostRuntime) {
+    let mut drawing = Drawing::new(rt.alloc(), 5).expect(&rt, "memory");
     // The rows s, t, u, v and w, and the gates st, suv, sw and vw.
-    drawing.draw_all(&[
-        Step::Row(0),
-        Step::Row(1),
-        Step::Row(2),
-        Step::Row(3),
-        Step::Row(4),
-        Step::All(&[0, 1]),
-        Step::All(&[0, 2, 3]),
-        Step::All(&[0, 4]),
-        Step::All(&[3, 4]),
-    ])?;
+    drawing
+        .draw_all(&[
+            Step::Row(0),
+            Step::Row(1),
+            Step::Row(2),
+            Step::Row(3),
+            Step::Row(4),
+            Step::All(&[0, 1]),
+            Step::All(&[0, 2, 3]),
+            Step::All(&[0, 4]),
+            Step::All(&[3, 4]),
+        ])
+        .expect(&rt, "memory");
     let n = drawing.len();
     let gates: [(&[usize], usize, usize); 4] = [
         (&[5, 8], 0, 1),
@@ -71,19 +81,17 @@ fn a_run_shares_its_first_child(rt: HostRuntime) -> Result<(), Fail> {
         (&[5, 8, 7], 5, 6),
     ];
     for (children, node, len) in gates {
-        let gate = drawing.draw(Step::Any(children))?;
-        assert_eq!(rt; drawing.number(gate), n + node);
-        assert_eq!(rt; drawing.len(), n + len);
+        let gate = drawing.draw(Step::Any(children)).expect(&rt, "memory");
+        assert!(rt; drawing.number(gate) == n + node);
+        assert!(rt; drawing.len() == n + len);
     }
-    Ok(())
 }
 
 #[test]
-fn a_gate_of_a_million_children(rt: HostRuntime) -> Result<(), Fail> {
-    let mut drawing = Drawing::new(rt.alloc(), 2)?;
-    let children = drawing.ladder(1_000_000)?;
+fn a_gate_of_a_million_children(rt: HostRuntime) {
+    let mut drawing = Drawing::new(rt.alloc(), 2).expect(&rt, "memory");
+    let children = drawing.ladder(1_000_000).expect(&rt, "memory");
     let before = drawing.len();
-    let gate = drawing.draw(Step::All(&children))?;
+    let gate = drawing.draw(Step::All(&children)).expect(&rt, "memory");
     assert!(rt; drawing.number(gate) == before && drawing.len() == before + 1);
-    Ok(())
 }
