@@ -3,7 +3,6 @@ ghost use Rattle.std.specs.Prelude.{◌≡◌, ◌<◌, IfOk, length};
 use rt_heap::Heap;
 use rt_value::NoMemory;
 use std::alloc::Global;
-use std::test::Fail;
 
 // Puts in all variables.
 fn fill(heap: &mut Heap)
@@ -45,48 +44,45 @@ fn taken(alloc: Global, heap: &mut Heap) -> Result<Vec<usize>, NoMemory> {
     Ok(vars)
 }
 
-#[test]
-fn equal_counters_come_by_number(rt: HostRuntime) -> Result<(), Fail> {
-    let mut heap = full(rt.alloc(), 5)?;
-    assert_eq!(rt;
-        taken(rt.alloc(), &mut heap)?.as_slice(),
-        [0, 1, 2, 3, 4].as_slice()
-    );
-    Ok(())
+// Whether all variables, taken out, come in this order.
+fn come_as(alloc: Global, heap: &mut Heap, order: &[usize]) -> Result<bool, NoMemory> {
+    let vars = taken(alloc, heap)?;
+    Ok(vars.as_slice() == order)
 }
 
 #[test]
-fn the_greatest_counter_comes_first(rt: HostRuntime) -> Result<(), Fail> {
-    let mut heap = full(rt.alloc(), 5)?;
+fn equal_counters_come_by_number(rt: HostRuntime) {
+    let mut heap = full(rt.alloc(), 5).expect(&rt, "memory");
+    let came = come_as(rt.alloc(), &mut heap, &[0, 1, 2, 3, 4]);
+    assert!(rt; came.expect(&rt, "memory"));
+}
+
+#[test]
+fn the_greatest_counter_comes_first(rt: HostRuntime) {
+    let mut heap = full(rt.alloc(), 5).expect(&rt, "memory");
     heap.raise(3);
     heap.raise(1);
     heap.raise(3);
-    assert_eq!(rt;
-        taken(rt.alloc(), &mut heap)?.as_slice(),
-        [3, 1, 0, 2, 4].as_slice()
-    );
-    Ok(())
+    let came = come_as(rt.alloc(), &mut heap, &[3, 1, 0, 2, 4]);
+    assert!(rt; came.expect(&rt, "memory"));
 }
 
 // Forty times a thirty-second part is more than twice as much.
 #[test]
-fn later_raises_count_for_more(rt: HostRuntime) -> Result<(), Fail> {
-    let mut heap = full(rt.alloc(), 5)?;
+fn later_raises_count_for_more(rt: HostRuntime) {
+    let mut heap = full(rt.alloc(), 5).expect(&rt, "memory");
     raise(&mut heap, 2, 2);
     for _ in 0..40 {
         heap.age();
     }
     heap.raise(4);
-    assert_eq!(rt;
-        taken(rt.alloc(), &mut heap)?.as_slice(),
-        [4, 2, 0, 1, 3].as_slice()
-    );
-    Ok(())
+    let came = come_as(rt.alloc(), &mut heap, &[4, 2, 0, 1, 3]);
+    assert!(rt; came.expect(&rt, "memory"));
 }
 
 #[test]
-fn variables_outside_keep_their_counters(rt: HostRuntime) -> Result<(), Fail> {
-    let mut heap = full(rt.alloc(), 4)?;
+fn variables_outside_keep_their_counters(rt: HostRuntime) {
+    let mut heap = full(rt.alloc(), 4).expect(&rt, "memory");
     heap.raise(1);
     heap.clear();
     assert!(rt; heap.take().is_none());
@@ -94,57 +90,47 @@ fn variables_outside_keep_their_counters(rt: HostRuntime) -> Result<(), Fail> {
     assert!(rt; !heap.holds(2));
     fill(&mut heap);
     assert!(rt; heap.holds(2));
-    assert_eq!(rt; heap.take(), Some(2));
-    assert_eq!(rt; heap.take(), Some(1));
+    assert!(rt; heap.take() == Some(2));
+    assert!(rt; heap.take() == Some(1));
     fill(&mut heap);
-    assert_eq!(rt;
-        taken(rt.alloc(), &mut heap)?.as_slice(),
-        [2, 1, 0, 3].as_slice()
-    );
-    Ok(())
+    let came = come_as(rt.alloc(), &mut heap, &[2, 1, 0, 3]);
+    assert!(rt; came.expect(&rt, "memory"));
 }
 
 #[test]
-fn new_variables_are_outside(rt: HostRuntime) -> Result<(), Fail> {
-    let mut heap = full(rt.alloc(), 2)?;
+fn new_variables_are_outside(rt: HostRuntime) {
+    let mut heap = full(rt.alloc(), 2).expect(&rt, "memory");
     heap.raise(1);
-    heap.grow(4)?;
-    assert_eq!(rt; heap.len(), 4);
+    heap.grow(4).expect(&rt, "memory");
+    assert!(rt; heap.len() == 4);
     assert!(rt; !heap.holds(3));
     heap.put(3);
-    assert_eq!(rt;
-        taken(rt.alloc(), &mut heap)?.as_slice(),
-        [1, 0, 3].as_slice()
-    );
-    Ok(())
+    let came = come_as(rt.alloc(), &mut heap, &[1, 0, 3]);
+    assert!(rt; came.expect(&rt, "memory"));
 }
 
 // Variable v is raised 37 v mod 100 times, a number of its own, and 73 is the inverse of 37.
 #[test]
-fn a_hundred_variables_come_by_their_counters(rt: HostRuntime) -> Result<(), Fail> {
-    let mut heap = full(rt.alloc(), 100)?;
+fn a_hundred_variables_come_by_their_counters(rt: HostRuntime) {
+    let mut heap = full(rt.alloc(), 100).expect(&rt, "memory");
     for var in 0..100 {
         raise(&mut heap, var, var * 37 % 100);
     }
-    let vars = taken(rt.alloc(), &mut heap)?;
+    let vars = taken(rt.alloc(), &mut heap).expect(&rt, "memory");
     for i in 0..100 {
-        assert_eq!(rt; vars.get(i).copied(), Some((99 - i) * 73 % 100));
+        assert!(rt; vars.get(i).copied() == Some((99 - i) * 73 % 100));
     }
-    Ok(())
 }
 
 // Counters and step are halved many times on the way, and the latest raise still counts most.
 #[test]
-fn a_million_raises_that_grow(rt: HostRuntime) -> Result<(), Fail> {
-    let mut heap = full(rt.alloc(), 10)?;
+fn a_million_raises_that_grow(rt: HostRuntime) {
+    let mut heap = full(rt.alloc(), 10).expect(&rt, "memory");
     for i in 0..1_000_000 {
         heap.raise(i % 10);
         heap.age();
     }
     let falling = [9, 8, 7, 6, 5, 4, 3, 2, 1, 0];
-    assert_eq!(rt;
-        taken(rt.alloc(), &mut heap)?.as_slice(),
-        falling.as_slice()
-    );
-    Ok(())
+    let came = come_as(rt.alloc(), &mut heap, &falling);
+    assert!(rt; came.expect(&rt, "memory"));
 }
