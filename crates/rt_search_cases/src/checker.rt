@@ -4,7 +4,6 @@ use rt_clause::{Adds, Lines, Lit};
 use rt_derive::Checker;
 use rt_value::NoMemory;
 use std::alloc::Global;
-use std::test::Fail;
 
 // The lines x0 or x1, and not x0 or x1.
 fn two_lines(alloc: Global) -> Result<Checker, NoMemory>
@@ -17,36 +16,39 @@ fn two_lines(alloc: Global) -> Result<Checker, NoMemory>
 }
 
 #[test]
-fn a_clause_follows_along_its_hints(rt: HostRuntime) -> Result<(), Fail> {
+fn a_clause_follows_along_its_hints(rt: HostRuntime) {
     let second = [Lit::of(1, true)];
-    let mut checker = two_lines(rt.alloc())?;
-    assert!(rt; !checker.derive(&second, &[0])?);
-    assert!(rt; checker.derive(&second, &[0, 1])?);
+    let mut checker = two_lines(rt.alloc()).expect(&rt, "memory");
+    assert!(rt; !checker.derive(&second, &[0]).expect(&rt, "memory"));
+    assert!(rt; checker.derive(&second, &[0, 1]).expect(&rt, "memory"));
     // The clause is line 2 now, and by itself refutes nothing.
-    assert!(rt; checker.derive(&second, &[2])?);
-    assert!(rt; !checker.derive(&second[..0], &[2])?);
-    Ok(())
+    assert!(rt; checker.derive(&second, &[2]).expect(&rt, "memory"));
+    assert!(rt; !checker.derive(&second[..0], &[2]).expect(&rt, "memory"));
 }
 
 #[test]
-fn two_literals_left_are_no_unit(rt: HostRuntime) -> Result<(), Fail> {
+fn two_literals_left_are_no_unit(rt: HostRuntime) {
     let mut checker = Checker::new(rt.alloc());
-    checker.add(&[Lit::of(0, true), Lit::of(1, true), Lit::of(2, true)])?;
-    assert!(rt; !checker.derive(&[Lit::of(0, true)], &[0])?);
-    Ok(())
+    checker
+        .add(&[Lit::of(0, true), Lit::of(1, true), Lit::of(2, true)])
+        .expect(&rt, "memory");
+    assert!(rt;
+        !checker
+            .derive(&[Lit::of(0, true)], &[0])
+            .expect(&rt, "memory")
+    );
 }
 
 #[test]
-fn refuting_lines(rt: HostRuntime) -> Result<(), Fail> {
+fn refuting_lines(rt: HostRuntime) {
     let mut checker = Checker::new(rt.alloc());
     assert!(rt; !checker.refutes(None));
     let third = Lit::of(3, true);
-    checker.add(&[third.negated()])?;
+    checker.add(&[third.negated()]).expect(&rt, "memory");
     assert!(rt; checker.refutes(Some(third)));
     assert!(rt; !checker.refutes(None));
-    checker.add(&[third])?;
+    checker.add(&[third]).expect(&rt, "memory");
     let none = [third];
-    assert!(rt; checker.derive(&none[..0], &[0, 1])?);
+    assert!(rt; checker.derive(&none[..0], &[0, 1]).expect(&rt, "memory"));
     assert!(rt; checker.refutes(None));
-    Ok(())
 }
