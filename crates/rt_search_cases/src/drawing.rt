@@ -5,8 +5,9 @@ use rt_clausify::clausify;
 use rt_derive::Checker;
 use rt_formula::{Dag, Node};
 use rt_search::{Searched, smallest_counted};
-use rt_value::{Keep, NoMemory};
+use rt_value::Keep;
 use std::alloc::Global;
+use std::process::Abort;
 
 /// What a step draws. Older nodes are told by the numbers of their steps.
 #[derive(Clone, Copy)]
@@ -19,7 +20,7 @@ pub enum Step<'a> {
     Any(&'a [usize]),
 }
 
-/// A formula, and the node of each step.
+/// A formula, and the node of each step. Where memory is wanting, its calls end the process.
 #[derive(Drop)]
 pub struct Drawing {
     dag: Dag,
@@ -28,14 +29,14 @@ pub struct Drawing {
 }
 
 impl Drawing {
-    pub fn new(alloc: Global, rows: usize) -> Result<Drawing, NoMemory>
+    pub fn new(rt: &impl Abort, alloc: Global, rows: usize) -> Drawing
         requires { rows ≤ 2000 }
     {
-        Ok(Drawing {
-            dag: Dag::new(alloc, rows)?,
+        Drawing {
+            dag: Dag::new(alloc, rows).expect(rt, "memory"),
             nodes: Vec::new(alloc),
             alloc,
-        })
+        }
     }
 
     /// How many nodes the formula has.
@@ -60,104 +61,102 @@ impl Drawing {
         }
     }
 
-    fn nodes_of(&self, steps: &[usize]) -> Result<Vec<Node>, NoMemory> {
+    fn nodes_of(&self, rt: &impl Abort, steps: &[usize]) -> Vec<Node> {
         let mut nodes = Vec::new(self.alloc);
         for step in steps {
-            nodes.push(self.node(*step))?;
+            nodes.push(self.node(*step)).expect(rt, "memory");
         }
-        Ok(nodes)
+        nodes
     }
 
-    fn all(&mut self, of: &[usize]) -> Result<Node, NoMemory> {
-        let nodes = self.nodes_of(of)?;
+    fn all(&mut self, rt: &impl Abort, of: &[usize]) -> Node {
+        let nodes = self.nodes_of(rt, of);
         if nodes.iter().all(|node| node.number() < self.dag.len()) {
-            return self.dag.all(&nodes);
+            return self.dag.all(&nodes).expect(rt, "memory");
         }
-        Ok(self.dag.yes())
+        self.dag.yes()
     }
 
-    fn any(&mut self, of: &[usize]) -> Result<Node, NoMemory> {
-        let nodes = self.nodes_of(of)?;
+    fn any(&mut self, rt: &impl Abort, of: &[usize]) -> Node {
+        let nodes = self.nodes_of(rt, of);
         if nodes.iter().all(|node| node.number() < self.dag.len()) {
-            return self.dag.any(&nodes);
+            return self.dag.any(&nodes).expect(rt, "memory");
         }
-        Ok(self.dag.yes())
+        self.dag.yes()
     }
 
-    fn row(&mut self, row: usize) -> Result<Node, NoMemory> {
+    fn row(&mut self, rt: &impl Abort, row: usize) -> Node {
         if row < self.dag.rows() {
-            return self.dag.row(row);
+            return self.dag.row(row).expect(rt, "memory");
         }
-        Ok(self.dag.yes())
+        self.dag.yes()
     }
 
     /// Draws a node, and gives the number of its step.
-    pub fn draw(&mut self, step: Step) -> Result<usize, NoMemory> {
+    pub fn draw(&mut self, rt: &impl Abort, step: Step) -> usize {
         let node = match step {
             Step::Yes => self.dag.yes(),
             Step::No => self.dag.no(),
-            Step::Row(row) => self.row(row)?,
+            Step::Row(row) => self.row(rt, row),
             Step::Not(of) => {
                 let node = self.node(of);
-                self.dag.not(node)?
+                self.dag.not(node).expect(rt, "memory")
             }
-            Step::All(of) => self.all(of)?,
-            Step::Any(of) => self.any(of)?,
+            Step::All(of) => self.all(rt, of),
+            Step::Any(of) => self.any(rt, of),
         };
         let number = self.nodes.len();
-        self.nodes.push(node)?;
-        Ok(number)
+        self.nodes.push(node).expect(rt, "memory");
+        number
     }
 
     /// Draws one node after the other, and gives the number of the last step.
-    pub fn draw_all(&mut self, steps: &[Step]) -> Result<usize, NoMemory> {
+    pub fn draw_all(&mut self, rt: &impl Abort, steps: &[Step]) -> usize {
         let mut last = 0;
         for step in steps {
-            last = self.draw(*step)?;
+            last = self.draw(rt, *step);
         }
-        Ok(last)
+        last
     }
 
     /// A row or another one, the negation of that or the other one, and so on, so many times. Gives
     /// the steps of the gates.
-    pub fn ladder(&mut self, rungs: usize) -> Result<Vec<usize>, NoMemory> {
+    pub fn ladder(&mut self, rt: &impl Abort, rungs: usize) -> Vec<usize> {
         let mut gates = Vec::new(self.alloc);
-        let mut last = self.draw(Step::Row(0))?;
+        let mut last = self.draw(rt, Step::Row(0));
         for _ in 0..rungs {
-            let other = self.draw(Step::Row(1))?;
-            let either = self.draw(Step::Any(&[last, other]))?;
-            gates.push(either)?;
-            last = self.draw(Step::Not(either))?;
+            let other = self.draw(rt, Step::Row(1));
+            let either = self.draw(rt, Step::Any(&[last, other]));
+            gates.push(either).expect(rt, "memory");
+            last = self.draw(rt, Step::Not(either));
         }
-        Ok(gates)
+        gates
     }
 
     /// The value of a step's node where just these rows are kept.
-    pub fn value(&self, step: usize, kept: &[usize]) -> Result<bool, NoMemory> {
-        let mut keep = Keep::all(self.alloc, self.dag.rows(), false)?;
+    pub fn value(&self, rt: &impl Abort, step: usize, kept: &[usize]) -> bool {
+        let mut keep = Keep::all(self.alloc, self.dag.rows(), false).expect(rt, "memory");
         for row in kept {
             if *row < keep.len() {
                 keep.set(*row, true);
             }
         }
-        if keep.len() != self.dag.rows() {
-            return Ok(false);
-        }
-        self.dag.value(self.node(step), &keep)
+        assert!(rt; keep.len() == self.dag.rows());
+        self.dag.value(self.node(step), &keep).expect(rt, "memory")
     }
 
     /// How many variables the clauses of a goal have.
-    pub fn variables(&self, goal: usize) -> Result<usize, NoMemory> {
+    pub fn variables(&self, rt: &impl Abort, goal: usize) -> usize {
         let mut checker = Checker::new(self.alloc);
-        let named = clausify(self.alloc, &self.dag, self.node(goal), &mut checker)?;
-        Ok(named.next())
+        let named = clausify(self.alloc, &self.dag, self.node(goal), &mut checker);
+        named.expect(rt, "memory").next()
     }
 
     /// What the search finds where each row is in the cone.
-    pub fn search(&self, goal: usize, budget: Option<u64>) -> Result<Searched, NoMemory>
+    pub fn search(&self, rt: &impl Abort, goal: usize, budget: Option<u64>) -> Searched
         requires { IfSome budget (λ b. 1 ≤ b) }
     {
-        let all = Keep::all(self.alloc, self.dag.rows(), true)?;
-        smallest_counted(self.alloc, &self.dag, self.node(goal), &all, budget)
+        let all = Keep::all(self.alloc, self.dag.rows(), true).expect(rt, "memory");
+        smallest_counted(self.alloc, &self.dag, self.node(goal), &all, budget).expect(rt, "memory")
     }
 }

@@ -2,10 +2,8 @@ use crate::drawing::{Drawing, Step};
 
 #[test]
 fn a_row_or_its_negation(rt: HostRuntime) {
-    let mut drawing = Drawing::new(rt.alloc(), 2).expect(&rt, "memory");
-    let either = drawing
-        .draw_all(&[Step::Row(0), Step::Not(0), Step::Any(&[0, 1])])
-        .expect(&rt, "memory");
+    let mut drawing = Drawing::new(&rt, rt.alloc(), 2);
+    let either = drawing.draw_all(&rt, &[Step::Row(0), Step::Not(0), Step::Any(&[0, 1])]);
     let choices: [(&[usize], bool); 4] = [
         (&[], false),
         (&[0], true),
@@ -13,22 +11,17 @@ fn a_row_or_its_negation(rt: HostRuntime) {
         (&[1], false),
     ];
     for (kept, first) in choices {
-        assert!(rt;
-            drawing.value(either, kept).expect(&rt, "memory"),
-            "{kept:?}"
-        );
-        assert!(rt;
-            drawing.value(0, kept).expect(&rt, "memory") == first,
-            "{kept:?}"
-        );
+        assert!(rt; drawing.value(&rt, either, kept), "{kept:?}");
+        assert!(rt; drawing.value(&rt, 0, kept) == first, "{kept:?}");
     }
 }
 
 #[test]
 fn gates_that_are_no_gates(rt: HostRuntime) {
-    let mut drawing = Drawing::new(rt.alloc(), 2).expect(&rt, "memory");
-    drawing
-        .draw_all(&[
+    let mut drawing = Drawing::new(&rt, rt.alloc(), 2);
+    drawing.draw_all(
+        &rt,
+        &[
             Step::Yes,
             Step::No,
             Step::Any(&[]),
@@ -36,8 +29,8 @@ fn gates_that_are_no_gates(rt: HostRuntime) {
             Step::Row(0),
             Step::All(&[0, 4, 4]),
             Step::Not(1),
-        ])
-        .expect(&rt, "memory");
+        ],
+    );
     for (gate, same) in [(2, 1), (3, 0), (5, 4), (6, 0)] {
         assert!(rt; drawing.number(gate) == drawing.number(same));
     }
@@ -45,11 +38,9 @@ fn gates_that_are_no_gates(rt: HostRuntime) {
 
 #[test]
 fn a_row_has_one_node(rt: HostRuntime) {
-    let mut drawing = Drawing::new(rt.alloc(), 2).expect(&rt, "memory");
+    let mut drawing = Drawing::new(&rt, rt.alloc(), 2);
     let before = drawing.len();
-    drawing
-        .draw_all(&[Step::Row(1), Step::Row(1)])
-        .expect(&rt, "memory");
+    drawing.draw_all(&rt, &[Step::Row(1), Step::Row(1)]);
     assert!(rt; drawing.number(0) == drawing.number(1));
     assert!(rt; drawing.len() <= before + 1);
 }
@@ -58,10 +49,11 @@ fn a_row_has_one_node(rt: HostRuntime) {
 // written once.
 #[test]
 fn a_run_shares_its_first_child(rt: HostRuntime) {
-    let mut drawing = Drawing::new(rt.alloc(), 5).expect(&rt, "memory");
+    let mut drawing = Drawing::new(&rt, rt.alloc(), 5);
     // The rows s, t, u, v and w, and the gates st, suv, sw and vw.
-    drawing
-        .draw_all(&[
+    drawing.draw_all(
+        &rt,
+        &[
             Step::Row(0),
             Step::Row(1),
             Step::Row(2),
@@ -71,8 +63,8 @@ fn a_run_shares_its_first_child(rt: HostRuntime) {
             Step::All(&[0, 2, 3]),
             Step::All(&[0, 4]),
             Step::All(&[3, 4]),
-        ])
-        .expect(&rt, "memory");
+        ],
+    );
     let n = drawing.len();
     let gates: [(&[usize], usize, usize); 4] = [
         (&[5, 8], 0, 1),
@@ -81,7 +73,7 @@ fn a_run_shares_its_first_child(rt: HostRuntime) {
         (&[5, 8, 7], 5, 6),
     ];
     for (children, node, len) in gates {
-        let gate = drawing.draw(Step::Any(children)).expect(&rt, "memory");
+        let gate = drawing.draw(&rt, Step::Any(children));
         assert!(rt; drawing.number(gate) == n + node);
         assert!(rt; drawing.len() == n + len);
     }
@@ -89,9 +81,9 @@ fn a_run_shares_its_first_child(rt: HostRuntime) {
 
 #[test]
 fn a_gate_of_a_million_children(rt: HostRuntime) {
-    let mut drawing = Drawing::new(rt.alloc(), 2).expect(&rt, "memory");
-    let children = drawing.ladder(1_000_000).expect(&rt, "memory");
+    let mut drawing = Drawing::new(&rt, rt.alloc(), 2);
+    let children = drawing.ladder(&rt, 1_000_000);
     let before = drawing.len();
-    let gate = drawing.draw(Step::All(&children)).expect(&rt, "memory");
+    let gate = drawing.draw(&rt, Step::All(&children));
     assert!(rt; drawing.number(gate) == before && drawing.len() == before + 1);
 }

@@ -6,7 +6,6 @@ use rt_derive::Checker;
 use rt_search::Best;
 use rt_solver::{Found, Order, Solver};
 use rt_totalizer::count;
-use rt_value::NoMemory;
 use std::alloc::Global;
 use std::process::Abort;
 
@@ -20,7 +19,7 @@ fn values_in(rt: &impl Abort, found: &Found, lits: &[Lit]) -> [bool; 2] {
                 values[i] = model.is(lit.var()) == lit.on();
             }
         }
-        _ => panic!(rt; "there is a model"),
+        _ => panic!(rt; "there is no model"),
     }
     values
 }
@@ -50,7 +49,7 @@ fn outputs_of_three_rows(rt: HostRuntime) {
 
 // How many rows the least choice has, and None where the goal is true nowhere.
 fn least_size(rt: &impl Abort, drawing: &Drawing, goal: usize) -> Option<usize> {
-    match drawing.search(goal, None).expect(rt, "memory").best {
+    match drawing.search(rt, goal, None).best {
         Best::Least(keep) => Some(keep.size()),
         Best::Never => None,
         Best::Spent(_) => panic!(rt; "there is no budget"),
@@ -59,29 +58,30 @@ fn least_size(rt: &impl Abort, drawing: &Drawing, goal: usize) -> Option<usize> 
 
 #[test]
 fn goals_over_two_rows(rt: HostRuntime) {
-    let mut drawing = Drawing::new(rt.alloc(), 2).expect(&rt, "memory");
-    drawing
-        .draw_all(&[
+    let mut drawing = Drawing::new(&rt, rt.alloc(), 2);
+    drawing.draw_all(
+        &rt,
+        &[
             Step::Row(0),
             Step::Row(1),
             Step::Any(&[0, 1]),
             Step::Not(0),
             Step::All(&[0, 3]),
             Step::Yes,
-        ])
-        .expect(&rt, "memory");
+        ],
+    );
     for (goal, size) in [(2, Some(1)), (4, None), (5, Some(0))] {
         assert!(rt; least_size(&rt, &drawing, goal) == size, "{goal}");
     }
 }
 
 // Whether the least choice keeps just the first and the last of four rows.
-fn keeps_the_outer(drawing: &Drawing, goal: usize, budget: Option<u64>) -> Result<bool, NoMemory>
+fn keeps_the_outer(rt: &impl Abort, drawing: &Drawing, goal: usize, budget: Option<u64>) -> bool
     requires { IfSome budget (λ b. 1 ≤ b) }
 {
-    match drawing.search(goal, budget)?.best {
-        Best::Least(keep) => Ok(keep.as_slice() == [true, false, false, true].as_slice()),
-        _ => Ok(false),
+    match drawing.search(rt, goal, budget).best {
+        Best::Least(keep) => keep.as_slice() == [true, false, false, true].as_slice(),
+        _ => false,
     }
 }
 
@@ -90,9 +90,10 @@ fn keeps_the_outer(drawing: &Drawing, goal: usize, budget: Option<u64>) -> Resul
 // could not.
 #[test]
 fn first_of_two_pairs(rt: HostRuntime) {
-    let mut drawing = Drawing::new(rt.alloc(), 4).expect(&rt, "memory");
-    let goal = drawing
-        .draw_all(&[
+    let mut drawing = Drawing::new(&rt, rt.alloc(), 4);
+    let goal = drawing.draw_all(
+        &rt,
+        &[
             Step::Row(0),
             Step::Row(1),
             Step::Row(2),
@@ -100,21 +101,20 @@ fn first_of_two_pairs(rt: HostRuntime) {
             Step::All(&[0, 3]),
             Step::All(&[1, 2]),
             Step::Any(&[5, 4]),
-        ])
-        .expect(&rt, "memory");
+        ],
+    );
     for budget in [None, Some(15), Some(16)] {
-        let outer = keeps_the_outer(&drawing, goal, budget);
-        assert!(rt; outer.expect(&rt, "memory"), "{budget:?}");
+        assert!(rt; keeps_the_outer(&rt, &drawing, goal, budget), "{budget:?}");
     }
 }
 
 // Whether one clause spends the budget, before any choice is found.
-fn is_spent_by_one_clause(drawing: &Drawing, goal: usize) -> Result<bool, NoMemory> {
-    match drawing.search(goal, Some(1))?.best {
+fn is_spent_by_one_clause(rt: &impl Abort, drawing: &Drawing, goal: usize) -> bool {
+    match drawing.search(rt, goal, Some(1)).best {
         Best::Spent(spent) => {
-            Ok(matches!(&spent.best, None) && !spent.least && spent.nogoods.len() == 1)
+            matches!(&spent.best, None) && !spent.least && spent.nogoods.len() == 1
         }
-        _ => Ok(false),
+        _ => false,
     }
 }
 
@@ -123,9 +123,10 @@ fn is_spent_by_one_clause(drawing: &Drawing, goal: usize) -> Result<bool, NoMemo
 // search with all variables, and the other one that of the search with the rows.
 #[test]
 fn a_budget_of_one(rt: HostRuntime) {
-    let mut drawing = Drawing::new(rt.alloc(), 4).expect(&rt, "memory");
-    let goal = drawing
-        .draw_all(&[
+    let mut drawing = Drawing::new(&rt, rt.alloc(), 4);
+    let goal = drawing.draw_all(
+        &rt,
+        &[
             Step::Row(0),
             Step::Row(1),
             Step::Any(&[0, 1]),
@@ -137,48 +138,48 @@ fn a_budget_of_one(rt: HostRuntime) {
             Step::Not(6),
             Step::Any(&[5, 8]),
             Step::All(&[2, 4, 7, 9]),
-        ])
-        .expect(&rt, "memory");
-    assert!(rt; is_spent_by_one_clause(&drawing, goal).expect(&rt, "memory"));
+        ],
+    );
+    assert!(rt; is_spent_by_one_clause(&rt, &drawing, goal));
 }
 
 // Any of the five rows of a group.
-fn any_of_five(drawing: &mut Drawing, group: usize) -> Result<usize, NoMemory>
+fn any_of_five(rt: &impl Abort, drawing: &mut Drawing, group: usize) -> usize
     requires { group < 20 }
 {
     let mut rows = [0; 5];
     for row in 0..5 {
-        rows[row] = drawing.draw(Step::Row(5 * group + row))?;
+        rows[row] = drawing.draw(rt, Step::Row(5 * group + row));
     }
-    drawing.draw(Step::Any(&rows))
+    drawing.draw(rt, Step::Any(&rows))
 }
 
 // After how many conflicts the search ends.
-fn conflicts(drawing: &Drawing, goal: usize) -> Result<u64, NoMemory> {
-    Ok(drawing.search(goal, None)?.conflicts)
+fn conflicts(rt: &impl Abort, drawing: &Drawing, goal: usize) -> u64 {
+    drawing.search(rt, goal, None).conflicts
 }
 
 // One row of each of twenty groups of five: clauses over all variables refute the bound in about as
 // many conflicts as there are groups, where clauses over rows would be some hundred thousand.
 #[test]
 fn twenty_groups_of_five(rt: HostRuntime) {
-    let mut drawing = Drawing::new(rt.alloc(), 100).expect(&rt, "memory");
+    let mut drawing = Drawing::new(&rt, rt.alloc(), 100);
     let mut groups = [0; 20];
     for group in 0..20 {
-        groups[group] = any_of_five(&mut drawing, group).expect(&rt, "memory");
+        groups[group] = any_of_five(&rt, &mut drawing, group);
     }
-    let goal = drawing.draw(Step::All(&groups)).expect(&rt, "memory");
-    assert!(rt; conflicts(&drawing, goal).expect(&rt, "memory") < 2_000);
+    let goal = drawing.draw(&rt, Step::All(&groups));
+    assert!(rt; conflicts(&rt, &drawing, goal) < 2_000);
 }
 
 // The counter goes up to 400, and has 720,200 cells.
 #[test]
 fn every_fifth_of_two_thousand_rows(rt: HostRuntime) {
-    let mut drawing = Drawing::new(rt.alloc(), 2_000).expect(&rt, "memory");
+    let mut drawing = Drawing::new(&rt, rt.alloc(), 2_000);
     let mut fifth = [0; 400];
     for i in 0..400 {
-        fifth[i] = drawing.draw(Step::Row(5 * i)).expect(&rt, "memory");
+        fifth[i] = drawing.draw(&rt, Step::Row(5 * i));
     }
-    let goal = drawing.draw(Step::All(&fifth)).expect(&rt, "memory");
+    let goal = drawing.draw(&rt, Step::All(&fifth));
     assert!(rt; least_size(&rt, &drawing, goal) == Some(400));
 }

@@ -22,7 +22,7 @@ fn model(rt: &impl Abort, solver: &mut Solver<Checker>) -> [bool; 2] {
             assert!(rt; keep.len() == 2);
             [keep.is(0), keep.is(1)]
         }
-        _ => panic!(rt; "there is a model"),
+        _ => panic!(rt; "there is no model"),
     }
 }
 
@@ -121,7 +121,7 @@ fn spent(rt: &impl Abort, solver: &mut Solver<Recorded>) -> List<List<Lit>> {
         .expect(rt, "memory")
     {
         Found::Spent(list) => list,
-        _ => panic!(rt; "the budget is spent"),
+        _ => panic!(rt; "the budget is not spent"),
     }
 }
 
@@ -162,15 +162,20 @@ fn next_clause(state: &mut u32) -> [Lit; 3] {
     lits
 }
 
+fn add_two_hundred(solver: &mut Solver<Checker>) -> Result<(), NoMemory> {
+    let mut state: u32 = 1;
+    for _ in 0..200 {
+        let lits = next_clause(&mut state);
+        solver.add(&lits)?;
+    }
+    Ok(())
+}
+
 // 200 clauses of a fixed sequence, which the even variables alone make true.
 #[test]
 fn two_hundred_clauses(rt: HostRuntime) {
     let mut solver = solver(rt.alloc());
-    let mut state: u32 = 1;
-    for _ in 0..200 {
-        let lits = next_clause(&mut state);
-        solver.add(&lits).expect(&rt, "memory");
-    }
+    add_two_hundred(&mut solver).expect(&rt, "memory");
     let found = solver
         .solve(None, 60, None, Order::Free)
         .expect(&rt, "memory");

@@ -1,4 +1,5 @@
-use Rattle.std.proofs.Common.{◌≡◌, Bool, true, false, List, [], ◌∷◌, length, replicate, refl, sym, ap, ◌∙◌}
+use Rattle.std.proofs.Common.{◌≡◌, Bool, true, false, List, [], ◌∷◌, length, replicate, refl, sym, ap, subst, ◌∙◌}
+use Rattle.std.specs.Result.{IfOk}
 use Rattle.rt_formula.specs.Cut.{cut}
 use Rattle.rt_formula.specs.Shared.{val}
 use Rattle.rt_search_cases.proofs.drawing.Drawing.search.Goals as goal
@@ -10,5 +11,6 @@ cut-none (true ∷ keep) = ap (λ (xs : List Bool). true ∷ xs) (cut-none keep)
 cut-none (false ∷ keep) = ap (λ (xs : List Bool). false ∷ xs) (cut-none keep)
 
 pub smallest_counted-requires-clause-cone : goal.smallest_counted-requires-clause-cone
-smallest_counted-requires-clause-cone c keep g =
-    ap (λ k. val c.args.self.now.dag k c.node.result) (ap (cut keep) (c.in_ok-all.ensures ∙ ap (λ n. replicate n true) (c.rows.ensures ∙ sym g.0)) ∙ cut-none keep) ∙ g.1
+smallest_counted-requires-clause-cone g c keep h =
+    let all : c.expect-all.result ≡ replicate c.rows.result true = subst (λ r. IfOk r (λ k. k ≡ replicate c.rows.result true)) c.expect-all.ensures c.all.ensures in
+    ap (λ k. val c.args.self.now.dag k c.node.result) (ap (cut keep) (all ∙ ap (λ n. replicate n true) (c.rows.ensures ∙ sym h.0)) ∙ cut-none keep) ∙ h.1
