@@ -4,7 +4,7 @@ use rt_derive::Checker;
 use rt_recorder::{Checked, Encoded, Recorder, check_steps};
 use rt_value::{List, NoMemory};
 use std::alloc::Global;
-use std::test::Fail;
+use std::process::Abort;
 
 // The lines x0 or x1, and not x0 or x1.
 fn two_lines(alloc: Global) -> Result<Checker, NoMemory> {
@@ -34,63 +34,69 @@ fn step_of(alloc: Global, lits: &[Lit], hints: &[u64]) -> Result<Step, NoMemory>
 }
 
 fn checked(
+    rt: &impl Abort,
     alloc: Global,
     steps: &[(&[Lit], &[u64])],
     assume: Option<Lit>,
-) -> Result<Checked, NoMemory> {
-    let mut checker = two_lines(alloc)?;
-    let cert = cert_of(alloc, steps)?;
-    check_steps(alloc, &mut checker, &cert, assume)
+) -> Checked {
+    let mut checker = two_lines(alloc).expect(rt, "memory");
+    let cert = cert_of(alloc, steps).expect(rt, "memory");
+    check_steps(alloc, &mut checker, &cert, assume).expect(rt, "memory")
 }
 
 #[test]
-fn steps_that_are_checked(rt: HostRuntime) -> Result<(), Fail> {
+fn steps_that_are_checked(rt: HostRuntime) {
     let alloc = rt.alloc();
     let second = [Lit::of(1, true)];
     let first = [Lit::of(0, true)];
-    let denied = Some(Lit::of(1, false));
+    let denied = Lit::of(1, false);
     let good: (&[Lit], &[u64]) = (&second, &[0, 1]);
     let bare: (&[Lit], &[u64]) = (&second, &[0]);
     let past: (&[Lit], &[u64]) = (&second, &[0, 2]);
     let other: (&[Lit], &[u64]) = (&first, &[0, 1]);
     let again: (&[Lit], &[u64]) = (&second, &[2]);
-    assert_eq!(rt; checked(alloc, &[], denied)?, Checked::NoRefutation);
-    assert_eq!(rt; checked(alloc, &[good], denied)?, Checked::Yes);
-    assert_eq!(rt; checked(alloc, &[good], None)?, Checked::NoRefutation);
-    assert_eq!(rt; checked(alloc, &[good, again], denied)?, Checked::Yes);
-    assert_eq!(rt; checked(alloc, &[bare], denied)?, Checked::Line(1));
-    assert_eq!(rt; checked(alloc, &[past], denied)?, Checked::Line(1));
-    assert_eq!(rt; checked(alloc, &[again, good], denied)?, Checked::Line(1));
-    assert_eq!(rt; checked(alloc, &[good, other], denied)?, Checked::Line(2));
-    Ok(())
+    assert!(rt; checked(&rt, alloc, &[], Some(denied)) == Checked::NoRefutation);
+    assert!(rt; checked(&rt, alloc, &[good], Some(denied)) == Checked::Yes);
+    assert!(rt; checked(&rt, alloc, &[good], None) == Checked::NoRefutation);
+    assert!(rt; checked(&rt, alloc, &[good, again], Some(denied)) == Checked::Yes);
+    assert!(rt; checked(&rt, alloc, &[bare], Some(denied)) == Checked::Line(1));
+    assert!(rt; checked(&rt, alloc, &[past], Some(denied)) == Checked::Line(1));
+    assert!(rt; checked(&rt, alloc, &[again, good], Some(denied)) == Checked::Line(1));
+    assert!(rt; checked(&rt, alloc, &[good, other], Some(denied)) == Checked::Line(2));
+}
+
+// Whether a step has just these literals and hints.
+fn is_step(step: &Step, lits: &[Lit], hints: &[u64]) -> bool {
+    step.lits.as_slice() == lits && step.hints.as_slice() == hints
 }
 
 #[test]
-fn a_recorder_keeps_what_it_accepts(rt: HostRuntime) -> Result<(), Fail> {
+fn a_recorder_keeps_what_it_accepts(rt: HostRuntime) {
     let mut recorder = Recorder::new(rt.alloc());
-    recorder.add(&[Lit::of(0, true), Lit::of(1, true)])?;
+    recorder
+        .add(&[Lit::of(0, true), Lit::of(1, true)])
+        .expect(&rt, "memory");
     let second = [Lit::of(1, true)];
-    assert!(rt; !recorder.derive(&second, &[0])?);
+    assert!(rt; !recorder.derive(&second, &[0]).expect(&rt, "memory"));
     assert!(rt; recorder.steps().is_empty());
-    recorder.add(&[Lit::of(0, false), Lit::of(1, true)])?;
-    assert!(rt; recorder.derive(&second, &[0, 1])?);
+    recorder
+        .add(&[Lit::of(0, false), Lit::of(1, true)])
+        .expect(&rt, "memory");
+    assert!(rt; recorder.derive(&second, &[0, 1]).expect(&rt, "memory"));
     let steps = recorder.steps();
-    assert_eq!(rt; steps.len(), 1);
-    assert!(rt; steps[0].lits.as_slice() == second.as_slice());
-    assert_eq!(rt; steps[0].hints.as_slice(), [0, 1].as_slice());
-    Ok(())
+    assert!(rt; steps.len() == 1);
+    assert!(rt; is_step(&steps[0], &second, &[0, 1]));
 }
 
 #[test]
-fn an_encoding_keeps_its_lines(rt: HostRuntime) -> Result<(), Fail> {
+fn an_encoding_keeps_its_lines(rt: HostRuntime) {
     let mut encoded = Encoded::new(rt.alloc());
     assert!(rt; encoded.assume.is_none());
-    assert_eq!(rt; encoded.lines.len(), 0);
+    assert!(rt; encoded.lines.len() == 0);
     let line = [Lit::of(3, false), Lit::of(0, true)];
-    encoded.add(&line)?;
-    encoded.add(&line[..0])?;
-    assert_eq!(rt; encoded.lines.len(), 2);
+    encoded.add(&line).expect(&rt, "memory");
+    encoded.add(&line[..0]).expect(&rt, "memory");
+    assert!(rt; encoded.lines.len() == 2);
     assert!(rt; encoded.lines.at(0) == line.as_slice());
     assert!(rt; encoded.lines.at(1).is_empty());
-    Ok(())
 }
