@@ -31,6 +31,13 @@ fn sign(op: Op) -> &'static str {
     }
 }
 
+// Two sides with the sign between them.
+fn pair(alloc: Global, out: &mut String, left: &Side, sign: &str, right: &Side) -> Put {
+    side(alloc, out, left)?;
+    out.push_str(sign)?;
+    side(alloc, out, right)
+}
+
 fn sides(alloc: Global, out: &mut String, sides: &[Side]) -> Put {
     for item in sides {
         out.push_str(" ")?;
@@ -41,19 +48,13 @@ fn sides(alloc: Global, out: &mut String, sides: &[Side]) -> Put {
 
 fn leaf(alloc: Global, out: &mut String, leaf: &CheckLeaf) -> Put {
     match leaf {
-        CheckLeaf::Cmp(op, left, right) => {
-            side(alloc, out, left)?;
-            out.push_str(sign(*op))?;
-            side(alloc, out, right)
-        }
+        CheckLeaf::Cmp(op, left, right) => pair(alloc, out, left, sign(*op), right),
         CheckLeaf::IsNull(left) => {
             side(alloc, out, left)?;
             out.push_str(" null")
         }
         CheckLeaf::Between(left, low, high) => {
-            side(alloc, out, left)?;
-            out.push_str(" between ")?;
-            side(alloc, out, low)?;
+            pair(alloc, out, left, " between ", low)?;
             out.push_str(" ")?;
             side(alloc, out, high)
         }

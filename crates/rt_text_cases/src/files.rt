@@ -1,95 +1,101 @@
+ghost use Rattle.std.specs.Prelude.{◌<◌, ◌^◌};
+
 use rt_io::{
     BeginFail, Files, MemFiles, MemSink, ReadFail, RealFiles, RealSink, Sink, SinkFail, SureFiles,
     SureSink, read_file, write_text,
 };
+use std::alloc::Global;
 use std::fs;
-use std::test::Fail;
+
+// Whether the file of this name is read, at this length at most, as these bytes.
+fn is_read(alloc: Global, files: &mut impl Files, name: &str, max: usize, want: &[u8]) -> bool
+    requires { max < 2 ^ 62 }
+{
+    match read_file(alloc, files, name, max) {
+        Ok(bytes) => bytes.as_slice() == want,
+        Err(_) => false,
+    }
+}
+
+fn is_too_long(alloc: Global, files: &mut impl Files, name: &str, max: usize) -> bool
+    requires { max < 2 ^ 62 }
+{
+    matches!(read_file(alloc, files, name, max), Err(ReadFail::TooLong))
+}
 
 #[test]
-fn real_files_and_sinks(rt: HostRuntime) -> Result<(), Fail> {
-    let mut sink = RealSink::new(fs::create(&rt, "real.txt")?);
-    write_text(&mut sink, b"some text")?;
+fn real_files_and_sinks(rt: HostRuntime) {
+    let file = fs::create(&rt, "real.txt").expect(&rt, "a file");
+    let mut sink = RealSink::new(file);
+    assert!(rt; write_text(&mut sink, b"some text") == Ok(()));
     drop(sink);
-    let mut files = RealFiles::new(rt.clone()?);
-    let bytes = read_file(rt.alloc(), &mut files, "real.txt", 9)?;
-    assert_eq!(rt; bytes.as_slice(), b"some text".as_slice());
-    let long = read_file(rt.alloc(), &mut files, "real.txt", 8);
-    assert!(rt; matches!(long, Err(ReadFail::TooLong)));
-    fs::remove_file(&rt, "real.txt")?;
-    assert!(rt; matches!(files.begin("real.txt"), Err(BeginFail::Failed)));
-    Ok(())
+    let mut files = RealFiles::new(rt.clone().expect(&rt, "a runtime"));
+    assert!(rt; is_read(rt.alloc(), &mut files, "real.txt", 9, b"some text"));
+    assert!(rt; is_too_long(rt.alloc(), &mut files, "real.txt", 8));
+    fs::remove_file(&rt, "real.txt").expect(&rt, "no file");
+    assert!(rt; files.begin("real.txt") == Err(BeginFail::Failed));
 }
 
 // A writer that takes no more bytes answers so, and raises no error of its own.
 #[test]
-fn a_full_writer_is_a_fault(rt: HostRuntime) -> Result<(), Fail> {
+fn a_full_writer_is_a_fault(rt: HostRuntime) {
     let mut room = [0u8; 4];
     let mut sink = RealSink::new(room.as_mut_slice());
-    assert_eq!(rt; write_text(&mut sink, b"12345"), Err(SinkFail::Failed));
+    assert!(rt; write_text(&mut sink, b"12345") == Err(SinkFail::Failed));
     drop(sink);
-    assert_eq!(rt; room.as_slice(), b"1234".as_slice());
-    Ok(())
+    assert!(rt; room.as_slice() == b"1234".as_slice());
 }
 
 #[test]
-fn no_answer_changes_with_the_pieces(rt: HostRuntime) -> Result<(), Fail> {
+fn no_answer_changes_with_the_pieces(rt: HostRuntime) {
     let alloc = rt.alloc();
     for piece in [1, 2, 3, 100] {
         let mut files = MemFiles::new(alloc);
-        files.hold("f", b"12345")?;
+        files.hold("f", b"12345").expect(&rt, "memory");
         files.piece(piece);
-        let bytes = read_file(alloc, &mut files, "f", 5)?;
-        assert_eq!(rt; bytes.as_slice(), b"12345".as_slice());
-        let long = read_file(alloc, &mut files, "f", 4);
-        assert!(rt; matches!(long, Err(ReadFail::TooLong)));
+        assert!(rt; is_read(alloc, &mut files, "f", 5, b"12345"));
+        assert!(rt; is_too_long(alloc, &mut files, "f", 4));
+        drop(files);
         let mut sink = MemSink::new(alloc);
         sink.piece(piece);
-        write_text(&mut sink, b"12345")?;
-        assert_eq!(rt; sink.bytes(), b"12345".as_slice());
+        assert!(rt; write_text(&mut sink, b"12345") == Ok(()));
+        assert!(rt; sink.bytes() == b"12345".as_slice());
         sink.room(8);
-        assert_eq!(rt; write_text(&mut sink, b"6789"), Err(SinkFail::Failed));
-        assert_eq!(rt; sink.bytes(), b"12345678".as_slice());
+        assert!(rt; write_text(&mut sink, b"6789") == Err(SinkFail::Failed));
+        assert!(rt; sink.bytes() == b"12345678".as_slice());
     }
-    Ok(())
 }
 
 #[test]
-fn calls_fail_where_they_are_to(rt: HostRuntime) -> Result<(), Fail> {
+fn calls_fail_where_they_are_to(rt: HostRuntime) {
     let alloc = rt.alloc();
     let mut files = MemFiles::new(alloc);
-    files.hold("f", b"12345")?;
+    files.hold("f", b"12345").expect(&rt, "memory");
     files.piece(2);
-    files.fail_read("f", 3)?;
+    files.fail_read("f", 3).expect(&rt, "memory");
     let mut buf = [0u8; 8];
-    assert_eq!(rt; files.read(&mut buf), Ok(0));
+    assert!(rt; files.read(&mut buf) == Ok(0));
     for _ in 0..2 {
-        assert_eq!(rt; files.begin("f"), Ok(()));
-        assert_eq!(rt; files.read(&mut buf), Ok(2));
-        assert_eq!(rt; files.read(&mut buf), Ok(2));
+        assert!(rt; files.begin("f") == Ok(()));
+        assert!(rt; files.read(&mut buf) == Ok(2));
+        assert!(rt; files.read(&mut buf) == Ok(2));
         assert!(rt; files.read(&mut buf).is_err());
     }
-    files.fail_begin("f")?;
-    assert_eq!(rt; files.begin("f"), Err(BeginFail::Failed));
-    assert_eq!(rt; files.begin("g"), Err(BeginFail::Failed));
-    Ok(())
+    files.fail_begin("f").expect(&rt, "memory");
+    assert!(rt; files.begin("f") == Err(BeginFail::Failed));
+    assert!(rt; files.begin("g") == Err(BeginFail::Failed));
 }
 
 #[test]
-fn sure_files_and_sinks(rt: HostRuntime) -> Result<(), Fail> {
+fn sure_files_and_sinks(rt: HostRuntime) {
     let alloc = rt.alloc();
     let mut files = SureFiles::new(alloc);
-    files.hold("f", b"one")?;
-    files.hold("f", b"two")?;
-    assert_eq!(rt;
-        read_file(alloc, &mut files, "f", 9)?.as_slice(),
-        b"two".as_slice()
-    );
-    assert_eq!(rt;
-        read_file(alloc, &mut files, "g", 0)?.as_slice(),
-        b"".as_slice()
-    );
+    files.hold("f", b"one").expect(&rt, "memory");
+    files.hold("f", b"two").expect(&rt, "memory");
+    assert!(rt; is_read(alloc, &mut files, "f", 9, b"two"));
+    assert!(rt; is_read(alloc, &mut files, "g", 0, b""));
+    drop(files);
     let mut sink = SureSink::new(alloc);
-    assert_eq!(rt; sink.write(b"one"), Ok(3));
-    assert_eq!(rt; sink.bytes(), b"one".as_slice());
-    Ok(())
+    assert!(rt; sink.write(b"one") == Ok(3));
+    assert!(rt; sink.bytes() == b"one".as_slice());
 }

@@ -11,6 +11,10 @@ fn parsed(alloc: Global, text: &str) -> Result<Sql, SqlFault> {
     }
 }
 
+fn is_parsed(alloc: Global, text: &str) -> bool {
+    parsed(alloc, text).is_ok()
+}
+
 // The tree's short text, or the fault.
 fn told(alloc: Global, text: &str) -> Result<String, AllocError> {
     match parsed(alloc, text) {
@@ -151,8 +155,8 @@ fn reads_each_rule(rt: HostRuntime) {
             "SELECT select FROM t",
         ),
     ] {
-        assert_eq!(rt; is_told(rt.alloc(), text, wanted), true, "{text}");
-        assert_eq!(rt; parsed(rt.alloc(), other).is_ok(), false, "{other}");
+        assert!(rt; is_told(rt.alloc(), text, wanted), "{text}");
+        assert!(rt; !is_parsed(rt.alloc(), other), "{other}");
     }
 }
 
@@ -166,7 +170,7 @@ fn tells_faults(rt: HostRuntime) {
         ("SELECT a FROM t UNION ALL SELECT f(a) FROM t", "no all 22"),
         ("SELECT \"f\"(a) FROM t", "syntax 10"),
     ] {
-        assert_eq!(rt; is_told(rt.alloc(), text, wanted), true, "{text}");
+        assert!(rt; is_told(rt.alloc(), text, wanted), "{text}");
     }
 }
 
@@ -190,14 +194,26 @@ fn nested(
     Ok(text)
 }
 
-fn ends(alloc: Global, text: Result<String, AllocError>) -> Result<bool, SqlFault> {
-    let Ok(text) = text else {
-        return Err(SqlFault::NoMemory);
-    };
-    match parsed(alloc, text.as_str()) {
-        Ok(_) => Ok(true),
-        Err(SqlFault::NoMemory) => Err(SqlFault::NoMemory),
-        Err(fault) => Ok(fault != SqlFault::TooDeep),
+// Whether it is nested no deeper than may be, or nothing where memory is wanting.
+fn ends(alloc: Global, text: &str) -> Option<bool> {
+    match parsed(alloc, text) {
+        Err(SqlFault::NoMemory) => None,
+        Err(SqlFault::TooDeep) => Some(false),
+        _ => Some(true),
+    }
+}
+
+fn nested_ends(
+    alloc: Global,
+    front: &str,
+    open: &str,
+    times: usize,
+    middle: &str,
+    close: &str,
+) -> Option<bool> {
+    match nested(alloc, front, open, times, middle, close) {
+        Ok(text) => ends(alloc, text.as_str()),
+        Err(_) => None,
     }
 }
 
@@ -213,24 +229,17 @@ fn counts_nesting(rt: HostRuntime) {
         ("", inner, 63, "SELECT a FROM t", ")"),
         ("", "(", 64, "SELECT a FROM t", ")"),
     ] {
-        let read = ends(alloc, nested(alloc, front, open, times, middle, close));
-        assert_eq!(rt; read, Ok(true), "{open}");
-        let more = nested(alloc, front, open, times + 1, middle, close);
-        assert_eq!(rt; ends(alloc, more), Ok(false), "{open}");
+        let read = nested_ends(alloc, front, open, times, middle, close);
+        assert!(rt; read == Some(true), "{open}");
+        let more = nested_ends(alloc, front, open, times + 1, middle, close);
+        assert!(rt; more == Some(false), "{open}");
     }
 }
 
 // Four MiB of one condition.
 #[test]
 fn reads_a_long_condition(rt: HostRuntime) {
-    let alloc = rt.alloc();
-    let text = nested(
-        alloc,
-        "SELECT a FROM t WHERE a=1 ",
-        "OR a=1 ",
-        599_182,
-        "",
-        "",
-    );
-    assert_eq!(rt; ends(alloc, text), Ok(true));
+    let front = "SELECT a FROM t WHERE a=1 ";
+    let read = nested_ends(rt.alloc(), front, "OR a=1 ", 599_182, "", "");
+    assert!(rt; read == Some(true));
 }

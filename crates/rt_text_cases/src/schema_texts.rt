@@ -1,68 +1,81 @@
 use crate::checks::rules;
 use rt_ddl::{Excess, SchemaFault, read_schema};
-use rt_schema::{ColKind, Column, Foreign, Rule, Schema, Table};
+use rt_schema::{ColKind, Column, Foreign, Rule, Table};
 use rt_value::{List, NoMemory, Txt};
 use std::alloc::{AllocError, Global};
+use std::process::Abort;
 
-fn column(alloc: Global, name: &str, kind: ColKind) -> Result<Column, NoMemory> {
-    let name = Txt::of(alloc, name)?;
-    Ok(Column { name, kind })
-}
-
-fn key(alloc: Global, columns: &[usize]) -> Result<Rule, NoMemory> {
-    Ok(Rule::Key(List::from_slice(alloc, columns)?))
-}
-
-fn student(alloc: Global) -> Result<Table, NoMemory> {
+fn columns(rt: &impl Abort, alloc: Global, named: &[(&str, ColKind)]) -> List<Column> {
     let mut columns = List::new(alloc);
-    columns.push(column(alloc, "name", ColKind::Text)?)?;
-    columns.push(column(alloc, "major", ColKind::Text)?)?;
-    let mut rules = List::new(alloc);
-    rules.push(key(alloc, &[0])?)?;
-    rules.push(Rule::NotNull(0))?;
-    let name = Txt::of(alloc, "student")?;
-    Ok(Table {
-        name,
-        columns,
-        rules,
-    })
+    for (name, kind) in named {
+        let name = Txt::of(alloc, name).expect(rt, "memory");
+        let kind = *kind;
+        columns.push(Column { name, kind }).expect(rt, "memory");
+    }
+    columns
 }
 
-fn reg(alloc: Global) -> Result<Table, NoMemory> {
-    let mut columns = List::new(alloc);
-    columns.push(column(alloc, "name", ColKind::Text)?)?;
-    columns.push(column(alloc, "course", ColKind::Whole)?)?;
-    columns.push(column(alloc, "dept", ColKind::Text)?)?;
-    columns.push(column(alloc, "grade", ColKind::Whole)?)?;
-    let from = List::from_slice(alloc, &[0])?;
-    let to = List::from_slice(alloc, &[0])?;
-    let mut rules = List::new(alloc);
-    rules.push(Rule::Foreign(Foreign { from, table: 0, to }))?;
-    rules.push(key(alloc, &[0, 1])?)?;
-    rules.push(Rule::NotNull(0))?;
-    rules.push(Rule::NotNull(1))?;
-    let name = Txt::of(alloc, "reg")?;
-    Ok(Table {
-        name,
-        columns,
-        rules,
-    })
+fn places(rt: &impl Abort, alloc: Global, places: &[usize]) -> List<usize> {
+    List::from_slice(alloc, places).expect(rt, "memory")
 }
 
-fn students(alloc: Global) -> Result<List<Table>, NoMemory> {
+fn student_rules(rt: &impl Abort, alloc: Global) -> List<Rule> {
+    let mut rules = List::new(alloc);
+    let key = Rule::Key(places(rt, alloc, &[0]));
+    rules.push(key).expect(rt, "memory");
+    rules.push(Rule::NotNull(0)).expect(rt, "memory");
+    rules
+}
+
+fn student(rt: &impl Abort, alloc: Global) -> Table {
+    let named = [("name", ColKind::Text), ("major", ColKind::Text)];
+    Table {
+        name: Txt::of(alloc, "student").expect(rt, "memory"),
+        columns: columns(rt, alloc, &named),
+        rules: student_rules(rt, alloc),
+    }
+}
+
+fn reg_rules(rt: &impl Abort, alloc: Global) -> List<Rule> {
+    let mut rules = List::new(alloc);
+    let student = Foreign {
+        from: places(rt, alloc, &[0]),
+        table: 0,
+        to: places(rt, alloc, &[0]),
+    };
+    rules.push(Rule::Foreign(student)).expect(rt, "memory");
+    let key = Rule::Key(places(rt, alloc, &[0, 1]));
+    rules.push(key).expect(rt, "memory");
+    rules.push(Rule::NotNull(0)).expect(rt, "memory");
+    rules.push(Rule::NotNull(1)).expect(rt, "memory");
+    rules
+}
+
+fn reg(rt: &impl Abort, alloc: Global) -> Table {
+    let named = [
+        ("name", ColKind::Text),
+        ("course", ColKind::Whole),
+        ("dept", ColKind::Text),
+        ("grade", ColKind::Whole),
+    ];
+    Table {
+        name: Txt::of(alloc, "reg").expect(rt, "memory"),
+        columns: columns(rt, alloc, &named),
+        rules: reg_rules(rt, alloc),
+    }
+}
+
+fn students(rt: &impl Abort, alloc: Global) -> List<Table> {
     let mut tables = List::new(alloc);
-    tables.push(student(alloc)?)?;
-    tables.push(reg(alloc)?)?;
-    Ok(tables)
+    tables.push(student(rt, alloc)).expect(rt, "memory");
+    tables.push(reg(rt, alloc)).expect(rt, "memory");
+    tables
 }
 
 // Whether the text says the two tables of the students.
-fn says_students(alloc: Global, text: &str) -> bool {
+fn says_students(alloc: Global, text: &str, wanted: &[Table]) -> bool {
     match read_schema(alloc, text.as_bytes()) {
-        Ok(schema) => match students(alloc) {
-            Ok(wanted) => schema.tables() == wanted.as_slice(),
-            Err(_) => false,
-        },
+        Ok(schema) => schema.tables() == wanted,
         Err(_) => false,
     }
 }
@@ -70,6 +83,7 @@ fn says_students(alloc: Global, text: &str) -> bool {
 // Texts of one schema: with no more words than it takes, and with words that have no effect.
 #[test]
 fn reads_the_students(rt: HostRuntime) {
+    let students = students(&rt, rt.alloc());
     for text in [
         "CREATE TABLE student (name TEXT PRIMARY KEY, major TEXT);
 CREATE TABLE reg (name TEXT REFERENCES student, course INTEGER, dept TEXT, grade INTEGER, PRIMARY KEY (name, course));",
@@ -77,37 +91,43 @@ CREATE TABLE reg (name TEXT REFERENCES student, course INTEGER, dept TEXT, grade
 create table reg (constraint k primary key (name, course), name text constraint k references student (name),
   \"course\" bigint, dept varchar, grade int null) -- the end",
     ] {
-        assert_eq!(rt; says_students(rt.alloc(), text), true, "{text}");
+        assert!(rt;
+            says_students(rt.alloc(), text, students.as_slice()),
+            "{text}"
+        );
     }
 }
 
 // The fault's kind and name, or its place.
-fn told(alloc: Global, read: Result<Schema, SchemaFault>) -> Result<String, SchemaFault> {
-    let text = match read {
-        Ok(schema) => format!(in alloc; "tables {}", schema.tables().len()),
-        Err(SchemaFault::Lex(_)) => format!(in alloc; "lex"),
-        Err(SchemaFault::Syntax(at)) => format!(in alloc; "syntax {at}"),
-        Err(SchemaFault::DuplicateName(name)) => format!(in alloc; "twice {}", name.as_str()),
-        Err(SchemaFault::UnknownName(name)) => format!(in alloc; "unknown {}", name.as_str()),
-        Err(SchemaFault::KeyTypes(name)) => format!(in alloc; "key of {}", name.as_str()),
-        Err(SchemaFault::CheckTypes(name)) => format!(in alloc; "check of {}", name.as_str()),
-        Err(SchemaFault::TooMany(Excess::Tables)) => format!(in alloc; "tables"),
-        Err(SchemaFault::TooMany(Excess::Columns(name))) => {
+fn fault_told(alloc: Global, fault: &SchemaFault) -> Result<String, AllocError> {
+    match fault {
+        SchemaFault::Lex(_) => format!(in alloc; "lex"),
+        SchemaFault::Syntax(at) => format!(in alloc; "syntax {at}"),
+        SchemaFault::DuplicateName(name) => format!(in alloc; "twice {}", name.as_str()),
+        SchemaFault::UnknownName(name) => format!(in alloc; "unknown {}", name.as_str()),
+        SchemaFault::KeyTypes(name) => format!(in alloc; "key of {}", name.as_str()),
+        SchemaFault::CheckTypes(name) => format!(in alloc; "check of {}", name.as_str()),
+        SchemaFault::TooMany(Excess::Tables) => format!(in alloc; "tables"),
+        SchemaFault::TooMany(Excess::Columns(name)) => {
             format!(in alloc; "columns of {}", name.as_str())
         }
-        Err(SchemaFault::TooMany(Excess::Rules(name))) => {
+        SchemaFault::TooMany(Excess::Rules(name)) => {
             format!(in alloc; "rules of {}", name.as_str())
         }
-        Err(SchemaFault::NoMemory) => return Err(SchemaFault::NoMemory),
-    };
-    match text {
-        Ok(text) => Ok(text),
-        Err(_) => Err(SchemaFault::NoMemory),
+        SchemaFault::NoMemory => format!(in alloc; "memory"),
+    }
+}
+
+// How many tables the text has, or its fault.
+fn told(alloc: Global, text: &str) -> Result<String, AllocError> {
+    match read_schema(alloc, text.as_bytes()) {
+        Ok(schema) => format!(in alloc; "tables {}", schema.tables().len()),
+        Err(fault) => fault_told(alloc, &fault),
     }
 }
 
 fn is_told(alloc: Global, text: &str, wanted: &str) -> bool {
-    match told(alloc, read_schema(alloc, text.as_bytes())) {
+    match told(alloc, text) {
         Ok(told) => told.as_str() == wanted,
         Err(_) => false,
     }
@@ -134,25 +154,29 @@ fn tells_faults(rt: HostRuntime) {
         ("CREATE TABLE t (a INT);;", "syntax 23"),
         ("CREATE TABLE \"a", "lex"),
     ] {
-        assert_eq!(rt; is_told(rt.alloc(), text, wanted), true, "{text}");
+        assert!(rt; is_told(rt.alloc(), text, wanted), "{text}");
     }
 }
 
 // The rules of the first table as a text.
-fn rules_told(alloc: Global, schema: &Schema) -> Result<String, AllocError> {
+fn rules_told(alloc: Global, tables: &[Table]) -> Result<String, AllocError> {
     let mut text = String::new(alloc);
-    if let [table, ..] = schema.tables() {
+    if let [table, ..] = tables {
         rules(alloc, &mut text, table.rules.as_slice())?;
     }
     Ok(text)
 }
 
+fn are_in(alloc: Global, tables: &[Table], wanted: &str) -> bool {
+    match rules_told(alloc, tables) {
+        Ok(told) => told.as_str() == wanted,
+        Err(_) => false,
+    }
+}
+
 fn are_told(alloc: Global, text: &str, wanted: &str) -> bool {
     match read_schema(alloc, text.as_bytes()) {
-        Ok(schema) => match rules_told(alloc, &schema) {
-            Ok(told) => told.as_str() == wanted,
-            Err(_) => false,
-        },
+        Ok(schema) => are_in(alloc, schema.tables(), wanted),
         Err(_) => false,
     }
 }
@@ -203,8 +227,15 @@ fn reads_checks(rt: HostRuntime) {
             "[ 0 -> 1]",
         ),
     ] {
-        assert_eq!(rt; are_told(rt.alloc(), text, wanted), true, "{text}");
+        assert!(rt; are_told(rt.alloc(), text, wanted), "{text}");
     }
+}
+
+fn is_syntax_fault(alloc: Global, text: &str) -> bool {
+    matches!(
+        read_schema(alloc, text.as_bytes()),
+        Err(SchemaFault::Syntax(_))
+    )
 }
 
 // Nesting, arithmetic, names of tables, and rules that stand in the wrong place.
@@ -226,11 +257,7 @@ fn tells_what_is_no_check(rt: HostRuntime) {
         "CREATE TABLE t (a INT, DEPENDENCY (a))",
         "CREATE TABLE t (a INT, DEPENDENCY (a) DETERMINES ())",
     ] {
-        let is_syntax = match read_schema(rt.alloc(), text.as_bytes()) {
-            Err(SchemaFault::Syntax(_)) => true,
-            _ => false,
-        };
-        assert_eq!(rt; is_syntax, true, "{text}");
+        assert!(rt; is_syntax_fault(rt.alloc(), text), "{text}");
     }
 }
 
@@ -285,7 +312,7 @@ fn tells_faults_of_checks(rt: HostRuntime) {
             "tables 1",
         ),
     ] {
-        assert_eq!(rt; is_told(rt.alloc(), text, wanted), true, "{text}");
+        assert!(rt; is_told(rt.alloc(), text, wanted), "{text}");
     }
 }
 
@@ -307,11 +334,8 @@ fn checked(alloc: Global, checks: usize) -> Result<String, NoMemory> {
 #[test]
 fn counts_rules(rt: HostRuntime) {
     for (checks, wanted) in [(61, "check of t"), (62, "rules of t")] {
-        let is_right = match checked(rt.alloc(), checks) {
-            Ok(text) => is_told(rt.alloc(), text.as_str(), wanted),
-            Err(_) => false,
-        };
-        assert_eq!(rt; is_right, true, "{checks}");
+        let text = checked(rt.alloc(), checks).expect(&rt, "memory");
+        assert!(rt; is_told(rt.alloc(), text.as_str(), wanted), "{checks}");
     }
 }
 
@@ -329,10 +353,7 @@ fn wide(alloc: Global, columns: usize) -> Result<String, NoMemory> {
 #[test]
 fn counts_columns(rt: HostRuntime) {
     for (columns, wanted) in [(64, "tables 1"), (65, "columns of t")] {
-        let is_right = match wide(rt.alloc(), columns) {
-            Ok(text) => is_told(rt.alloc(), text.as_str(), wanted),
-            Err(_) => false,
-        };
-        assert_eq!(rt; is_right, true, "{columns}");
+        let text = wide(rt.alloc(), columns).expect(&rt, "memory");
+        assert!(rt; is_told(rt.alloc(), text.as_str(), wanted), "{columns}");
     }
 }

@@ -10,17 +10,26 @@ fn lexed(alloc: Global, text: &str) -> Result<List<Token>, ReadFault> {
     }
 }
 
-// Whether the text has three terminals: a name, a reserved word and a number.
-fn is_read(alloc: Global, text: &str) -> Result<bool, ReadFault> {
+fn marked(alloc: Global, text: &str) -> Result<List<Terminal>, ReadFault> {
     let tokens = lexed(alloc, text)?;
-    let terminals = terminals(alloc, tokens.as_slice())?;
-    let (name, rest) = name(alloc, terminals.as_slice())?;
+    terminals(alloc, tokens.as_slice())
+}
+
+// Whether they are three: a name, quoted or not, a reserved word and a number.
+fn are_three(alloc: Global, terminals: &[Terminal], quoted: bool) -> Result<bool, ReadFault> {
+    let (name, rest) = name(alloc, terminals)?;
     Ok(match rest {
         [Terminal::Fixed(Fixed::Select), Terminal::Number(7)] => {
-            name.text.as_str() == "a" && name.quoted == text.starts_with('"')
+            name.text.as_str() == "a" && name.quoted == quoted
         }
         _ => false,
     })
+}
+
+// Whether the text has three terminals: a name, a reserved word and a number.
+fn is_read(alloc: Global, text: &str) -> Result<bool, ReadFault> {
+    let terminals = marked(alloc, text)?;
+    are_three(alloc, terminals.as_slice(), text.starts_with('"'))
 }
 
 #[test]
@@ -32,16 +41,15 @@ fn reads_names_words_and_numbers(rt: HostRuntime) {
         ("a order 7", Err(ReadFault::Syntax(2))),
         ("select a 7", Err(ReadFault::Syntax(3))),
     ] {
-        assert_eq!(rt; is_read(rt.alloc(), text), wanted, "{text}");
+        assert!(rt; is_read(rt.alloc(), text) == wanted, "{text}");
     }
 }
 
 #[test]
 fn tells_places(rt: HostRuntime) {
     let wanted = [5, 4, 2, 0, 5];
-    if let Ok(tokens) = lexed(rt.alloc(), "a b c") {
-        for (left, place) in wanted.iter().enumerate() {
-            assert_eq!(rt; syntax_place(tokens.as_slice(), left), *place);
-        }
+    let tokens = lexed(rt.alloc(), "a b c").expect(&rt, "tokens");
+    for (left, place) in wanted.iter().enumerate() {
+        assert!(rt; syntax_place(tokens.as_slice(), left) == *place);
     }
 }

@@ -1,21 +1,19 @@
 use rt_value::{Boxed, Keep, List, Op, Row, Truth, Txt, Value, compare};
 use std::cmp::Ordering;
-use std::test::Fail;
 
 #[test]
-fn comparison_with_null_is_unknown(rt: HostRuntime) -> Result<(), Fail> {
-    let text = Value::Text(Txt::of(rt.alloc(), "a")?);
+fn comparison_with_null_is_unknown(rt: HostRuntime) {
+    let text = Txt::of(rt.alloc(), "a").expect(&rt, "memory");
     let table = [
         (Value::Null, Value::Null, Op::Eq, Truth::Unknown),
         (Value::Int(1), Value::Null, Op::Ne, Truth::Unknown),
         (Value::Int(-1), Value::Int(1), Op::Lt, Truth::Yes),
         (Value::Int(2), Value::Int(2), Op::Ne, Truth::No),
-        (Value::Int(9), text, Op::Lt, Truth::Yes),
+        (Value::Int(9), Value::Text(text), Op::Lt, Truth::Yes),
     ];
-    for (a, b, op, want) in table {
-        assert!(rt; compare(&a, &b, op) == want);
+    for (a, b, op, want) in &table {
+        assert!(rt; compare(a, b, *op) == *want);
     }
-    Ok(())
 }
 
 #[test]
@@ -31,17 +29,17 @@ fn null_comes_first_and_a_prefix_before_its_row(rt: HostRuntime) {
 }
 
 #[test]
-fn memory_is_granted(rt: HostRuntime) -> Result<(), Fail> {
+fn memory_is_granted(rt: HostRuntime) {
     let mut list = List::new(rt.alloc());
-    list.push(7)?;
-    list.extend(&[8, 9])?;
+    list.push(7).expect(&rt, "memory");
+    list.extend(&[8, 9]).expect(&rt, "memory");
     assert!(rt; list.len() == 3);
-    let boxed = Boxed::new(rt.alloc(), list)?;
+    let boxed = Boxed::new(rt.alloc(), list).expect(&rt, "memory");
     assert!(rt; boxed.get().len() == 3);
-    let mut keep = Keep::all(rt.alloc(), 2, true)?;
+    drop(boxed);
+    let mut keep = Keep::all(rt.alloc(), 2, true).expect(&rt, "memory");
     keep.set(0, false);
-    let more = keep.with(rt.alloc(), true)?;
+    let more = keep.with(rt.alloc(), true).expect(&rt, "memory");
     assert!(rt; more.size() == 2);
     assert!(rt; more.len() == 3);
-    Ok(())
 }

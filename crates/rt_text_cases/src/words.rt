@@ -1,33 +1,46 @@
 use rt_value::{List, Txt};
 use rt_words::{WordFault, Words, read_words};
-use std::alloc::{AllocError, Global};
-use std::test::Fail;
+use std::alloc::Global;
+use std::process::Abort;
 
 // What the words, one after each space, ask for.
-fn read(alloc: Global, line: &str) -> Result<Words, WordFault> {
+fn read(rt: &impl Abort, alloc: Global, line: &str) -> Result<Words, WordFault> {
     let mut words = List::new(alloc);
     for word in line.split(' ') {
-        words.push(Txt::of(alloc, word)?)?;
+        let word = Txt::of(alloc, word).expect(rt, "memory");
+        words.push(word).expect(rt, "memory");
     }
     read_words(alloc, words.as_slice())
 }
 
+fn is_usage_fault(rt: &impl Abort, alloc: Global, line: &str) -> bool {
+    matches!(read(rt, alloc, line), Err(WordFault::Usage))
+}
+
 // The paths, each behind a `|`, and the numbers.
-fn shown(alloc: Global, words: &Words) -> Result<String, AllocError> {
+fn shown(rt: &impl Abort, alloc: Global, words: &Words) -> String {
     let mut text = String::new(alloc);
     for path in words.paths.as_slice() {
-        text.push_str("|")?;
-        text.push_str(path.as_str())?;
+        text.push_str("|").expect(rt, "memory");
+        text.push_str(path.as_str()).expect(rt, "memory");
     }
     let conflicts = words.conflicts.unwrap_or(0);
     let made = words.made.unwrap_or(0);
-    let numbers = format!(in alloc; " {conflicts} {} {made}", words.work_limit)?;
-    text.push_str(numbers.as_str())?;
-    Ok(text)
+    let numbers = format!(in alloc; " {conflicts} {} {made}", words.work_limit);
+    let numbers = numbers.expect(rt, "memory");
+    text.push_str(numbers.as_str()).expect(rt, "memory");
+    text
+}
+
+fn is_read(rt: &impl Abort, alloc: Global, line: &str, want: &str) -> bool {
+    match read(rt, alloc, line) {
+        Ok(words) => shown(rt, alloc, &words).as_str() == want,
+        Err(_) => false,
+    }
 }
 
 #[test]
-fn both_forms_are_read(rt: HostRuntime) -> Result<(), Fail> {
+fn both_forms_are_read(rt: HostRuntime) {
     let commands = [
         ("-- s d q1 q2", "|s|d|q1|q2 0 16000000 0"),
         ("s --work=663 d q1 --conflicts 8 q2", "|s|d|q1|q2 8 663 0"),
@@ -39,16 +52,12 @@ fn both_forms_are_read(rt: HostRuntime) -> Result<(), Fail> {
         ("made 0000000001 --work 0032000000", " 0 32000000 1"),
     ];
     for (line, want) in commands {
-        match read(rt.alloc(), line) {
-            Ok(words) => assert_eq!(rt; shown(rt.alloc(), &words)?.as_str(), want),
-            Err(e) => panic!(rt; "{line}: {e:?}"),
-        }
+        assert!(rt; is_read(&rt, rt.alloc(), line, want), "{line}");
     }
-    Ok(())
 }
 
 #[test]
-fn all_else_is_a_usage_fault(rt: HostRuntime) -> Result<(), Fail> {
+fn all_else_is_a_usage_fault(rt: HostRuntime) {
     let lines = [
         "",
         "s d q1",
@@ -77,11 +86,7 @@ fn all_else_is_a_usage_fault(rt: HostRuntime) -> Result<(), Fail> {
         "s d q1 q2 -work 9",
     ];
     for line in lines {
-        match read(rt.alloc(), line) {
-            Ok(words) => panic!(rt; "{line}: {words:?}"),
-            Err(e) => assert_eq!(rt; e, WordFault::Usage),
-        }
+        assert!(rt; is_usage_fault(&rt, rt.alloc(), line), "{line}");
     }
     assert!(rt; read_words(rt.alloc(), &[]).is_err());
-    Ok(())
 }
