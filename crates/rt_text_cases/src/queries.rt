@@ -36,7 +36,7 @@ fn is_told(alloc: Global, text: &str, wanted: &str) -> bool {
 // Texts of the grammar, what tree they have, and beside each one that has none.
 #[test]
 fn reads_each_rule(rt: HostRuntime) {
-    for (text, wanted, other) in [
+    for (text, wanted, other) in &[
         ("SELECT a FROM t;", "<S a F t>;", "SELECT a FROM t;;"),
         (
             "SELECT x FROM a EXCEPT SELECT x FROM b UNION SELECT x FROM c",
@@ -162,7 +162,7 @@ fn reads_each_rule(rt: HostRuntime) {
 
 #[test]
 fn tells_faults(rt: HostRuntime) {
-    for (text, wanted) in [
+    for (text, wanted) in &[
         ("", "syntax 0"),
         ("SELECT name FROM", "syntax 16"),
         ("SELECT a FROM t WHERE a = 1 2", "syntax 28"),
@@ -222,16 +222,16 @@ fn counts_nesting(rt: HostRuntime) {
     let alloc = rt.alloc();
     let query = "SELECT a FROM t WHERE ";
     let inner = "SELECT a FROM t WHERE a IN (";
-    for (front, open, times, middle, close) in [
+    for (front, open, times, middle, close) in &[
         (query, "(", 64, "a", ")"),
         (query, "NOT ", 8, "a = 1", ""),
         (query, "- ", 8, "a", " > 1"),
         ("", inner, 63, "SELECT a FROM t", ")"),
         ("", "(", 64, "SELECT a FROM t", ")"),
     ] {
-        let read = nested_ends(alloc, front, open, times, middle, close);
+        let read = nested_ends(alloc, front, open, *times, middle, close);
         assert!(rt; read == Some(true), "{open}");
-        let more = nested_ends(alloc, front, open, times + 1, middle, close);
+        let more = nested_ends(alloc, front, open, *times + 1, middle, close);
         assert!(rt; more == Some(false), "{open}");
     }
 }

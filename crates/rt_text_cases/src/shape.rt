@@ -6,6 +6,7 @@ use rt_tree::{
     MeetLink, Mul, Neg, Op, Pick, Primary, Source, Sql, Sum, SumLink,
 };
 use std::alloc::{AllocError, Global};
+use std::fmt::Write;
 
 type Put = Result<(), AllocError>;
 
@@ -33,83 +34,77 @@ fn maybe_alias(out: &mut String, found: &Option<Alias>) -> Put {
 }
 
 #[cycle(sum_shape)]
-fn leaf(alloc: Global, out: &mut String, leaf: &Leaf) -> Put {
+fn leaf(out: &mut String, leaf: &Leaf) -> Put {
     match leaf {
-        Leaf::Number(number) => out.push_str(format!(in alloc; "{number}")?.as_str()),
-        Leaf::Str(text) => {
-            out.push_str("'")?;
-            out.push_str(text.as_str())?;
-            out.push_str("'")
-        }
+        Leaf::Number(number) => write!(out, "{number}"),
+        Leaf::Str(text) => write!(out, "'{}'", text.as_str()),
         Leaf::Null => out.push_str("N"),
         Leaf::Col(Some(table), column) => {
-            name(out, table)?;
-            out.push_str(".")?;
-            name(out, column)
+            write!(out, "{}.{}", table.text.as_str(), column.text.as_str())
         }
         Leaf::Col(None, column) => name(out, column),
         Leaf::Paren(inner) => {
             out.push_str("(")?;
-            sum(alloc, out, inner.get())?;
+            sum(out, inner.get())?;
             out.push_str(")")
         }
     }
 }
 
 #[cycle(sum_shape)]
-fn factor(alloc: Global, out: &mut String, factor: &Factor) -> Put {
+fn factor(out: &mut String, factor: &Factor) -> Put {
     for _ in 0..factor.minuses {
         out.push_str("-")?;
     }
-    leaf(alloc, out, &factor.of)
+    leaf(out, &factor.of)
 }
 
 #[cycle(sum_shape)]
-fn mul(alloc: Global, out: &mut String, mul: &Mul) -> Put {
-    factor(alloc, out, &mul.head)?;
+fn mul(out: &mut String, mul: &Mul) -> Put {
+    factor(out, &mul.head)?;
     for more in mul.tail.as_slice() {
         out.push_str("*")?;
-        factor(alloc, out, more)?;
+        factor(out, more)?;
     }
     Ok(())
 }
 
 #[cycle(sum_shape)]
-fn sum_link(alloc: Global, out: &mut String, link: &SumLink) -> Put {
+fn sum_link(out: &mut String, link: &SumLink) -> Put {
     out.push_str(if link.minus { "-" } else { "+" })?;
-    mul(alloc, out, &link.of)
+    mul(out, &link.of)
 }
 
 #[cycle(sum_shape)]
-fn sum(alloc: Global, out: &mut String, sum: &Sum) -> Put {
-    mul(alloc, out, &sum.head)?;
+fn sum(out: &mut String, sum: &Sum) -> Put {
+    mul(out, &sum.head)?;
     for link in sum.tail.as_slice() {
-        sum_link(alloc, out, link)?;
+        sum_link(out, link)?;
     }
     Ok(())
 }
 
-fn item(alloc: Global, out: &mut String, item: &Item) -> Put {
+fn item(out: &mut String, item: &Item) -> Put {
     match item {
         Item::All(table) => {
             name(out, table)?;
             out.push_str(".*")
         }
         Item::One(one, alias) => {
-            sum(alloc, out, one)?;
+            sum(out, one)?;
             maybe_alias(out, alias)
         }
     }
 }
 
-fn items(alloc: Global, out: &mut String, items: &Items) -> Put {
+fn items(out: &mut String, items: &Items) -> Put {
     match items {
         Items::Star => out.push_str("*"),
         Items::Some(head, tail) => {
-            item(alloc, out, head)?;
+            item(out, head)?;
             for more in tail.as_slice() {
                 out.push_str(",")?;
-                item(alloc, out, more)?;
+                item(out, more)?;
             }
             Ok(())
         }
@@ -127,178 +122,178 @@ fn sign(op: Op) -> &'static str {
     }
 }
 
-#[cycle(chain_shape)]
-fn atom(alloc: Global, out: &mut String, atom: &Atom) -> Put {
-    match atom {
-        Atom::Cmp(left, op, right) => {
-            sum(alloc, out, left)?;
-            out.push_str(sign(*op))?;
-            sum(alloc, out, right)
-        }
-        Atom::IsNull(left, not) => {
-            sum(alloc, out, left)?;
-            flag(out, *not, "!")?;
-            out.push_str("?")
-        }
-        Atom::InChain(left, not, inner) => {
-            sum(alloc, out, left)?;
-            flag(out, *not, "!")?;
-            out.push_str("@")?;
-            chain(alloc, out, inner.get())
-        }
-        Atom::InList(left, not, head, tail) => {
-            sum(alloc, out, left)?;
-            flag(out, *not, "!")?;
-            out.push_str("@[")?;
-            sum(alloc, out, head)?;
-            for more in tail.as_slice() {
-                out.push_str(",")?;
-                sum(alloc, out, more)?;
-            }
-            out.push_str("]")
-        }
-        Atom::Between(left, not, low, high) => {
-            sum(alloc, out, left)?;
-            flag(out, *not, "!")?;
-            out.push_str("~")?;
-            sum(alloc, out, low)?;
-            out.push_str(",")?;
-            sum(alloc, out, high)
-        }
-        Atom::Exists(inner) => {
-            out.push_str("#")?;
-            chain(alloc, out, inner.get())
-        }
-        Atom::Paren(inner) => cond(alloc, out, inner.get()),
-    }
+// A sum, `!` where it says so, and the sign.
+fn start(out: &mut String, left: &Sum, not: bool, sign: &str) -> Put {
+    sum(out, left)?;
+    flag(out, not, "!")?;
+    out.push_str(sign)
 }
 
-#[cycle(chain_shape)]
-fn neg(alloc: Global, out: &mut String, neg: &Neg) -> Put {
-    for _ in 0..neg.nots {
-        out.push_str("!")?;
-    }
-    atom(alloc, out, &neg.atom)
+// Two sums with the sign between them.
+fn pair(out: &mut String, left: &Sum, sign: &str, right: &Sum) -> Put {
+    start(out, left, false, sign)?;
+    sum(out, right)
 }
 
-#[cycle(chain_shape)]
-fn conj(alloc: Global, out: &mut String, conj: &Conj) -> Put {
-    neg(alloc, out, &conj.head)?;
-    for more in conj.tail.as_slice() {
-        out.push_str("&")?;
-        neg(alloc, out, more)?;
+fn sums(out: &mut String, head: &Sum, tail: &[Sum]) -> Put {
+    sum(out, head)?;
+    for more in tail {
+        out.push_str(",")?;
+        sum(out, more)?;
     }
     Ok(())
 }
 
 #[cycle(chain_shape)]
-fn cond(alloc: Global, out: &mut String, cond: &Cond) -> Put {
+fn atom(out: &mut String, atom: &Atom) -> Put {
+    match atom {
+        Atom::Cmp(left, op, right) => pair(out, left, sign(*op), right),
+        Atom::IsNull(left, not) => start(out, left, *not, "?"),
+        Atom::InChain(left, not, inner) => {
+            start(out, left, *not, "@")?;
+            chain(out, inner.get())
+        }
+        Atom::InList(left, not, head, tail) => {
+            start(out, left, *not, "@[")?;
+            sums(out, head, tail.as_slice())?;
+            out.push_str("]")
+        }
+        Atom::Between(left, not, low, high) => {
+            start(out, left, *not, "~")?;
+            pair(out, low, ",", high)
+        }
+        Atom::Exists(inner) => {
+            out.push_str("#")?;
+            chain(out, inner.get())
+        }
+        Atom::Paren(inner) => cond(out, inner.get()),
+    }
+}
+
+#[cycle(chain_shape)]
+fn neg(out: &mut String, neg: &Neg) -> Put {
+    for _ in 0..neg.nots {
+        out.push_str("!")?;
+    }
+    atom(out, &neg.atom)
+}
+
+#[cycle(chain_shape)]
+fn conj(out: &mut String, conj: &Conj) -> Put {
+    neg(out, &conj.head)?;
+    for more in conj.tail.as_slice() {
+        out.push_str("&")?;
+        neg(out, more)?;
+    }
+    Ok(())
+}
+
+#[cycle(chain_shape)]
+fn cond(out: &mut String, cond: &Cond) -> Put {
     out.push_str("{")?;
-    conj(alloc, out, &cond.head)?;
+    conj(out, &cond.head)?;
     for more in cond.tail.as_slice() {
         out.push_str("|")?;
-        conj(alloc, out, more)?;
+        conj(out, more)?;
     }
     out.push_str("}")
 }
 
 #[cycle(chain_shape)]
-fn base(alloc: Global, out: &mut String, base: &Base) -> Put {
+fn base(out: &mut String, base: &Base) -> Put {
     match base {
         Base::Named(table, alias) => {
             name(out, table)?;
             maybe_alias(out, alias)
         }
         Base::Sub(inner, found) => {
-            chain(alloc, out, inner.get())?;
+            chain(out, inner.get())?;
             alias(out, found)
         }
     }
 }
 
 #[cycle(chain_shape)]
-fn join(alloc: Global, out: &mut String, join: &Join) -> Put {
+fn join(out: &mut String, join: &Join) -> Put {
     match join {
         Join::Plain(table, on) => {
             out.push_str("J")?;
-            base(alloc, out, table)?;
-            cond(alloc, out, on)
+            base(out, table)?;
+            cond(out, on)
         }
         Join::Inner(table, on) => {
             out.push_str("N")?;
-            base(alloc, out, table)?;
-            cond(alloc, out, on)
+            base(out, table)?;
+            cond(out, on)
         }
         Join::Cross(table) => {
             out.push_str("X")?;
-            base(alloc, out, table)
+            base(out, table)
         }
     }
 }
 
 #[cycle(chain_shape)]
-fn source(alloc: Global, out: &mut String, source: &Source) -> Put {
-    base(alloc, out, &source.head)?;
+fn source(out: &mut String, source: &Source) -> Put {
+    base(out, &source.head)?;
     for more in source.joins.as_slice() {
-        join(alloc, out, more)?;
+        join(out, more)?;
     }
     Ok(())
 }
 
 #[cycle(chain_shape)]
-fn pick(alloc: Global, out: &mut String, pick: &Pick) -> Put {
-    out.push_str("S")?;
-    flag(out, pick.distinct, "d")?;
-    out.push_str(" ")?;
-    items(alloc, out, &pick.items)?;
+fn pick(out: &mut String, pick: &Pick) -> Put {
+    out.push_str(if pick.distinct { "Sd " } else { "S " })?;
+    items(out, &pick.items)?;
     out.push_str(" F ")?;
-    source(alloc, out, &pick.head)?;
+    source(out, &pick.head)?;
     for more in pick.tail.as_slice() {
         out.push_str(",")?;
-        source(alloc, out, more)?;
+        source(out, more)?;
     }
     match &pick.cond {
-        Some(found) => cond(alloc, out, found),
+        Some(found) => cond(out, found),
         None => Ok(()),
     }
 }
 
 #[cycle(chain_shape)]
-fn primary(alloc: Global, out: &mut String, primary: &Primary) -> Put {
+fn primary(out: &mut String, primary: &Primary) -> Put {
     match primary {
-        Primary::One(one) => pick(alloc, out, one.get()),
-        Primary::Paren(inner) => chain(alloc, out, inner.get()),
+        Primary::One(one) => pick(out, one.get()),
+        Primary::Paren(inner) => chain(out, inner.get()),
     }
 }
 
 #[cycle(chain_shape)]
-fn meet_link(alloc: Global, out: &mut String, link: &MeetLink) -> Put {
+fn meet_link(out: &mut String, link: &MeetLink) -> Put {
     out.push_str(if link.distinct { " Id " } else { " I " })?;
-    primary(alloc, out, &link.of)
+    primary(out, &link.of)
 }
 
 #[cycle(chain_shape)]
-fn meet(alloc: Global, out: &mut String, meet: &Meet) -> Put {
-    primary(alloc, out, &meet.head)?;
+fn meet(out: &mut String, meet: &Meet) -> Put {
+    primary(out, &meet.head)?;
     for link in meet.tail.as_slice() {
-        meet_link(alloc, out, link)?;
+        meet_link(out, link)?;
     }
     Ok(())
 }
 
 #[cycle(chain_shape)]
-fn chain_link(alloc: Global, out: &mut String, link: &ChainLink) -> Put {
+fn chain_link(out: &mut String, link: &ChainLink) -> Put {
     out.push_str(if link.except { " E" } else { " U" })?;
     out.push_str(if link.distinct { "d " } else { " " })?;
-    meet(alloc, out, &link.of)
+    meet(out, &link.of)
 }
 
 #[cycle(chain_shape)]
-fn chain(alloc: Global, out: &mut String, chain: &Chain) -> Put {
+fn chain(out: &mut String, chain: &Chain) -> Put {
     out.push_str("<")?;
-    meet(alloc, out, &chain.head)?;
+    meet(out, &chain.head)?;
     for link in chain.tail.as_slice() {
-        chain_link(alloc, out, link)?;
+        chain_link(out, link)?;
     }
     out.push_str(">")
 }
@@ -306,7 +301,7 @@ fn chain(alloc: Global, out: &mut String, chain: &Chain) -> Put {
 /// The short text of a tree.
 pub fn shape(alloc: Global, sql: &Sql) -> Result<String, AllocError> {
     let mut out = String::new(alloc);
-    chain(alloc, &mut out, &sql.chain)?;
+    chain(&mut out, &sql.chain)?;
     flag(&mut out, sql.semi, ";")?;
     Ok(out)
 }

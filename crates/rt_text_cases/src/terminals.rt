@@ -34,22 +34,21 @@ fn is_read(alloc: Global, text: &str) -> Result<bool, ReadFault> {
 
 #[test]
 fn reads_names_words_and_numbers(rt: HostRuntime) {
-    for (text, wanted) in [
+    for (text, wanted) in &[
         ("A select 7", Ok(true)),
         ("\"a\" SELECT 7", Ok(true)),
         ("\"A\" SELECT 7", Ok(false)),
         ("a order 7", Err(ReadFault::Syntax(2))),
         ("select a 7", Err(ReadFault::Syntax(3))),
     ] {
-        assert!(rt; is_read(rt.alloc(), text) == wanted, "{text}");
+        assert!(rt; is_read(rt.alloc(), text) == *wanted, "{text}");
     }
 }
 
 #[test]
 fn tells_places(rt: HostRuntime) {
-    let wanted = [5, 4, 2, 0, 5];
     let tokens = lexed(rt.alloc(), "a b c").expect(&rt, "tokens");
-    for (left, place) in wanted.iter().enumerate() {
-        assert!(rt; syntax_place(tokens.as_slice(), left) == *place);
+    for (left, place) in &[(0, 5), (1, 4), (2, 2), (3, 0), (4, 5)] {
+        assert!(rt; syntax_place(tokens.as_slice(), *left) == *place);
     }
 }

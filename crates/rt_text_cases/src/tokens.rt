@@ -10,7 +10,7 @@ fn fault_of(alloc: Global, text: &[u8]) -> Option<LexFault> {
 
 #[test]
 fn faults_are_the_leftmost(rt: HostRuntime) {
-    let table = [
+    let table = &[
         ("SELECT 'abc", LexFault::OpenText(7)),
         ("SELECT a/2 FROM t", LexFault::BadByte(8)),
         (
@@ -25,7 +25,7 @@ fn faults_are_the_leftmost(rt: HostRuntime) {
     ];
     for (text, want) in table {
         assert!(rt;
-            fault_of(rt.alloc(), text.as_bytes()) == Some(want),
+            fault_of(rt.alloc(), text.as_bytes()) == Some(*want),
             "{text}"
         );
     }

@@ -1,4 +1,5 @@
-use rt_value::{Boxed, Keep, List, Op, Row, Truth, Txt, Value, compare};
+use rt_value::{Boxed, Keep, List, NoMemory, Op, Row, Truth, Txt, Value, compare};
+use std::alloc::Global;
 use std::cmp::Ordering;
 
 #[test]
@@ -28,18 +29,26 @@ fn null_comes_first_and_a_prefix_before_its_row(rt: HostRuntime) {
     assert!(rt; joined.len() == 3);
 }
 
+// How many items a list of three has, and how many once it is boxed.
+fn lengths(alloc: Global) -> Result<(usize, usize), NoMemory> {
+    let mut list = List::new(alloc);
+    list.push(7)?;
+    list.extend(&[8, 9])?;
+    let len = list.len();
+    let boxed = Boxed::new(alloc, list)?;
+    Ok((len, boxed.get().len()))
+}
+
+// The size and the length of a choice of three, all but one of them kept.
+fn sizes(alloc: Global) -> Result<(usize, usize), NoMemory> {
+    let mut keep = Keep::all(alloc, 2, true)?;
+    keep.set(0, false);
+    let more = keep.with(alloc, true)?;
+    Ok((more.size(), more.len()))
+}
+
 #[test]
 fn memory_is_granted(rt: HostRuntime) {
-    let mut list = List::new(rt.alloc());
-    list.push(7).expect(&rt, "memory");
-    list.extend(&[8, 9]).expect(&rt, "memory");
-    assert!(rt; list.len() == 3);
-    let boxed = Boxed::new(rt.alloc(), list).expect(&rt, "memory");
-    assert!(rt; boxed.get().len() == 3);
-    drop(boxed);
-    let mut keep = Keep::all(rt.alloc(), 2, true).expect(&rt, "memory");
-    keep.set(0, false);
-    let more = keep.with(rt.alloc(), true).expect(&rt, "memory");
-    assert!(rt; more.size() == 2);
-    assert!(rt; more.len() == 3);
+    assert!(rt; lengths(rt.alloc()).expect(&rt, "memory") == (3, 3));
+    assert!(rt; sizes(rt.alloc()).expect(&rt, "memory") == (2, 3));
 }

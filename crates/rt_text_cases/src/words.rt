@@ -41,7 +41,7 @@ fn is_read(rt: &impl Abort, alloc: Global, line: &str, want: &str) -> bool {
 
 #[test]
 fn both_forms_are_read(rt: HostRuntime) {
-    let commands = [
+    let commands = &[
         ("-- s d q1 q2", "|s|d|q1|q2 0 16000000 0"),
         ("s --work=663 d q1 --conflicts 8 q2", "|s|d|q1|q2 8 663 0"),
         ("- d -- --work -x", "|-|d|--work|-x 0 16000000 0"),
@@ -58,7 +58,7 @@ fn both_forms_are_read(rt: HostRuntime) {
 
 #[test]
 fn all_else_is_a_usage_fault(rt: HostRuntime) {
-    let lines = [
+    let lines = &[
         "",
         "s d q1",
         "s d q1 q2 q3",
