@@ -3,7 +3,6 @@ use rt_io::{MemFiles, MemSink};
 use rt_ra_run::{RA_USAGE, RaOutcome, ra_run};
 use rt_value::{List, NoMemory, Txt};
 use std::alloc::Global;
-use std::test::Fail;
 
 mod failing;
 mod refused;
@@ -33,6 +32,21 @@ fn words(alloc: Global, words: &[&str]) -> Result<List<Txt>, NoMemory> {
     Ok(list)
 }
 
+fn hold_all(
+    files: &mut MemFiles,
+    schema: &str,
+    tables: &[(&str, &str)],
+    left: &str,
+    right: &str,
+) -> Result<(), NoMemory> {
+    files.hold("s", schema.as_bytes())?;
+    for (name, rows) in tables {
+        files.hold(name, rows.as_bytes())?;
+    }
+    files.hold("p", left.as_bytes())?;
+    files.hold("q", right.as_bytes())
+}
+
 /// The files of a schema, of tables by the names of their files, and of two texts.
 fn files(
     alloc: Global,
@@ -42,12 +56,7 @@ fn files(
     right: &str,
 ) -> Result<MemFiles, NoMemory> {
     let mut files = MemFiles::new(alloc);
-    files.hold("s", schema.as_bytes())?;
-    for (name, rows) in tables {
-        files.hold(name, rows.as_bytes())?;
-    }
-    files.hold("p", left.as_bytes())?;
-    files.hold("q", right.as_bytes())?;
+    hold_all(&mut files, schema, tables, left, right)?;
     Ok(files)
 }
 
@@ -72,14 +81,25 @@ fn ends(
     err: &str,
 ) -> Result<bool, NoMemory> {
     let command = words(alloc, command)?;
+    Ok(words_end(alloc, files, command.as_slice(), status, out, err))
+}
+
+fn words_end(
+    alloc: Global,
+    files: &mut MemFiles,
+    words: &[Txt],
+    status: u8,
+    out: &str,
+    err: &str,
+) -> bool {
     let (mut to_out, mut to_err) = (MemSink::new(alloc), MemSink::new(alloc));
-    let outcome = ra_run(alloc, command.as_slice(), files, &mut to_out, &mut to_err);
+    let outcome = ra_run(alloc, words, files, &mut to_out, &mut to_err);
     let ended = status_of(outcome);
-    Ok(ended == status && to_out.bytes() == out.as_bytes() && to_err.bytes() == err.as_bytes())
+    ended == status && to_out.bytes() == out.as_bytes() && to_err.bytes() == err.as_bytes()
 }
 
 #[test]
-fn words_and_options(rt: HostRuntime) -> Result<(), Fail> {
+fn words_and_options(rt: HostRuntime) {
     let alloc = rt.alloc();
     let work = "ratest: limit: work 11 is above 10\n";
     let table: [(&[&str], u8, &str, &str); 14] = [
@@ -114,11 +134,10 @@ fn words_and_options(rt: HostRuntime) -> Result<(), Fail> {
         (&["ra", "s", "d", "p", "q", "--work", "10"], 5, "", work),
     ];
     for (command, status, out, err) in table {
-        let mut files = school(alloc, "student", "student;")?;
+        let mut files = school(alloc, "student", "student;").expect(&rt, "memory");
         assert!(rt;
-            ends(alloc, &mut files, command, status, out, err)?,
+            ends(alloc, &mut files, command, status, out, err).expect(&rt, "memory"),
             "{out}{err}"
         );
     }
-    Ok(())
 }

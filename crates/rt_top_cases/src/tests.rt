@@ -3,7 +3,6 @@ use rt_io::{MemFiles, MemSink};
 use rt_top::{Outcome, USAGE, ratest};
 use rt_value::{List, NoMemory, Txt};
 use std::alloc::{AllocError, Global};
-use std::test::Fail;
 
 mod annotated;
 mod checks;
@@ -35,6 +34,21 @@ fn words(alloc: Global, words: &[&str]) -> Result<List<Txt>, NoMemory> {
     Ok(list)
 }
 
+fn hold_all(
+    files: &mut MemFiles,
+    schema: &str,
+    tables: &[(&str, &str)],
+    query1: &str,
+    query2: &str,
+) -> Result<(), NoMemory> {
+    files.hold("s", schema.as_bytes())?;
+    for (name, rows) in tables {
+        files.hold(name, rows.as_bytes())?;
+    }
+    files.hold("p", query1.as_bytes())?;
+    files.hold("q", query2.as_bytes())
+}
+
 /// The files of a command: a schema, tables by the names of their files, and two queries.
 fn files(
     alloc: Global,
@@ -44,12 +58,7 @@ fn files(
     query2: &str,
 ) -> Result<MemFiles, NoMemory> {
     let mut files = MemFiles::new(alloc);
-    files.hold("s", schema.as_bytes())?;
-    for (name, rows) in tables {
-        files.hold(name, rows.as_bytes())?;
-    }
-    files.hold("p", query1.as_bytes())?;
-    files.hold("q", query2.as_bytes())?;
+    hold_all(&mut files, schema, tables, query1, query2)?;
     Ok(files)
 }
 
@@ -70,14 +79,25 @@ fn ends(
     err: &str,
 ) -> Result<bool, NoMemory> {
     let command = words(alloc, command)?;
+    Ok(words_end(alloc, files, command.as_slice(), status, out, err))
+}
+
+fn words_end(
+    alloc: Global,
+    files: &mut MemFiles,
+    words: &[Txt],
+    status: u8,
+    out: &str,
+    err: &str,
+) -> bool {
     let (mut to_out, mut to_err) = (MemSink::new(alloc), MemSink::new(alloc));
-    let outcome = ratest(alloc, command.as_slice(), files, &mut to_out, &mut to_err);
+    let outcome = ratest(alloc, words, files, &mut to_out, &mut to_err);
     let ended = status_of(outcome);
-    Ok(ended == status && to_out.bytes() == out.as_bytes() && to_err.bytes() == err.as_bytes())
+    ended == status && to_out.bytes() == out.as_bytes() && to_err.bytes() == err.as_bytes()
 }
 
 #[test]
-fn words_and_options(rt: HostRuntime) -> Result<(), Fail> {
+fn words_and_options(rt: HostRuntime) {
     let alloc = rt.alloc();
     let work = "ratest: limit: work 28040 is above 28039\n";
     let table: [(&[&str], u8, &str, &str); 15] = [
@@ -113,20 +133,21 @@ fn words_and_options(rt: HostRuntime) -> Result<(), Fail> {
         (&["made", "20", "--work", "28039"], 5, "", work),
     ];
     for (command, status, out, err) in table {
-        let mut files = files(alloc, SCHEMA, &[TABLE], ALL, "SELECT * FROM t WHERE a >= 2")?;
+        let mut files = files(alloc, SCHEMA, &[TABLE], ALL, "SELECT * FROM t WHERE a >= 2").expect(
+            &rt, "memory",
+        );
         assert!(rt;
-            ends(alloc, &mut files, command, status, out, err)?,
+            ends(alloc, &mut files, command, status, out, err).expect(&rt, "memory"),
             "{out}{err}"
         );
     }
-    Ok(())
 }
 
 #[test]
-fn faults_of_files_and_sinks(rt: HostRuntime) -> Result<(), Fail> {
+fn faults_of_files_and_sinks(rt: HostRuntime) {
     let alloc = rt.alloc();
-    let mut failing = files(alloc, SCHEMA, &[TABLE], ALL, LARGE)?;
-    failing.fail_read("d/t.csv", 1)?;
+    let mut failing = files(alloc, SCHEMA, &[TABLE], ALL, LARGE).expect(&rt, "memory");
+    failing.fail_read("d/t.csv", 1).expect(&rt, "memory");
     assert!(rt;
         ends(
             alloc,
@@ -135,10 +156,11 @@ fn faults_of_files_and_sinks(rt: HostRuntime) -> Result<(), Fail> {
             6,
             "",
             "ratest: cannot read table t\n"
-        )?
+        )
+        .expect(&rt, "memory")
     );
-    let mut failing = files(alloc, SCHEMA, &[TABLE], ALL, LARGE)?;
-    failing.fail_begin("p")?;
+    let mut failing = files(alloc, SCHEMA, &[TABLE], ALL, LARGE).expect(&rt, "memory");
+    failing.fail_begin("p").expect(&rt, "memory");
     assert!(rt;
         ends(
             alloc,
@@ -147,17 +169,17 @@ fn faults_of_files_and_sinks(rt: HostRuntime) -> Result<(), Fail> {
             6,
             "",
             "ratest: cannot read query 1\n"
-        )?
+        )
+        .expect(&rt, "memory")
     );
-    let mut files = files(alloc, SCHEMA, &[TABLE], ALL, LARGE)?;
+    let mut files = files(alloc, SCHEMA, &[TABLE], ALL, LARGE).expect(&rt, "memory");
     let (mut out, mut err) = (MemSink::new(alloc), MemSink::new(alloc));
     out.room(10);
-    let command = words(alloc, &FOUR)?;
+    let command = words(alloc, &FOUR).expect(&rt, "memory");
     let outcome = ratest(alloc, command.as_slice(), &mut files, &mut out, &mut err);
     assert!(rt; matches!(outcome, Outcome::WriteFault));
     assert_eq!(rt; out.bytes(), b"witness: 1".as_slice());
     assert_eq!(rt; err.bytes(), b"".as_slice());
-    Ok(())
 }
 
 /// A table with the rows from 1 to `last`.
@@ -171,45 +193,54 @@ fn numbers(alloc: Global, last: u64) -> Result<String, AllocError> {
 }
 
 #[test]
-fn large_tables(rt: HostRuntime) -> Result<(), Fail> {
+fn large_tables(rt: HostRuntime) {
     let alloc = rt.alloc();
     let schema = "CREATE TABLE x (a INTEGER);";
     let (left, right) = (
         "SELECT a FROM x WHERE a > 0",
         "SELECT a FROM x WHERE a >= 1",
     );
-    let rows = numbers(alloc, 2000)?;
-    let mut all = files(alloc, schema, &[("d/x.csv", rows.as_str())], left, right)?;
-    assert!(rt; ends(alloc, &mut all, &FOUR, 0, "agree\n", "")?);
+    let rows = numbers(alloc, 2000).expect(&rt, "memory");
+    let mut all = files(alloc, schema, &[("d/x.csv", rows.as_str())], left, right).expect(
+        &rt, "memory",
+    );
+    assert!(rt; ends(alloc, &mut all, &FOUR, 0, "agree\n", "").expect(&rt, "memory"));
     let one = ["s", "d", "p", "q", "--conflicts", "1"];
-    assert!(rt; ends(alloc, &mut all, &one, 0, "agree\n", "")?);
-    let rows = numbers(alloc, 2001)?;
-    let mut more = files(alloc, schema, &[("d/x.csv", rows.as_str())], left, right)?;
+    assert!(rt; ends(alloc, &mut all, &one, 0, "agree\n", "").expect(&rt, "memory"));
+    let rows = numbers(alloc, 2001).expect(&rt, "memory");
+    let mut more = files(alloc, schema, &[("d/x.csv", rows.as_str())], left, right).expect(
+        &rt, "memory",
+    );
     let limit = "ratest: limit: more than 2000 rows\n";
-    assert!(rt; ends(alloc, &mut more, &FOUR, 5, "", limit)?);
-    Ok(())
+    assert!(rt; ends(alloc, &mut more, &FOUR, 5, "", limit).expect(&rt, "memory"));
 }
 
 #[test]
-fn limits(rt: HostRuntime) -> Result<(), Fail> {
+fn limits(rt: HostRuntime) {
     let alloc = rt.alloc();
     let schema = "CREATE TABLE t (a INTEGER);";
     let six = "SELECT * FROM t a, t b, t c, t d, t e, t f";
-    let rows = numbers(alloc, 16)?;
-    let mut large = files(alloc, schema, &[("d/t.csv", rows.as_str())], six, six)?;
+    let rows = numbers(alloc, 16).expect(&rt, "memory");
+    let mut large = files(alloc, schema, &[("d/t.csv", rows.as_str())], six, six).expect(
+        &rt, "memory",
+    );
     let work = "ratest: limit: work 413689024 is above 16000000\n";
-    assert!(rt; ends(alloc, &mut large, &FOUR, 5, "", work)?);
+    assert!(rt; ends(alloc, &mut large, &FOUR, 5, "", work).expect(&rt, "memory"));
     let three = "SELECT * FROM t a, t b, t c";
-    let rows = numbers(alloc, 400)?;
-    let mut large = files(alloc, schema, &[("d/t.csv", rows.as_str())], three, three)?;
+    let rows = numbers(alloc, 400).expect(&rt, "memory");
+    let mut large = files(alloc, schema, &[("d/t.csv", rows.as_str())], three, three).expect(
+        &rt, "memory",
+    );
     let work = "ratest: limit: work 768642400 is above 16000000\n";
-    assert!(rt; ends(alloc, &mut large, &FOUR, 5, "", work)?);
-    let mut text = String::from_str(alloc, ";")?;
+    assert!(rt; ends(alloc, &mut large, &FOUR, 5, "", work).expect(&rt, "memory"));
+    let mut text = String::from_str(alloc, ";").expect(&rt, "memory");
     for _ in 0..65_536 {
-        text.push_str("                                                                ")?;
+        text.push_str("                                                                ")
+            .expect(&rt, "memory");
     }
-    let mut long = files(alloc, schema, &[("d/t.csv", "a\n")], text.as_str(), three)?;
+    let mut long = files(alloc, schema, &[("d/t.csv", "a\n")], text.as_str(), three).expect(
+        &rt, "memory",
+    );
     let limit = "ratest: limit: query 1 is longer than 4194304 bytes\n";
-    assert!(rt; ends(alloc, &mut long, &FOUR, 5, "", limit)?);
-    Ok(())
+    assert!(rt; ends(alloc, &mut long, &FOUR, 5, "", limit).expect(&rt, "memory"));
 }

@@ -5,7 +5,6 @@ use rt_ra_run::{RaOutcome, ra_run};
 use rt_top::Outcome;
 use rt_value::NoMemory;
 use std::alloc::Global;
-use std::test::Fail;
 
 /// The names of the files, and what a refusal calls each.
 const PARTS: [(&str, &str); 5] = [
@@ -17,19 +16,21 @@ const PARTS: [(&str, &str); 5] = [
 ];
 
 /// Whether the part is named where the first read of its file fails.
-fn is_named(alloc: Global, name: &str, part: &str) -> Result<bool, Fail> {
+fn is_named(alloc: Global, name: &str, part: &str) -> Result<bool, NoMemory> {
     let mut files = school(alloc, "semi(student, reg)", "student")?;
     files.fail_read(name, 1)?;
     let line = format!(in alloc; "ratest: cannot read {part}\n")?;
-    Ok(ends(alloc, &mut files, &FIVE, 6, "", line.as_str())?)
+    ends(alloc, &mut files, &FIVE, 6, "", line.as_str())
 }
 
 #[test]
-fn files_that_fail(rt: HostRuntime) -> Result<(), Fail> {
+fn files_that_fail(rt: HostRuntime) {
     for (name, part) in PARTS {
-        assert!(rt; is_named(rt.alloc(), name, part)?, "{part}");
+        assert!(rt;
+            is_named(rt.alloc(), name, part).expect(&rt, "memory"),
+            "{part}"
+        );
     }
-    Ok(())
 }
 
 /// Whether a sink that takes ten bytes holds just these of the witness.
@@ -47,7 +48,6 @@ fn is_cut(alloc: Global) -> Result<bool, NoMemory> {
 }
 
 #[test]
-fn full_sinks(rt: HostRuntime) -> Result<(), Fail> {
-    assert!(rt; is_cut(rt.alloc())?);
-    Ok(())
+fn full_sinks(rt: HostRuntime) {
+    assert!(rt; is_cut(rt.alloc()).expect(&rt, "memory"));
 }

@@ -1,10 +1,10 @@
 //! The refusals, one line each.
 use super::{FIVE, ends, files, school};
+use rt_value::NoMemory;
 use std::alloc::Global;
-use std::test::Fail;
 
 /// Whether each text, beside `student`, is refused as query 1 with its line.
-fn all_refused(alloc: Global, cases: &[(&str, &str)]) -> Result<bool, Fail> {
+fn all_refused(alloc: Global, cases: &[(&str, &str)]) -> Result<bool, NoMemory> {
     let mut good = true;
     for (text, line) in cases {
         let mut files = school(alloc, text, "student")?;
@@ -15,7 +15,7 @@ fn all_refused(alloc: Global, cases: &[(&str, &str)]) -> Result<bool, Fail> {
 }
 
 #[test]
-fn texts(rt: HostRuntime) -> Result<(), Fail> {
+fn texts(rt: HostRuntime) {
     let nine = "leftjoin(student, leftjoin(student, leftjoin(student, leftjoin(student, \
         leftjoin(student, leftjoin(student, leftjoin(student, leftjoin(student, \
         leftjoin(student, student)))))))))";
@@ -36,12 +36,11 @@ fn texts(rt: HostRuntime) -> Result<(), Fail> {
         ("rename(student, (a))", "numbers of columns differ"),
         ("union(student, reg)", "numbers of columns differ"),
     ];
-    assert!(rt; all_refused(rt.alloc(), &cases)?);
-    Ok(())
+    assert!(rt; all_refused(rt.alloc(), &cases).expect(&rt, "memory"));
 }
 
 #[test]
-fn other_parts(rt: HostRuntime) -> Result<(), Fail> {
+fn other_parts(rt: HostRuntime) {
     let alloc = rt.alloc();
     let cases = [
         ("student", "regs", "ratest: query 2: unknown table: regs\n"),
@@ -58,10 +57,15 @@ fn other_parts(rt: HostRuntime) -> Result<(), Fail> {
         ),
     ];
     for (left, right, err) in cases {
-        let mut files = school(alloc, left, right)?;
-        assert!(rt; ends(alloc, &mut files, &FIVE, 3, "", err)?, "{err}");
+        let mut files = school(alloc, left, right).expect(&rt, "memory");
+        assert!(rt;
+            ends(alloc, &mut files, &FIVE, 3, "", err).expect(&rt, "memory"),
+            "{err}"
+        );
     }
-    let mut files = files(alloc, "CREATE TABLE t (a INTEGER, A TEXT);", &[], "t", "t")?;
+    let mut files = files(alloc, "CREATE TABLE t (a INTEGER, A TEXT);", &[], "t", "t").expect(
+        &rt, "memory",
+    );
     assert!(rt;
         ends(
             alloc,
@@ -70,7 +74,7 @@ fn other_parts(rt: HostRuntime) -> Result<(), Fail> {
             3,
             "",
             "ratest: schema: name twice: a\n"
-        )?
+        )
+        .expect(&rt, "memory")
     );
-    Ok(())
 }

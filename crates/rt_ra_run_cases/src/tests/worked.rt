@@ -2,7 +2,6 @@
 use super::{FIVE, MARY, REG, SCHOOL, STUDENT, ends, files};
 use rt_value::NoMemory;
 use std::alloc::Global;
-use std::test::Fail;
 
 const PAIRS: &str = "CREATE TABLE t (a INTEGER, b INTEGER); CREATE TABLE u (b INTEGER);";
 
@@ -23,7 +22,7 @@ fn all_end(
 }
 
 #[test]
-fn students(rt: HostRuntime) -> Result<(), Fail> {
+fn students(rt: HostRuntime) {
     let cases = [
         ("semi(student, reg)", "student", 1, MARY),
         (
@@ -33,15 +32,13 @@ fn students(rt: HostRuntime) -> Result<(), Fail> {
             "agree\n",
         ),
     ];
-    assert!(rt; all_end(rt.alloc(), SCHOOL, &[STUDENT, REG], &cases)?);
-    Ok(())
+    assert!(rt; all_end(rt.alloc(), SCHOOL, &[STUDENT, REG], &cases).expect(&rt, "memory"));
 }
 
 #[test]
-fn division(rt: HostRuntime) -> Result<(), Fail> {
+fn division(rt: HostRuntime) {
     let tables = [("d/t.csv", "a,b\n1,1\n"), ("d/u.csv", "b\n1\n2\n")];
     let witness = "witness: 2\nt 1: 1, 1\nu 2: 2\nonly query 1: 0\nonly query 2: 1\n  1\nboth: 0\n";
     let cases = [("divide(t, u)", "project(t, (a))", 1, witness)];
-    assert!(rt; all_end(rt.alloc(), PAIRS, &tables, &cases)?);
-    Ok(())
+    assert!(rt; all_end(rt.alloc(), PAIRS, &tables, &cases).expect(&rt, "memory"));
 }

@@ -11,7 +11,6 @@ use rt_io::MemFiles;
 use rt_top::Input;
 use rt_value::{Keep, List, NoMemory, Row, Value};
 use std::alloc::Global;
-use std::test::Fail;
 
 const SCHEMA: &str = "CREATE TABLE t (a INTEGER, b INTEGER); CREATE TABLE u (b INTEGER, c INTEGER)";
 
@@ -115,16 +114,28 @@ pub(super) fn annotated(alloc: Global, input: &Input, dag: &mut Dag) -> Result<A
 /// Whether annotation and evaluation agree on the first query of an input of ten rows.
 fn agree(alloc: Global, input: &Input) -> Result<bool, NoMemory> {
     let mut dag = Dag::new(alloc, input.given().total())?;
-    let ann = annotated(alloc, input, &mut dag)?;
-    let noted = noted(alloc, &ann, input.left().width())?;
-    Ok(noted.len() == ann.len() && agree_everywhere(alloc, input, &dag, noted.as_slice())?)
+    agree_on(alloc, input, &mut dag)
+}
+
+fn agree_on(alloc: Global, input: &Input, dag: &mut Dag) -> Result<bool, NoMemory>
+    requires { dag.old.rows ≡ places input.now.given.tables }
+{
+    let ann = annotated(alloc, input, dag)?;
+    agree_with(alloc, input, dag, &ann)
+}
+
+fn agree_with(alloc: Global, input: &Input, dag: &Dag, ann: &Ann) -> Result<bool, NoMemory> {
+    let noted = noted(alloc, ann, input.left().width())?;
+    Ok(noted.len() == ann.len() && agree_everywhere(alloc, input, dag, noted.as_slice())?)
 }
 
 fn read_and_agree(alloc: Global, files: &mut MemFiles) -> Result<bool, NoMemory> {
-    match input(alloc, files) {
-        Ok(input) => agree(alloc, &input),
-        Err(_) => Ok(false),
-    }
+    let Some(input) = input(alloc, files)? else {
+        return Ok(false);
+    };
+    let found = agree(alloc, &input);
+    drop(input);
+    found
 }
 
 /// Whether they agree on a query over the ten rows.
@@ -142,7 +153,7 @@ fn all_agree(alloc: Global, queries: &[&str]) -> Result<bool, NoMemory> {
 }
 
 #[test]
-fn annotation_and_evaluation_agree(rt: HostRuntime) -> Result<(), Fail> {
+fn annotation_and_evaluation_agree(rt: HostRuntime) {
     let alloc = rt.alloc();
     assert!(rt;
         all_agree(
@@ -169,7 +180,7 @@ fn annotation_and_evaluation_agree(rt: HostRuntime) -> Result<(), Fail> {
                 "SELECT x.a FROM t x WHERE NOT EXISTS (SELECT * FROM u WHERE NOT EXISTS (SELECT * FROM t y WHERE y.a = x.a AND y.b = u.b))",
                 "SELECT d.x FROM (SELECT b + 1 AS x FROM u WHERE c IS NOT NULL) AS d WHERE d.x IN (SELECT a FROM t)",
             ],
-        )?
+        )
+        .expect(&rt, "memory")
     );
-    Ok(())
 }

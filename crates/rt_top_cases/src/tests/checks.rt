@@ -1,13 +1,12 @@
 //! Checks and functional dependencies, in memory.
 use super::worked::all_end;
-use std::test::Fail;
 
 const PAIRS: [(&str, &str); 1] = [("d/g.csv", "k,v\n1,1\n1,2\n")];
 
 const TWICE: &str = "SELECT x.k FROM g x, g y WHERE x.k = y.k AND x.v < y.v";
 
 #[test]
-fn checks_and_dependencies(rt: HostRuntime) -> Result<(), Fail> {
+fn checks_and_dependencies(rt: HostRuntime) {
     let alloc = rt.alloc();
     assert!(rt;
         all_end(
@@ -15,7 +14,8 @@ fn checks_and_dependencies(rt: HostRuntime) -> Result<(), Fail> {
             "CREATE TABLE g (k INTEGER, v INTEGER, DEPENDENCY (k) DETERMINES (v));",
             &PAIRS,
             &[(TWICE, "SELECT k FROM g WHERE k <> k", 0, "agree\n",),],
-        )?
+        )
+        .expect(&rt, "memory")
     );
     assert!(rt;
         all_end(
@@ -28,7 +28,8 @@ fn checks_and_dependencies(rt: HostRuntime) -> Result<(), Fail> {
                 1,
                 "witness: 2\ng 1: 1, 1\ng 2: 1, 2\nonly query 1: 1\n  1\nonly query 2: 0\nboth: 0\n",
             ),],
-        )?
+        )
+        .expect(&rt, "memory")
     );
     assert!(rt;
         all_end(
@@ -41,7 +42,8 @@ fn checks_and_dependencies(rt: HostRuntime) -> Result<(), Fail> {
                 1,
                 "witness: 1\nh 2: NULL, 6\nonly query 1: 1\n  6\nonly query 2: 0\nboth: 0\n",
             ),],
-        )?
+        )
+        .expect(&rt, "memory")
     );
     assert!(rt;
         all_end(
@@ -54,7 +56,7 @@ fn checks_and_dependencies(rt: HostRuntime) -> Result<(), Fail> {
                 0,
                 "agree\n",
             ),],
-        )?
+        )
+        .expect(&rt, "memory")
     );
-    Ok(())
 }

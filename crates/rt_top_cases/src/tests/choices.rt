@@ -20,8 +20,20 @@ pub(super) fn choice(alloc: Global, places: usize, number: usize) -> Result<Keep
     Ok(keep)
 }
 
-/// The input of four files.
-pub(super) fn input(alloc: Global, files: &mut MemFiles) -> Result<Input, Outcome> {
+/// The input of four files, if it is accepted.
+pub(super) fn input(alloc: Global, files: &mut MemFiles) -> Result<Option<Input>, NoMemory> {
     let command = words(alloc, &FOUR)?;
-    read_input(alloc, command.as_slice(), files)
+    let read = read_input(alloc, command.as_slice(), files);
+    Ok(accepted(read))
+}
+
+/// What was read, if it is an input.
+pub(super) fn accepted(read: Result<Input, Outcome>) -> Option<Input> {
+    match read {
+        Ok(input) => Some(input),
+        Err(outcome) => {
+            drop(outcome);
+            None
+        }
+    }
 }

@@ -10,7 +10,6 @@ use rt_schema::lawful;
 use rt_top::{Best, Input, decide};
 use rt_value::{Keep, NoMemory};
 use std::alloc::{AllocError, Global};
-use std::test::Fail;
 
 /// Tables without rules.
 const FREE: &str = "CREATE TABLE u (b INTEGER, c INTEGER); CREATE TABLE t (a INTEGER, b INTEGER)";
@@ -142,10 +141,12 @@ fn agrees(alloc: Global, input: &Input) -> Result<bool, NoMemory> {
 }
 
 fn read_and_agree(alloc: Global, files: &mut MemFiles) -> Result<bool, NoMemory> {
-    match input(alloc, files) {
-        Ok(input) => agrees(alloc, &input),
-        Err(_) => Ok(false),
-    }
+    let Some(input) = input(alloc, files)? else {
+        return Ok(false);
+    };
+    let found = agrees(alloc, &input);
+    drop(input);
+    found
 }
 
 /// Whether search and trial agree on ten seeded inputs.
@@ -176,7 +177,7 @@ fn all_agree(alloc: Global, schema: &str, pairs: &[(&str, &str)]) -> Result<bool
 }
 
 #[test]
-fn search_and_trial_agree(rt: HostRuntime) -> Result<(), Fail> {
+fn search_and_trial_agree(rt: HostRuntime) {
     let alloc = rt.alloc();
     assert!(rt;
         all_agree(
@@ -224,7 +225,8 @@ fn search_and_trial_agree(rt: HostRuntime) -> Result<(), Fail> {
                     "SELECT a FROM t EXCEPT (SELECT b FROM u UNION SELECT c FROM u)",
                 ),
             ],
-        )?
+        )
+        .expect(&rt, "memory")
     );
     assert!(rt;
         all_agree(
@@ -269,7 +271,7 @@ fn search_and_trial_agree(rt: HostRuntime) -> Result<(), Fail> {
                     "SELECT b FROM u EXCEPT SELECT b FROM t WHERE a NOT BETWEEN 0 AND 1",
                 ),
             ],
-        )?
+        )
+        .expect(&rt, "memory")
     );
-    Ok(())
 }

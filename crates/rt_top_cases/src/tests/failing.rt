@@ -6,7 +6,6 @@ use rt_io::{MemFiles, MemSink};
 use rt_top::ratest;
 use rt_value::NoMemory;
 use std::alloc::{AllocError, Global};
-use std::test::Fail;
 
 /// The names of the files, and what a refusal calls each.
 const PARTS: [(&str, &str); 5] = [
@@ -60,14 +59,19 @@ fn is_refusal_cut(alloc: Global) -> Result<bool, NoMemory> {
 }
 
 #[test]
-fn pieces_and_full_sinks(rt: HostRuntime) -> Result<(), Fail> {
-    assert!(rt; is_answered_bytewise(rt.alloc())?);
-    assert!(rt; is_refusal_cut(rt.alloc())?);
+fn pieces_and_full_sinks(rt: HostRuntime) {
+    assert!(rt; is_answered_bytewise(rt.alloc()).expect(&rt, "memory"));
+    assert!(rt; is_refusal_cut(rt.alloc()).expect(&rt, "memory"));
     for room in 0..143usize {
-        assert_eq!(rt; status_with_room(rt.alloc(), room)?, Some(6));
+        assert_eq!(rt;
+            status_with_room(rt.alloc(), room).expect(&rt, "memory"),
+            Some(6)
+        );
     }
-    assert_eq!(rt; status_with_room(rt.alloc(), 143)?, Some(1));
-    Ok(())
+    assert_eq!(rt;
+        status_with_room(rt.alloc(), 143).expect(&rt, "memory"),
+        Some(1)
+    );
 }
 
 /// Whether the part is named where a read of its file fails or, at the read 0, where it can't be begun.
@@ -84,16 +88,15 @@ fn is_named(alloc: Global, name: &str, part: &str, read: u64) -> Result<bool, No
 }
 
 #[test]
-fn files_that_fail(rt: HostRuntime) -> Result<(), Fail> {
+fn files_that_fail(rt: HostRuntime) {
     for (name, part) in PARTS {
         for read in 0..4u64 {
             assert!(rt;
-                is_named(rt.alloc(), name, part, read)?,
+                is_named(rt.alloc(), name, part, read).expect(&rt, "memory"),
                 "{part}, read {read}"
             );
         }
     }
-    Ok(())
 }
 
 /// Whether the row is refused so where a file holds nothing.
@@ -117,18 +120,24 @@ fn status_of_cut(alloc: Global, len: usize) -> Result<u8, NoMemory> {
 }
 
 #[test]
-fn texts_that_are_cut(rt: HostRuntime) -> Result<(), Fail> {
+fn texts_that_are_cut(rt: HostRuntime) {
     let student = "ratest: table student: header differs from the schema\n";
     let reg = "ratest: table reg: header differs from the schema\n";
-    assert!(rt; is_refused_empty(rt.alloc(), "s", "ratest: query 1: unknown table: student\n")?);
-    assert!(rt; is_refused_empty(rt.alloc(), "d/student.csv", student)?);
-    assert!(rt; is_refused_empty(rt.alloc(), "d/reg.csv", reg)?);
+    assert!(rt;
+        is_refused_empty(rt.alloc(), "s", "ratest: query 1: unknown table: student\n").expect(
+            &rt, "memory"
+        )
+    );
+    assert!(rt; is_refused_empty(rt.alloc(), "d/student.csv", student).expect(&rt, "memory"));
+    assert!(rt; is_refused_empty(rt.alloc(), "d/reg.csv", reg).expect(&rt, "memory"));
     for len in 0..ONE.len() {
-        let status = status_of_cut(rt.alloc(), len)?;
+        let status = status_of_cut(rt.alloc(), len).expect(&rt, "memory");
         assert!(rt; status <= 5, "{len} bytes");
-        assert_eq!(rt; status_of_cut(rt.alloc(), len)?, status);
+        assert_eq!(rt;
+            status_of_cut(rt.alloc(), len).expect(&rt, "memory"),
+            status
+        );
     }
-    Ok(())
 }
 
 /// A text behind so many words and before as many others.
@@ -185,11 +194,10 @@ fn negations_end(
 }
 
 #[test]
-fn nests_at_their_limits(rt: HostRuntime) -> Result<(), Fail> {
+fn nests_at_their_limits(rt: HostRuntime) {
     let deep = "ratest: query 1: nested too deep\n";
-    assert!(rt; parentheses_end(rt.alloc(), 64, 0, "agree\n", "")?);
-    assert!(rt; parentheses_end(rt.alloc(), 65, 3, "", deep)?);
-    assert!(rt; negations_end(rt.alloc(), 8, 0, "agree\n", "")?);
-    assert!(rt; negations_end(rt.alloc(), 9, 3, "", deep)?);
-    Ok(())
+    assert!(rt; parentheses_end(rt.alloc(), 64, 0, "agree\n", "").expect(&rt, "memory"));
+    assert!(rt; parentheses_end(rt.alloc(), 65, 3, "", deep).expect(&rt, "memory"));
+    assert!(rt; negations_end(rt.alloc(), 8, 0, "agree\n", "").expect(&rt, "memory"));
+    assert!(rt; negations_end(rt.alloc(), 9, 3, "", deep).expect(&rt, "memory"));
 }

@@ -3,13 +3,12 @@ use super::worked::{LOOSE, REG, STUDENT, all_end};
 use super::{ALL, FOUR, SCHEMA, TABLE, ends, files, numbers, words};
 use rt_io::{MemFiles, MemSink};
 use rt_top::{Outcome, ratest};
-use rt_value::{List, NoMemory};
+use rt_value::{List, NoMemory, Txt};
 use std::alloc::Global;
-use std::test::Fail;
 
 /// Of two smallest witnesses the first in the order of rows is printed.
 #[test]
-fn first_of_two(rt: HostRuntime) -> Result<(), Fail> {
+fn first_of_two(rt: HostRuntime) {
     let alloc = rt.alloc();
     assert!(rt;
         all_end(
@@ -22,7 +21,8 @@ fn first_of_two(rt: HostRuntime) -> Result<(), Fail> {
                 1,
                 "witness: 1\nd 1: 5\nonly query 1: 1\n  5\nonly query 2: 0\nboth: 0\n",
             ),],
-        )?
+        )
+        .expect(&rt, "memory")
     );
     assert!(rt;
         all_end(
@@ -35,7 +35,8 @@ fn first_of_two(rt: HostRuntime) -> Result<(), Fail> {
                 1,
                 "witness: 1\nt 2: 2, 20\nonly query 1: 1\n  2, 20\nonly query 2: 0\nboth: 0\n",
             ),],
-        )?
+        )
+        .expect(&rt, "memory")
     );
     assert!(rt;
         all_end(
@@ -48,24 +49,22 @@ fn first_of_two(rt: HostRuntime) -> Result<(), Fail> {
                 1,
                 "witness: 1\nreg 1: 'Mary', 216, 'CS', 100\nonly query 1: 0\nonly query 2: 1\n  'Mary'\nboth: 0\n",
             ),],
-        )?
+        )
+        .expect(&rt, "memory")
     );
-    Ok(())
 }
 
-/// The places that the smallest witness of a command keeps, and none where there is no witness.
-fn witness(alloc: Global, command: &[&str]) -> Result<List<usize>, NoMemory> {
+/// What these words end with, over no files.
+fn outcome_of(alloc: Global, words: &[Txt]) -> Outcome {
     let mut none = MemFiles::new(alloc);
     let (mut out, mut err) = (MemSink::new(alloc), MemSink::new(alloc));
-    let command = words(alloc, command)?;
+    ratest(alloc, words, &mut none, &mut out, &mut err)
+}
+
+/// The places that a witness keeps, and none of another outcome.
+fn places_of(alloc: Global, outcome: &Outcome) -> Result<List<usize>, NoMemory> {
     let mut places = List::new(alloc);
-    if let Outcome::Witness(keep) = ratest(
-        alloc,
-        command.as_slice(),
-        &mut none,
-        &mut out,
-        &mut err,
-    ) {
+    if let Outcome::Witness(keep) = outcome {
         for (place, kept) in keep.as_slice().iter().enumerate() {
             if *kept {
                 places.push(place)?;
@@ -75,29 +74,36 @@ fn witness(alloc: Global, command: &[&str]) -> Result<List<usize>, NoMemory> {
     Ok(places)
 }
 
+/// The places that the smallest witness of a command keeps, and none where there is no witness.
+fn witness(alloc: Global, command: &[&str]) -> Result<List<usize>, NoMemory> {
+    let command = words(alloc, command)?;
+    let outcome = outcome_of(alloc, command.as_slice());
+    let places = places_of(alloc, &outcome);
+    drop(outcome);
+    places
+}
+
 /// The third student, and the fifth and the sixth registration: all students come first.
 #[test]
-fn first_of_the_generated(rt: HostRuntime) -> Result<(), Fail> {
+fn first_of_the_generated(rt: HostRuntime) {
     let alloc = rt.alloc();
-    let small = witness(alloc, &["made", "20"])?;
-    assert_eq!(rt; small.as_slice(), [2, 24, 25].as_slice());
-    let large = witness(alloc, &["made", "400"])?;
-    assert_eq!(rt; large.as_slice(), [2, 404, 405].as_slice());
-    let again = witness(alloc, &["made", "400"])?;
-    assert_eq!(rt; again.as_slice(), large.as_slice());
-    Ok(())
+    let small = witness(alloc, &["made", "20"]).expect(&rt, "memory");
+    assert!(rt; small.as_slice() == [2, 24, 25].as_slice());
+    let large = witness(alloc, &["made", "400"]).expect(&rt, "memory");
+    assert!(rt; large.as_slice() == [2, 404, 405].as_slice());
+    let again = witness(alloc, &["made", "400"]).expect(&rt, "memory");
+    assert!(rt; again.as_slice() == large.as_slice());
 }
 
 /// Each row is joined with itself; of the thousand smallest witnesses the first row is printed.
 #[test]
-fn first_of_a_thousand(rt: HostRuntime) -> Result<(), Fail> {
+fn first_of_a_thousand(rt: HostRuntime) {
     let alloc = rt.alloc();
     let schema = "CREATE TABLE x (a INTEGER); CREATE TABLE y (a INTEGER);";
     let (left, right) = ("SELECT x.a FROM x, y WHERE x.a = y.a", "SELECT a FROM x");
-    let rows = numbers(alloc, 1000)?;
+    let rows = numbers(alloc, 1000).expect(&rt, "memory");
     let tables = [("d/x.csv", rows.as_str()), ("d/y.csv", rows.as_str())];
-    let mut files = files(alloc, schema, &tables, left, right)?;
+    let mut files = files(alloc, schema, &tables, left, right).expect(&rt, "memory");
     let out = "witness: 1\nx 1: 1\nonly query 1: 0\nonly query 2: 1\n  1\nboth: 0\n";
-    assert!(rt; ends(alloc, &mut files, &FOUR, 1, out, "")?);
-    Ok(())
+    assert!(rt; ends(alloc, &mut files, &FOUR, 1, out, "").expect(&rt, "memory"));
 }

@@ -13,7 +13,6 @@ use rt_io::MemFiles;
 use rt_top::Input;
 use rt_value::{NoMemory, Row, Txt, Value};
 use std::alloc::Global;
-use std::test::Fail;
 
 const PAIR: &str = "CREATE TABLE t (a INTEGER); CREATE TABLE u (b INTEGER);";
 
@@ -47,11 +46,22 @@ fn row_has(
     values: &[(usize, bool)],
 ) -> Result<bool, NoMemory> {
     let mut dag = Dag::new(alloc, input.given().total())?;
-    let ann = annotated(alloc, input, &mut dag)?;
-    match ann.get(row) {
+    match row_node(alloc, input, &mut dag, row)? {
         Some(node) => has_values(alloc, &dag, node, values),
         None => Ok(false),
     }
+}
+
+fn row_node(
+    alloc: Global,
+    input: &Input,
+    dag: &mut Dag,
+    row: &Row,
+) -> Result<Option<Node>, NoMemory>
+    requires { dag.old.rows ≡ places input.now.given.tables }
+{
+    let ann = annotated(alloc, input, dag)?;
+    Ok(ann.get(row))
 }
 
 /// The node that is true where the two queries answer differently.
@@ -81,6 +91,20 @@ fn single(alloc: Global, value: Value) -> Result<Row, NoMemory> {
     Ok(row)
 }
 
+fn file_row_has(
+    alloc: Global,
+    files: &mut MemFiles,
+    row: &Row,
+    values: &[(usize, bool)],
+) -> Result<bool, NoMemory> {
+    let Some(input) = input(alloc, files)? else {
+        return Ok(false);
+    };
+    let found = row_has(alloc, &input, row, values);
+    drop(input);
+    found
+}
+
 /// Whether the first query of these files gives the row of this value with a node of these values.
 fn gives(
     alloc: Global,
@@ -89,10 +113,7 @@ fn gives(
     values: &[(usize, bool)],
 ) -> Result<bool, NoMemory> {
     let row = single(alloc, value)?;
-    match input(alloc, files) {
-        Ok(input) => row_has(alloc, &input, &row, values),
-        Err(_) => Ok(false),
-    }
+    file_row_has(alloc, files, &row, values)
 }
 
 /// Whether the node at which the queries of these files differ has these values.
@@ -101,58 +122,65 @@ fn differs(
     files: &mut MemFiles,
     values: &[(usize, bool)],
 ) -> Result<bool, NoMemory> {
-    match input(alloc, files) {
-        Ok(input) => difference_has(alloc, &input, values),
-        Err(_) => Ok(false),
-    }
+    let Some(input) = input(alloc, files)? else {
+        return Ok(false);
+    };
+    let found = difference_has(alloc, &input, values);
+    drop(input);
+    found
+}
+
+/// Whether a query over these tables gives the row of this value with a node of these values.
+fn query_gives(
+    alloc: Global,
+    schema: &str,
+    tables: &[(&str, &str)],
+    query: &str,
+    value: Value,
+    values: &[(usize, bool)],
+) -> Result<bool, NoMemory> {
+    let mut held = files(alloc, schema, tables, query, query)?;
+    gives(alloc, &mut held, value, values)
+}
+
+/// Whether the node at which two queries over the three sets differ has these values.
+fn sets_differ(
+    alloc: Global,
+    query1: &str,
+    query2: &str,
+    values: &[(usize, bool)],
+) -> Result<bool, NoMemory> {
+    let mut held = files(alloc, ABC, &ONES, query1, query2)?;
+    differs(alloc, &mut held, values)
 }
 
 #[test]
-fn nodes_of_worked_rows(rt: HostRuntime) -> Result<(), Fail> {
+fn nodes_of_worked_rows(rt: HostRuntime) {
     let alloc = rt.alloc();
-    let mut school = files(alloc, SCHOOL, &[STUDENT, REG], ONE, ONE)?;
-    let mary = Value::Text(Txt::of(alloc, "Mary")?);
+    let mary = Value::Text(Txt::of(alloc, "Mary").expect(&rt, "memory"));
     let at = [
         (0b00101, true),
         (0b01001, true),
         (0b01101, false),
         (0b00100, false),
     ];
-    assert!(rt; gives(alloc, &mut school, mary, &at)?);
-    let mut outside = files(alloc, PAIR, &NULLS, NOT_IN, NOT_IN)?;
-    assert!(rt;
-        gives(
-            alloc,
-            &mut outside,
-            Value::Int(1),
-            &[(0b01, true), (0b11, false)]
-        )?
-    );
-    let mut absent = files(alloc, PAIR, &NULLS, NOT_EXISTS, NOT_EXISTS)?;
-    assert!(rt;
-        gives(
-            alloc,
-            &mut absent,
-            Value::Int(1),
-            &[(0b01, true), (0b11, true)]
-        )?
-    );
-    let mut fives = files(
-        alloc,
-        "CREATE TABLE d (a INTEGER);",
-        &[("d/d.csv", "a\n5\n5\n")],
-        "SELECT a FROM d",
-        "SELECT a FROM d",
-    )?;
+    let found = query_gives(alloc, SCHOOL, &[STUDENT, REG], ONE, mary, &at);
+    assert!(rt; found.expect(&rt, "memory"), "the one course of Mary");
+    let at = [(0b01, true), (0b11, false)];
+    let found = query_gives(alloc, PAIR, &NULLS, NOT_IN, Value::Int(1), &at);
+    assert!(rt; found.expect(&rt, "memory"), "NOT IN beside NULL");
+    let at = [(0b01, true), (0b11, true)];
+    let found = query_gives(alloc, PAIR, &NULLS, NOT_EXISTS, Value::Int(1), &at);
+    assert!(rt; found.expect(&rt, "memory"), "NOT EXISTS beside NULL");
     let at = [(0b01, true), (0b10, true), (0b11, true), (0b00, false)];
-    assert!(rt; gives(alloc, &mut fives, Value::Int(5), &at)?);
-    let mut sets = files(
+    let (schema, fives) = ("CREATE TABLE d (a INTEGER);", [("d/d.csv", "a\n5\n5\n")]);
+    let found = query_gives(alloc, schema, &fives, "SELECT a FROM d", Value::Int(5), &at);
+    assert!(rt; found.expect(&rt, "memory"), "two equal rows");
+    let found = sets_differ(
         alloc,
-        ABC,
-        &ONES,
         "SELECT x FROM a EXCEPT SELECT x FROM b UNION SELECT x FROM c",
         "SELECT x FROM a EXCEPT (SELECT x FROM b UNION SELECT x FROM c)",
-    )?;
-    assert!(rt; differs(alloc, &mut sets, &[(0b011, false), (0b100, true)])?);
-    Ok(())
+        &[(0b011, false), (0b100, true)],
+    );
+    assert!(rt; found.expect(&rt, "memory"), "EXCEPT and UNION");
 }

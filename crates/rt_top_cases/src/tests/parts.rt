@@ -3,28 +3,33 @@ use super::{SCHEMA, TABLE, files, words};
 use rt_load::LoadFault;
 use rt_resolve::NameFault;
 use rt_top::{Fault, Outcome, Part, fault_text, read_tables, read_text, read_words, refusal_line};
-use rt_value::{Bytes, List, NoMemory, Txt};
+use rt_value::{Bytes, NoMemory, Txt};
 use std::alloc::Global;
-use std::test::Fail;
 
 /// The work limit that the words name, and none where they are no command.
 fn limit_named(alloc: Global, command: &[&str]) -> Result<Option<u64>, NoMemory> {
     let command = words(alloc, command)?;
     match read_words(alloc, command.as_slice()) {
-        Ok(command) => Ok(Some(command.work_limit)),
-        Err(Outcome::Usage) => Ok(None),
-        Err(_) => Err(NoMemory),
+        Ok(command) => {
+            let limit = command.work_limit;
+            drop(command);
+            Ok(Some(limit))
+        }
+        Err(outcome) => {
+            let is_usage = matches!(outcome, Outcome::Usage);
+            drop(outcome);
+            if is_usage { Ok(None) } else { Err(NoMemory) }
+        }
     }
 }
 
 #[test]
-fn words_of_a_command(rt: HostRuntime) -> Result<(), Fail> {
+fn words_of_a_command(rt: HostRuntime) {
     let alloc = rt.alloc();
-    let four = limit_named(alloc, &["s", "d", "--work=7", "p", "q"])?;
+    let four = limit_named(alloc, &["s", "d", "--work=7", "p", "q"]).expect(&rt, "memory");
     assert_eq!(rt; four, Some(7));
-    let three = limit_named(alloc, &["s", "d", "p"])?;
+    let three = limit_named(alloc, &["s", "d", "p"]).expect(&rt, "memory");
     assert_eq!(rt; three, None);
-    Ok(())
 }
 
 /// The text of a file that begins with a byte order mark, or the line of the fault.
@@ -38,16 +43,15 @@ fn marked_text(alloc: Global, name: &str) -> Result<Bytes, NoMemory> {
 }
 
 #[test]
-fn text_of_a_file(rt: HostRuntime) -> Result<(), Fail> {
+fn text_of_a_file(rt: HostRuntime) {
     let alloc = rt.alloc();
-    let text = marked_text(alloc, "p")?;
+    let text = marked_text(alloc, "p").expect(&rt, "memory");
     assert_eq!(rt; text.as_slice(), b"SELECT".as_slice());
-    let line = marked_text(alloc, "x")?;
+    let line = marked_text(alloc, "x").expect(&rt, "memory");
     assert_eq!(rt;
         line.as_slice(),
         b"ratest: cannot read query 1\n".as_slice()
     );
-    Ok(())
 }
 
 /// How many rows the tables in this folder have, and none where they are refused.
@@ -63,18 +67,17 @@ fn rows_in(alloc: Global, dir: &str) -> Result<Option<usize>, NoMemory> {
 }
 
 #[test]
-fn tables_of_a_folder(rt: HostRuntime) -> Result<(), Fail> {
+fn tables_of_a_folder(rt: HostRuntime) {
     let alloc = rt.alloc();
-    let there = rows_in(alloc, "d")?;
+    let there = rows_in(alloc, "d").expect(&rt, "memory");
     assert_eq!(rt; there, Some(3));
-    let elsewhere = rows_in(alloc, "e")?;
+    let elsewhere = rows_in(alloc, "e").expect(&rt, "memory");
     assert_eq!(rt; elsewhere, None);
-    Ok(())
 }
 
 /// A limit and want of memory have no text among the faults, and a usage no line.
 #[test]
-fn texts_of_faults(rt: HostRuntime) -> Result<(), Fail> {
+fn texts_of_faults(rt: HostRuntime) {
     let alloc = rt.alloc();
     let texts: [(Fault, &str); 3] = [
         (
@@ -85,10 +88,9 @@ fn texts_of_faults(rt: HostRuntime) -> Result<(), Fail> {
         (Fault::Name(NameFault::NoMemory), ""),
     ];
     for (fault, text) in &texts {
-        let told = fault_text(alloc, fault)?;
-        assert_eq!(rt; told.as_slice(), text.as_bytes());
+        let told = fault_text(alloc, fault).expect(&rt, "memory");
+        assert!(rt; told.as_slice() == text.as_bytes(), "{text}");
     }
-    let usage = refusal_line(alloc, &Outcome::Usage, 1)?;
-    assert_eq!(rt; usage.as_slice(), List::new(alloc).as_slice());
-    Ok(())
+    let usage = refusal_line(alloc, &Outcome::Usage, 1).expect(&rt, "memory");
+    assert!(rt; usage.is_empty());
 }

@@ -1,7 +1,7 @@
 //! The refusals, one line each, in memory.
 use super::{ALL, FOUR, SCHEMA, TABLE, ends, files};
+use rt_value::NoMemory;
 use std::alloc::Global;
-use std::test::Fail;
 
 const TWO: &str = "CREATE TABLE student (name TEXT PRIMARY KEY, major TEXT);\n\
     CREATE TABLE reg (name TEXT REFERENCES student, course INTEGER);";
@@ -31,7 +31,7 @@ fn all_refused(
     schema: &str,
     tables: &[(&str, &str)],
     cases: &[(&str, u8, &str)],
-) -> Result<bool, Fail> {
+) -> Result<bool, NoMemory> {
     let mut good = true;
     for (query, status, line) in cases {
         let mut files = files(alloc, schema, tables, query, "SELECT name FROM reg")?;
@@ -42,7 +42,7 @@ fn all_refused(
 }
 
 #[test]
-fn schemas_and_tables(rt: HostRuntime) -> Result<(), Fail> {
+fn schemas_and_tables(rt: HostRuntime) {
     let alloc = rt.alloc();
     assert!(rt;
         all_refused(
@@ -50,7 +50,8 @@ fn schemas_and_tables(rt: HostRuntime) -> Result<(), Fail> {
             "CREATE TABLE t (a INTEGER, A TEXT);",
             &[TABLE],
             &[(ALL, 3, "schema: name twice: a"),],
-        )?
+        )
+        .expect(&rt, "memory")
     );
     assert!(rt;
         all_refused(
@@ -58,7 +59,8 @@ fn schemas_and_tables(rt: HostRuntime) -> Result<(), Fail> {
             "CREATE TABLE t (a INTEGER REFERENCES u);",
             &[TABLE],
             &[(ALL, 3, "schema: unknown name: u"),],
-        )?
+        )
+        .expect(&rt, "memory")
     );
     assert!(rt;
         all_refused(
@@ -66,7 +68,8 @@ fn schemas_and_tables(rt: HostRuntime) -> Result<(), Fail> {
             "CREATE TABLE u (x TEXT PRIMARY KEY); CREATE TABLE t (a INTEGER REFERENCES u);",
             &[TABLE],
             &[(ALL, 3, "schema: foreign key of t does not match"),],
-        )?
+        )
+        .expect(&rt, "memory")
     );
     assert!(rt;
         all_refused(
@@ -74,7 +77,8 @@ fn schemas_and_tables(rt: HostRuntime) -> Result<(), Fail> {
             "CREATE TABLE h (a INTEGER CHECK (a > 'x'));",
             &[("d/h.csv", "a\n")],
             &[(ALL, 3, "schema: check of h does not type"),],
-        )?
+        )
+        .expect(&rt, "memory")
     );
     assert!(rt;
         all_refused(
@@ -82,7 +86,8 @@ fn schemas_and_tables(rt: HostRuntime) -> Result<(), Fail> {
             "CREATE TABLE t (a FLOAT);",
             &[TABLE],
             &[(ALL, 3, "schema: syntax fault near byte 18"),],
-        )?
+        )
+        .expect(&rt, "memory")
     );
     assert!(rt;
         all_refused(
@@ -90,7 +95,8 @@ fn schemas_and_tables(rt: HostRuntime) -> Result<(), Fail> {
             "CREATE TABLE t (a INTEGER) /*",
             &[TABLE],
             &[(ALL, 3, "schema: comment without end from byte 27"),],
-        )?
+        )
+        .expect(&rt, "memory")
     );
     assert!(rt;
         all_refused(
@@ -98,7 +104,8 @@ fn schemas_and_tables(rt: HostRuntime) -> Result<(), Fail> {
             WIDE,
             &[TABLE],
             &[(ALL, 5, "limit: table t has more than 64 columns"),],
-        )?
+        )
+        .expect(&rt, "memory")
     );
     assert!(rt;
         all_refused(
@@ -106,7 +113,8 @@ fn schemas_and_tables(rt: HostRuntime) -> Result<(), Fail> {
             SCHEMA,
             &[("d/t.csv", "a,c\n")],
             &[("(", 3, "table t: header differs from the schema"),],
-        )?
+        )
+        .expect(&rt, "memory")
     );
     assert!(rt;
         all_refused(
@@ -114,7 +122,8 @@ fn schemas_and_tables(rt: HostRuntime) -> Result<(), Fail> {
             SCHEMA,
             &[("d/t.csv", "")],
             &[(ALL, 3, "table t: header differs from the schema"),],
-        )?
+        )
+        .expect(&rt, "memory")
     );
     assert!(rt;
         all_refused(
@@ -122,7 +131,8 @@ fn schemas_and_tables(rt: HostRuntime) -> Result<(), Fail> {
             SCHEMA,
             &[("d/t.csv", "\u{feff}\u{feff}a,b\n")],
             &[(ALL, 3, "table t: header differs from the schema"),],
-        )?
+        )
+        .expect(&rt, "memory")
     );
     assert!(rt;
         all_refused(
@@ -130,7 +140,8 @@ fn schemas_and_tables(rt: HostRuntime) -> Result<(), Fail> {
             SCHEMA,
             &[("d/t.csv", "a,b\n1\n")],
             &[(ALL, 3, "table t: record 2 has another number of fields"),],
-        )?
+        )
+        .expect(&rt, "memory")
     );
     assert!(rt;
         all_refused(
@@ -138,13 +149,13 @@ fn schemas_and_tables(rt: HostRuntime) -> Result<(), Fail> {
             SCHEMA,
             &[("d/t.csv", "a,b\n1,x\n")],
             &[(ALL, 3, "table t: record 2, column 2: not an integer"),],
-        )?
+        )
+        .expect(&rt, "memory")
     );
-    Ok(())
 }
 
 #[test]
-fn queries(rt: HostRuntime) -> Result<(), Fail> {
+fn queries(rt: HostRuntime) {
     let alloc = rt.alloc();
     assert!(rt;
         all_refused(
@@ -172,7 +183,8 @@ fn queries(rt: HostRuntime) -> Result<(), Fail> {
                 ),
                 ("SELECT a FROM", 3, "query 1: syntax fault near byte 13"),
             ],
-        )?
+        )
+        .expect(&rt, "memory")
     );
     assert!(rt;
         all_refused(
@@ -180,7 +192,8 @@ fn queries(rt: HostRuntime) -> Result<(), Fail> {
             "",
             &[],
             &[("SELECT a FROM t", 3, "query 1: unknown table: t"),],
-        )?
+        )
+        .expect(&rt, "memory")
     );
     assert!(rt;
         all_refused(
@@ -223,7 +236,7 @@ fn queries(rt: HostRuntime) -> Result<(), Fail> {
                 ),
                 ("SELECT course FROM reg", 3, "queries: types do not match"),
             ],
-        )?
+        )
+        .expect(&rt, "memory")
     );
-    Ok(())
 }

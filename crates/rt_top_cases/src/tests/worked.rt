@@ -2,7 +2,6 @@
 use super::{ALL, FOUR, LARGE, SCHEMA, TABLE, ends, files};
 use rt_value::NoMemory;
 use std::alloc::Global;
-use std::test::Fail;
 
 pub(super) const SCHOOL: &str = "CREATE TABLE student (name TEXT PRIMARY KEY, major TEXT);\n\
     CREATE TABLE reg (name TEXT REFERENCES student, course INTEGER, dept TEXT, grade INTEGER, PRIMARY KEY (name, course));";
@@ -60,7 +59,7 @@ pub(super) fn all_end(
 }
 
 #[test]
-fn students(rt: HostRuntime) -> Result<(), Fail> {
+fn students(rt: HostRuntime) {
     let alloc = rt.alloc();
     assert!(rt;
         all_end(
@@ -100,7 +99,8 @@ fn students(rt: HostRuntime) -> Result<(), Fail> {
                     "agree\n",
                 ),
             ],
-        )?
+        )
+        .expect(&rt, "memory")
     );
     assert!(rt;
         all_end(
@@ -113,7 +113,8 @@ fn students(rt: HostRuntime) -> Result<(), Fail> {
                 1,
                 "witness: 1\nreg 2: 'Mary', 230, 'CS', 75\nonly query 1: 1\n  'Mary'\nonly query 2: 0\nboth: 0\n",
             ),],
-        )?
+        )
+        .expect(&rt, "memory")
     );
     assert!(rt;
         all_end(
@@ -124,13 +125,13 @@ fn students(rt: HostRuntime) -> Result<(), Fail> {
                 ("d/reg.csv", "name,course,dept,grade\n")
             ],
             &[(ONE, SOME, 0, "agree\n",),],
-        )?
+        )
+        .expect(&rt, "memory")
     );
-    Ok(())
 }
 
 #[test]
-fn rules_and_nulls(rt: HostRuntime) -> Result<(), Fail> {
+fn rules_and_nulls(rt: HostRuntime) {
     let alloc = rt.alloc();
     assert!(rt;
         all_end(
@@ -143,7 +144,8 @@ fn rules_and_nulls(rt: HostRuntime) -> Result<(), Fail> {
                 1,
                 "witness: 2\nt 1: 1\nu 1: NULL\nonly query 1: 0\nonly query 2: 1\n  1\nboth: 0\n",
             ),],
-        )?
+        )
+        .expect(&rt, "memory")
     );
     assert!(rt;
         all_end(
@@ -156,7 +158,8 @@ fn rules_and_nulls(rt: HostRuntime) -> Result<(), Fail> {
                 0,
                 "agree\n",
             ),],
-        )?
+        )
+        .expect(&rt, "memory")
     );
     assert!(rt;
         all_end(
@@ -169,7 +172,8 @@ fn rules_and_nulls(rt: HostRuntime) -> Result<(), Fail> {
                 0,
                 "agree\n",
             ),],
-        )?
+        )
+        .expect(&rt, "memory")
     );
     assert!(rt;
         all_end(
@@ -182,7 +186,8 @@ fn rules_and_nulls(rt: HostRuntime) -> Result<(), Fail> {
                 1,
                 "witness: 2\nemp 1: 1, 2\nemp 2: 2, 1\nonly query 1: 2\n  1\n  2\nonly query 2: 0\nboth: 0\n",
             ),],
-        )?
+        )
+        .expect(&rt, "memory")
     );
     assert!(rt;
         all_end(
@@ -195,7 +200,8 @@ fn rules_and_nulls(rt: HostRuntime) -> Result<(), Fail> {
                 1,
                 "witness: 1\nemp 1: 1, NULL\nonly query 1: 1\n  1\nonly query 2: 0\nboth: 0\n",
             ),],
-        )?
+        )
+        .expect(&rt, "memory")
     );
     assert!(rt;
         all_end(
@@ -208,7 +214,8 @@ fn rules_and_nulls(rt: HostRuntime) -> Result<(), Fail> {
                 1,
                 "witness: 1\nn 2: 7, NULL\nonly query 1: 1\n  NULL\nonly query 2: 0\nboth: 0\n",
             ),],
-        )?
+        )
+        .expect(&rt, "memory")
     );
     assert!(rt;
         all_end(
@@ -221,7 +228,8 @@ fn rules_and_nulls(rt: HostRuntime) -> Result<(), Fail> {
                 0,
                 "agree\n",
             ),],
-        )?
+        )
+        .expect(&rt, "memory")
     );
     assert!(rt;
         all_end(
@@ -234,13 +242,13 @@ fn rules_and_nulls(rt: HostRuntime) -> Result<(), Fail> {
                 1,
                 "witness: 1\nw 1: -9223372036854775808\nonly query 1: 1\n  85070591730234615865843651857942052865\nonly query 2: 1\n  85070591730234615865843651857942052864\nboth: 0\n",
             ),],
-        )?
+        )
+        .expect(&rt, "memory")
     );
-    Ok(())
 }
 
 #[test]
-fn sets_and_files(rt: HostRuntime) -> Result<(), Fail> {
+fn sets_and_files(rt: HostRuntime) {
     let alloc = rt.alloc();
     assert!(rt;
         all_end(
@@ -262,7 +270,8 @@ fn sets_and_files(rt: HostRuntime) -> Result<(), Fail> {
                 ),
                 (MEET, MEETS, 0, "agree\n",),
             ],
-        )?
+        )
+        .expect(&rt, "memory")
     );
     assert!(rt;
         all_end(
@@ -278,7 +287,8 @@ fn sets_and_files(rt: HostRuntime) -> Result<(), Fail> {
                     "witness: 1\nt 2: 2, 20\nonly query 1: 1\n  2, 20\nonly query 2: 0\nboth: 0\n",
                 ),
             ],
-        )?
+        )
+        .expect(&rt, "memory")
     );
     assert!(rt;
         all_end(
@@ -286,7 +296,8 @@ fn sets_and_files(rt: HostRuntime) -> Result<(), Fail> {
             SCHEMA,
             &[("d/t.csv", "a,b\n")],
             &[(ALL, LARGE, 0, "agree\n",),],
-        )?
+        )
+        .expect(&rt, "memory")
     );
     assert!(rt;
         all_end(
@@ -299,7 +310,8 @@ fn sets_and_files(rt: HostRuntime) -> Result<(), Fail> {
                 1,
                 "witness: 1\nt 1: 1, 2\nonly query 1: 1\n  1, 2\nonly query 2: 0\nboth: 0\n",
             ),],
-        )?
+        )
+        .expect(&rt, "memory")
     );
     assert!(rt;
         all_end(
@@ -312,7 +324,8 @@ fn sets_and_files(rt: HostRuntime) -> Result<(), Fail> {
                 1,
                 "witness: 2\np 1: 1, 2\np 2: 2, NULL\nonly query 1: 1\n  1, 2\nonly query 2: 0\nboth: 1\n  2, NULL\n",
             ),],
-        )?
+        )
+        .expect(&rt, "memory")
     );
     assert!(rt;
         all_end(
@@ -325,7 +338,8 @@ fn sets_and_files(rt: HostRuntime) -> Result<(), Fail> {
                 0,
                 "agree\n",
             ),],
-        )?
+        )
+        .expect(&rt, "memory")
     );
     assert!(rt;
         all_end(
@@ -338,25 +352,26 @@ fn sets_and_files(rt: HostRuntime) -> Result<(), Fail> {
                 1,
                 "witness: 1\np 2: 1, NULL\nonly query 1: 1\n  1, NULL\nonly query 2: 0\nboth: 0\n",
             ),],
-        )?
+        )
+        .expect(&rt, "memory")
     );
-    Ok(())
 }
 
 /// The work of the first row is 663; one clause is learned where the queries meet.
 #[test]
-fn limits_of_the_command(rt: HostRuntime) -> Result<(), Fail> {
+fn limits_of_the_command(rt: HostRuntime) {
     let alloc = rt.alloc();
-    let mut school = files(alloc, SCHOOL, &[STUDENT, REG], ONE, SOME)?;
+    let mut school = files(alloc, SCHOOL, &[STUDENT, REG], ONE, SOME).expect(&rt, "memory");
     let within = ["s", "d", "p", "q", "--work", "663"];
-    assert!(rt; ends(alloc, &mut school, &within, 1, MARY, "")?);
+    assert!(rt; ends(alloc, &mut school, &within, 1, MARY, "").expect(&rt, "memory"));
     let below = ["--work=662", "s", "d", "p", "q"];
     let limit = "ratest: limit: work 663 is above 662\n";
-    assert!(rt; ends(alloc, &mut school, &below, 5, "", limit)?);
-    let mut sets = files(alloc, ABC, &ONES, MEET, MEETS)?;
+    assert!(rt; ends(alloc, &mut school, &below, 5, "", limit).expect(&rt, "memory"));
+    let mut sets = files(alloc, ABC, &ONES, MEET, MEETS).expect(&rt, "memory");
     let enough = ["s", "d", "p", "q", "--conflicts", "8"];
-    assert!(rt; ends(alloc, &mut sets, &enough, 0, "agree\n", "")?);
+    assert!(rt; ends(alloc, &mut sets, &enough, 0, "agree\n", "").expect(&rt, "memory"));
     let one = ["s", "d", "p", "q", "--conflicts", "1"];
-    assert!(rt; ends(alloc, &mut sets, &one, 4, "undecided: 1 conflicts\n", "")?);
-    Ok(())
+    assert!(rt;
+        ends(alloc, &mut sets, &one, 4, "undecided: 1 conflicts\n", "").expect(&rt, "memory")
+    );
 }
