@@ -2,7 +2,6 @@
 use crate::held::{BOTH, SECOND, checked, written};
 use rt_value::{Bytes, List, NoMemory};
 use std::alloc::Global;
-use std::test::Fail;
 
 /// The text with this in the place of each line that begins so.
 fn changed(alloc: Global, text: &[u8], head: &[u8], with: &[u8]) -> Result<Bytes, NoMemory> {
@@ -26,7 +25,7 @@ fn lines_in(text: &[u8]) -> usize {
 }
 
 #[test]
-fn changed_claims(rt: HostRuntime) -> Result<(), Fail> {
+fn changed_claims(rt: HostRuntime) {
     let alloc = rt.alloc();
     let table: [(&str, &str); 5] = [
         ("keep 2\n", "answers are the same"),
@@ -35,56 +34,57 @@ fn changed_claims(rt: HostRuntime) -> Result<(), Fail> {
         ("keep 0\n", "answers are the same"),
         ("keep 1\n", ""),
     ];
-    let text = written(alloc, &SECOND)?;
+    let text = written(alloc, &SECOND).expect(&rt, "memory");
     for (keep, why) in table {
-        let other = changed(alloc, text.as_slice(), b"keep", keep.as_bytes())?;
-        let told = checked(alloc, other.as_slice(), &SECOND)?;
+        let other = changed(alloc, text.as_slice(), b"keep", keep.as_bytes()).expect(&rt, "memory");
+        let told = checked(alloc, other.as_slice(), &SECOND).expect(&rt, "memory");
         if why.is_empty() {
             assert!(rt; told.is(0, "valid: witness 1\n", ""));
         } else {
-            let line = format!(in alloc; "ratest: certificate: rejected: {why}\n")?;
+            let line = format!(in alloc; "ratest: certificate: rejected: {why}\n").expect(
+                &rt, "memory",
+            );
             assert!(rt; told.is(8, "", line.as_str()), "{why}");
         }
     }
-    Ok(())
 }
 
 /// A row that refers to another one is not lawful alone.
 #[test]
-fn a_row_alone(rt: HostRuntime) -> Result<(), Fail> {
+fn a_row_alone(rt: HostRuntime) {
     let alloc = rt.alloc();
     let text = b"ratest certificate 1\nverdict witness 1\nkeep 3\nadded 0\nend\n";
-    let told = checked(alloc, text, &BOTH)?;
+    let told = checked(alloc, text, &BOTH).expect(&rt, "memory");
     assert!(rt; told.is(8, "", "ratest: certificate: rejected: not lawful\n"));
-    Ok(())
 }
 
 #[test]
-fn changed_steps(rt: HostRuntime) -> Result<(), Fail> {
+fn changed_steps(rt: HostRuntime) {
     let alloc = rt.alloc();
-    let text = written(alloc, &SECOND)?;
-    let none = changed(alloc, text.as_slice(), b"d ", b"")?;
-    let told = checked(alloc, none.as_slice(), &SECOND)?;
+    let text = written(alloc, &SECOND).expect(&rt, "memory");
+    let none = changed(alloc, text.as_slice(), b"d ", b"").expect(&rt, "memory");
+    let told = checked(alloc, none.as_slice(), &SECOND).expect(&rt, "memory");
     assert!(rt; told.is(8, "", "ratest: certificate: rejected: no refutation\n"));
     // Behind the steps that refute, one whose hint is no line, and one that follows from nothing.
     for step in ["d ; 4611686018427387903\nend\n", "d +9 ;\nend\n"] {
         let steps = lines_in(text.as_slice()).saturating_sub(lines_in(none.as_slice()));
-        let more = changed(alloc, text.as_slice(), b"end", step.as_bytes())?;
-        let told = checked(alloc, more.as_slice(), &SECOND)?;
+        let more = changed(alloc, text.as_slice(), b"end", step.as_bytes()).expect(&rt, "memory");
+        let told = checked(alloc, more.as_slice(), &SECOND).expect(&rt, "memory");
         let at = steps.saturating_add(1);
-        let line = format!(in alloc; "ratest: certificate: rejected: line {at}\n")?;
+        let line = format!(in alloc; "ratest: certificate: rejected: line {at}\n").expect(
+            &rt, "memory",
+        );
         assert!(rt; told.is(8, "", line.as_str()), "{step}");
     }
-    Ok(())
 }
 
 /// The number of lines of the encoding is told, where the certificate has another.
 #[test]
-fn another_number_of_lines(rt: HostRuntime) -> Result<(), Fail> {
+fn another_number_of_lines(rt: HostRuntime) {
     let alloc = rt.alloc();
-    let text = written(alloc, &SECOND)?;
-    let other = changed(alloc, text.as_slice(), b"added", b"added 0\n")?;
-    let told = checked(alloc, other.as_slice(), &SECOND)?;
+    let text = written(alloc, &SECOND).expect(&rt, "memory");
+    let other = changed(alloc, text.as_slice(), b"added", b"added 0\n").expect(&rt, "memory");
+    let told = checked(alloc, other.as_slice(), &SECOND).expect(&rt, "memory");
     assert_eq!(rt; told.status, 8u8);
     assert!(rt; told.out.as_slice().is_empty());
     assert!(rt;
@@ -92,17 +92,18 @@ fn another_number_of_lines(rt: HostRuntime) -> Result<(), Fail> {
             .as_slice()
             .starts_with(b"ratest: certificate: rejected: added ")
     );
-    Ok(())
 }
 
 #[test]
-fn texts_that_are_no_certificate(rt: HostRuntime) -> Result<(), Fail> {
+fn texts_that_are_no_certificate(rt: HostRuntime) {
     let alloc = rt.alloc();
-    let text = written(alloc, &SECOND)?;
-    let short = changed(alloc, text.as_slice(), b"end", b"")?;
-    let told = checked(alloc, short.as_slice(), &SECOND)?;
+    let text = written(alloc, &SECOND).expect(&rt, "memory");
+    let short = changed(alloc, text.as_slice(), b"end", b"").expect(&rt, "memory");
+    let told = checked(alloc, short.as_slice(), &SECOND).expect(&rt, "memory");
     let at = lines_in(text.as_slice());
-    let line = format!(in alloc; "ratest: certificate: malformed at line {at}\n")?;
+    let line = format!(in alloc; "ratest: certificate: malformed at line {at}\n").expect(
+        &rt, "memory",
+    );
     assert!(rt; told.is(3, "", line.as_str()));
     let table: [(&[u8], &str); 4] = [
         (b"", "ratest: certificate: malformed at line 1\n"),
@@ -120,20 +121,18 @@ fn texts_that_are_no_certificate(rt: HostRuntime) -> Result<(), Fail> {
         ),
     ];
     for (text, err) in table {
-        let told = checked(alloc, text, &SECOND)?;
+        let told = checked(alloc, text, &SECOND).expect(&rt, "memory");
         assert!(rt; told.is(3, "", err), "{err}");
     }
-    Ok(())
 }
 
 /// A byte order mark at the start is none of the text.
 #[test]
-fn a_mark_before_a_certificate(rt: HostRuntime) -> Result<(), Fail> {
+fn a_mark_before_a_certificate(rt: HostRuntime) {
     let alloc = rt.alloc();
-    let text = written(alloc, &SECOND)?;
-    let mut marked = List::from_slice(alloc, b"\xEF\xBB\xBF")?;
-    marked.extend(text.as_slice())?;
-    let told = checked(alloc, marked.as_slice(), &SECOND)?;
+    let text = written(alloc, &SECOND).expect(&rt, "memory");
+    let mut marked = List::from_slice(alloc, b"\xEF\xBB\xBF").expect(&rt, "memory");
+    marked.extend(text.as_slice()).expect(&rt, "memory");
+    let told = checked(alloc, marked.as_slice(), &SECOND).expect(&rt, "memory");
     assert!(rt; told.is(0, "valid: witness 1\n", ""));
-    Ok(())
 }

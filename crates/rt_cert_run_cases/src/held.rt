@@ -60,12 +60,17 @@ pub(crate) const SAME: [&str; 4] = ["school", "d", "left.sql", "right.sql"];
 /// Those of an input whose smallest counterexample has two rows, one of which refers to the other.
 pub(crate) const BOTH: [&str; 4] = ["school", "d", "cs.sql", "best.sql"];
 
-/// Schemas, their tables and queries.
-pub(crate) fn files(alloc: Global) -> Result<MemFiles, NoMemory> {
-    let mut files = MemFiles::new(alloc);
+fn hold_all(files: &mut MemFiles) -> Result<(), NoMemory> {
     for (name, text) in FILES {
         files.hold(name, text.as_bytes())?;
     }
+    Ok(())
+}
+
+/// Schemas, their tables and queries.
+pub(crate) fn files(alloc: Global) -> Result<MemFiles, NoMemory> {
+    let mut files = MemFiles::new(alloc);
+    hold_all(&mut files)?;
     Ok(files)
 }
 
@@ -111,13 +116,20 @@ pub(crate) fn run_on(
     args: &[&str],
 ) -> Result<Ended, NoMemory> {
     let words = list_of(alloc, head, args)?;
+    run_words(alloc, files, words.as_slice())
+}
+
+fn run_words(alloc: Global, files: &mut MemFiles, words: &[Txt]) -> Result<Ended, NoMemory> {
     let (mut out, mut err) = (MemSink::new(alloc), MemSink::new(alloc));
-    let outcome = cert_run(alloc, words.as_slice(), files, &mut out, &mut err);
-    let status = status_of(outcome);
+    let outcome = cert_run(alloc, words, files, &mut out, &mut err);
+    told(alloc, status_of(outcome), out.bytes(), err.bytes())
+}
+
+fn told(alloc: Global, status: u8, out: &[u8], err: &[u8]) -> Result<Ended, NoMemory> {
     Ok(Ended {
         status,
-        out: List::from_slice(alloc, out.bytes())?,
-        err: List::from_slice(alloc, err.bytes())?,
+        out: List::from_slice(alloc, out)?,
+        err: List::from_slice(alloc, err)?,
     })
 }
 

@@ -4,12 +4,11 @@ use rt_cert_run::{CERT_USAGE, cert_run};
 use rt_io::{MemFiles, MemSink};
 use rt_value::{List, NoMemory, Txt};
 use std::alloc::Global;
-use std::test::Fail;
 
 const NONE: &[u8] = b"ratest certificate 1\nverdict agree\nadded 0\nend\n";
 
 #[test]
-fn words_and_inputs(rt: HostRuntime) -> Result<(), Fail> {
+fn words_and_inputs(rt: HostRuntime) {
     let alloc = rt.alloc();
     let work = "ratest: limit: work 36 is above 35\n";
     let table: [(&[&str], u8, &str, &str); 12] = [
@@ -59,12 +58,11 @@ fn words_and_inputs(rt: HostRuntime) -> Result<(), Fail> {
         ),
     ];
     for (words, status, out, err) in table {
-        let mut files = files(alloc)?;
-        files.hold("cert", NONE)?;
-        let told = run_on(alloc, &mut files, words, &[])?;
+        let mut files = files(alloc).expect(&rt, "memory");
+        files.hold("cert", NONE).expect(&rt, "memory");
+        let told = run_on(alloc, &mut files, words, &[]).expect(&rt, "memory");
         assert!(rt; told.is(status, out, err), "{out}{err}");
     }
-    Ok(())
 }
 
 /// A certificate of 2^26 + 1 bytes, one more than it may have.
@@ -81,33 +79,33 @@ fn long_certificate(alloc: Global) -> Result<MemFiles, NoMemory> {
 }
 
 #[test]
-fn a_long_certificate(rt: HostRuntime) -> Result<(), Fail> {
+fn a_long_certificate(rt: HostRuntime) {
     let alloc = rt.alloc();
     let line = "ratest: limit: certificate is longer than 67108864 bytes\n";
-    let mut long = long_certificate(alloc)?;
-    let told = run_on(alloc, &mut long, &["check", "cert"], &SECOND)?;
+    let mut long = long_certificate(alloc).expect(&rt, "memory");
+    let told = run_on(alloc, &mut long, &["check", "cert"], &SECOND).expect(&rt, "memory");
     assert!(rt; told.is(5, "", line));
-    Ok(())
 }
 
 #[test]
-fn files_and_sinks_that_fail(rt: HostRuntime) -> Result<(), Fail> {
+fn files_and_sinks_that_fail(rt: HostRuntime) {
     let alloc = rt.alloc();
-    let mut failing = files(alloc)?;
-    failing.hold("cert", NONE)?;
-    failing.fail_read("cert", 1)?;
-    let told = run_on(alloc, &mut failing, &["check", "cert"], &SECOND)?;
+    let mut failing = files(alloc).expect(&rt, "memory");
+    failing.hold("cert", NONE).expect(&rt, "memory");
+    failing.fail_read("cert", 1).expect(&rt, "memory");
+    let told = run_on(alloc, &mut failing, &["check", "cert"], &SECOND).expect(&rt, "memory");
     assert!(rt; told.is(6, "", "ratest: cannot read certificate\n"));
     let mut words: List<Txt> = List::new(alloc);
     for word in ["prove", "made", "3"] {
-        words.push(Txt::of(alloc, word)?)?;
+        words
+            .push(Txt::of(alloc, word).expect(&rt, "memory"))
+            .expect(&rt, "memory");
     }
-    let mut files = files(alloc)?;
+    let mut files = files(alloc).expect(&rt, "memory");
     let (mut out, mut err) = (MemSink::new(alloc), MemSink::new(alloc));
     out.room(10);
     let outcome = cert_run(alloc, words.as_slice(), &mut files, &mut out, &mut err);
     assert_eq!(rt; status_of(outcome), 6u8);
     assert!(rt; out.bytes() == b"ratest cer".as_slice());
     assert!(rt; err.bytes().is_empty());
-    Ok(())
 }

@@ -1,11 +1,10 @@
 //! Certificates that are written, and their check.
 use crate::held::{BOTH, SAME, SECOND, checked, files, run_on, written};
-use std::test::Fail;
 
 const TWENTY: [&str; 2] = ["made", "20"];
 
 #[test]
-fn certificates_that_are_written(rt: HostRuntime) -> Result<(), Fail> {
+fn certificates_that_are_written(rt: HostRuntime) {
     let alloc = rt.alloc();
     let table: [(&[&str], &str); 3] = [
         (
@@ -19,19 +18,18 @@ fn certificates_that_are_written(rt: HostRuntime) -> Result<(), Fail> {
         (&SAME, "ratest certificate 1\nverdict agree\nadded "),
     ];
     for (args, head) in table {
-        let mut files = files(alloc)?;
-        let told = run_on(alloc, &mut files, &["prove"], args)?;
+        let mut files = files(alloc).expect(&rt, "memory");
+        let told = run_on(alloc, &mut files, &["prove"], args).expect(&rt, "memory");
         let text = told.out.as_slice();
         assert_eq!(rt; told.status, 0u8);
         assert!(rt; told.err.as_slice().is_empty());
         assert!(rt; text.starts_with(head.as_bytes()), "{head}");
         assert!(rt; text.ends_with(b"\nend\n"));
     }
-    Ok(())
 }
 
 #[test]
-fn certificates_that_are_accepted(rt: HostRuntime) -> Result<(), Fail> {
+fn certificates_that_are_accepted(rt: HostRuntime) {
     let alloc = rt.alloc();
     let table: [(&[&str], &str); 4] = [
         (&SECOND, "valid: witness 1\n"),
@@ -40,19 +38,18 @@ fn certificates_that_are_accepted(rt: HostRuntime) -> Result<(), Fail> {
         (&TWENTY, "valid: witness 3\n"),
     ];
     for (args, out) in table {
-        let text = written(alloc, args)?;
-        let told = checked(alloc, text.as_slice(), args)?;
+        let text = written(alloc, args).expect(&rt, "memory");
+        let told = checked(alloc, text.as_slice(), args).expect(&rt, "memory");
         assert!(rt; told.is(0, out, ""), "{out}");
     }
-    Ok(())
 }
 
 /// A certificate has the same text at each run, and of whatever options.
 #[test]
-fn the_same_text_again(rt: HostRuntime) -> Result<(), Fail> {
+fn the_same_text_again(rt: HostRuntime) {
     let alloc = rt.alloc();
-    let first = written(alloc, &SECOND)?;
-    let second = written(alloc, &SECOND)?;
+    let first = written(alloc, &SECOND).expect(&rt, "memory");
+    let second = written(alloc, &SECOND).expect(&rt, "memory");
     let more: [&str; 6] = [
         "--work=9000",
         "--conflicts=8",
@@ -61,8 +58,7 @@ fn the_same_text_again(rt: HostRuntime) -> Result<(), Fail> {
         "above1.sql",
         "above2.sql",
     ];
-    let third = written(alloc, &more)?;
+    let third = written(alloc, &more).expect(&rt, "memory");
     assert!(rt; first.as_slice() == second.as_slice());
     assert!(rt; first.as_slice() == third.as_slice());
-    Ok(())
 }
