@@ -5,7 +5,6 @@ use rt_search::Best;
 use rt_top::{Input, read_input};
 use rt_value::{List, NoMemory, Row, Txt};
 use std::alloc::Global;
-use std::test::Fail;
 
 const SCHEMA: &str = "CREATE TABLE student (name TEXT PRIMARY KEY, major TEXT);\n\
     CREATE TABLE reg (name TEXT REFERENCES student, course INTEGER, dept TEXT, grade INTEGER, PRIMARY KEY (name, course));";
@@ -24,11 +23,16 @@ const FILES: [(&str, &str); 5] = [
     ),
 ];
 
-fn held(alloc: Global) -> Result<MemFiles, NoMemory> {
-    let mut files = MemFiles::new(alloc);
+fn hold_all(files: &mut MemFiles) -> Result<(), NoMemory> {
     for (name, text) in FILES {
         files.hold(name, text.as_bytes())?;
     }
+    Ok(())
+}
+
+fn held(alloc: Global) -> Result<MemFiles, NoMemory> {
+    let mut files = MemFiles::new(alloc);
+    hold_all(&mut files)?;
     Ok(files)
 }
 
@@ -85,13 +89,12 @@ fn least_of(alloc: Global, text: &str) -> Result<Option<List<usize>>, NoMemory> 
 /// Mary is in the first answer alone where her second registration alone is kept, and John where
 /// no row of his tells the two queries apart.
 #[test]
-fn mary_and_john(rt: HostRuntime) -> Result<(), Fail> {
-    let mary = least_of(rt.alloc(), "'Mary'")?;
+fn mary_and_john(rt: HostRuntime) {
+    let mary = least_of(rt.alloc(), "'Mary'").expect(&rt, "memory");
     match mary {
         Some(places) => assert_eq!(rt; places.as_slice(), [0, 3].as_slice()),
         None => assert!(rt; false, "there is such a choice"),
     }
-    let john = least_of(rt.alloc(), "'John'")?;
+    let john = least_of(rt.alloc(), "'John'").expect(&rt, "memory");
     assert!(rt; john.is_none());
-    Ok(())
 }
