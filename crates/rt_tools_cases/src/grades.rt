@@ -3,7 +3,6 @@ use rt_io::MemFiles;
 use rt_tools::USAGE;
 use rt_value::NoMemory;
 use std::alloc::Global;
-use std::test::Fail;
 
 const WORDS: [&str; 5] = ["grade", "s", "d", "a.sql", "list"];
 
@@ -18,7 +17,7 @@ fn with_list(alloc: Global, list: &[u8]) -> Result<MemFiles, NoMemory> {
 }
 
 #[test]
-fn lists_of_candidates(rt: HostRuntime) -> Result<(), Fail> {
+fn lists_of_candidates(rt: HostRuntime) {
     let alloc = rt.alloc();
     let table: [(&[u8], u8, &str, &str); 6] = [
         (b"b.sql\na.sql\nc.sql\n", 0, THREE, ""),
@@ -29,17 +28,16 @@ fn lists_of_candidates(rt: HostRuntime) -> Result<(), Fail> {
         (b"a.sql\n\xFF", 3, "", "ratest: list: not UTF-8 at byte 6\n"),
     ];
     for (list, status, out, err) in table {
-        let mut files = with_list(alloc, list)?;
+        let mut files = with_list(alloc, list).expect(&rt, "memory");
         assert!(rt;
-            ends(alloc, &mut files, &WORDS, status, out, err)?,
+            ends(alloc, &mut files, &WORDS, status, out, err).expect(&rt, "memory"),
             "{out}{err}"
         );
     }
-    Ok(())
 }
 
 #[test]
-fn words_of_a_list(rt: HostRuntime) -> Result<(), Fail> {
+fn words_of_a_list(rt: HostRuntime) {
     let alloc = rt.alloc();
     let work = "b.sql: work 54\na.sql: work 45\nc.sql: refused: unknown column: foo\ngraded: 3\n";
     let table: [(&[&str], u8, &str, &str); 7] = [
@@ -67,13 +65,12 @@ fn words_of_a_list(rt: HostRuntime) -> Result<(), Fail> {
         ),
     ];
     for (words, status, out, err) in table {
-        let mut files = with_list(alloc, b"b.sql\na.sql\nc.sql\n")?;
+        let mut files = with_list(alloc, b"b.sql\na.sql\nc.sql\n").expect(&rt, "memory");
         assert!(rt;
-            ends(alloc, &mut files, words, status, out, err)?,
+            ends(alloc, &mut files, words, status, out, err).expect(&rt, "memory"),
             "{out}{err}"
         );
     }
-    Ok(())
 }
 
 /// `b.sql` in another spelling.
@@ -84,15 +81,20 @@ const AGAIN: &str =
 const EACH: &str = "SELECT r.name FROM reg r WHERE r.dept = 'CS' AND r.grade > 70";
 
 #[test]
-fn spellings_of_a_query(rt: HostRuntime) -> Result<(), Fail> {
+fn spellings_of_a_query(rt: HostRuntime) {
     let alloc = rt.alloc();
-    let mut files = with_list(alloc, b"b.sql\neach.sql\nagain.sql\neach.sql\n")?;
-    files.hold("again.sql", AGAIN.as_bytes())?;
-    files.hold("each.sql", EACH.as_bytes())?;
+    let mut files = with_list(alloc, b"b.sql\neach.sql\nagain.sql\neach.sql\n").expect(
+        &rt, "memory",
+    );
+    files
+        .hold("again.sql", AGAIN.as_bytes())
+        .expect(&rt, "memory");
+    files
+        .hold("each.sql", EACH.as_bytes())
+        .expect(&rt, "memory");
     let out =
         "b.sql: witness 2\neach.sql: agree\nagain.sql: witness 2\neach.sql: agree\ngraded: 4\n";
-    assert!(rt; ends(alloc, &mut files, &WORDS, 0, out, "")?);
-    Ok(())
+    assert!(rt; ends(alloc, &mut files, &WORDS, 0, out, "").expect(&rt, "memory"));
 }
 
 /// A list with so many lines of one byte.
@@ -105,13 +107,12 @@ fn short_lines(alloc: Global, lines: usize) -> Result<MemFiles, NoMemory> {
 }
 
 #[test]
-fn long_lists(rt: HostRuntime) -> Result<(), Fail> {
+fn long_lists(rt: HostRuntime) {
     let alloc = rt.alloc();
-    let mut many = short_lines(alloc, 257)?;
+    let mut many = short_lines(alloc, 257).expect(&rt, "memory");
     let paths = "ratest: limit: more than 256 paths\n";
-    assert!(rt; ends(alloc, &mut many, &WORDS, 5, "", paths)?);
-    let mut long = short_lines(alloc, 2_097_153)?;
+    assert!(rt; ends(alloc, &mut many, &WORDS, 5, "", paths).expect(&rt, "memory"));
+    let mut long = short_lines(alloc, 2_097_153).expect(&rt, "memory");
     let bytes = "ratest: limit: list is longer than 4194304 bytes\n";
-    assert!(rt; ends(alloc, &mut long, &WORDS, 5, "", bytes)?);
-    Ok(())
+    assert!(rt; ends(alloc, &mut long, &WORDS, 5, "", bytes).expect(&rt, "memory"));
 }

@@ -22,12 +22,17 @@ const FILES: [(&str, &str); 6] = [
     ("c.sql", "SELECT foo FROM reg"),
 ];
 
-/// A schema, two tables, two queries and a text that is no query of the schema.
-pub(crate) fn files(alloc: Global) -> Result<MemFiles, NoMemory> {
-    let mut files = MemFiles::new(alloc);
+fn hold_all(files: &mut MemFiles) -> Result<(), NoMemory> {
     for (name, text) in FILES {
         files.hold(name, text.as_bytes())?;
     }
+    Ok(())
+}
+
+/// A schema, two tables, two queries and a text that is no query of the schema.
+pub(crate) fn files(alloc: Global) -> Result<MemFiles, NoMemory> {
+    let mut files = MemFiles::new(alloc);
+    hold_all(&mut files)?;
     Ok(files)
 }
 
@@ -56,8 +61,19 @@ pub(crate) fn ends(
     err: &str,
 ) -> Result<bool, NoMemory> {
     let words = list_of(alloc, words)?;
+    Ok(words_end(alloc, files, words.as_slice(), status, out, err))
+}
+
+fn words_end(
+    alloc: Global,
+    files: &mut MemFiles,
+    words: &[Txt],
+    status: u8,
+    out: &str,
+    err: &str,
+) -> bool {
     let (mut to_out, mut to_err) = (MemSink::new(alloc), MemSink::new(alloc));
-    let outcome = tool_run(alloc, words.as_slice(), files, &mut to_out, &mut to_err);
+    let outcome = tool_run(alloc, words, files, &mut to_out, &mut to_err);
     let ended = status_of(outcome);
-    Ok(ended == status && to_out.bytes() == out.as_bytes() && to_err.bytes() == err.as_bytes())
+    ended == status && to_out.bytes() == out.as_bytes() && to_err.bytes() == err.as_bytes()
 }

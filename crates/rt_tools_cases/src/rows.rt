@@ -1,13 +1,12 @@
 use crate::held::{ends, files};
 use rt_tools::USAGE;
-use std::test::Fail;
 
 const MARY: &str = "witness: 2\nstudent 1: 'Mary', 'CS'\nreg 2: 'Mary', 230, 'CS', 75\n\
     only query 1: 1\n  'Mary'\nonly query 2: 0\nboth: 0\n";
 
 /// One named row of the first query, whose answers on all rows are Mary and John.
 #[test]
-fn one_named_row(rt: HostRuntime) -> Result<(), Fail> {
+fn one_named_row(rt: HostRuntime) {
     let alloc = rt.alloc();
     let table: [(&str, u8, &str, &str); 7] = [
         ("'Mary'", 1, MARY, ""),
@@ -29,15 +28,17 @@ fn one_named_row(rt: HostRuntime) -> Result<(), Fail> {
         ),
     ];
     for (row, status, out, err) in table {
-        let mut files = files(alloc)?;
+        let mut files = files(alloc).expect(&rt, "memory");
         let words = ["row", row, "s", "d", "a.sql", "b.sql"];
-        assert!(rt; ends(alloc, &mut files, &words, status, out, err)?, "{row}");
+        assert!(rt;
+            ends(alloc, &mut files, &words, status, out, err).expect(&rt, "memory"),
+            "{row}"
+        );
     }
-    Ok(())
 }
 
 #[test]
-fn words_of_a_row(rt: HostRuntime) -> Result<(), Fail> {
+fn words_of_a_row(rt: HostRuntime) {
     let alloc = rt.alloc();
     let made = "witness: 3\nstudent 3: 3\nreg 5: 3, 3, 'CS'\nreg 6: 3, 6, 'CS'\n\
         only query 1: 1\n  3\nonly query 2: 0\nboth: 0\n";
@@ -52,22 +53,20 @@ fn words_of_a_row(rt: HostRuntime) -> Result<(), Fail> {
         (&["row", "3", "made", "3", "--work", "737"], 5, "", work),
     ];
     for (words, status, out, err) in table {
-        let mut files = files(alloc)?;
+        let mut files = files(alloc).expect(&rt, "memory");
         assert!(rt;
-            ends(alloc, &mut files, words, status, out, err)?,
+            ends(alloc, &mut files, words, status, out, err).expect(&rt, "memory"),
             "{out}{err}"
         );
     }
-    Ok(())
 }
 
 #[test]
-fn files_of_a_row_that_fail(rt: HostRuntime) -> Result<(), Fail> {
+fn files_of_a_row_that_fail(rt: HostRuntime) {
     let alloc = rt.alloc();
-    let mut failing = files(alloc)?;
-    failing.fail_begin("b.sql")?;
+    let mut failing = files(alloc).expect(&rt, "memory");
+    failing.fail_begin("b.sql").expect(&rt, "memory");
     let words = ["row", "'Mary'", "s", "d", "a.sql", "b.sql"];
     let line = "ratest: cannot read query 2\n";
-    assert!(rt; ends(alloc, &mut failing, &words, 6, "", line)?);
-    Ok(())
+    assert!(rt; ends(alloc, &mut failing, &words, 6, "", line).expect(&rt, "memory"));
 }
