@@ -143,43 +143,43 @@ fn words_and_options(rt: HostRuntime) {
     }
 }
 
-#[test]
-fn faults_of_files_and_sinks(rt: HostRuntime) {
-    let alloc = rt.alloc();
-    let mut failing = files(alloc, SCHEMA, &[TABLE], ALL, LARGE).expect(&rt, "memory");
-    failing.fail_read("d/t.csv", 1).expect(&rt, "memory");
-    assert!(rt;
-        ends(
-            alloc,
-            &mut failing,
-            &FOUR,
-            6,
-            "",
-            "ratest: cannot read table t\n"
-        )
-        .expect(&rt, "memory")
-    );
-    let mut failing = files(alloc, SCHEMA, &[TABLE], ALL, LARGE).expect(&rt, "memory");
-    failing.fail_begin("p").expect(&rt, "memory");
-    assert!(rt;
-        ends(
-            alloc,
-            &mut failing,
-            &FOUR,
-            6,
-            "",
-            "ratest: cannot read query 1\n"
-        )
-        .expect(&rt, "memory")
-    );
-    let mut files = files(alloc, SCHEMA, &[TABLE], ALL, LARGE).expect(&rt, "memory");
+/// Whether a table is named whose file fails at its first read.
+fn is_read_fault(alloc: Global) -> Result<bool, NoMemory> {
+    let mut failing = files(alloc, SCHEMA, &[TABLE], ALL, LARGE)?;
+    failing.fail_read("d/t.csv", 1)?;
+    let line = "ratest: cannot read table t\n";
+    ends(alloc, &mut failing, &FOUR, 6, "", line)
+}
+
+/// Whether a query is named whose file can't be begun.
+fn is_begin_fault(alloc: Global) -> Result<bool, NoMemory> {
+    let mut failing = files(alloc, SCHEMA, &[TABLE], ALL, LARGE)?;
+    failing.fail_begin("p")?;
+    let line = "ratest: cannot read query 1\n";
+    ends(alloc, &mut failing, &FOUR, 6, "", line)
+}
+
+/// Whether the text is cut, and the outcome a fault of writing, where its sink takes ten bytes.
+fn is_write_fault(alloc: Global, words: &[Txt], files: &mut MemFiles) -> bool {
     let (mut out, mut err) = (MemSink::new(alloc), MemSink::new(alloc));
     out.room(10);
-    let command = words(alloc, &FOUR).expect(&rt, "memory");
-    let outcome = ratest(alloc, command.as_slice(), &mut files, &mut out, &mut err);
-    assert!(rt; matches!(outcome, Outcome::WriteFault));
-    assert_eq!(rt; out.bytes(), b"witness: 1".as_slice());
-    assert_eq!(rt; err.bytes(), b"".as_slice());
+    let outcome = ratest(alloc, words, files, &mut out, &mut err);
+    let is_fault = matches!(outcome, Outcome::WriteFault);
+    drop(outcome);
+    is_fault && out.bytes() == b"witness: 1".as_slice() && err.bytes().is_empty()
+}
+
+fn is_cut(alloc: Global) -> Result<bool, NoMemory> {
+    let mut files = files(alloc, SCHEMA, &[TABLE], ALL, LARGE)?;
+    let command = words(alloc, &FOUR)?;
+    Ok(is_write_fault(alloc, command.as_slice(), &mut files))
+}
+
+#[test]
+fn faults_of_files_and_sinks(rt: HostRuntime) {
+    assert!(rt; is_read_fault(rt.alloc()).expect(&rt, "memory"));
+    assert!(rt; is_begin_fault(rt.alloc()).expect(&rt, "memory"));
+    assert!(rt; is_cut(rt.alloc()).expect(&rt, "memory"));
 }
 
 /// A table with the rows from 1 to `last`.

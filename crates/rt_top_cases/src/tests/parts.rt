@@ -2,7 +2,9 @@
 use super::{SCHEMA, TABLE, files, words};
 use rt_load::LoadFault;
 use rt_resolve::NameFault;
-use rt_top::{Fault, Outcome, Part, fault_text, read_tables, read_text, read_words, refusal_line};
+use rt_top::{
+    Fault, Outcome, Part, Tables, fault_text, read_tables, read_text, read_words, refusal_line,
+};
 use rt_value::{Bytes, NoMemory, Txt};
 use std::alloc::Global;
 
@@ -54,16 +56,27 @@ fn text_of_a_file(rt: HostRuntime) {
     );
 }
 
+fn rows_or_none(read: Result<Tables, Outcome>) -> Result<Option<usize>, NoMemory> {
+    match read {
+        Ok(tables) => {
+            let rows = tables.given.total();
+            drop(tables);
+            Ok(Some(rows))
+        }
+        Err(outcome) => {
+            let is_unread = matches!(outcome, Outcome::ReadFault(Part::Table(0, _)));
+            drop(outcome);
+            if is_unread { Ok(None) } else { Err(NoMemory) }
+        }
+    }
+}
+
 /// How many rows the tables in this folder have, and none where they are refused.
 fn rows_in(alloc: Global, dir: &str) -> Result<Option<usize>, NoMemory> {
     let mut held = files(alloc, SCHEMA, &[TABLE], "", "")?;
     let schema = Txt::of(alloc, "s")?;
     let dir = Txt::of(alloc, dir)?;
-    match read_tables(alloc, &schema, &dir, &mut held) {
-        Ok(tables) => Ok(Some(tables.given.total())),
-        Err(Outcome::ReadFault(Part::Table(0, _))) => Ok(None),
-        Err(_) => Err(NoMemory),
-    }
+    rows_or_none(read_tables(alloc, &schema, &dir, &mut held))
 }
 
 #[test]
