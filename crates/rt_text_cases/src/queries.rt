@@ -194,12 +194,12 @@ fn nested(
     Ok(text)
 }
 
-// Whether it is nested no deeper than may be, or nothing where memory is wanting.
+// Whether it is read, or else nested too deep; nothing where another fault is told.
 fn ends(alloc: Global, text: &str) -> Option<bool> {
     match parsed(alloc, text) {
-        Err(SqlFault::NoMemory) => None,
+        Ok(_) => Some(true),
         Err(SqlFault::TooDeep) => Some(false),
-        _ => Some(true),
+        Err(_) => None,
     }
 }
 
@@ -223,9 +223,9 @@ fn counts_nesting(rt: HostRuntime) {
     let query = "SELECT a FROM t WHERE ";
     let inner = "SELECT a FROM t WHERE a IN (";
     for (front, open, times, middle, close) in &[
-        (query, "(", 64, "a", ")"),
+        (query, "(", 64, "a = 1", ")"),
         (query, "NOT ", 8, "a = 1", ""),
-        (query, "- ", 8, "a", " > 1"),
+        (query, "- ", 8, "a > 1", ""),
         ("", inner, 63, "SELECT a FROM t", ")"),
         ("", "(", 64, "SELECT a FROM t", ")"),
     ] {
