@@ -100,13 +100,20 @@ fn words_end(
 fn words_and_options(rt: HostRuntime) {
     let alloc = rt.alloc();
     let work = "ratest: limit: work 28040 is above 28039\n";
-    let table: [(&[&str], u8, &str, &str); 15] = [
+    let table: [(&[&str], u8, &str, &str); 18] = [
         (&[], 2, "", USAGE),
         (&["s", "d", "p", "q", "q"], 2, "", USAGE),
         (&["made", "0"], 2, "", USAGE),
         (&["made", "401"], 2, "", USAGE),
+        (&["made", "x"], 2, "", USAGE),
         (&["made", "20", "21"], 2, "", USAGE),
         (&["s", "d", "p", "q", "--conflicts", "0"], 2, "", USAGE),
+        (
+            &["s", "d", "p", "q", "--work", "9", "--work", "9"],
+            2,
+            "",
+            USAGE,
+        ),
         (
             &["s", "d", "p", "-"],
             6,
@@ -122,6 +129,7 @@ fn words_and_options(rt: HostRuntime) {
             "made 3\nrows 15\nwitness: 3\n",
             "",
         ),
+        (&["made", "3"], 1, "made 3\nrows 15\nwitness: 3\n", ""),
         (&["made", "20"], 1, "made 20\nrows 100\nwitness: 3\n", ""),
         (
             &["made", "20", "--conflicts", "262144"],
@@ -207,6 +215,9 @@ fn large_tables(rt: HostRuntime) {
     assert!(rt; ends(alloc, &mut all, &FOUR, 0, "agree\n", "").expect(&rt, "memory"));
     let one = ["s", "d", "p", "q", "--conflicts", "1"];
     assert!(rt; ends(alloc, &mut all, &one, 0, "agree\n", "").expect(&rt, "memory"));
+    let below = ["--work", "15999", "s", "d", "p", "q"];
+    let work = "ratest: limit: work 16000 is above 15999\n";
+    assert!(rt; ends(alloc, &mut all, &below, 5, "", work).expect(&rt, "memory"));
     let rows = numbers(alloc, 2001).expect(&rt, "memory");
     let mut more = files(alloc, schema, &[("d/x.csv", rows.as_str())], left, right).expect(
         &rt, "memory",

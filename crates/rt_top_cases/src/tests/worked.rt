@@ -37,6 +37,12 @@ pub(super) const ONES: [(&str, &str); 3] = [
     ("d/c.csv", "x\n1\n"),
 ];
 
+const TWOS: [(&str, &str); 3] = [
+    ("d/a.csv", "x\n1\n2\n"),
+    ("d/b.csv", "x\n1\n2\n"),
+    ("d/c.csv", "x\n1\n2\n"),
+];
+
 const MEET: &str = "SELECT x FROM a INTERSECT (SELECT x FROM b UNION SELECT x FROM c)";
 
 const MEETS: &str =
@@ -374,4 +380,8 @@ fn limits_of_the_command(rt: HostRuntime) {
     assert!(rt;
         ends(alloc, &mut sets, &one, 4, "undecided: 1 conflicts\n", "").expect(&rt, "memory")
     );
+    drop(sets);
+    let more = ["s", "d", "p", "q", "--conflicts=64"];
+    let mut sets = files(alloc, ABC, &TWOS, MEET, MEETS).expect(&rt, "memory");
+    assert!(rt; ends(alloc, &mut sets, &more, 0, "agree\n", "").expect(&rt, "memory"));
 }
