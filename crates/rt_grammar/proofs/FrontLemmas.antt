@@ -124,6 +124,15 @@ counted-none : (f : Fixed) (ks : Kinds) → (front ks ≡ code f → ⊥) → co
 counted-none f [] h = refl
 counted-none f (k ∷ ks) h = rw (other-nat (code_of k) (code f) h) refl
 
+-- where the terminal is not at the front, the run is over
+stopped : (b : Bool) (more : ℕ × Kinds) (k : Terminal) (ks : Kinds) → cond b (Some ks) None ≡ None → run b more (k ∷ ks) ≡ (0, k ∷ ks)
+stopped true more k ks e = cc e
+stopped false more k ks e = refl
+
+pub counted-stop : (f : Fixed) (ks : Kinds) → after f ks ≡ None → counted f ks ≡ (0, ks)
+counted-stop f [] e = refl
+counted-stop f (k ∷ ks) e = stopped (code_of k == code f) (counted f ks) k ks e
+
 pub counted-whole : (f : Fixed) (n : ℕ) (ks : Kinds) → (front ks ≡ code f → ⊥) → counted f (replicate n (terminal.Fixed f) ++ ks) ≡ (n, ks)
 counted-whole f zero ks h = counted-none f ks h
 counted-whole f (suc n) ks h = rw (same-nat (code f), counted-whole f n ks h) refl

@@ -64,13 +64,21 @@ impl Row {
         self.cells.len()
     }
 
+    fn push_copies(&mut self, alloc: Global, cells: &[Value]) -> Result<(), NoMemory>
+        ensures { OnOk result (self.new ≡ self.old ++ cells.now) }
+    {
+        for cell in cells {
+            let cell = cell.copy(alloc)?;
+            self.push(cell)?;
+        }
+        Ok(())
+    }
+
     pub fn copy(&self, alloc: Global) -> Result<Row, NoMemory>
         ensures { IfOk result (λ r. r ≡ self.now) }
     {
         let mut out = Row::new(alloc);
-        for cell in self.as_slice() {
-            out.push(cell.copy(alloc)?)?;
-        }
+        out.push_copies(alloc, self.as_slice())?;
         Ok(out)
     }
 
@@ -79,9 +87,7 @@ impl Row {
         ensures { IfOk result (λ r. r ≡ self.now ++ other.now) }
     {
         let mut out = self.copy(alloc)?;
-        for cell in other.as_slice() {
-            out.push(cell.copy(alloc)?)?;
-        }
+        out.push_copies(alloc, other.as_slice())?;
         Ok(out)
     }
 }
