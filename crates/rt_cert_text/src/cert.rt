@@ -3,7 +3,7 @@ use rt_value::List;
 
 /// A clause, and the numbers of the lines by which it follows from those before it, counted from 0
 /// and in the order of their use.
-#[derive(Debug, Drop)]
+#[derive(Drop)]
 pub struct Step {
     pub lits: LitList,
     pub hints: List<u64>,
@@ -11,7 +11,7 @@ pub struct Step {
 
 /// What is claimed to be least: the kept places of a smallest witness, or none where two queries
 /// agree. The steps stand on `added` given lines and lead to a refutation of what is smaller.
-#[derive(Debug, Drop)]
+#[derive(Drop)]
 pub struct Cert {
     pub keep: Option<List<u64>>,
     pub added: u64,

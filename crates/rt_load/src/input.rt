@@ -1,7 +1,7 @@
 use rt_value::{Bytes, List};
 
 /// The texts of a generated input.
-#[derive(Debug, Drop)]
+#[derive(Drop)]
 pub struct Made {
     /// The definitions of the tables student, reg and room.
     pub schema: Bytes,

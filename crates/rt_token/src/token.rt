@@ -3,7 +3,7 @@ use crate::sym::Sym;
 use rt_value::Txt;
 
 /// What a token is. Every text in it is the content alone, without the quotes around it.
-#[derive(PartialEq, Eq, Debug, Drop)]
+#[derive(Drop)]
 pub enum TokenKind {
     /// A word, folded to lower case.
     Word(Txt),
@@ -17,7 +17,7 @@ pub enum TokenKind {
 }
 
 /// A token and the bytes of the text that it was read from.
-#[derive(PartialEq, Eq, Debug, Drop)]
+#[derive(Drop)]
 pub struct Token {
     pub kind: TokenKind,
     pub span: Span,
