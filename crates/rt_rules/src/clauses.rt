@@ -5,8 +5,7 @@ ghost use Rattle.rt_schema.specs.Law.{not_null_holds, key_holds, foreign_holds, 
 ghost use Rattle.rt_formula.specs.Shared.{IsGrown};
 ghost use Rattle.rt_rules.specs.Meaning.{Means, IsIndexed, allowed, filled, apart, met};
 
-use crate::cells::cells;
-use crate::index::note;
+use crate::index::{found, note};
 use rt_formula::{Dag, Groups, Node};
 use rt_schema::{Check, Foreign, has_null, null_at, passes};
 use rt_value::{List, NoMemory, Row};
@@ -143,8 +142,7 @@ fn apart(
     if has_null(row, columns) {
         return Ok(dag.yes());
     }
-    let values = cells(alloc, columns, row)?;
-    let clash = dag.any(later.get(&values))?;
+    let clash = found(alloc, dag, later, columns, row)?;
     let kept = dag.row(place)?;
     let both = dag.all(&[kept, clash])?;
     let clause = dag.not(both)?;
@@ -211,10 +209,9 @@ fn met(
     if has_null(row, from) {
         return Ok(dag.yes());
     }
-    let values = cells(alloc, from, row)?;
-    let found = dag.any(groups.get(&values))?;
+    let referred = found(alloc, dag, groups, from, row)?;
     let kept = dag.row(place)?;
     let absent = dag.not(kept)?;
-    let clause = dag.any(&[absent, found])?;
+    let clause = dag.any(&[absent, referred])?;
     Ok(clause)
 }

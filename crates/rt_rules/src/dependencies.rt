@@ -4,17 +4,13 @@
 //! columns are the same in the others. So it is enough that one of them is the same as the row, and a
 //! group of rows has a few gates a row and not one for each pair.
 ghost use Rattle.std.specs.Prelude.{◌≡◌, ◌<◌, ◌≤◌, ◌+◌, ◌++◌, ◌&&◌, not, length, drop, IfOk};
-ghost use Rattle.std.specs.List.{list_any};
-ghost use Rattle.rt_value.specs.Row.{row_eq};
-ghost use Rattle.rt_schema.specs.Cells.{cells};
 ghost use Rattle.rt_schema.specs.Kept.{kept_rows};
 ghost use Rattle.rt_schema.specs.Law.{depend_holds};
 ghost use Rattle.rt_formula.specs.Shared.{IsGrown, bool_at, val};
 ghost use Rattle.rt_rules.specs.Meaning.{Means, IsIndexed, determined};
 
-use crate::cells::cells;
 use crate::clauses::from;
-use crate::index::note;
+use crate::index::{found, note};
 use rt_formula::{Dag, Groups, Node};
 use rt_schema::{Depend, has_null};
 use rt_value::{List, NoMemory, Row};
@@ -112,8 +108,8 @@ fn determined(
     if has_null(row, from) {
         return Ok(dag.yes());
     }
-    let agreeing = found(alloc, dag, alike, from, row, later, place + 1)?;
-    let met = found(alloc, dag, same, columns, row, later, place + 1)?;
+    let agreeing = found(alloc, dag, alike, from, row)?;
+    let met = found(alloc, dag, same, columns, row)?;
     let clause = unless(dag, place, agreeing, met)?;
     Ok(clause)
 }
@@ -131,25 +127,4 @@ fn unless(dag: &mut Dag, place: usize, agreeing: Node, met: Node) -> Result<Node
     let broken = dag.all(&[kept, agreeing, unmet])?;
     let clause = dag.not(broken)?;
     Ok(clause)
-}
-
-// That a kept one of the rows has this row's values in the columns, by which they are grouped; `base`
-// is the place of the first of them.
-fn found(
-    alloc: Global,
-    dag: &mut Dag,
-    groups: &Groups,
-    columns: &[usize],
-    row: &Row,
-    rows: &[Row],
-    base: usize,
-) -> Result<Node, NoMemory>
-    requires { IsIndexed dag.old groups.now columns.now rows.now base }
-    ensures grown { IsGrown dag.old dag.new }
-    ensures means { IfOk result (λ n. Means dag.new n (λ keep. list_any (λ r. row_eq (cells columns.now row.now) (cells columns.now r)) (kept_rows rows.now (drop base keep)))) }
-{
-    let _rows = rows.len();
-    let values = cells(alloc, columns, row)?;
-    let node = dag.any(groups.get(&values))?;
-    Ok(node)
 }

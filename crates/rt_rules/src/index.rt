@@ -1,10 +1,15 @@
 //! The rows of a table, grouped by their values in some columns.
-ghost use Rattle.std.specs.Prelude.{◌≡◌, ◌<◌, ◌≤◌, ◌+◌, length, IfOk, OnOk};
+ghost use Rattle.std.specs.Prelude.{◌≡◌, ℕ, List, ◌<◌, ◌≤◌, ◌+◌, length, drop, IfOk, OnOk};
+ghost use Rattle.std.specs.List.{list_any};
+ghost use Rattle.rt_value.specs.Row.{row_eq};
+ghost use Rattle.rt_schema.specs.Cells.{cells};
+ghost use Rattle.rt_schema.specs.Given.{Rows};
+ghost use Rattle.rt_schema.specs.Kept.{kept_rows};
 ghost use Rattle.rt_formula.specs.Shared.{IsGrown};
-ghost use Rattle.rt_rules.specs.Meaning.{AreNodes, IsIndexed, IsNoted};
+ghost use Rattle.rt_rules.specs.Meaning.{AreNodes, IsIndexed, IsNoted, Means};
 
 use crate::cells::cells;
-use rt_formula::{Dag, Groups};
+use rt_formula::{Dag, Groups, Node};
 use rt_value::{NoMemory, Row};
 use std::alloc::Global;
 
@@ -30,6 +35,24 @@ pub(crate) fn note(
     let either = dag.any(&[kept, before])?;
     groups.set(key, either)?;
     Ok(())
+}
+
+/// That a kept one of the rows that the groups index has this row's values.
+pub(crate) fn found(
+    alloc: Global,
+    dag: &mut Dag,
+    groups: &Groups,
+    columns: &[usize],
+    row: &Row,
+) -> Result<Node, NoMemory>
+    requires { AreNodes dag.old groups.now }
+    ensures grown { IsGrown dag.old dag.new }
+    ensures node { IfOk result (λ n. n < length dag.new.entries) }
+    ensures means { IfOk result (λ n. (keys : List ℕ) (rows : Rows) (base : ℕ) → IsIndexed dag.old groups.now keys rows base → Means dag.new n (λ keep. list_any (λ r. row_eq (cells columns.now row.now) (cells keys r)) (kept_rows rows (drop base keep)))) }
+{
+    let values = cells(alloc, columns, row)?;
+    let node = dag.any(groups.get(&values))?;
+    Ok(node)
 }
 
 /// All rows of a table, `base` being the place of the first.

@@ -1,9 +1,7 @@
-use Rattle.std.proofs.Common.{◌≡◌, ◌+◌, List, Bool, true, false, not, ◌&&◌, refl, sym, ap, ◌∙◌, drop}
+use Rattle.std.proofs.Common.{◌≡◌, ◌+◌, Bool, true, false, not, ◌&&◌, refl, sym, ap, ◌∙◌, drop}
 use Rattle.std.specs.List.{list_any}
-use Rattle.rt_value.specs.declared.value.Value.{Value}
-use Rattle.rt_value.specs.Row.{row_eq}
 use Rattle.rt_schema.specs.Kept.{kept_rows}
-use Rattle.rt_schema.specs.Cells.{agree, cells}
+use Rattle.rt_schema.specs.Cells.{agree}
 use Rattle.rt_formula.specs.Shared.{val, bool_at}
 use Rattle.rt_formula.proofs.Meaning.{val-grown}
 use Rattle.rt_rules.proofs.KeptLemmas.{no-agree, agree-same}
@@ -29,23 +27,19 @@ pub returns-clause-means : goal.returns-clause-means
 returns-clause-means c = record {
   below = c.in_ok-clause.ensures.node;
   same = λ keep l.
-      let values = c.in_ok-values.values in
       let K = kept_rows c.args.others.now (drop (c.args.place + 1) keep) in
-      let g1 = c.in_ok-clash.ensures.grown in
       let g2 = c.in_ok-kept.ensures.grown in
-      let g3 = c.in_ok-both.ensures.grown in
-      let g4 = c.in_ok-clause.ensures.grown in
-      let l0 = l ∙ g4.rows ∙ g3.rows ∙ g2.rows ∙ g1.rows in
-      let found : val c.any.new.self keep c.in_ok-clash.clash ≡ list_any (agree c.args.columns.now c.args.columns.now c.args.row.now) K =
-      c.in_ok-clash.ensures.means keep
-      ∙ ap (list_any (val c.args.dag.now keep)) c.get.ensures
-      ∙ c.requires.later.same keep l0 values
-      ∙ ap (λ (v : List Value). list_any (λ r. row_eq v (cells c.args.columns.now r)) K) c.in_ok-values.ensures
+      let m = c.in_ok-clash.ensures.means c.args.columns.now c.args.others.now (c.args.place + 1) c.requires.later in
+      let found : val c.found.new.dag keep c.in_ok-clash.clash ≡ list_any (agree c.args.columns.now c.args.columns.now c.args.row.now) K =
+      m.same keep (l ∙ c.in_ok-clause.ensures.grown.rows ∙ c.in_ok-both.ensures.grown.rows ∙ g2.rows)
       ∙ agree-same c.args.columns.now c.args.columns.now c.args.row.now K (sym c.has_null.ensures ∙ c.if-has_null.false) in
       let still : val c.row.new.self keep c.in_ok-clash.clash ≡ list_any (agree c.args.columns.now c.args.columns.now c.args.row.now) K =
-      val-grown c.any.new.self c.row.new.self g2 keep c.in_ok-clash.clash c.in_ok-clash.ensures.node ∙ found in
+      val-grown c.found.new.dag c.row.new.self g2 keep c.in_ok-clash.clash m.below ∙ found in
       c.in_ok-clause.ensures.means keep ∙ ap not (c.in_ok-both.ensures.means keep) ∙ two _ _ _ _ (c.in_ok-kept.ensures.means keep) still;
 }
+
+pub found-requires : goal.found-requires
+found-requires c = c.requires.later.below
 
 pub returns-in_err-kept-clause-grown : goal.returns-in_err-kept-clause-grown
 returns-in_err-kept-clause-grown c = grown-on _ _ _ c.in_ok-clash.ensures.grown c.in_err-kept.ensures.grown

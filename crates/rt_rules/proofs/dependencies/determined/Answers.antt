@@ -9,8 +9,11 @@ use Rattle.rt_rules.proofs.KeptLemmas.{agree-same, no-agree}
 use Rattle.rt_rules.proofs.Meanings.{grown-on, indexed-grown, means-grown}
 use Rattle.rt_rules.proofs.dependencies.determined.Goals as goal
 
+pub found-requires : goal.found-requires
+found-requires c = c.requires.alike.below
+
 pub found-requires-2 : goal.found-requires-2
-found-requires-2 c = indexed-grown _ _ c.in_ok-agreeing.ensures.grown c.args.same.now c.args.columns.now c.args.later.now (c.args.place + 1) c.requires.same
+found-requires-2 c = (indexed-grown _ _ c.in_ok-agreeing.ensures.grown c.args.same.now c.args.columns.now c.args.later.now (c.args.place + 1) c.requires.same).below
 
 pub returns-clause-means : goal.returns-clause-means
 returns-clause-means c = record {
@@ -21,14 +24,17 @@ returns-clause-means c = record {
       let row = c.args.row.now in
       let K = kept_rows c.args.later.now (drop (c.args.place + 1) keep) in
       let k = l ∙ c.in_ok-clause.ensures.grown.rows in
+      let alike = c.in_ok-agreeing.ensures.means from c.args.later.now (c.args.place + 1) c.requires.alike in
+      let same = c.in_ok-met.ensures.means c.args.columns.now c.args.later.now (c.args.place + 1)
+      (indexed-grown _ _ c.in_ok-agreeing.ensures.grown c.args.same.now c.args.columns.now c.args.later.now (c.args.place + 1) c.requires.same) in
       let N : List ℕ → Type 0 = λ cs. list_any is_null (cells cs row) ≡ false in
       let filled : list_any is_null (cells from row) ≡ false = subst N c.as_slice-from.ensures (sym c.has_null.ensures ∙ c.if-has_null.false) in
       let agreeing : val c.found-2.new.dag keep c.in_ok-agreeing.agreeing ≡ list_any (agree from from row) K =
-      (means-grown c.found.new.dag c.found-2.new.dag c.in_ok-met.ensures.grown c.in_ok-agreeing.agreeing _ c.in_ok-agreeing.ensures.means).same keep k
-      ∙ ap (λ (cs : List ℕ). list_any (λ r. row_eq (cells cs row) (cells cs r)) K) c.as_slice-from.ensures
+      (means-grown c.found.new.dag c.found-2.new.dag c.in_ok-met.ensures.grown c.in_ok-agreeing.agreeing _ alike).same keep k
+      ∙ ap (λ (cs : List ℕ). list_any (λ r. row_eq (cells cs row) (cells from r)) K) c.as_slice-from.ensures
       ∙ agree-same from from row K filled in
       let met : val c.found-2.new.dag keep c.in_ok-met.met ≡ list_any (met_by from to row) K =
-      c.in_ok-met.ensures.means.same keep k
+      same.same keep k
       ∙ ap (λ (cs : List ℕ). list_any (λ r. row_eq (cells cs row) (cells cs r)) K) c.requires.columns
       ∙ met-same from to row K filled in
       c.in_ok-clause.ensures.means.same keep l ∙ ap₂ (λ a b. not (bool_at keep c.args.place && (a && not b))) agreeing met;
