@@ -138,7 +138,6 @@ fn apart(
     ensures grown { IsGrown dag.old dag.new }
     ensures means { IfOk result (λ n. Means dag.new n (apart columns.now row.now place others.now (place + 1))) }
 {
-    let _later = others.len();
     if has_null(row, columns) {
         return Ok(dag.yes());
     }
@@ -167,7 +166,6 @@ pub(crate) fn foreign(
     ensures grown { IsGrown dag.old dag.new }
     ensures means { IfOk result (λ n. Means dag.new n (λ keep. foreign_holds rule.now.from rule.now.to (kept_rows others.now (drop others_base keep)) (kept_rows rows.now (drop base keep)))) }
 {
-    let _others = others.len();
     let mut clauses = List::new(alloc);
     let _places = dag.rows();
     let mut at = rows.len();
@@ -204,7 +202,6 @@ fn met(
     ensures grown { IsGrown dag.old dag.new }
     ensures means { IfOk result (λ n. Means dag.new n (met rule.now.from rule.now.to row.now place others.now others_base)) }
 {
-    let _others = others.len();
     let from = rule.from.as_slice();
     if has_null(row, from) {
         return Ok(dag.yes());
