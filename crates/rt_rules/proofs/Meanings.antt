@@ -1,7 +1,7 @@
 -- What nodes mean stays as the formula grows, and is put together by gates.
 use Rattle.std.proofs.Common.{◌≡◌, ℕ, zero, suc, ◌+◌, ◌<◌, ◌≤◌, Bool, true, false, cond, ◌&&◌, ◌||◌, List, [], ◌∷◌, ◌++◌, length, length-append, drop, get_or, append_assoc, refl, sym, subst, ap, arith, ◌∙◌}
 use Rattle.std.proofs.lemmas.List.{append-nil}
-use Rattle.std.proofs.lemmas.List.Elements.{All-append}
+use Rattle.std.proofs.lemmas.List.Elements.{All-append, All-cons, All-nil}
 use Rattle.std.proofs.lemmas.List.Folds.{list_all-append}
 use Rattle.std.specs.List.{list_all, list_any, All as Each}
 use Rattle.rt_value.specs.declared.value.Value.{Value}
@@ -32,6 +32,12 @@ below-grown old new g n b = let e = ap (length {A = Entry}) g.entries ∙ length
 
 pub each-grown : (old new : Shared) → IsGrown old new → (ns : List ℕ) → Each (λ n. n < length old.entries) ns → Each (λ n. n < length new.entries) ns
 each-grown old new g ns b i d h = below-grown old new g _ (b i d h)
+
+pub two-below : (m a b : ℕ) → a < m → b < m → Each (λ n. n < m) (a ∷ b ∷ [])
+two-below m a b p q = All-cons (λ k. k < m) a (b ∷ []) p (All-cons (λ k. k < m) b [] q (All-nil (λ k. k < m)))
+
+pub three-below : (m a b d : ℕ) → a < m → b < m → d < m → Each (λ n. n < m) (a ∷ b ∷ d ∷ [])
+three-below m a b d p q r = All-cons (λ k. k < m) a (b ∷ d ∷ []) p (two-below m b d q r)
 
 pub means-grown : (old new : Shared) → IsGrown old new → (n : ℕ) (f : List Bool → Bool) → Means old n f → Means new n f
 means-grown old new g n f m = record { below = below-grown old new g n m.below; same = λ keep l. val-grown old new g keep n m.below ∙ m.same keep (l ∙ g.rows) }

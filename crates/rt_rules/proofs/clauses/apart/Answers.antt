@@ -5,7 +5,7 @@ use Rattle.rt_schema.specs.Cells.{agree}
 use Rattle.rt_formula.specs.Shared.{val, bool_at}
 use Rattle.rt_formula.proofs.Meaning.{val-grown}
 use Rattle.rt_rules.proofs.KeptLemmas.{no-agree, agree-same}
-use Rattle.rt_rules.proofs.Meanings.{grown-on}
+use Rattle.rt_rules.proofs.Meanings.{below-grown, grown-on, two-below}
 use Rattle.rt_rules.proofs.clauses.apart.Goals as goal
 
 never : (b x : Bool) → x ≡ false → true ≡ not (b && x)
@@ -52,3 +52,6 @@ returns-in_err-clause-clause-grown c = grown-on _ _ _ (grown-on _ _ _ (grown-on 
 
 pub returns-clause-grown : goal.returns-clause-grown
 returns-clause-grown c = grown-on _ _ _ (grown-on _ _ _ (grown-on _ _ _ c.in_ok-clash.ensures.grown c.in_ok-kept.ensures.grown) c.in_ok-both.ensures.grown) c.in_ok-clause.ensures.grown
+
+pub all-requires : goal.all-requires
+all-requires c = two-below _ _ _ c.in_ok-kept.ensures.node (below-grown _ _ c.in_ok-kept.ensures.grown _ c.in_ok-clash.ensures.node)

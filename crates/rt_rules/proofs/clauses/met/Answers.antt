@@ -6,7 +6,7 @@ use Rattle.rt_schema.specs.Cells.{agree, cells, is_null}
 use Rattle.rt_formula.specs.Shared.{val}
 use Rattle.rt_formula.proofs.Meaning.{val-grown}
 use Rattle.rt_rules.proofs.KeptLemmas.{agree-same}
-use Rattle.rt_rules.proofs.Meanings.{below-grown, grown-on}
+use Rattle.rt_rules.proofs.Meanings.{below-grown, grown-on, two-below}
 use Rattle.rt_rules.proofs.clauses.met.Goals as goal
 
 two : (a b x n y : Bool) → a ≡ not x → b ≡ y → n ≡ false → (a || (b || false)) ≡ (not x || (n || y))
@@ -50,3 +50,6 @@ returns-in_err-clause-clause-grown c = grown-on _ _ _ (grown-on _ _ _ (grown-on 
 
 pub returns-clause-grown : goal.returns-clause-grown
 returns-clause-grown c = grown-on _ _ _ (grown-on _ _ _ (grown-on _ _ _ c.in_ok-referred.ensures.grown c.in_ok-kept.ensures.grown) c.in_ok-absent.ensures.grown) c.in_ok-clause.ensures.grown
+
+pub any-requires : goal.any-requires
+any-requires c = two-below _ _ _ c.in_ok-absent.ensures.node (below-grown _ _ (grown-on _ _ _ c.in_ok-kept.ensures.grown c.in_ok-absent.ensures.grown) _ c.in_ok-referred.ensures.node)

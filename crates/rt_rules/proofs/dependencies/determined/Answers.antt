@@ -6,7 +6,7 @@ use Rattle.rt_schema.specs.Kept.{kept_rows}
 use Rattle.rt_formula.specs.Shared.{val, bool_at}
 use Rattle.rt_rules.proofs.DependLemmas.{met-same, met_by}
 use Rattle.rt_rules.proofs.KeptLemmas.{agree-same, no-agree}
-use Rattle.rt_rules.proofs.Meanings.{grown-on, indexed-grown, means-grown}
+use Rattle.rt_rules.proofs.Meanings.{below-grown, grown-on, indexed-grown, means-grown}
 use Rattle.rt_rules.proofs.dependencies.determined.Goals as goal
 
 pub found-requires : goal.found-requires
@@ -64,3 +64,6 @@ returns-in_err-clause-clause-grown c = grown-on _ _ _ (grown-on _ _ _ c.in_ok-ag
 
 pub returns-clause-grown : goal.returns-clause-grown
 returns-clause-grown c = grown-on _ _ _ (grown-on _ _ _ c.in_ok-agreeing.ensures.grown c.in_ok-met.ensures.grown) c.in_ok-clause.ensures.grown
+
+pub unless-requires-clause-agreeing : goal.unless-requires-clause-agreeing
+unless-requires-clause-agreeing c = below-grown _ _ c.in_ok-met.ensures.grown _ c.in_ok-agreeing.ensures.node

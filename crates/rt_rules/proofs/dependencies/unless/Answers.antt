@@ -1,7 +1,7 @@
 use Rattle.std.proofs.Common.{◌≡◌, Bool, true, false, not, ◌&&◌, ap, ◌∙◌}
 use Rattle.rt_formula.specs.Shared.{val}
 use Rattle.rt_formula.proofs.Meaning.{val-grown}
-use Rattle.rt_rules.proofs.Meanings.{grown-on}
+use Rattle.rt_rules.proofs.Meanings.{below-grown, grown-on, three-below}
 use Rattle.rt_rules.proofs.dependencies.unless.Goals as goal
 
 three : (a b d x y z : Bool) → a ≡ x → b ≡ y → d ≡ z → not (a && (b && (d && true))) ≡ not (x && (y && z))
@@ -32,3 +32,8 @@ returns-in_err-clause-clause-grown c = grown-on _ _ _ (grown-on _ _ _ (grown-on 
 
 pub returns-clause-grown : goal.returns-clause-grown
 returns-clause-grown c = grown-on _ _ _ (grown-on _ _ _ (grown-on _ _ _ c.in_ok-unmet.ensures.grown c.in_ok-kept.ensures.grown) c.in_ok-broken.ensures.grown) c.in_ok-clause.ensures.grown
+
+pub all-requires : goal.all-requires
+all-requires c =
+    let g = grown-on _ _ _ c.in_ok-unmet.ensures.grown c.in_ok-kept.ensures.grown in
+    three-below _ _ _ _ c.in_ok-kept.ensures.node (below-grown _ _ g _ c.requires.agreeing) (below-grown _ _ c.in_ok-kept.ensures.grown _ c.in_ok-unmet.ensures.node)

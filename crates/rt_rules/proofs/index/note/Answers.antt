@@ -2,7 +2,7 @@ use Rattle.std.proofs.Common.{◌≡◌, Bool, true, false, ◌||◌, ap, ◌∙
 use Rattle.std.specs.List.{list_any}
 use Rattle.rt_formula.specs.Shared.{val}
 use Rattle.rt_formula.proofs.Meaning.{val-grown}
-use Rattle.rt_rules.proofs.Meanings.{grown-none, grown-on, noted-one}
+use Rattle.rt_rules.proofs.Meanings.{below-grown, grown-none, grown-on, noted-one, two-below}
 use Rattle.rt_rules.proofs.index.note.Goals as goal
 
 two : (a b x y : Bool) → a ≡ x → b ≡ y → (a || (b || false)) ≡ (x || y)
@@ -34,3 +34,6 @@ returns-in_err-set-clause-grown c = grown-on _ _ _ (grown-on _ _ _ c.in_ok-befor
 
 pub returns-clause-grown : goal.returns-clause-grown
 returns-clause-grown c = grown-on _ _ _ (grown-on _ _ _ c.in_ok-before.ensures.grown c.in_ok-kept.ensures.grown) c.in_ok-either.ensures.grown
+
+pub any-requires-2 : goal.any-requires-2
+any-requires-2 c = two-below _ _ _ c.in_ok-kept.ensures.node (below-grown _ _ c.in_ok-kept.ensures.grown _ c.in_ok-before.ensures.node)

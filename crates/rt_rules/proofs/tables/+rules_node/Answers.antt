@@ -3,7 +3,7 @@ use Rattle.rt_schema.specs.Kept.{kept, kept_rows}
 use Rattle.rt_schema.specs.Law.{rules_hold}
 use Rattle.rt_schema.specs.declared.table.Rule.{Rule}
 use Rattle.rt_rules.proofs.KeptLemmas.{front}
-use Rattle.rt_rules.proofs.Meanings.{grown-on, pair-means}
+use Rattle.rt_rules.proofs.Meanings.{below-grown, grown-on, pair-means, two-below}
 use Rattle.rt_rules.proofs.tables.+rules_node.Goals as goal
 
 pub returns-in_ok-both-in-len1-up-clause-means : goal.returns-in_ok-both-in-len1-up-clause-means
@@ -20,3 +20,6 @@ returns-in_err-both-in-len1-up-clause-grown t c = grown-on _ _ _ (grown-on _ _ _
 
 pub returns-in_ok-both-in-len1-up-clause-grown : goal.returns-in_ok-both-in-len1-up-clause-grown
 returns-in_ok-both-in-len1-up-clause-grown t c = grown-on _ _ _ (grown-on _ _ _ c.in_ok-here-in-len1-up.ensures.grown c.in_ok-there-in-len1-up.ensures.grown) c.in_ok-both-in-len1-up.ensures.grown
+
+pub all-requires : goal.all-requires
+all-requires t c = two-below _ _ _ (below-grown _ _ c.in_ok-there-in-len1-up.ensures.grown _ c.in_ok-here-in-len1-up.ensures.means.below) c.in_ok-there-in-len1-up.ensures.means.below

@@ -5,7 +5,7 @@ use Rattle.rt_schema.specs.Law.{rules_hold, tables_hold}
 use Rattle.rt_schema.specs.declared.table.Rule.{Rule}
 use Rattle.rt_schema.specs.declared.table.Table.{Table}
 use Rattle.rt_rules.proofs.KeptLemmas.{front, others, kept-rest}
-use Rattle.rt_rules.proofs.Meanings.{grown-on, pair-means}
+use Rattle.rt_rules.proofs.Meanings.{below-grown, grown-on, pair-means, two-below}
 use Rattle.rt_rules.proofs.tables.+tables_node.Goals as goal
 
 pub returns-in_ok-both-in-len1-up-rest-clause-means : goal.returns-in_ok-both-in-len1-up-rest-clause-means
@@ -32,3 +32,6 @@ returns-in_err-both-in-len1-up-rest-clause-grown t c = grown-on _ _ _ (grown-on 
 
 pub returns-in_ok-both-in-len1-up-rest-clause-grown : goal.returns-in_ok-both-in-len1-up-rest-clause-grown
 returns-in_ok-both-in-len1-up-rest-clause-grown t c = grown-on _ _ _ (grown-on _ _ _ c.in_ok-here-in-len1-up-rest.ensures.grown c.in_ok-there-in-len1-up-rest.ensures.grown) c.in_ok-both-in-len1-up-rest.ensures.grown
+
+pub all-requires : goal.all-requires
+all-requires t c = two-below _ _ _ (below-grown _ _ c.in_ok-there-in-len1-up-rest.ensures.grown _ c.in_ok-here-in-len1-up-rest.ensures.means.below) c.in_ok-there-in-len1-up-rest.ensures.means.below
