@@ -35,7 +35,7 @@ impl Model for Dag {
 }
 
 impl Dag {
-    ghost use Rattle.std.specs.Prelude.{◌≡◌, ℕ, List, [], ◌∷◌, ◌++◌, ◌<◌, ◌≤◌, ◌^◌, Bool, true, false, not, IsTrue, ◌↔◌, IfOk, IfSome, OnErr, OnOk, length, slice_get, Some};
+    ghost use Rattle.std.specs.Prelude.{◌≡◌, ℕ, List, [], ◌∷◌, ◌++◌, ◌<◌, ◌≤◌, ◌^◌, Bool, true, false, not, cond, IsTrue, ◌↔◌, IfOk, IfSome, OnErr, OnOk, length, slice_get, None, Some};
     ghost use Rattle.std.specs.List.{list_all, list_any, All as Each};
     ghost use Rattle.rt_formula.specs.Gathering.{AreContrary, IsGathered, IsSifted};
     ghost use Rattle.rt_formula.specs.Shared.{val, values, bool_at, entry_value, truncated, Fits, IsGrown, IsSound};
@@ -227,23 +227,24 @@ impl Dag {
         false
     }
 
-    // The children that are no constants, or None where a constant among them decides the gate.
-    fn depending(&self, gate: Gate, of: &[Node]) -> Result<Option<NodeSet>, NoMemory>
-        requires { Each (λ n. n < length self.now.entries) of.now }
-        ensures { IfOk result (IsSifted self.now gate of.now) }
+    // Puts the children that are no constants into an empty set, up to a constant that decides the
+    // gate: whether there is one.
+    fn sift(&self, gate: Gate, of: &[Node], kept: &mut NodeSet) -> Result<bool, NoMemory>
+        requires nodes { Each (λ n. n < length self.now.entries) of.now }
+        requires empty { kept.old ≡ [] }
+        ensures { IfOk result (λ decided. IsSifted self.now gate of.now (cond decided None (Some kept.new))) }
     {
-        let mut kept = NodeSet::new(self.alloc);
         for a in of {
             match self.constant(*a) {
                 Some(value) => {
                     if value == gate.deciding() {
-                        return Ok(None);
+                        return Ok(true);
                     }
                 }
                 None => kept.put(*a)?,
             }
         }
-        Ok(Some(kept))
+        Ok(false)
     }
 
     // The children that matter to a gate.
@@ -251,15 +252,20 @@ impl Dag {
         requires { Each (λ n. n < length self.now.entries) of.now }
         ensures { IfOk result (IsGathered self.now gate of.now) }
     {
-        match self.depending(gate, of)? {
-            None => Ok(Gathered::Decided),
-            Some(kept) => {
-                if self.is_contrary(&kept) {
-                    return Ok(Gathered::Decided);
-                }
-                Ok(Gathered::Kept(List::from_slice(self.alloc, kept.as_slice())?))
-            }
+        let mut kept = NodeSet::new(self.alloc);
+        self.gather_by(gate, of, &mut kept)
+    }
+
+    // The same, by a set that is empty.
+    fn gather_by(&self, gate: Gate, of: &[Node], kept: &mut NodeSet) -> Result<Gathered, NoMemory>
+        requires nodes { Each (λ n. n < length self.now.entries) of.now }
+        requires empty { kept.old ≡ [] }
+        ensures { IfOk result (IsGathered self.now gate of.now) }
+    {
+        if self.sift(gate, of, kept)? || self.is_contrary(kept) {
+            return Ok(Gathered::Decided);
         }
+        Ok(Gathered::Kept(List::from_slice(self.alloc, kept.as_slice())?))
     }
 
     // The same as `any`, but for what an error leaves.

@@ -4,8 +4,8 @@ use Rattle.std.specs.List.{All as Each}
 use Rattle.rt_formula.specs.Shared.{val}
 use Rattle.rt_formula.specs.Gathering.{gate_value}
 use Rattle.rt_formula.proofs.Gates.{keeps-neutral, keeps-put, each-put}
-use Rattle.rt_formula.proofs.dag.Dag.depending.Goals as goal
-use Rattle.rt_formula.proofs.dag.Dag.depending.Goals.{in-Some+else-value-deciding, in-None+in_ok-put-in-None}
+use Rattle.rt_formula.proofs.dag.Dag.sift.Goals as goal
+use Rattle.rt_formula.proofs.dag.Dag.sift.Goals.{in-Some+else-value-deciding, in-None+in_ok-put-in-None}
 
 differs : (a b : Bool) → beq a b ≡ false → a ≡ not b
 differs true true h = cc
@@ -27,7 +27,7 @@ loop-a-preserved c =
         same = subst S (sym w.kept-is) (λ keep. keeps-neutral c.args.gate (val d keep) c.loop-a.kept xs i a c.loop-a-test.true c.a-item.is (w.in-Some.ensures keep ∙ differs _ _ w.if-value-deciding.false ∙ ap not w.deciding.ensures) (c.loop-a.invariant.same keep));
       }
       | in-None+in_ok-put-in-None w ↦ (let q = w.kept-is ∙ w.in_ok-put-in-None.ensures in record {
-        below = subst E (sym q) (each-put (length d.entries) c.loop-a.kept a c.loop-a.invariant.below (let g = c.requires i a c.loop-a-test.true in let e = c.a-item.is in omega (arith, g, e)));
+        below = subst E (sym q) (each-put (length d.entries) c.loop-a.kept a c.loop-a.invariant.below (let g = c.requires.nodes i a c.loop-a-test.true in let e = c.a-item.is in omega (arith, g, e)));
         same = subst S (sym q) (λ keep. keeps-put c.args.gate (val d keep) c.loop-a.kept xs i a c.loop-a-test.true c.a-item.is (c.loop-a.invariant.same keep));
       })
     ]

@@ -2,7 +2,7 @@ use Rattle.std.proofs.Common.{◌≡◌, List, ◌<◌, Bool, length, take}
 use Rattle.std.specs.List.{All as Each}
 use Rattle.rt_formula.specs.Shared.{val}
 use Rattle.rt_formula.specs.Gathering.{gate_value}
-use Rattle.rt_formula.proofs.dag.Dag.depending.Given as goal
+use Rattle.rt_formula.proofs.dag.Dag.sift.Given as goal
 
 abbrev pub invariant-loop-a : goal.invariant-loop-a
 invariant-loop-a l = record {
