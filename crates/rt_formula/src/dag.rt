@@ -3,7 +3,7 @@ ghost use Rattle.std.specs.Prelude.{◌≡◌, ℕ, List, [], ◌∷◌, ◌++�
 use crate::entry::{Entry, Kids, Node};
 use crate::gather::{Gate, Gathered};
 use crate::node_set::NodeSet;
-use crate::runs::joined_runs;
+use crate::runs::join_runs;
 use crate::values::{value_at, values_of};
 use indexmap::IndexSet;
 use rt_value::{Keep, List, NoMemory};
@@ -180,6 +180,7 @@ impl Dag {
         ensures err { OnErr result (self.new ≡ self.old) }
     {
         if self.entries.len() >= MOST_NODES {
+            drop(entry);
             return Err(NoMemory);
         }
         let (at, _) = self.entries.insert_full(entry)?;
@@ -278,7 +279,8 @@ impl Dag {
         match self.gather(Gate::Any, of)? {
             Gathered::Decided => Ok(self.yes()),
             Gathered::Kept(kept) => {
-                let children = joined_runs(self.alloc, self, kept.as_slice())?;
+                let mut children = List::new(self.alloc);
+                join_runs(self.alloc, self, kept.as_slice(), &mut children)?;
                 self.any_plain(children.as_slice())
             }
         }

@@ -41,12 +41,12 @@ impl Groups {
     pub fn put(&mut self, noted: &Noted) -> Result<(), NoMemory>
         ensures { OnOk result ((row : List Value) → group_at self.new row ≡ group_at self.old row ++ cond (row_eq row noted.now.row) (noted.now.node ∷ []) []) }
     {
-        let key = noted.row.copy(self.alloc)?;
         let mut group = self
             .nodes
             .remove(&noted.row)
             .unwrap_or(List::new(self.alloc));
         group.push(noted.node)?;
+        let key = noted.row.copy(self.alloc)?;
         self.nodes.insert(key, group)?;
         Ok(())
     }

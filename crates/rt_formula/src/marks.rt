@@ -9,6 +9,7 @@ use crate::dag::Dag;
 use crate::entry::{Entry, Node};
 use rt_value::{Keep, NoMemory};
 use std::alloc::Global;
+use std::slice::from_ref;
 
 fn mark(marks: &mut Keep, node: Node)
     requires { node < length marks.old }
@@ -34,19 +35,14 @@ fn mark_all(marks: &mut Keep, of: &[Node])
     }
 }
 
-// Marks the nodes that an entry names.
-fn mark_children(marks: &mut Keep, entry: &Entry)
-    requires { Each (λ k. k < length marks.old) (children entry.now) }
-    ensures len { length marks.new ≡ length marks.old }
-    ensures stay { MarksStay marks.old marks.new }
-    ensures same { (low : ℕ) → Each (λ k. k < low) (children entry.now) → SameFrom low marks.old marks.new }
-    ensures set { Each (λ k. is_marked marks.new k ≡ true) (children entry.now) }
-    ensures only { (others : List Bool) → MarksStay marks.old others → Each (λ k. is_marked others k ≡ true) (children entry.now) → MarksStay marks.new others }
+// The nodes that an entry names.
+fn children_of(entry: &Entry) -> &[Node]
+    ensures { result.now ≡ children entry.now }
 {
     match entry {
-        Entry::Yes | Entry::No | Entry::Row(_) => {}
-        Entry::Not(a) => mark(marks, *a),
-        Entry::All(of) | Entry::Any(of) => mark_all(marks, of.as_slice()),
+        Entry::Yes | Entry::No | Entry::Row(_) => &[],
+        Entry::Not(a) => from_ref(a),
+        Entry::All(of) | Entry::Any(of) => of.as_slice(),
     }
 }
 
@@ -62,7 +58,7 @@ pub fn under(alloc: Global, dag: &Dag, goal: Node) -> Result<Keep, NoMemory>
     'nodes: while at > 0 {
         at -= 1;
         if marks.is(at) {
-            mark_children(&mut marks, dag.entry(at));
+            mark_all(&mut marks, children_of(dag.entry(at)));
         }
     }
     Ok(marks)

@@ -1,6 +1,6 @@
 //! Children of an `any` that come one after another and are an `all` over the same first child. Such
 //! a run is written as one child: an `all` over that first child and the `any` of what is left.
-ghost use Rattle.std.specs.Prelude.{◌≡◌, ℕ, List, ◌<◌, ◌≤◌, Bool, ◌&&◌, IfOk, IfSome, length, take};
+ghost use Rattle.std.specs.Prelude.{◌≡◌, ℕ, List, [], ◌<◌, ◌≤◌, Bool, ◌&&◌, IfOk, IfSome, OnOk, length, take};
 ghost use Rattle.std.specs.List.{list_all, list_any, All as Each};
 ghost use Rattle.rt_formula.specs.Runs.{StandsOver};
 ghost use Rattle.rt_formula.specs.Shared.{val, IsGrown};
@@ -93,18 +93,23 @@ fn tail_of(alloc: Global, dag: &mut Dag, node: Node) -> Result<Node, NoMemory>
     dag.all_of(later.as_slice())
 }
 
-// What is left of each child of a run.
-fn tails_of(alloc: Global, dag: &mut Dag, run: &[Node]) -> Result<List<Node>, NoMemory>
-    requires { Each (λ n. n < length dag.old.entries) run.now }
+// Puts what is left of each child of a run into an empty list.
+fn tails_into(
+    alloc: Global,
+    dag: &mut Dag,
+    run: &[Node],
+    tails: &mut List<Node>,
+) -> Result<(), NoMemory>
+    requires run { Each (λ n. n < length dag.old.entries) run.now }
+    requires empty { tails.old ≡ [] }
     ensures grown { IsGrown dag.old dag.new }
-    ensures nodes { IfOk result (λ tails. Each (λ n. n < length dag.new.entries) tails) }
-    ensures means { IfOk result (λ tails. (first : ℕ) → first < length dag.old.entries → Each (StandsOver dag.old first) run.now → (keep : List Bool) → list_any (val dag.old keep) run.now ≡ (val dag.old keep first && list_any (val dag.new keep) tails)) }
+    ensures nodes { OnOk result (Each (λ n. n < length dag.new.entries) tails.new) }
+    ensures means { OnOk result ((first : ℕ) → first < length dag.old.entries → Each (StandsOver dag.old first) run.now → (keep : List Bool) → list_any (val dag.old keep) run.now ≡ (val dag.old keep first && list_any (val dag.new keep) tails.new)) }
 {
-    let mut tails = List::new(alloc);
     for child in run {
         tails.push(tail_of(alloc, dag, *child)?)?;
     }
-    Ok(tails)
+    Ok(())
 }
 
 // The children of a run as one.
@@ -116,19 +121,25 @@ fn joined(alloc: Global, dag: &mut Dag, first: Node, run: &[Node]) -> Result<Nod
     ensures node { IfOk result (λ node. node < length dag.new.entries) }
     ensures means { IfOk result (λ node. (keep : List Bool) → val dag.new keep node ≡ list_any (val dag.old keep) run.now) }
 {
-    let tails = tails_of(alloc, dag, run)?;
+    let mut tails = List::new(alloc);
+    tails_into(alloc, dag, run, &mut tails)?;
     let tail = dag.any_plain(tails.as_slice())?;
     dag.all(&[first, tail])
 }
 
-/// The children of an `any` with each run as one.
-pub(crate) fn joined_runs(alloc: Global, dag: &mut Dag, of: &[Node]) -> Result<List<Node>, NoMemory>
-    requires { Each (λ n. n < length dag.old.entries) of.now }
+/// Puts the children of an `any` into an empty list, each run as one.
+pub(crate) fn join_runs(
+    alloc: Global,
+    dag: &mut Dag,
+    of: &[Node],
+    nodes: &mut List<Node>,
+) -> Result<(), NoMemory>
+    requires of { Each (λ n. n < length dag.old.entries) of.now }
+    requires empty { nodes.old ≡ [] }
     ensures grown { IsGrown dag.old dag.new }
-    ensures nodes { IfOk result (λ nodes. Each (λ n. n < length dag.new.entries) nodes) }
-    ensures means { IfOk result (λ nodes. (keep : List Bool) → list_any (val dag.new keep) nodes ≡ list_any (val dag.old keep) of.now) }
+    ensures nodes { OnOk result (Each (λ n. n < length dag.new.entries) nodes.new) }
+    ensures means { OnOk result ((keep : List Bool) → list_any (val dag.new keep) nodes.new ≡ list_any (val dag.old keep) of.now) }
 {
-    let mut nodes = List::new(alloc);
     let mut rest = of;
     'children: while let [child, others @ ..] = rest {
         match run_at_front(dag, rest) {
@@ -143,5 +154,5 @@ pub(crate) fn joined_runs(alloc: Global, dag: &mut Dag, of: &[Node]) -> Result<L
             }
         }
     }
-    Ok(nodes)
+    Ok(())
 }

@@ -9,12 +9,12 @@ pub returns-clause-means : goal.returns-clause-means
 returns-clause-means c =
     let d = c.args.dag.now in
     let run = c.args.run.now in
-    let tails = c.in_ok-tails.tails in
+    let tails = c.tails_into.new.tails in
     let tail = c.in_ok-tail.tail in
     IfOk-weaker c.all.result
     (λ n. (keep : List Bool) → val c.all.new.self keep n ≡ list_all (val c.any_plain.new.self keep) (c.args.first ∷ tail ∷ []))
     (λ n. (keep : List Bool) → val c.all.new.self keep n ≡ list_any (val d keep) run)
-    (λ n h keep. h keep ∙ all-shared c.tails_of.ensures.grown c.any_plain.ensures.grown keep c.args.first tail run tails c.requires.first
-    (c.in_ok-tail.ensures.means keep ∙ ap (list_any (val c.tails_of.new.dag keep)) c.as_slice.ensures)
-    (c.in_ok-tails.ensures.means c.args.first c.requires.first c.requires.over keep))
+    (λ n h keep. h keep ∙ all-shared c.tails_into.ensures.grown c.any_plain.ensures.grown keep c.args.first tail run tails c.requires.first
+    (c.in_ok-tail.ensures.means keep ∙ ap (list_any (val c.tails_into.new.dag keep)) c.as_slice.ensures)
+    (c.in_ok-tails_into.ensures.means c.args.first c.requires.first c.requires.over keep))
     c.all.ensures.means

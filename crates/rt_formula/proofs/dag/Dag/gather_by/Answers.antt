@@ -1,4 +1,4 @@
-use Rattle.std.proofs.Common.{◌≡◌, Bool, true, false, List, ℕ, cond, None, Some, refl, sym, subst, ap, ◌∙◌}
+use Rattle.std.proofs.Common.{Bool, cond, None, Some, sym, subst, ◌∙◌}
 use Rattle.rt_formula.specs.Shared.{val}
 use Rattle.rt_formula.specs.Gathering.{IsSifted}
 use Rattle.rt_formula.proofs.Gates.{contrary-decides}

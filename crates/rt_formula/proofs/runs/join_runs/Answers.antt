@@ -3,7 +3,7 @@ use Rattle.std.proofs.lemmas.List.Elements.{All-drop, All-take}
 use Rattle.std.specs.List.{All as Each}
 use Rattle.rt_formula.specs.Shared.{val}
 use Rattle.rt_formula.proofs.RunLemmas.{alone, any-alone, grown_refl, grown_trans, node-push, nodes_stay, one-node, one-part, parts, runs-more, tail-nodes}
-use Rattle.rt_formula.proofs.runs.joined_runs.Goals as goal
+use Rattle.rt_formula.proofs.runs.join_runs.Goals as goal
 
 pub children-preserved-in-Some : goal.children-preserved-in-Some
 children-preserved-in-Some c =

@@ -1,7 +1,7 @@
 use Rattle.std.proofs.Common.{ℕ, ◌<◌, sym, subst, length, arith}
 use Rattle.rt_formula.specs.Runs.{StandsOver}
 use Rattle.rt_formula.proofs.RunLemmas.{grown_trans, node-push, nodes_stay, stands_stay, tails-more}
-use Rattle.rt_formula.proofs.runs.tails_of.Goals as goal
+use Rattle.rt_formula.proofs.runs.tails_into.Goals as goal
 
 pub loop-child-preserved : goal.loop-child-preserved
 loop-child-preserved c =
@@ -11,7 +11,7 @@ loop-child-preserved c =
     let child = c.child-item.result in
     let tail = c.in_ok-tail_of.field-0 in
     let v = c.loop-child.invariant in
-    let below : child < length d.entries = (let g = c.requires i child c.loop-child-test.true in let e = c.child-item.is in omega (arith, g, e)) in
+    let below : child < length d.entries = (let g = c.requires.run i child c.loop-child-test.true in let e = c.child-item.is in omega (arith, g, e)) in
     record {
       grown = grown_trans v.grown c.tail_of.ensures.grown;
       nodes = node-push (length c.tail_of.new.dag.entries) c.loop-child.tails c.push.new.self tail (nodes_stay c.tail_of.ensures.grown c.loop-child.tails v.nodes) c.in_ok-tail_of.ensures.node c.in_ok-push.ensures.ok;

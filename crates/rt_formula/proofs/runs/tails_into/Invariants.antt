@@ -2,7 +2,7 @@ use Rattle.std.proofs.Common.{◌≡◌, ◌<◌, ℕ, Bool, ◌&&◌, List, len
 use Rattle.std.specs.List.{list_any, All as Each}
 use Rattle.rt_formula.specs.Runs.{StandsOver}
 use Rattle.rt_formula.specs.Shared.{val, IsGrown}
-use Rattle.rt_formula.proofs.runs.tails_of.Given as goal
+use Rattle.rt_formula.proofs.runs.tails_into.Given as goal
 
 abbrev pub invariant-loop-child : goal.invariant-loop-child
 invariant-loop-child l = record {

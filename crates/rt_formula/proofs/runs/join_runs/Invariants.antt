@@ -1,7 +1,7 @@
 use Rattle.std.proofs.Common.{◌≡◌, ◌<◌, Bool, ◌||◌, List, length}
 use Rattle.std.specs.List.{list_any, All as Each}
 use Rattle.rt_formula.specs.Shared.{val, IsGrown}
-use Rattle.rt_formula.proofs.runs.joined_runs.Given as goal
+use Rattle.rt_formula.proofs.runs.join_runs.Given as goal
 
 abbrev pub invariant-children : goal.invariant-children
 invariant-children l = record {
