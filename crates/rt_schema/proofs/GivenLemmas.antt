@@ -1,7 +1,6 @@
 -- Lemmas on given rows: their places, and what filling a table keeps.
-use Rattle.std.proofs.Common.{◌≡◌, ℕ, zero, suc, ◌+◌, ◌<◌, ◌≤◌, Bool, true, false, ◌&&◌, IsTrue, List, [], ◌∷◌, ◌++◌, drop, length, Some, slice_get, slice_index_or, slice_set, replicate, nat_le, refl, arith}
+use Rattle.std.proofs.Common.{◌≡◌, ℕ, zero, suc, ◌+◌, ◌<◌, ◌≤◌, Bool, true, false, ◌&&◌, IsTrue, List, [], ◌∷◌, length, Some, slice_get, slice_index_or, slice_set, replicate, nat_le, refl, arith}
 use Rattle.std.proofs.lemmas.Bool.Decides.{nat_tests}
-use Rattle.std.proofs.lemmas.List.{append-nil, drop_all}
 use Rattle.std.proofs.lemmas.Option.{slice_get_read}
 use Rattle.rt_schema.specs.declared.table.ColKind.{ColKind}
 use Rattle.rt_schema.specs.declared.table.Table.{Table}
@@ -76,11 +75,7 @@ row-read [] n at rows row h p q = absurd (omega arith)
 row-read (t ∷ tables) zero at rows row h p q = slice_get_read t (length t) at row refl h (rw p at q)
 row-read (t ∷ tables) (suc n) at rows row h p q = row-read tables n at rows row h p q
 
--- what `Given::new` has when it has gone over all tables
-pub new-instance : (schema : List Table) (kinds : List (List ColKind)) (tables : Tables) (i : ℕ) → kinds ++ schema_kinds (drop i schema) ≡ schema_kinds schema
-    → tables ≡ replicate i [] → i ≤ length schema → length schema ≤ i → IsTrue (is_instance (record { kinds = kinds; tables = tables }))
-new-instance schema kinds tables i k t le ge =
-    let none = drop_all i schema ge in
-    let all : kinds ≡ schema_kinds schema = rw (none, append-nil) at k in
-    let whole : i ≡ length schema = omega arith in
-    rw (all, t, whole) (no_rows-instance schema)
+-- what `Given::new` makes
+pub new_instance : (schema : List Table) (kinds : List (List ColKind)) (tables : Tables) → kinds ≡ schema_kinds schema
+    → tables ≡ replicate (length schema) [] → IsTrue (is_instance (record { kinds = kinds; tables = tables }))
+new_instance schema kinds tables k t = rw (k, t) (no_rows-instance schema)

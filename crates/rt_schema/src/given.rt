@@ -3,7 +3,7 @@ ghost use Rattle.rt_schema.specs.Given.{IsOf, is_instance, rows_suit, rows_at, p
 ghost use Rattle.rt_schema.specs.Schema.{kinds_of, schema_kinds};
 
 use crate::schema::Schema;
-use crate::table::{ColKind, Column};
+use crate::table::{ColKind, Column, Table};
 use rt_value::{List, NoMemory, Row};
 use std::alloc::Global;
 use std::marker::Model;
@@ -32,16 +32,14 @@ impl Model for Given {
 
 impl Given {
     /// The tables of the schema, without rows.
+    #[tactic(auto, using(crate::proofs::GivenLemmas::new_instance))]
     pub fn new(alloc: Global, schema: &Schema) -> Result<Given, NoMemory>
         ensures of_schema { IfOk result (λ g. IsOf schema.now g) }
         ensures no_rows { IfOk result (λ g. g.tables ≡ replicate (length schema.now) []) }
     {
-        let mut kinds = List::new(alloc);
-        let mut tables = List::new(alloc);
-        for table in schema.tables() {
-            kinds.push(kinds_of(alloc, table.columns.as_slice())?)?;
-            tables.push(List::new(alloc))?;
-        }
+        let of = schema.tables();
+        let kinds = schema_kinds(alloc, of)?;
+        let tables = no_rows(alloc, of.len())?;
         Ok(Given { kinds, tables })
     }
 
@@ -118,6 +116,28 @@ impl Given {
     {
         self.tables.as_slice()
     }
+}
+
+/// The kinds of all columns, table by table.
+fn schema_kinds(alloc: Global, tables: &[Table]) -> Result<List<List<ColKind>>, NoMemory>
+    ensures { IfOk result (λ kinds. kinds ≡ schema_kinds tables.now) }
+{
+    let mut kinds = List::new(alloc);
+    for table in tables {
+        kinds.push(kinds_of(alloc, table.columns.as_slice())?)?;
+    }
+    Ok(kinds)
+}
+
+/// As many tables without rows.
+fn no_rows(alloc: Global, count: usize) -> Result<List<List<Row>>, NoMemory>
+    ensures { IfOk result (λ tables. tables ≡ replicate count []) }
+{
+    let mut tables = List::new(alloc);
+    for _ in 0..count {
+        tables.push(List::new(alloc))?;
+    }
+    Ok(tables)
 }
 
 fn kinds_of(alloc: Global, columns: &[Column]) -> Result<List<ColKind>, NoMemory>

@@ -8,7 +8,7 @@ use std::marker::Model;
 
 /// A list of tables whose rules name only columns and tables that are there and compare values of
 /// one kind. Contracts see the list of the tables.
-#[derive(Debug, Drop)]
+#[derive(Drop)]
 pub struct Schema {
     tables: List<Table>,
 }
