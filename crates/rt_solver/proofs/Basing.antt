@@ -3,7 +3,7 @@ use Rattle.std.proofs.Common.{◌≡◌, ℕ, ◌+◌, ◌*◌, ◌<◌, ◌≤�
 use Rattle.rt_clause.specs.Literal.{Literal}
 use Rattle.rt_solver.specs.Same.{IsSame, AreSame}
 use Rattle.rt_solver.specs.Solving.{reach, width}
-use Rattle.rt_solver.specs.Watching.{Lists}
+use Rattle.rt_solver.specs.Watching.{Lists, list_at, stands}
 use Rattle.rt_solver.specs.Propagating.{AreListed, AreShort, HasLists}
 use Rattle.rt_solver.specs.Based.{IsBased}
 use Rattle.rt_solver.proofs.Widths.{width-push, reach-below}
@@ -27,3 +27,26 @@ based-push lines new copies after w mid n vars short more ls c h en ea s listed 
   wide = e ∙ ap (λ m. reach m ls) h.wide ∙ sym (width-push 0 lines ls) ∙ ap width (sym en);
   few = few;
 }
+
+-- room for more lists and watches leaves each list as it is
+pub grown_listed : (clauses : List (List Literal)) (w mid : Lists) → AreListed clauses w → ((k : ℕ) → list_at mid.lists k ≡ list_at w.lists k) → length w.lists ≤ length mid.lists → AreListed clauses mid
+grown_listed clauses w mid h same longer = record {
+  stand = λ k x s. (let P : List ℕ → Type 0 = λ ws. stands ws x ≡ true in h.stand k x (subst P (same k) s));
+  listed = λ k x i. (let P : List ℕ → Type 0 = λ ws. stands ws x ≡ true in subst P (sym (same k)) (h.listed k x i));
+  spread = h.spread;
+  wide = λ i b l t. (let q = h.wide i b l t in omega (arith, q, longer));
+}
+
+-- so the lines stay beside their copies
+pub based-room : (lines copies after : List (List Literal)) (w mid : Lists) (n : ℕ) (short kept : List ℕ) → IsBased lines copies w n short → after ≡ copies → kept ≡ short → AreListed after mid → IsBased lines after mid n kept
+based-room lines copies after w mid n short kept h e s listed =
+    let P : List (List Literal) → Type 0 = λ x. AreSame lines x in
+    let Q : List (List Literal) → Type 0 = λ x. AreShort x kept in
+    let R : List ℕ → Type 0 = λ x. AreShort copies x in
+    record {
+      same = subst P (sym e) h.same;
+      listed = listed;
+      brief = subst Q (sym e) (subst R (sym s) h.brief);
+      wide = h.wide;
+      few = h.few;
+    }

@@ -28,3 +28,4 @@ pub mod Requeue
 pub mod Rounds
 pub mod Picks
 pub mod Ordered
+pub mod Reading

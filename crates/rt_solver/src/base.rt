@@ -6,7 +6,6 @@ ghost use Rattle.rt_solver.specs.Looking.{AreBelow};
 ghost use Rattle.rt_solver.specs.Search.{KeepsModels};
 ghost use Rattle.rt_solver.specs.Same.{IsSame, AreSame, IsSpread};
 ghost use Rattle.rt_solver.specs.Solving.{reach, width};
-ghost use Rattle.rt_solver.specs.Watching.{list_at};
 ghost use Rattle.rt_solver.specs.Propagating.{AreWatchedBefore, IsQueued, IsPropagated, IsConflict, IsDone, AreListed, AreShort, HasLists};
 
 use crate::clause::Clause;
@@ -108,6 +107,7 @@ fn put(clauses: &mut Vec<Clause>, short: &mut Vec<usize>, watches: &mut Watches,
 }
 
 // Makes room for one clause more, over variables below a bound.
+#[tactic(auto, using(crate::proofs::Basing::grown_listed))]
 fn make_room(
     clauses: &mut Vec<Clause>,
     short: &mut Vec<usize>,
@@ -116,10 +116,10 @@ fn make_room(
 ) -> Result<(), NoMemory>
     requires vars { vars ≤ 2 ^ 62 }
     requires few { vec_len clauses.old < 2 ^ 62 }
+    requires listed { AreListed clauses.old.items watches.old }
     ensures items { clauses.new.items ≡ clauses.old.items }
+    ensures listed { AreListed clauses.new.items watches.new }
     ensures short { short.new.items ≡ short.old.items }
-    ensures kept { (k : ℕ) → list_at watches.new.lists k ≡ list_at watches.old.lists k }
-    ensures longer { length watches.old.lists ≤ length watches.new.lists }
     ensures room { OnOk result (vec_len clauses.new < vec_capacity clauses.new) }
     ensures short_room { OnOk result (vec_len short.new < vec_capacity short.new) }
     ensures count { OnOk result (2 * vec_len clauses.new + 2 ≤ watches.new.count) }

@@ -1,6 +1,6 @@
 use Rattle.std.proofs.Common.{◌≡◌, ◌≤◌, ◌∙◌, ℕ, refl, sym, ap, subst, List, max, arith}
 use Rattle.std.proofs.Math.Nat.{le-max_left}
-use Rattle.rt_solver.proofs.Widths.{reach-least}
+use Rattle.rt_solver.proofs.Widths.{reach-least, assumed-below}
 use Rattle.std.specs.Option.{option_to_list}
 use Rattle.rt_solver.specs.declared.solver.Found.{Found}
 use Rattle.rt_solver.specs.declared.search.Ending.{Ending}
@@ -81,3 +81,22 @@ pub returns-clause-searched : goal.returns-clause-searched
 returns-clause-searched g c =
     let H : ℕ → Type 0 = λ n. HasSearched (g.L.Adds.lines c.args.base.now.0) (g.L.Adds.lines c.run.new.base.0) (g.L.Adds.derived c.args.base.now.0) (g.L.Adds.derived c.run.new.base.0) c.args.assume.now c.args.first n in
     subst H (c.in_ok-trail.ensures.vars ∙ c.variables_of-vars.ensures ∙ ap (λ n. reach (max c.args.first n) (option_to_list c.args.assume.now)) c.vars.ensures.is) c.in_ok-run.ensures.searched
+
+pub begun-requires : goal.begun-requires
+begun-requires g c = assumed-below (max c.args.first c.vars.result) _ c.args.assume.now c.variables_of-vars.ensures
+
+pub run-requires-clause-first : goal.run-requires-clause-first
+run-requires-clause-first g c =
+    let a = reach-least (max c.args.first c.vars.result) (option_to_list c.args.assume.now) in
+    let m = le-max_left c.args.first c.vars.result in
+    let b = c.variables_of-vars.ensures in
+    let d = c.in_ok-trail.ensures.vars in
+    omega (arith, a, m, b, d)
+
+pub run-requires-clause-undecided : goal.run-requires-clause-undecided
+run-requires-clause-undecided g c = c.in_ok-trail.ensures.undecided
+
+pub values-requires : goal.values-requires
+values-requires g c =
+    let E : Ending → Type 0 = λ e. IsEnding (g.L.Adds.lines c.args.base.now.0) (g.L.Adds.lines c.run.new.base.0) c.args.assume.now c.args.first c.run.new.trail c.args.budget e in
+    (subst E c.in-Whole.is c.in_ok-run.ensures.ending).1.decided
