@@ -1,4 +1,6 @@
-use Rattle.std.proofs.Common.{◌∙◌, refl, arith}
+use Rattle.std.proofs.Common.{◌∙◌, refl, sym, subst, arith}
+use Rattle.rt_solver.specs.Watching.{Lists}
+use Rattle.rt_solver.specs.Propagating.{AreListed}
 use Rattle.rt_solver.proofs.Visits.{none-pending}
 use Rattle.rt_solver.proofs.Visiting.{taken-within, taken-false, taken-spread, taken-below, taken-wide, stay-at, move-at, broken-at, begin-at, end-at, none-at}
 use Rattle.rt_solver.proofs.propagate.visit.Goals as goal
@@ -78,3 +80,27 @@ returns-in-Broken-clause-visited c = (broken-at c.args.clauses.now.items c.watch
 pub returns-clause-visited : goal.returns-clause-visited
 returns-clause-visited c =
     (end-at c.args.clauses.now.items c.watches.clauses.items c.watches.watches c.key-home.result c.args.done c.at-step.result c.negated.result c.args.trail.now.steps c.watches.trail.steps c.at-step.ensures.step c.requires.place c.negated.ensures c.key-home.ensures.is c.watches.invariant.visiting c.in_default.ensures.0).0
+
+pub returns-clause-listed : goal.returns-clause-listed
+returns-clause-listed c =
+    let A : Lists → Type 0 = AreListed c.watches.clauses.items in
+    subst A (sym c.in_default.ensures.1) (end-at c.args.clauses.now.items c.watches.clauses.items c.watches.watches c.key-home.result c.args.done c.at-step.result c.negated.result c.args.trail.now.steps c.watches.trail.steps c.at-step.ensures.step c.requires.place c.negated.ensures c.key-home.ensures.is c.watches.invariant.visiting c.in_default.ensures.0).1
+
+pub returns-clause-before : goal.returns-clause-before
+returns-clause-before c = c.watches.invariant.visiting.visit.before
+
+pub returns-clause-same : goal.returns-clause-same
+returns-clause-same c = c.watches.invariant.visiting.visit.same
+
+pub returns-clause-steps : goal.returns-clause-steps
+returns-clause-steps c = c.watches.invariant.visiting.visit.grown
+
+pub returns-in-Broken-clause-steps : goal.returns-in-Broken-clause-steps
+returns-in-Broken-clause-steps c = (broken-at c.args.clauses.now.items c.watches.clauses.items c.watches.watches c.pop.new.self c.join-in-Broken.new.self c.restore.new.self c.key-home.result _ c.args.trail.now.steps c.watches.trail.steps c.rewatch.new.trail.steps c.in-Some.watch c.clause-number.result c.index_mut.result.now c.rewatch.new.clause
+    c.watches.invariant.visiting c.in-Some.ensures c.join-in-Broken.ensures c.clause-number.ensures c.index_mut.ensures.value c.in-Broken.ensures.turn c.restore.ensures.none c.restore.ensures.others c.restore.ensures.kept c.restore.ensures.moved c.restore.ensures.back c.restore.ensures.len).grown
+
+pub returns-then-len-home-clause-before : goal.returns-then-len-home-clause-before
+returns-then-len-home-clause-before c = c.requires.queued.before
+
+pub returns-then-len-home-clause-listed : goal.returns-then-len-home-clause-listed
+returns-then-len-home-clause-listed c = c.requires.listed
