@@ -36,8 +36,9 @@ pub fn projection(
             }
             Query::Product(members) => {
                 let lists = each_answer(alloc, members.as_slice(), tables, env)?;
-                let out = product_items(alloc, lists.as_slice(), condition, items, tables, env)?;
-                Ok(out)
+                let out = product_items(alloc, lists.as_slice(), condition, items, tables, env);
+                drop(lists);
+                out
             }
             _ => {
                 let rows = answer(alloc, inner.get(), tables, env)?;
@@ -49,8 +50,9 @@ pub fn projection(
                     items,
                     tables,
                     env,
-                )?;
-                Ok(out)
+                );
+                drop(rows);
+                out
             }
         },
         source => {
@@ -83,12 +85,14 @@ fn product_items(
                 items,
                 tables,
                 env,
-            )?;
-            Ok(out)
+            );
+            drop(rows);
+            out
         }
         Some(pairs) => {
-            let out = pair_items(alloc, &pairs, condition, items, tables, env)?;
-            Ok(out)
+            let out = pair_items(alloc, &pairs, condition, items, tables, env);
+            drop(pairs);
+            out
         }
     }
 }

@@ -32,13 +32,15 @@ pub fn answer(
             }
             Query::Product(members) => {
                 let lists = each_answer(alloc, members.as_slice(), tables, env)?;
-                let out = product_selected(alloc, lists.as_slice(), condition, tables, env)?;
-                Ok(out)
+                let out = product_selected(alloc, lists.as_slice(), condition, tables, env);
+                drop(lists);
+                out
             }
             source => {
                 let rows = answer(alloc, source, tables, env)?;
-                let out = selected(alloc, rows.as_slice(), condition, tables, env)?;
-                Ok(out)
+                let out = selected(alloc, rows.as_slice(), condition, tables, env);
+                drop(rows);
+                out
             }
         },
         Query::Project(source, items) => {
@@ -46,8 +48,9 @@ pub fn answer(
         }
         Query::Product(members) => {
             let lists = each_answer(alloc, members.as_slice(), tables, env)?;
-            let out = product(alloc, lists.as_slice())?;
-            Ok(out)
+            let out = product(alloc, lists.as_slice());
+            drop(lists);
+            out
         }
         Query::Union(a, b) => {
             let first = answer(alloc, a.get(), tables, env)?;
@@ -57,8 +60,9 @@ pub fn answer(
         Query::Except(a, b) => {
             let first = answer(alloc, a.get(), tables, env)?;
             let second = answer(alloc, b.get(), tables, env)?;
-            let out = difference(alloc, first.as_slice(), second)?;
-            Ok(out)
+            let out = difference(alloc, first.as_slice(), second);
+            drop(first);
+            out
         }
         Query::Intersect(a, b) => {
             let first = answer(alloc, a.get(), tables, env)?;
@@ -82,8 +86,9 @@ fn selected(
     let mut out = List::new(alloc);
     for row in rows {
         let inner = scope(alloc, row, env)?;
-        let truth = pred(alloc, condition, tables, inner.as_slice())?;
-        if is_yes(truth) {
+        let truth = pred(alloc, condition, tables, inner.as_slice());
+        drop(inner);
+        if is_yes(truth?) {
             out.push(row.copy(alloc)?)?;
         }
     }
@@ -105,8 +110,9 @@ fn product_selected(
     if narrowed.are_chosen {
         return Ok(narrowed.rows);
     }
-    let out = selected(alloc, narrowed.rows.as_slice(), condition, tables, env)?;
-    Ok(out)
+    let out = selected(alloc, narrowed.rows.as_slice(), condition, tables, env);
+    drop(narrowed);
+    out
 }
 
 /// The answer of each query, in their order.
