@@ -27,7 +27,7 @@ use Rattle.rt_search.specs.Widened.{widened}
 use Rattle.rt_search.proofs.Aiming.{determined-less, model-sought, refuted-false, variables-le}
 use Rattle.rt_search.proofs.Apart.{fresh-apart}
 use Rattle.rt_search.proofs.Asking.{both-aimed}
-use Rattle.rt_search.proofs.Keeps.{bare-one, rest-bare}
+use Rattle.rt_search.proofs.Keeps.{bare-one, before-from, before-place, rest-bare}
 use Rattle.rt_search.proofs.Leading.{both-value, leading-first, leading-found, leading-kept, leading-moved, leading-on, row-value, value-on}
 use Rattle.rt_search.proofs.Nogoods.{any-append, clause-agrees, each-line, fresh-some, inside-fresh, line-true, met-without}
 use Rattle.rt_search.proofs.Taking.{take-index, take-length}
@@ -89,6 +89,18 @@ placed-all d goal cone lines next best place held left p w h =
       bare = rest-bare place best (omega (arith, h, k, n));
       kept = λ b. absurd (omega (arith, b));
     }) (omega (arith, t))
+
+-- all rows are settled
+pub placed-end : (d : Shared) (goal : ℕ) (cone : List Bool) (lines : List (List Literal)) (next : ℕ) (best : List Bool) (place : ℕ) (held : Literal) (left : List Literal) → IsPlaced d goal cone lines next best place held left → d.rows ≤ place → IsLeast (IsSought d goal cone) best
+placed-end d goal cone lines next best place held left p w = record {
+  is_target = p.leading.best_is;
+  least = p.leading.fewest;
+  first = λ s g e b. (
+      let l = before-place s best b in
+      let f = before-from place s best (p.leading.alike s g (p.leading.rivals s g e b)) b in
+      let t = g.0 in
+      omega (arith, l, f, t, w));
+}
 
 -- the lines with the literal that is asked
 pub record IsTried (d : Shared) (goal : ℕ) (cone : List Bool) (lines : List (List Literal)) (next : ℕ) (best : List Bool) (place : ℕ) (held asked : Literal) (left left' : List Literal) : Type 0 where

@@ -1,6 +1,6 @@
-use Rattle.std.proofs.Common.{◌+◌, List, Option, Bool, length, subst, arith}
+use Rattle.std.proofs.Common.{◌+◌, ◌∙◌, ℕ, List, Option, Bool, length, subst, sym, arith}
 use Rattle.rt_search.specs.Attempts.{IsAnswered}
-use Rattle.rt_search.proofs.Asking.{earlier-found, falls, has-asked, kept-within, none-earlier, row-settled}
+use Rattle.rt_search.proofs.Asking.{IsSettled, earlier-found, falls, has-asked, kept-within, none-earlier, row-settled}
 use Rattle.rt_search.proofs.Keeps.{size-most}
 use Rattle.rt_search.proofs.Leading.{leading-first}
 use Rattle.rt_search.proofs.by_cells.by_cells.Goals as goal
@@ -135,3 +135,33 @@ first-preserved c =
       ahead = λ h. h;
       room = v.room;
     }
+
+pub first-init : goal.first-init
+first-init c =
+    let e = c.rows-rows.ensures.is in
+    let r = c.requires.rows in
+    let w = c.requires.aimed.wide in
+    let s = c.requires.small in
+    let f = c.next_kept-row.ensures.from in
+    let N : ℕ → Type 0 = λ n. IsSettled c.args.dag.now c.args.goal c.args.cone.now c.args.solver.now.0.lines c.args.counter.now.firsts (length c.args.counter.now.outs) n c.args.best 0 0 c.args.held in
+    record {
+      rows = e ∙ r;
+      small = omega (arith, e, r, w, s);
+      settled = subst N (sym c.next-next.ensures) (record { aimed = c.requires.aimed; firsts_are = c.requires.firsts; leading = c.requires.leading; low = c.requires.low });
+      next_is = c.next_kept-row.ensures;
+      from = f;
+      within = omega arith;
+      ahead = λ h. h;
+      room = c.requires.room;
+    }
+
+pub first-smaller-then-place-row : goal.first-smaller-then-place-row
+first-smaller-then-place-row c =
+    let v = c.first.invariant in
+    let t = c.if-row-rows.false in
+    let p = c.if-place-row.true in
+    let e = v.rows in
+    let w = c.next_kept-row-then-place-row.ensures.within in
+    let l = v.settled.leading.best_is.0 in
+    let m = falls c.rows-rows.result c.first.place (c.first.place + 1) c.first.row c.next_kept-row-then-place-row.result (omega arith) (omega (arith, p, t)) (omega (arith, w, l, e)) in
+    omega (arith, m)

@@ -5,7 +5,7 @@ use Rattle.rt_derive.specs.declared.checker.Checker.{Checker}
 use Rattle.rt_solver.specs.declared.solver.Found.{Found}
 use Rattle.rt_search.specs.Attempts.{IsTold}
 use Rattle.rt_search.specs.Widened.{widened}
-use Rattle.rt_search.proofs.Places.{IsPlaced, placed-all, placed-begun, placed-kept, placed-model, placed-out, placed-outside, spent-placed, tried-given, tried-on}
+use Rattle.rt_search.proofs.Places.{IsPlaced, placed-all, placed-begun, placed-end, placed-kept, placed-model, placed-out, placed-outside, spent-placed, tried-given, tried-on}
 use Rattle.rt_search.proofs.by_rows.by_rows.Goals as goal
 use Rattle.rt_search.proofs.by_rows.by_rows.Goals.{then-not-is-2+in_ok-model+in-Model+in_ok-best-in-Model, else-not-is-2}
 
@@ -100,3 +100,21 @@ loop-place-preserved c =
     let now : c.push-in-loop-place.new.self ≡ left' = c.in_ok-push.ensures.ok ∙ ap (λ l. c.loop-place.left ++ l ∷ []) c.negated-in-loop-place.ensures in
     let L : List Literal → Type 0 = λ ls. here c.if-not-is-2.solver.0.lines c.if-not-is-2.best ls in
     record { rows = v.rows; small = v.small; placed = subst L (sym now) s }
+
+pub returns : goal.returns
+returns c =
+    let v = c.loop-place.invariant in
+    let t = c.loop-place-test.false in
+    let e = v.rows in
+    placed-end c.args.dag.now c.args.goal c.args.cone.now _ c.loop-place.next c.loop-place.best c.loop-place.place c.loop-place.held c.loop-place.left v.placed (omega (arith, t, e))
+
+pub unreachable-requires : goal.unreachable-requires
+unreachable-requires c =
+    let F : Found → Type 0 = λ f. IsTold c.both.new.to.0.lines c.attempt.new.solver.0.lines (Some c.in_ok-asked.asked) (c.loop-place.next + 1) c.rows-rows.result c.args.budget f in
+    let C : Checker → Type 0 = λ x. IsRefuted x.lines (Some c.in_ok-asked.asked) in
+    let t = c.refutes.ensures.1 (subst C (sym c.lines.ensures) (subst F c.in-Refuted.is c.in_ok-model.ensures.told)) in
+    let f = c.if-not-refutes.true in
+    absurd (cc)
+
+pub attempt-requires-clause-rows : goal.attempt-requires-clause-rows
+attempt-requires-clause-rows c = let w = c.loop-place.invariant.placed.aimed.wide in let e = c.loop-place.invariant.rows in omega (arith, w, e)
