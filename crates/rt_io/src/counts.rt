@@ -4,6 +4,7 @@ ghost use Rattle.rt_io.specs.Edge.{Rose, OnlyRises};
 ghost use Rattle.rt_io.specs.Counts.{count_in, name_at};
 
 use rt_value::{NoMemory, Txt};
+use std::alloc::Global;
 
 /// The faults of one begin and of the reads after it. A name that is begun again has a further
 /// entry, so that raising a count takes no memory.
@@ -14,11 +15,12 @@ pub(crate) struct Entry {
 }
 
 /// Makes an entry for a name that is begun.
-pub(crate) fn enter(entries: &mut Vec<Entry>, name: Txt) -> Result<(), NoMemory>
+pub(crate) fn enter(alloc: Global, entries: &mut Vec<Entry>, name: &str) -> Result<(), NoMemory>
     ensures same { (q : List ℕ) → count_in entries.new.items q ≡ count_in entries.old.items q }
     ensures len { OnOk result (vec_len entries.new ≡ vec_len entries.old + 1) }
-    ensures name { OnOk result (name_at entries.new.items (vec_len entries.old) ≡ name) }
+    ensures name { OnOk result (name_at entries.new.items (vec_len entries.old) ≡ name.now) }
 {
+    let name = Txt::of(alloc, name)?;
     entries.push(Entry { name, count: 0 })?;
     Ok(())
 }

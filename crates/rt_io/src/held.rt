@@ -1,13 +1,33 @@
 //! Files in memory, by their names.
-ghost use Rattle.std.specs.Prelude.{◌≡◌, min, length, take, [], false, true, MatchOption};
+ghost use Rattle.std.specs.Prelude.{◌≡◌, ◌≢◌, ℕ, List, min, length, take, [], false, true, MatchOption, OnOk, OnErr};
 ghost use Rattle.rt_io.specs.Held.{held_in, has_in};
 
-use rt_value::{Bytes, Txt};
+use rt_value::{Bytes, List, NoMemory, Txt};
+use std::alloc::Global;
 
 #[derive(Drop)]
 pub(crate) struct Held {
     pub(crate) name: Txt,
     pub(crate) bytes: Bytes,
+}
+
+/// Puts a file in front of the others, so that they hold these bytes under this name.
+pub(crate) fn put(
+    alloc: Global,
+    files: &mut Vec<Held>,
+    name: &str,
+    bytes: &[u8],
+) -> Result<(), NoMemory>
+    ensures has { OnOk result (has_in files.new.items name.now ≡ true) }
+    ensures held { OnOk result (held_in files.new.items name.now ≡ bytes.now) }
+    ensures others_has { (other : List ℕ) → other ≢ name.now → has_in files.new.items other ≡ has_in files.old.items other }
+    ensures others { (other : List ℕ) → other ≢ name.now → held_in files.new.items other ≡ held_in files.old.items other }
+    ensures err { OnErr result (held_in files.new.items ≡ held_in files.old.items) }
+{
+    let name = Txt::of(alloc, name)?;
+    let bytes = List::from_slice(alloc, bytes)?;
+    files.insert(0, Held { name, bytes })?;
+    Ok(())
 }
 
 /// The bytes of the first file of this name.

@@ -4,7 +4,7 @@ ghost use Rattle.rt_io.specs.Edge.{Rose, OnlyRises, NoneFell};
 ghost use Rattle.rt_io.specs.Failing.{is_named, is_failing};
 
 use crate::counts::{Entry, enter, name_at, raise};
-use crate::held::{Held, find, give};
+use crate::held::{Held, find, give, put};
 use crate::{BeginFail, Failed, Files};
 use rt_value::{Bytes, List, NoMemory, Txt};
 use std::alloc::Global;
@@ -77,10 +77,7 @@ impl MemFiles {
         ensures faults { faults_of self.new ≡ faults_of self.old }
         ensures settings { SameSettings self.old self.new }
     {
-        let name = Txt::of(self.alloc, name)?;
-        let bytes = List::from_slice(self.alloc, bytes)?;
-        self.files.insert(0, Held { name, bytes })?;
-        Ok(())
+        put(self.alloc, &mut self.files, name, bytes)
     }
 
     /// From now on a read gives at most `n` bytes.
@@ -170,11 +167,8 @@ impl Files for MemFiles {
         ensures rises { OnlyRises name.now (faults_of self.old) (faults_of self.new) }
     {
         self.current = None;
-        let Ok(text) = Txt::of(self.alloc, name) else {
-            return Err(BeginFail::NoMemory);
-        };
         let entry = self.entries.len();
-        if enter(&mut self.entries, text).is_err() {
+        if enter(self.alloc, &mut self.entries, name).is_err() {
             return Err(BeginFail::NoMemory);
         }
         if is_named(self.failing_begins.as_slice(), name) {

@@ -4,7 +4,6 @@ ghost use Rattle.rt_io.specs.Counts.{count_in, name_at};
 
 use crate::counts::{Entry, enter, raise};
 use crate::{BeginFail, Failed, Files};
-use rt_value::Txt;
 use std::alloc::Global;
 use std::fs::{self, File};
 use std::io::Read;
@@ -57,11 +56,8 @@ impl Files for RealFiles {
 
     fn begin(&mut self, name: &str) -> Result<(), BeginFail> {
         self.current = None;
-        let Ok(text) = Txt::of(self.alloc, name) else {
-            return Err(BeginFail::NoMemory);
-        };
         let entry = self.entries.len();
-        if enter(&mut self.entries, text).is_err() {
+        if enter(self.alloc, &mut self.entries, name).is_err() {
             return Err(BeginFail::NoMemory);
         }
         let Ok(file) = fs::open(&self.rt, name) else {

@@ -2,7 +2,7 @@ ghost use Rattle.std.specs.Prelude.{◌≡◌, ◌≢◌, ◌<◌, ◌≤◌, �
 ghost use Rattle.std.specs.Option.{option_map, option_map_or, ForSome};
 ghost use Rattle.rt_io.specs.Held.{held_in};
 
-use crate::held::{Held, find, give};
+use crate::held::{Held, find, give, put};
 use crate::{BeginFail, Failed, Files};
 use rt_value::{Bytes, List, NoMemory, Txt};
 use std::alloc::Global;
@@ -40,10 +40,7 @@ impl SureFiles {
         ensures others { (other : List ℕ) → other ≢ name.now → ⟦<SureFiles as Files>⟧.held self.new other ≡ ⟦<SureFiles as Files>⟧.held self.old other }
         ensures err { OnErr result (⟦<SureFiles as Files>⟧.held self.new ≡ ⟦<SureFiles as Files>⟧.held self.old) }
     {
-        let name = Txt::of(self.alloc, name)?;
-        let bytes = List::from_slice(self.alloc, bytes)?;
-        self.files.insert(0, Held { name, bytes })?;
-        Ok(())
+        put(self.alloc, &mut self.files, name, bytes)
     }
 
     /// A copy of the bytes of a name.

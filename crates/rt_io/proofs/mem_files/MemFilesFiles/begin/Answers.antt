@@ -20,8 +20,8 @@ returns c =
       fails = λ fails. sym c.if-is_named.false ∙ c.is_named.ensures ∙ ap (λ names. is_named names c.args.name.now) c.as_slice.ensures.value ∙ fails;
       cause = never _ _;
       settings = record { piece = refl; begins = refl; reads = refl };
-      current = ap Some (ap (name_at c.enter.new.entries.items) c.len-entry.ensures ∙ named ∙ c.in-Ok.ensures);
-      start = λ _. c.in-Ok-from_slice.ensures ∙ c.as_slice-3.ensures ∙ c.in-Some.ensures.bytes ∙ ap (λ files. held_in files c.args.name.now) c.as_slice-2.ensures.value;
+      current = ap Some (ap (name_at c.enter.new.entries.items) c.len-entry.ensures ∙ named);
+      start = λ _. c.in-Ok.ensures ∙ c.as_slice-3.ensures ∙ c.in-Some.ensures.bytes ∙ ap (λ files. held_in files c.args.name.now) c.as_slice-2.ensures.value;
       there = λ _. sym (ap (λ files. has_in files c.args.name.now) c.as_slice-2.ensures.value) ∙ c.in-Some.ensures.has;
       err = tt;
       failed = never _ _;
@@ -31,24 +31,6 @@ returns c =
       calm = c.enter.ensures.same;
       rises = unchanged _ _ _ c.enter.ensures.same;
     }
-
-pub returns-in_default : goal.returns-in_default
-returns-in_default c = record {
-  reads = tt;
-  fails = λ _. refl;
-  cause = memory_not_failed;
-  settings = record { piece = refl; begins = refl; reads = refl };
-  current = tt;
-  start = tt;
-  there = tt;
-  err = refl;
-  failed = memory_not_failed;
-  taken = refl;
-  has = refl;
-  held = refl;
-  calm = tt;
-  rises = unchanged _ _ _ (λ _. refl);
-}
 
 pub returns-then-is_err : goal.returns-then-is_err
 returns-then-is_err c = record {
@@ -71,7 +53,7 @@ returns-then-is_err c = record {
 pub returns-then-is_named : goal.returns-then-is_named
 returns-then-is_named c =
     let entered = on_ok c.enter.result _ c.is_err.ensures.value c.if-is_err.false c.enter.ensures.name in
-    let named = ap (name_at c.enter.new.entries.items) c.len-entry.ensures ∙ entered ∙ c.in-Ok.ensures in
+    let named = ap (name_at c.enter.new.entries.items) c.len-entry.ensures ∙ entered in
     record {
       reads = tt;
       fails = λ _. refl;
@@ -89,25 +71,25 @@ returns-then-is_named c =
       rises = rises_after _ _ (count_in c.args.self.now.entries.items) (count_in c.enter.new.entries.items) (count_in c.raise.new.entries.items) named c.enter.ensures.same c.raise.ensures.rises;
     }
 
-pub returns-in_default-find : goal.returns-in_default-find
-returns-in_default-find c =
+pub returns-in_default : goal.returns-in_default
+returns-in_default c =
     let entered = on_ok c.enter.result _ c.is_err.ensures.value c.if-is_err.false c.enter.ensures.name in
-    let named = ap (name_at c.enter.new.entries.items) c.len-entry.ensures ∙ entered ∙ c.in-Ok.ensures in
+    let named = ap (name_at c.enter.new.entries.items) c.len-entry.ensures ∙ entered in
     record {
       reads = tt;
       fails = λ _. refl;
-      cause = λ _. missing _ (sym (ap (λ files. has_in files c.args.name.now) c.as_slice-2.ensures.value) ∙ c.in_default-find.ensures.has);
+      cause = λ _. missing _ (sym (ap (λ files. has_in files c.args.name.now) c.as_slice-2.ensures.value) ∙ c.in_default.ensures.has);
       settings = record { piece = refl; begins = refl; reads = refl };
       current = tt;
       start = tt;
       there = tt;
       err = refl;
-      failed = λ _. rose_after _ _ (count_in c.args.self.now.entries.items) (count_in c.enter.new.entries.items) (count_in c.raise-in_default-find.new.entries.items) named c.enter.ensures.same c.raise-in_default-find.ensures.rose;
+      failed = λ _. rose_after _ _ (count_in c.args.self.now.entries.items) (count_in c.enter.new.entries.items) (count_in c.raise-in_default.new.entries.items) named c.enter.ensures.same c.raise-in_default.ensures.rose;
       taken = refl;
       has = refl;
       held = refl;
       calm = tt;
-      rises = rises_after _ _ (count_in c.args.self.now.entries.items) (count_in c.enter.new.entries.items) (count_in c.raise-in_default-find.new.entries.items) named c.enter.ensures.same c.raise-in_default-find.ensures.rises;
+      rises = rises_after _ _ (count_in c.args.self.now.entries.items) (count_in c.enter.new.entries.items) (count_in c.raise-in_default.new.entries.items) named c.enter.ensures.same c.raise-in_default.ensures.rises;
     }
 
 pub returns-in_default-from_slice : goal.returns-in_default-from_slice
