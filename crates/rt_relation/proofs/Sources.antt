@@ -8,12 +8,11 @@ use Rattle.rt_algebra.specs.Columns as algebra
 use Rattle.rt_algebra.specs.Columns.{QueryColumns, item_columns, pred_typed, product_columns, query_columns}
 use Rattle.rt_algebra.specs.declared.query.Pred.{Pred}
 use Rattle.rt_algebra.specs.declared.query.Query.{Query}
-use Rattle.rt_algebra.specs.declared.query.Query.TheVariants as query
 use Rattle.rt_columns.proofs.Columned.{columns-Product, columns-Project, columns-Select, columns-Table}
 use Rattle.rt_columns.proofs.Fitting.{table-as}
 use Rattle.rt_relation.specs.Sources.{no_sources, product_of, select_of, selected, with_base, with_cond}
 use Rattle.rt_relation.specs.Conditions.{all_of}
-use Rattle.rt_relation.specs.Relations.{Tables, table_columns, table_named, table_ref}
+use Rattle.rt_relation.specs.Relations.{Tables, table_named, table_ref}
 use Rattle.rt_relation.specs.declared.from.FromClause.{FromClause}
 use Rattle.rt_relation.specs.declared.relation.TableRef.{TableRef}
 use Rattle.rt_relation.proofs.Sets.{IsTypedRelation}

@@ -8,6 +8,8 @@ use Rattle.rt_algebra.specs.declared.query.Query.TheVariants as q
 use Rattle.rt_algebra.specs.declared.typed.Typed.{Typed}
 use Rattle.rt_relation.specs.declared.relation.Relation.{Relation}
 use Rattle.rt_relation.specs.declared.relation.TableRef.{TableRef}
+use Rattle.rt_relation.specs.declared.set.SetOp.{SetOp}
+use Rattle.rt_relation.specs.declared.set.SetOp.TheVariants as op
 use Rattle.rt_schema.specs.declared.table.Column.{Column as TableColumn}
 use Rattle.rt_schema.specs.declared.table.Table.{Table}
 use Rattle.rt_scope.specs.Columns.{bounded, called}
@@ -57,6 +59,15 @@ abbrev pub united_columns : List Column → List Column → Result (List Column)
 united_columns cs ds =
     if length cs == length ds then (if same_kinds cs ds then Ok (widened cs ds) else Err fault.TypeMismatch)
     else Err fault.Columns
+
+abbrev pub combined : SetOp → Query → Query → Query
+combined op.Union a b = q.Union a b
+combined op.Except a b = q.Except a b
+combined op.Intersect a b = q.Intersect a b
+
+-- an operator over operands whose columns fit
+abbrev pub related : SetOp → Relation → Relation → Result Relation NameFault
+related o t u = united_columns t.columns u.columns >>= λ columns. Ok (record { query = combined o t.query u.query; columns = columns })
 
 abbrev pub intersected : Relation → Relation → Result Relation NameFault
 intersected t u = united_columns t.columns u.columns >>= λ columns. Ok (record { query = q.Intersect t.query u.query; columns = columns })

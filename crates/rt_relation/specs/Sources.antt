@@ -3,6 +3,7 @@
 use Rattle.std.specs.Prelude.{ℕ, ◌+◌, length, is_some, List, [], ◌∷◌, ◌++◌, map, Result, Ok, Err, if◌then◌else◌, Vec}
 use Rattle.std.specs.Borrow.{Bor}
 use Rattle.std.specs.declared.alloc.Global.{Global}
+use Rattle.rt_algebra.specs.declared.expr.Expr.{Expr}
 use Rattle.rt_algebra.specs.declared.query.Pred.{Pred}
 use Rattle.rt_algebra.specs.declared.query.Query.{Query}
 use Rattle.rt_algebra.specs.declared.query.Query.TheVariants as q
@@ -53,5 +54,9 @@ abbrev pub selected : Query → List Pred → Query
 selected of [] = of
 selected of (c ∷ cs) = q.Select of (all_of (c ∷ cs))
 
+-- the rows of all sources that meet the conditions, and the items over them
+abbrev pub query_of : List Query → List Pred → List Expr → Query
+query_of queries conds exprs = q.Project (selected (product_of queries) conds) exprs
+
 abbrev pub select_of : FromClause → SelectList → Relation
-select_of from list = record { query = q.Project (selected (product_of from.queries) from.conds) list.exprs; columns = list.columns }
+select_of from list = record { query = query_of from.queries from.conds list.exprs; columns = list.columns }

@@ -9,7 +9,7 @@ use crate::alone::alone;
 use crate::condition::all_of;
 use crate::from::FromClause;
 use crate::relation::Relation;
-use rt_algebra::{Pred, Query};
+use rt_algebra::{Expr, Pred, Query};
 use rt_scope::{NameFault, SelectList};
 use rt_value::{Boxed, List, NoMemory};
 use std::alloc::Global;
@@ -33,19 +33,31 @@ fn selected(alloc: Global, query: Boxed<Query>, conds: List<Pred>) -> Result<Box
     }
 }
 
+fn query_of(
+    alloc: Global,
+    queries: List<Query>,
+    conds: List<Pred>,
+    exprs: List<Expr>,
+) -> Result<Boxed<Query>, NoMemory>
+    ensures { IfOk result (λ q. q ≡ spec.query_of queries conds exprs) }
+{
+    let product = product_of(alloc, queries)?;
+    let rows = selected(alloc, product, conds)?;
+    Boxed::new(alloc, Query::Project(rows, exprs))
+}
+
 /// The items over the rows of the sources that meet the conditions.
 pub fn select_of(alloc: Global, from: FromClause, list: SelectList) -> Result<Relation, NameFault>
     ensures { Gives is_memory result (Ok (spec.select_of from list)) }
 {
     let FromClause {
-        sources: _,
+        sources,
         queries,
         conds,
         width: _,
     } = from;
+    drop(sources);
     let SelectList { exprs, columns } = list;
-    let product = product_of(alloc, queries)?;
-    let rows = selected(alloc, product, conds)?;
-    let query = Boxed::new(alloc, Query::Project(rows, exprs))?;
+    let query = query_of(alloc, queries, conds, exprs)?;
     Ok(Relation { query, columns })
 }

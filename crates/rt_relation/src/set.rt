@@ -29,35 +29,52 @@ fn united_columns(
     Ok(widened(alloc, columns, others)?)
 }
 
+// The operators.
+#[derive(Clone, Copy)]
+pub(crate) enum SetOp {
+    Union,
+    Except,
+    Intersect,
+}
+
+fn combined(
+    alloc: Global,
+    op: SetOp,
+    a: Boxed<Query>,
+    b: Boxed<Query>,
+) -> Result<Boxed<Query>, NoMemory>
+    ensures { IfOk result (λ q. q ≡ spec.combined op a b) }
+{
+    let query = match op {
+        SetOp::Union => Query::Union(a, b),
+        SetOp::Except => Query::Except(a, b),
+        SetOp::Intersect => Query::Intersect(a, b),
+    };
+    Boxed::new(alloc, query)
+}
+
+fn related(alloc: Global, op: SetOp, t: Relation, u: Relation) -> Result<Relation, NameFault>
+    ensures { Gives is_memory result (spec.related op t u) }
+{
+    let columns = united_columns(alloc, t.columns.as_slice(), u.columns.as_slice())?;
+    let query = combined(alloc, op, t.query, u.query)?;
+    Ok(Relation { query, columns })
+}
+
 /// INTERSECT.
 pub fn intersected(alloc: Global, t: Relation, u: Relation) -> Result<Relation, NameFault>
     ensures { Gives is_memory result (spec.intersected t u) }
 {
-    let columns = united_columns(alloc, t.columns.as_slice(), u.columns.as_slice())?;
-    let query = Boxed::new(alloc, Query::Intersect(t.query, u.query))?;
-    Ok(Relation { query, columns })
-}
-
-fn union_or_except(
-    alloc: Global,
-    except: bool,
-    a: Boxed<Query>,
-    b: Boxed<Query>,
-) -> Result<Boxed<Query>, NoMemory>
-    ensures { IfOk result (λ q. q ≡ spec.union_or_except except a b) }
-{
-    if except {
-        Boxed::new(alloc, Query::Except(a, b))
-    } else {
-        Boxed::new(alloc, Query::Union(a, b))
-    }
+    related(alloc, SetOp::Intersect, t, u)
 }
 
 /// EXCEPT or UNION.
 pub fn united(alloc: Global, except: bool, t: Relation, u: Relation) -> Result<Relation, NameFault>
     ensures { Gives is_memory result (spec.united except t u) }
 {
-    let columns = united_columns(alloc, t.columns.as_slice(), u.columns.as_slice())?;
-    let query = union_or_except(alloc, except, t.query, u.query)?;
-    Ok(Relation { query, columns })
+    if except {
+        related(alloc, SetOp::Except, t, u)
+    } else {
+        related(alloc, SetOp::Union, t, u)
+    }
 }
