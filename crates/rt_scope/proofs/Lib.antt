@@ -5,3 +5,4 @@ pub mod Naming
 pub mod Standing
 pub mod Steps
 pub mod Summing
+mod Walking
