@@ -6,7 +6,7 @@ use Rattle.rt_algebra.specs.Columns as algebra
 use Rattle.rt_algebra.specs.declared.query.Pred.{Pred}
 use Rattle.rt_algebra.specs.declared.query.Pred.TheVariants as pred
 use Rattle.rt_relation.specs.Sources.{no_sources, select_of, with_base, with_cond}
-use Rattle.rt_resolve.specs.Chains.{BaseOf, Condition, JoinOf, LinkOf, Meaning, SourceOf, atom, atom_step, base, base_step, chain, chain_link, chain_link_step, chain_step, cond, cond_step, conj, conj_step, gathered, join, join_step, joined_all, linked_all, meet, meet_link, meet_link_step, meet_step, member_test, neg, neg_step, pick, pick_step, primary, primary_step, source_of, source_step, sources_all, where_on, with_on}
+use Rattle.rt_resolve.specs.Chains.{BaseOf, Condition, JoinOf, LinkOf, Meaning, SourceOf, atom, atom_step, base, base_step, based, chain, chain_link, chain_link_step, chain_step, cond, cond_step, conj, conj_step, gathered, join, join_step, joined_all, linked_all, meet, meet_link, meet_link_step, meet_step, member_test, neg, neg_step, pick, pick_step, primary, primary_step, source_of, source_step, sources_all, where_on, with_on}
 use Rattle.rt_relation.specs.Conditions.{all_of, any_of, member, one_more, only}
 use Rattle.rt_relation.specs.Relations.{Tables, alias_or, intersected, united}
 use Rattle.rt_relation.specs.declared.condition.Members.{Members}
@@ -257,7 +257,7 @@ module _ (db : Tables) where
       then-ok (IsTypedRelation tables rows) (IsTypedTable tables rows) (chain of.0 db scopes) (λ t. Ok (record { name = a.name.text; relation = t })) (of.1 scopes rows s) (λ t h. h)
 
   joined-typed : (f : BaseOf) → IsTypedBase f → (from : FromClause) (scopes : Scopes) (rows : algebra.Scopes) → ScopesStand scopes rows → IsTypedFrom tables rows from
-      → IfOk (f db scopes >>= λ t. with_base from t) (IsTypedFrom tables rows)
+      → IfOk (based from f db scopes) (IsTypedFrom tables rows)
   joined-typed f t from scopes rows s h =
       then-ok (IsTypedTable tables rows) (IsTypedFrom tables rows) (f db scopes) (λ b. with_base from b) (t scopes rows s) (λ b k. with-base-typed tables rows from b h k)
 
@@ -270,11 +270,10 @@ module _ (db : Tables) where
       (λ p k. with-cond-typed tables rows from h p k)
 
   joined-on-typed : (f : BaseOf) (c : Condition) → IsTypedBase f → IsTypedCondition c → (from : FromClause) (own : ℕ) (scopes : Scopes) (rows : algebra.Scopes) → ScopesStand scopes rows → IsTypedFrom tables rows from
-      → IfOk (f db scopes >>= λ t. with_base from t >>= λ more. with_on more own c db scopes) (IsTypedFrom tables rows)
+      → IfOk (based from f db scopes >>= λ more. with_on more own c db scopes) (IsTypedFrom tables rows)
   joined-on-typed f c t q from own scopes rows s h =
-      then-ok (IsTypedTable tables rows) (IsTypedFrom tables rows) (f db scopes) (λ b. with_base from b >>= λ more. with_on more own c db scopes) (t scopes rows s)
-      (λ b k. then-ok (IsTypedFrom tables rows) (IsTypedFrom tables rows) (with_base from b) (λ more. with_on more own c db scopes) (with-base-typed tables rows from b h k)
-      (λ more m. with-on-typed more own c q scopes rows s m))
+      then-ok (IsTypedFrom tables rows) (IsTypedFrom tables rows) (based from f db scopes) (λ more. with_on more own c db scopes) (joined-typed f t from scopes rows s h)
+      (λ more m. with-on-typed more own c q scopes rows s m)
 
   join-layer : (y : Join-F SuchAtom SuchBase SuchJoin SuchPrimary SuchChain SuchChainLink SuchCond SuchConj SuchMeet SuchMeetLink SuchNeg SuchPick SuchSource) → IsTypedJoin (join_step (map-Join Atom Base Join Primary Chain ChainLink Cond Conj Meet MeetLink Neg Pick Source Condition BaseOf JoinOf Meaning Meaning LinkOf Condition Condition Meaning LinkOf Condition Meaning SourceOf atom base join primary chain chain_link cond conj meet meet_link neg pick source_of (below_join y)))
   join-layer (open_.Plain b c) from own scopes rows s h = joined-on-typed (base b.0) (cond c.0) b.1 c.1 from own scopes rows s h
@@ -299,9 +298,8 @@ module _ (db : Tables) where
   source-layer : (y : Source-F SuchAtom SuchBase SuchJoin SuchPrimary SuchChain SuchChainLink SuchCond SuchConj SuchMeet SuchMeetLink SuchNeg SuchPick SuchSource) → IsTypedSource (source_step (map-Source Atom Base Join Primary Chain ChainLink Cond Conj Meet MeetLink Neg Pick Source Condition BaseOf JoinOf Meaning Meaning LinkOf Condition Condition Meaning LinkOf Condition Meaning SourceOf atom base join primary chain chain_link cond conj meet meet_link neg pick source_of (below_source y)))
   source-layer y from scopes rows s h =
       let fs : List JoinOf = map join (map (λ (t : SuchJoin). t.0) y.joins) in
-      then-ok (IsTypedTable tables rows) (IsTypedFrom tables rows) (base y.head.0 db scopes) (λ b. with_base from b >>= λ more. joined_all more (length from.sources) fs db scopes) (y.head.1 scopes rows s)
-      (λ b k. then-ok (IsTypedFrom tables rows) (IsTypedFrom tables rows) (with_base from b) (λ more. joined_all more (length from.sources) fs db scopes) (with-base-typed tables rows from b h k)
-      (λ more m. joined-all-typed fs (such-joins y.joins) more (length from.sources) scopes rows s m))
+      then-ok (IsTypedFrom tables rows) (IsTypedFrom tables rows) (based from (base y.head.0) db scopes) (λ more. joined_all more (length from.sources) fs db scopes) (joined-typed (base y.head.0) y.head.1 from scopes rows s h)
+      (λ more m. joined-all-typed fs (such-joins y.joins) more (length from.sources) scopes rows s m)
 
   abbrev AreTypedSources : List SourceOf → Type 0
   AreTypedSources [] = Unit {0}

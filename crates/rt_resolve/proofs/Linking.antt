@@ -5,11 +5,10 @@ use Rattle.std.proofs.lemmas.Result.{err_from_is_err_and}
 use Rattle.std.specs.Prelude.{IsErrAnd, MatchBool}
 use Rattle.rt_relation.specs.Conditions.{all_of, any_of, one_more, only}
 use Rattle.rt_relation.specs.Relations.{Tables, intersected, united}
-use Rattle.rt_relation.specs.Sources.{no_sources, select_of, with_base}
+use Rattle.rt_relation.specs.Sources.{no_sources, select_of}
 use Rattle.rt_relation.specs.declared.condition.Members.{Members}
 use Rattle.rt_relation.specs.declared.from.FromClause.{FromClause}
 use Rattle.rt_relation.specs.declared.relation.Relation.{Relation}
-use Rattle.rt_relation.specs.declared.relation.TableRef.{TableRef}
 use Rattle.rt_algebra.specs.declared.query.Pred.{Pred}
 use Rattle.rt_scope.specs.Fault.{◌>>=◌, is_memory}
 use Rattle.rt_scope.specs.Compare.{negated}
@@ -36,7 +35,7 @@ use Rattle.rt_tree.specs.declared.tree.MeetLink.{MeetLink}
 use Rattle.rt_tree.specs.declared.tree.Neg.{Neg}
 use Rattle.rt_tree.specs.declared.tree.Pick.{Pick}
 use Rattle.rt_tree.specs.declared.tree.Source.{Source}
-use Rattle.rt_resolve.specs.Chains.{BaseOf, Condition, JoinOf, LinkOf, Meaning, SourceOf, atom, atom_step, base, base_step, chain, chain_link, chain_link_step, chain_step, cond, cond_step, conj, conj_step, gathered, join, join_step, joined_all, linked_all, meet, meet_link, meet_link_step, meet_step, neg, neg_step, pick, pick_step, primary, primary_step, source_of, source_step, sources_all, where_on}
+use Rattle.rt_resolve.specs.Chains.{BaseOf, Condition, JoinOf, LinkOf, Meaning, SourceOf, atom, atom_step, base, base_step, based, chain, chain_link, chain_link_step, chain_step, cond, cond_step, conj, conj_step, gathered, join, join_step, joined_all, linked_all, meet, meet_link, meet_link_step, meet_step, neg, neg_step, pick, pick_step, primary, primary_step, source_of, source_step, sources_all, where_on}
 
 next_is : {X : Type 0} (xs : List X) (i : ℕ) (x : X) → i < length xs → x ≡ get_or xs i x → drop i xs ≡ x ∷ drop (i + 1) xs
 next_is xs i x l e = drop-cons xs i x l ∙ ap₂ ◌∷◌ (sym e) (ap (λ k. drop k xs) (sym (add-one i)))
@@ -279,22 +278,21 @@ pub pick_done : (x : Pick) (none first from all : FromClause) (members : List So
 pick_done x none first from all members own list db scopes r n h m k w o l g =
     given r (pick x db scopes) (Ok (select_of all list)) (goes (pick x db scopes) (select_list (out-Pick x).items own (own ∷ scopes)) (λ list. Ok (select_of all list)) list (pick_all x none first from all members own db scopes n h m k w o) l) g
 
-source_is : (x : Source) (from : FromClause) (db : Tables) (scopes : Scopes) → source_of x from db scopes ≡ (base (out-Source x).head db scopes >>= λ t. with_base from t >>= λ more. joined_all more (length from.sources) (map join (out-Source x).joins) db scopes)
+source_is : (x : Source) (from : FromClause) (db : Tables) (scopes : Scopes) → source_of x from db scopes ≡ (based from (base (out-Source x).head) db scopes >>= λ more. joined_all more (length from.sources) (map join (out-Source x).joins) db scopes)
 source_is x from db scopes = ap (λ (f : SourceOf). f from db scopes) (fold_out-Source Condition BaseOf JoinOf Meaning Meaning LinkOf Condition Condition Meaning LinkOf Condition Meaning SourceOf atom_step base_step join_step primary_step chain_step chain_link_step cond_step conj_step meet_step meet_link_step neg_step pick_step source_step x)
 
-source_begun : (x : Source) (from : FromClause) (t : TableRef) (db : Tables) (scopes : Scopes) → base (out-Source x).head db scopes ≡ Ok t
-    → source_of x from db scopes ≡ (with_base from t >>= λ more. joined_all more (length from.sources) (map join (out-Source x).joins) db scopes)
-source_begun x from t db scopes h = goes (source_of x from db scopes) (base (out-Source x).head db scopes) (λ t. with_base from t >>= λ more. joined_all more (length from.sources) (map join (out-Source x).joins) db scopes) t (source_is x from db scopes) h
+pub source_base_fails : (x : Source) (from : FromClause) (db : Tables) (scopes : Scopes) (r : Result FromClause NameFault) (fault : NameFault)
+    → IsErrAnd r (λ y. y ≡ fault) → Fails fault (based from (base (out-Source x).head) db scopes) → Gives is_memory r (source_of x from db scopes)
+source_base_fails x from db scopes r fault g k =
+    fails r fault (source_of x from db scopes) (based from (base (out-Source x).head) db scopes) (λ more. joined_all more (length from.sources) (map join (out-Source x).joins) db scopes) g (source_is x from db scopes) k
 
-pub source_head_fails : (x : Source) (from : FromClause) (db : Tables) (scopes : Scopes) (r : Result FromClause NameFault) (fault : NameFault)
-    → IsErrAnd r (λ y. y ≡ fault) → Fails fault (base (out-Source x).head db scopes) → Gives is_memory r (source_of x from db scopes)
-source_head_fails x from db scopes r fault g k =
-    fails r fault (source_of x from db scopes) (base (out-Source x).head db scopes) (λ t. with_base from t >>= λ more. joined_all more (length from.sources) (map join (out-Source x).joins) db scopes) g (source_is x from db scopes) k
-
-pub source_base_fails : (x : Source) (from : FromClause) (t : TableRef) (db : Tables) (scopes : Scopes) (r : Result FromClause NameFault) (fault : NameFault)
-    → base (out-Source x).head db scopes ≡ Ok t → IsErrAnd r (λ y. y ≡ fault) → Fails fault (with_base from t) → Gives is_memory r (source_of x from db scopes)
-source_base_fails x from t db scopes r fault h g k =
-    fails r fault (source_of x from db scopes) (with_base from t) (λ more. joined_all more (length from.sources) (map join (out-Source x).joins) db scopes) g (source_begun x from t db scopes h) k
+pub source_done : (x : Source) (from more : FromClause) (own : ℕ) (members : List Join) (db : Tables) (scopes : Scopes) (r : Result FromClause NameFault)
+    → own ≡ length from.sources → based from (base (out-Source x).head) db scopes ≡ Ok more → members ≡ (out-Source x).joins
+    → Gives is_memory r (joined_all more own (map join members) db scopes) → Gives is_memory r (source_of x from db scopes)
+source_done x from more own members db scopes r o b m g =
+    given r (source_of x from db scopes) (joined_all more own (map join members) db scopes)
+    (goes (source_of x from db scopes) (based from (base (out-Source x).head) db scopes) (λ more. joined_all more (length from.sources) (map join (out-Source x).joins) db scopes) more (source_is x from db scopes) b
+    ∙ ap₂ (λ (n : ℕ) (js : List Join). joined_all more n (map join js) db scopes) (sym o) (sym m)) g
 
 -- ---- parts whose head fails, and a condition
 
@@ -333,3 +331,29 @@ pub cond_tail_fails : (x : Cond) (c : Pred) (start : Members) (members : List Co
     → IsErrAnd r (λ y. y ≡ fault) → Fails fault (gathered start (map conj members) db scopes) → Gives is_memory r (cond x db scopes)
 cond_tail_fails x c start members db scopes r fault h s m g k =
     fails r fault (cond x db scopes) (gathered start (map conj members) db scopes) (λ all. Ok (any_of all.conds)) g (cond_begun x c start members db scopes h s m) k
+
+-- ---- parts that end well
+
+pub cond_done : (x : Cond) (c : Pred) (start all : Members) (members : List Conj) (whole : Pred) (db : Tables) (scopes : Scopes)
+    → conj (out-Cond x).head db scopes ≡ Ok c → start ≡ only c → members ≡ (out-Cond x).tail
+    → gathered start (map conj members) db scopes ≡ Ok all → whole ≡ any_of all.conds → cond x db scopes ≡ Ok whole
+cond_done x c start all members whole db scopes h s m k w =
+    goes (cond x db scopes) (gathered start (map conj members) db scopes) (λ all. Ok (any_of all.conds)) all (cond_begun x c start members db scopes h s m) k ∙ ap Ok (sym w)
+
+pub chain_done : (x : Chain) (t : Relation) (members : List ChainLink) (db : Tables) (scopes : Scopes) (r : Result Relation NameFault)
+    → meet (out-Chain x).head db scopes ≡ Ok t → members ≡ (out-Chain x).tail
+    → Gives is_memory r (linked_all t (map chain_link members) db scopes) → Gives is_memory r (chain x db scopes)
+chain_done x t members db scopes r h m g =
+    given r (chain x db scopes) (linked_all t (map chain_link members) db scopes)
+    (goes (chain x db scopes) (meet (out-Chain x).head db scopes) (λ t. linked_all t (map chain_link (out-Chain x).tail) db scopes) t
+    (ap (λ (f : Meaning). f db scopes) (fold_out-Chain Condition BaseOf JoinOf Meaning Meaning LinkOf Condition Condition Meaning LinkOf Condition Meaning SourceOf atom_step base_step join_step primary_step chain_step chain_link_step cond_step conj_step meet_step meet_link_step neg_step pick_step source_step x)) h
+    ∙ ap (λ (ls : List ChainLink). linked_all t (map chain_link ls) db scopes) (sym m)) g
+
+pub meet_done : (x : Meet) (t : Relation) (members : List MeetLink) (db : Tables) (scopes : Scopes) (r : Result Relation NameFault)
+    → primary (out-Meet x).head db scopes ≡ Ok t → members ≡ (out-Meet x).tail
+    → Gives is_memory r (linked_all t (map meet_link members) db scopes) → Gives is_memory r (meet x db scopes)
+meet_done x t members db scopes r h m g =
+    given r (meet x db scopes) (linked_all t (map meet_link members) db scopes)
+    (goes (meet x db scopes) (primary (out-Meet x).head db scopes) (λ t. linked_all t (map meet_link (out-Meet x).tail) db scopes) t
+    (ap (λ (f : Meaning). f db scopes) (fold_out-Meet Condition BaseOf JoinOf Meaning Meaning LinkOf Condition Condition Meaning LinkOf Condition Meaning SourceOf atom_step base_step join_step primary_step chain_step chain_link_step cond_step conj_step meet_step meet_link_step neg_step pick_step source_step x)) h
+    ∙ ap (λ (ls : List MeetLink). linked_all t (map meet_link ls) db scopes) (sym m)) g

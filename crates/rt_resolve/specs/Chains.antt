@@ -100,20 +100,24 @@ base_step (open_.Sub of a) db scopes = of db scopes >>= λ t. Ok (record { name 
 abbrev pub with_on : FromClause → ℕ → Condition → Tables → Scopes → Result FromClause NameFault
 with_on from own c db scopes = c db (drop own from.sources ∷ scopes) >>= λ cond. Ok (with_cond from cond)
 
+-- the sources so far with one more
+abbrev pub based : FromClause → BaseOf → Tables → Scopes → Result FromClause NameFault
+based from b db scopes = b db scopes >>= λ t. with_base from t
+
 abbrev pub joined_on : FromClause → ℕ → BaseOf → Condition → Tables → Scopes → Result FromClause NameFault
-joined_on from own b c db scopes = b db scopes >>= λ t. with_base from t >>= λ more. with_on more own c db scopes
+joined_on from own b c db scopes = based from b db scopes >>= λ more. with_on more own c db scopes
 
 abbrev pub join_step : Join-F Condition BaseOf JoinOf Meaning Meaning LinkOf Condition Condition Meaning LinkOf Condition Meaning SourceOf → JoinOf
 join_step (open_.Plain b c) from own db scopes = joined_on from own b c db scopes
 join_step (open_.Inner b c) from own db scopes = joined_on from own b c db scopes
-join_step (open_.Cross b) from own db scopes = b db scopes >>= λ t. with_base from t
+join_step (open_.Cross b) from own db scopes = based from b db scopes
 
 abbrev pub joined_all : FromClause → ℕ → List JoinOf → Tables → Scopes → Result FromClause NameFault
 joined_all from own [] db scopes = Ok from
 joined_all from own (j ∷ js) db scopes = j from own db scopes >>= λ more. joined_all more own js db scopes
 
 abbrev pub source_step : Source-F Condition BaseOf JoinOf Meaning Meaning LinkOf Condition Condition Meaning LinkOf Condition Meaning SourceOf → SourceOf
-source_step r from db scopes = r.head db scopes >>= λ t. with_base from t >>= λ more. joined_all more (length from.sources) r.joins db scopes
+source_step r from db scopes = based from r.head db scopes >>= λ more. joined_all more (length from.sources) r.joins db scopes
 
 abbrev pub sources_all : FromClause → List SourceOf → Tables → Scopes → Result FromClause NameFault
 sources_all from [] db scopes = Ok from

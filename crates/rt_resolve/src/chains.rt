@@ -129,6 +129,21 @@ fn base(
     }
 }
 
+// The sources with one more.
+#[cycle(chains)]
+fn based(
+    alloc: Global,
+    tables: &[Table],
+    from: FromClause,
+    of: &Base,
+    scopes: &[&[Source]],
+) -> Result<FromClause, NameFault>
+    ensures { Gives is_memory result (spec.based from (spec.base of.now) tables.now (map (λ s. s.now) scopes.now)) }
+{
+    let next = base(alloc, tables, of, scopes)?;
+    with_base(alloc, from, next)
+}
+
 #[cycle(chains)]
 fn condition_over(
     alloc: Global,
@@ -177,19 +192,14 @@ fn join(
 {
     match of {
         Join::Plain(b, c) => {
-            let next = base(alloc, tables, b, scopes)?;
-            let more = with_base(alloc, from, next)?;
+            let more = based(alloc, tables, from, b, scopes)?;
             on(alloc, tables, more, own, c, scopes)
         }
         Join::Inner(b, c) => {
-            let next = base(alloc, tables, b, scopes)?;
-            let more = with_base(alloc, from, next)?;
+            let more = based(alloc, tables, from, b, scopes)?;
             on(alloc, tables, more, own, c, scopes)
         }
-        Join::Cross(b) => {
-            let next = base(alloc, tables, b, scopes)?;
-            with_base(alloc, from, next)
-        }
+        Join::Cross(b) => based(alloc, tables, from, b, scopes),
     }
 }
 
@@ -222,8 +232,7 @@ fn source(
     ensures { Gives is_memory result (spec.source_of of.now from tables.now (map (λ s. s.now) scopes.now)) }
 {
     let own = from.sources.len();
-    let head = base(alloc, tables, &of.head, scopes)?;
-    let more = with_base(alloc, from, head)?;
+    let more = based(alloc, tables, from, &of.head, scopes)?;
     joins(alloc, tables, more, own, of.joins.as_slice(), scopes)
 }
 

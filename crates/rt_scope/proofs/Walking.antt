@@ -49,7 +49,7 @@ left run xs i x whole l e h = sym h ∙ ap run (drop-cons xs i x l ∙ ap₂ ◌
 -- ---- factors
 
 module _ (xs : List Factor) (i : ℕ) (x : Factor) (scopes : Scopes) (t : Factors) (whole : Result Factors NameFault)
-         (l : i < length xs) (e : x ≡ get_or xs i x) (h : multiplied_all t (map factor (drop i xs)) scopes ≡ whole) where
+    (l : i < length xs) (e : x ≡ get_or xs i x) (h : multiplied_all t (map factor (drop i xs)) scopes ≡ whole) where
   abbrev rest : Factors → Result Factors NameFault
   rest more = multiplied_all more (map factor (drop (i + 1) xs)) scopes
 
@@ -71,7 +71,7 @@ link_is : (x : SumLink) → link x ≡ ((out-SumLink x).minus, mul (out-SumLink 
 link_is x = fold_out-SumLink Meaning Meaning Meaning Meaning Link leaf_step factor_step mul_step sum_step link_step x
 
 module _ (xs : List SumLink) (i : ℕ) (x : SumLink) (scopes : Scopes) (t : Terms) (whole : Result Terms NameFault)
-         (l : i < length xs) (e : x ≡ get_or xs i x) (h : added_all t (map link (drop i xs)) scopes ≡ whole) where
+    (l : i < length xs) (e : x ≡ get_or xs i x) (h : added_all t (map link (drop i xs)) scopes ≡ whole) where
   abbrev later : Terms → Result Terms NameFault
   later more = added_all more (map link (drop (i + 1) xs)) scopes
 
@@ -115,7 +115,7 @@ sum_head_fails x scopes r fault g k =
 -- ---- members of a list
 
 module _ (kind : Option ColKind) (xs : List Sum) (i : ℕ) (x : Sum) (scopes : Scopes) (t : List Expr) (whole : Result (List Expr) NameFault)
-         (l : i < length xs) (e : x ≡ get_or xs i x) (h : listed kind t (drop i xs) scopes ≡ whole) where
+    (l : i < length xs) (e : x ≡ get_or xs i x) (h : listed kind t (drop i xs) scopes ≡ whole) where
   abbrev others : List Expr → Result (List Expr) NameFault
   others more = listed kind more (drop (i + 1) xs) scopes
 

@@ -1,7 +1,7 @@
 use Rattle.std.proofs.Common.{map}
 use Rattle.std.proofs.lemmas.List.{drop_all}
 use Rattle.rt_resolve.specs.Chains.{chain_link, conj, join, meet_link, neg, source_of}
-use Rattle.rt_resolve.proofs.Linking.{chain_fails, chain_linked, chain_unlinked, chain_unread, cond_head_fails, cond_tail_fails, conj_ends, conj_fails, conj_head_fails, gathered_fails, joined_fails, linked_fails, meet_fails, meet_linked, meet_unlinked, meet_unread, neg_fails, next_gathered, next_joined, next_linked, next_sourced, pick_done, pick_head_fails, pick_list_fails, pick_tail_fails, pick_where_fails, source_base_fails, source_head_fails, sources_fail}
+use Rattle.rt_resolve.proofs.Linking.{chain_done, chain_fails, chain_linked, chain_unlinked, chain_unread, cond_done, cond_head_fails, cond_tail_fails, conj_ends, conj_fails, conj_head_fails, gathered_fails, joined_fails, linked_fails, meet_done, meet_fails, meet_linked, meet_unlinked, meet_unread, neg_fails, next_gathered, next_joined, next_linked, next_sourced, pick_done, pick_head_fails, pick_list_fails, pick_tail_fails, pick_where_fails, source_base_fails, source_done, sources_fail}
 use Rattle.rt_resolve.proofs.chains.+chains.Goals as goal
 
 pub chain_links-loop-next-preserved : goal.chain_links-loop-next-preserved
@@ -117,10 +117,6 @@ pick-returns t c =
     pick_done c.args.of.now c.no_sources.result c.in_ok-first.first c.in_ok-from.from c.in_ok-all.all c.as_slice.result.now c.as_slice-2.result.now c.in_ok-list.list c.args.tables.now (map (λ s. s.now) c.args.scopes.now) c.select_of.result
     c.no_sources.ensures c.in_ok-first.ensures c.as_slice.ensures c.in_ok-from.ensures c.in_ok-all.ensures c.as_slice-2.ensures c.in_ok-list.ensures c.select_of.ensures
 
-pub source-returns-in_err-head : goal.source-returns-in_err-head
-source-returns-in_err-head t c =
-    source_head_fails c.args.of.now c.args.from c.args.tables.now (map (λ s. s.now) c.args.scopes.now) c.from_residual.result c.in_err-head.field-0.0 c.from_residual.ensures.1 c.in_err-head.ensures
-
 pub neg-returns-in_err-inner : goal.neg-returns-in_err-inner
 neg-returns-in_err-inner t c =
     neg_fails c.args.of.now c.args.tables.now (map (λ s. s.now) c.args.scopes.now) c.from_residual.result c.in_err-inner.field-0.0 c.from_residual.ensures.1 c.in_err-inner.ensures
@@ -139,8 +135,27 @@ cond-returns-in_err-c t c =
 
 pub source-returns-in_err-more : goal.source-returns-in_err-more
 source-returns-in_err-more t c =
-    source_base_fails c.args.of.now c.args.from c.in_ok-head.head c.args.tables.now (map (λ s. s.now) c.args.scopes.now) c.from_residual-in_err-more.result c.in_err-more.field-0.0
-    c.in_ok-head.ensures c.from_residual-in_err-more.ensures.1 c.in_err-more.ensures
+    source_base_fails c.args.of.now c.args.from c.args.tables.now (map (λ s. s.now) c.args.scopes.now) c.from_residual.result c.in_err-more.field-0.0 c.from_residual.ensures.1 c.in_err-more.ensures
+
+pub source-returns : goal.source-returns
+source-returns t c =
+    source_done c.args.of.now c.args.from c.in_ok-more.more c.len-own.result c.as_slice.result.now c.args.tables.now (map (λ s. s.now) c.args.scopes.now) c.joins.result
+    c.len-own.ensures c.in_ok-more.ensures c.as_slice.ensures c.joins.ensures
+
+pub cond-returns : goal.cond-returns
+cond-returns t c =
+    cond_done c.args.of.now c.in_ok-c.c c.in_ok-first.first c.in_ok-all.all c.as_slice.result.now c.any_of.result c.args.tables.now (map (λ s. s.now) c.args.scopes.now)
+    c.in_ok-c.ensures c.in_ok-first.ensures c.as_slice.ensures c.in_ok-all.ensures c.any_of.ensures
+
+pub chain-returns : goal.chain-returns
+chain-returns t c =
+    chain_done c.args.of.now c.in_ok-head.head c.as_slice.result.now c.args.tables.now (map (λ s. s.now) c.args.scopes.now) c.chain_links.result
+    c.in_ok-head.ensures c.as_slice.ensures c.chain_links.ensures
+
+pub meet-returns : goal.meet-returns
+meet-returns t c =
+    meet_done c.args.of.now c.in_ok-head.head c.as_slice.result.now c.args.tables.now (map (λ s. s.now) c.args.scopes.now) c.meet_links.result
+    c.in_ok-head.ensures c.as_slice.ensures c.meet_links.ensures
 
 pub cond-returns-in_err-all : goal.cond-returns-in_err-all
 cond-returns-in_err-all t c =
