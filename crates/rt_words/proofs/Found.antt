@@ -1,5 +1,5 @@
 -- What the matches give of an argument.
-use Rattle.std.proofs.Common.{◌≡◌, ◌∙◌, List, [], ◌∷◌, refl, Bool, true, false, Option, Some, codes, ap, sym, subst, map}
+use Rattle.std.proofs.Common.{◌≡◌, ◌∙◌, List, [], ◌∷◌, refl, Bool, true, false, Option, None, Some, codes, ap, sym, subst, map}
 use Rattle.std.specs.Prelude.{find, option_and_then, option_map, unwrap_or, Result}
 use Rattle.std.specs.Str.{bytes_eq}
 use Rattle.clap.specs.Words.{Row, found_of, matched_of, raw_values, rows_of}
@@ -7,7 +7,7 @@ use Rattle.clap.specs.Walk.{row_of}
 use Rattle.clap.specs.Facts.{Entry}
 use Rattle.clap.specs.declared.parser.matches.ArgMatches.{ArgMatches}
 use Rattle.rt_words.specs.App.{reading_in, values_in}
-use Rattle.rt_words.specs.Command.{Reads, form, limits}
+use Rattle.rt_words.specs.Command.{Reads, form, limits, of_form}
 use Rattle.rt_words.specs.Reading.{Reading, Text}
 use Rattle.rt_words.specs.Ranges.{Command}
 use Rattle.rt_words.specs.declared.limits.Limits.{Limits}
@@ -37,3 +37,8 @@ formed of o rows l plain result e f g h =
     let limited : option_and_then (of (values_in (codes "words") rows)) (limits (reading_in rows)) ≡ of plain l =
     ap (λ (x : Option Limits). option_and_then (of (values_in (codes "words") rows)) x) (sym f) ∙ ap (λ (x : List Text). of x l) g in
     subst (λ (x : Option Command). Reads x result) (sym (ap (λ (x : Option Reading). option_and_then (form of) x) e ∙ limited)) h
+
+-- neither form has no words
+pub no_words : (made : Bool) (l : Limits) → of_form made [] l ≡ None
+no_words true l = refl
+no_words false l = refl

@@ -1,5 +1,5 @@
 -- The command that the words spell.
-use Rattle.std.specs.Prelude.{◌≡◌, ℕ, ◌&&◌, Bool, nat_le, List, [], ◌∷◌, length, Option, Some, None, codes, if◌then◌else◌, option_map, option_and_then, unwrap_or, Result, Ok, Err}
+use Rattle.std.specs.Prelude.{◌≡◌, ℕ, ◌&&◌, Bool, true, false, nat_le, List, [], ◌∷◌, length, Option, Some, None, codes, if◌then◌else◌, option_map, option_and_then, unwrap_or, Result, Ok, Err}
 use Rattle.std.specs.Str.{bytes_eq}
 use Rattle.rt_value.specs.Numeral.{all_digits, decimal}
 use Rattle.rt_words.specs.declared.fault.WordFault.{WordFault}
@@ -59,6 +59,11 @@ command [] = None
 command (first ∷ rest) =
     if bytes_eq first (codes "made") then option_and_then (form of_made) (read rest)
     else option_and_then (form of_files) (read (first ∷ rest))
+
+-- either form
+abbrev pub of_form : Bool → List Text → Limits → Option Command
+of_form true words l = of_made words l
+of_form false words l = of_files words l
 
 -- the command is read, or the fault is `Usage` where there is none, unless memory was wanting
 abbrev pub Reads : Option Command → Result Command WordFault → Type 0

@@ -1,5 +1,5 @@
 ghost use Rattle.std.specs.Prelude.{◌≡◌, [], ◌∷◌, IfOk, IfErr, map, option_and_then};
-ghost use Rattle.rt_words.specs.Command.{Reads, command, form, of_files, of_made};
+ghost use Rattle.rt_words.specs.Command.{Reads, command, form, of_files, of_form, of_made};
 ghost use Rattle.rt_words.specs.Ranges.{AreInRange};
 ghost use Rattle.rt_words.specs.Reading.{read};
 
@@ -36,49 +36,52 @@ fn read_texts(alloc: Global, words: &[&str]) -> Result<Words, WordFault>
         [] => Err(WordFault::Usage),
         [first, rest @ ..] => {
             if *first == "made" {
-                read_made(alloc, rest)
+                read_form(alloc, true, rest)
             } else {
-                read_files(alloc, words)
+                read_form(alloc, false, words)
             }
         }
     }
 }
 
+// The command that the words spell, which stand behind `made` where the input is generated.
+fn read_form(alloc: Global, made: bool, words: &[&str]) -> Result<Words, WordFault>
+    ensures { Reads (option_and_then (form (of_form made)) (read (map (λ s. s.now) words.now))) result }
+{
+    let matches = matches_of(alloc, words)?;
+    let Some(limits) = limits_in(&matches) else {
+        return Err(WordFault::Usage);
+    };
+    match matches.get_raw("words") {
+        Some(plain) => form_command(alloc, made, plain, limits),
+        None => Err(WordFault::Usage),
+    }
+}
+
+fn form_command(
+    alloc: Global,
+    made: bool,
+    words: &[&str],
+    limits: Limits,
+) -> Result<Words, WordFault>
+    requires { AreInRange limits }
+    ensures { Reads (of_form made (map (λ s. s.now) words.now) limits) result }
+{
+    if made {
+        made_command(alloc, words, limits)
+    } else {
+        files_command(alloc, words, limits)
+    }
+}
+
 // The form of four paths.
-fn read_files(alloc: Global, words: &[&str]) -> Result<Words, WordFault>
-    ensures { Reads (option_and_then (form of_files) (read (map (λ s. s.now) words.now))) result }
-{
-    let matches = matches_of(alloc, words)?;
-    let Some(limits) = limits_in(&matches) else {
-        return Err(WordFault::Usage);
-    };
-    match matches.get_raw("words") {
-        Some(plain) => files_command(alloc, plain, limits),
-        None => Err(WordFault::Usage),
-    }
-}
-
-// The form of a generated input: the words behind `made`.
-fn read_made(alloc: Global, words: &[&str]) -> Result<Words, WordFault>
-    ensures { Reads (option_and_then (form of_made) (read (map (λ s. s.now) words.now))) result }
-{
-    let matches = matches_of(alloc, words)?;
-    let Some(limits) = limits_in(&matches) else {
-        return Err(WordFault::Usage);
-    };
-    match matches.get_raw("words") {
-        Some(plain) => made_command(alloc, plain, limits),
-        None => Err(WordFault::Usage),
-    }
-}
-
 fn files_command(alloc: Global, words: &[&str], limits: Limits) -> Result<Words, WordFault>
     requires { AreInRange limits }
     ensures { Reads (of_files (map (λ s. s.now) words.now) limits) result }
 {
     match words {
-        [schema, dir, query1, query2] => Ok(Words {
-            paths: four_paths(alloc, schema, dir, query1, query2)?,
+        [_, _, _, _] => Ok(Words {
+            paths: copied(alloc, words)?,
             conflicts: limits.conflicts,
             work_limit: limits.work,
             made: None,
@@ -87,6 +90,7 @@ fn files_command(alloc: Global, words: &[&str], limits: Limits) -> Result<Words,
     }
 }
 
+// The form of a generated input.
 fn made_command(alloc: Global, words: &[&str], limits: Limits) -> Result<Words, WordFault>
     requires { AreInRange limits }
     ensures { Reads (of_made (map (λ s. s.now) words.now) limits) result }
@@ -105,19 +109,12 @@ fn made_command(alloc: Global, words: &[&str], limits: Limits) -> Result<Words, 
     }
 }
 
-fn four_paths(
-    alloc: Global,
-    schema: &str,
-    dir: &str,
-    query1: &str,
-    query2: &str,
-) -> Result<List<Txt>, NoMemory>
-    ensures { IfOk result (λ paths. paths ≡ schema.now ∷ dir.now ∷ query1.now ∷ query2.now ∷ []) }
+fn copied(alloc: Global, words: &[&str]) -> Result<List<Txt>, NoMemory>
+    ensures { IfOk result (λ texts. texts ≡ map (λ s. s.now) words.now) }
 {
-    let mut paths = List::new(alloc);
-    paths.push(Txt::of(alloc, schema)?)?;
-    paths.push(Txt::of(alloc, dir)?)?;
-    paths.push(Txt::of(alloc, query1)?)?;
-    paths.push(Txt::of(alloc, query2)?)?;
-    Ok(paths)
+    let mut texts = List::new(alloc);
+    for word in words {
+        texts.push(Txt::of(alloc, word)?)?;
+    }
+    Ok(texts)
 }
