@@ -1,10 +1,12 @@
 //! A formula as a test draws it, node by node.
 ghost use Rattle.std.specs.Prelude.{◌≤◌, ◌<◌, ◌^◌, IfSome, length};
 
+use rt_clause::{Adds, Lit};
 use rt_clausify::clausify;
 use rt_derive::Checker;
 use rt_formula::{Dag, Node};
 use rt_search::{Searched, smallest_counted};
+use rt_solver::{Found, Order, Solver};
 use rt_value::Keep;
 use std::alloc::Global;
 use std::process::Abort;
@@ -150,6 +152,19 @@ impl Drawing {
         let mut checker = Checker::new(self.alloc);
         let named = clausify(self.alloc, &self.dag, self.node(goal), &mut checker);
         named.expect(rt, "memory").next()
+    }
+
+    /// Whether the clauses of a goal have a model that keeps just these of the first two rows.
+    pub fn has_model(&self, rt: &impl Abort, goal: usize, kept: [bool; 2]) -> bool {
+        let mut solver = Solver::new(self.alloc, Checker::new(self.alloc));
+        let named = clausify(self.alloc, &self.dag, self.node(goal), &mut solver);
+        let rows = named.expect(rt, "memory").rows();
+        for row in 0..2 {
+            solver.add(&[Lit::of(row, kept[row])]).expect(rt, "memory");
+        }
+        let found = solver.solve(None, rows, None, Order::Free);
+        drop(solver);
+        matches!(&found.expect(rt, "memory"), Found::Model(_))
     }
 
     /// What the search finds where each row is in the cone.

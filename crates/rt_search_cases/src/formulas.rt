@@ -29,11 +29,71 @@ fn gates_that_are_no_gates(rt: HostRuntime) {
             Step::Row(0),
             Step::All(&[0, 4, 4]),
             Step::Not(1),
+            Step::Not(0),
+            Step::Not(4),
+            Step::Not(8),
+            Step::Row(1),
+            Step::Any(&[1, 10, 10]),
+            Step::Any(&[4]),
+            Step::All(&[0, 0]),
+            Step::Any(&[1, 1]),
         ],
     );
-    for (gate, same) in [(2, 1), (3, 0), (5, 4), (6, 0)] {
-        assert!(rt; drawing.number(gate) == drawing.number(same));
+    let same = [
+        (2, 1),
+        (3, 0),
+        (5, 4),
+        (6, 0),
+        (7, 1),
+        (9, 4),
+        (11, 10),
+        (12, 4),
+        (13, 0),
+        (14, 1),
+    ];
+    for (gate, same) in &same {
+        assert!(rt; drawing.number(*gate) == drawing.number(*same), "{gate}");
     }
+}
+
+// What decides a gate, and what is left out of one.
+#[test]
+fn gates_that_are_decided(rt: HostRuntime) {
+    let mut drawing = Drawing::new(&rt, rt.alloc(), 2);
+    drawing.draw_all(
+        &rt,
+        &[
+            Step::Yes,
+            Step::No,
+            Step::Row(0),
+            Step::Row(1),
+            Step::Not(2),
+            Step::All(&[2, 1, 3]),
+            Step::All(&[2, 3, 4]),
+            Step::All(&[4, 3, 2]),
+            Step::Any(&[2, 0, 3]),
+            Step::Any(&[2, 3, 4]),
+            Step::Any(&[4, 3, 2]),
+            Step::All(&[2, 3]),
+            Step::All(&[2, 0, 3, 3, 2]),
+            Step::Any(&[2, 3]),
+            Step::Any(&[2, 1, 3, 3, 2]),
+        ],
+    );
+    let same = [
+        (5, 1),
+        (6, 1),
+        (7, 1),
+        (8, 0),
+        (9, 0),
+        (10, 0),
+        (12, 11),
+        (14, 13),
+    ];
+    for (gate, same) in &same {
+        assert!(rt; drawing.number(*gate) == drawing.number(*same), "{gate}");
+    }
+    assert!(rt; drawing.number(11) != drawing.number(13));
 }
 
 #[test]
