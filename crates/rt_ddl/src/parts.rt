@@ -5,14 +5,14 @@ use rt_schema::Column;
 use rt_value::{List, Txt};
 
 /// A table's name and its parts, in text order.
-#[derive(PartialEq, Eq, Debug, Drop)]
+#[derive(Drop)]
 pub struct TableText {
     pub name: Txt,
     pub parts: List<Part>,
 }
 
 /// A column, or a rule; a rule tells whether it stands for itself or with a column.
-#[derive(PartialEq, Eq, Debug, Drop)]
+#[derive(Drop)]
 pub enum Part {
     Column(Column),
     Rule(bool, RuleText),
@@ -20,7 +20,7 @@ pub enum Part {
 
 /// A rule over columns by their names. One that stands with a column names that one; a CHECK may
 /// name others.
-#[derive(PartialEq, Eq, Debug, Drop)]
+#[derive(Drop)]
 pub enum RuleText {
     NotNull(Txt),
     PrimaryKey(List<Txt>),

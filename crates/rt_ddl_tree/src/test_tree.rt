@@ -4,21 +4,21 @@ use rt_grammar::Name;
 use rt_value::{List, Op, Txt};
 
 /// `part { OR part }`
-#[derive(PartialEq, Eq, Debug, Drop)]
+#[derive(Drop)]
 pub struct Test {
     pub head: TestPart,
     pub tail: List<TestPart>,
 }
 
 /// `leaf { AND leaf }`
-#[derive(PartialEq, Eq, Debug, Drop)]
+#[derive(Drop)]
 pub struct TestPart {
     pub head: TestLeaf,
     pub tail: List<TestLeaf>,
 }
 
 /// `[ NOT ] form`
-#[derive(PartialEq, Eq, Debug, Drop)]
+#[derive(Drop)]
 pub struct TestLeaf {
     pub not: bool,
     pub form: TestForm,
@@ -26,7 +26,7 @@ pub struct TestLeaf {
 
 /// `side op side | side IS [ NOT ] NULL | side [ NOT ] BETWEEN side AND side
 /// | side [ NOT ] IN "(" side { "," side } ")"`. The bool tells whether this NOT stands there.
-#[derive(PartialEq, Eq, Debug, Drop)]
+#[derive(Drop)]
 pub enum TestForm {
     Cmp(TestSide, Op, TestSide),
     IsNull(TestSide, bool),
@@ -35,7 +35,7 @@ pub enum TestForm {
 }
 
 /// `name | [ "-" ] number | text | NULL`. The bool tells whether a minus stands there.
-#[derive(PartialEq, Eq, Debug, Drop)]
+#[derive(Drop)]
 pub enum TestSide {
     Column(Name),
     Number(bool, i128),

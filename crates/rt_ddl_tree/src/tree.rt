@@ -5,7 +5,7 @@ use rt_grammar::Name;
 use rt_value::List;
 
 /// `[ create { ";" create } [ ";" ] ]`
-#[derive(PartialEq, Eq, Debug, Drop)]
+#[derive(Drop)]
 pub enum SchemaText {
     Empty,
     /// The first table, the others, and whether a semicolon ends the text.
@@ -13,7 +13,7 @@ pub enum SchemaText {
 }
 
 /// `CREATE TABLE [ IF NOT EXISTS ] name "(" item { "," item } ")"`
-#[derive(PartialEq, Eq, Debug, Drop)]
+#[derive(Drop)]
 pub struct Create {
     pub if_not_exists: bool,
     pub name: Name,
@@ -22,14 +22,14 @@ pub struct Create {
 }
 
 /// `column | [ CONSTRAINT name ] table rule`
-#[derive(PartialEq, Eq, Debug, Drop)]
+#[derive(Drop)]
 pub enum Item {
     Column(Column),
     Rule(Option<Name>, TableRule),
 }
 
 /// `name kind { [ CONSTRAINT name ] column rule }`
-#[derive(PartialEq, Eq, Debug, Drop)]
+#[derive(Drop)]
 pub struct Column {
     pub name: Name,
     pub kind: KindWord,
@@ -37,7 +37,7 @@ pub struct Column {
 }
 
 /// `INTEGER | INT | BIGINT | TEXT | ( CHAR | VARCHAR ) [ "(" number ")" ]`
-#[derive(PartialEq, Eq, Debug, Drop)]
+#[derive(Drop)]
 pub enum KindWord {
     Integer,
     Int,
@@ -48,7 +48,7 @@ pub enum KindWord {
 }
 
 /// `[ CONSTRAINT name ] column rule`
-#[derive(PartialEq, Eq, Debug, Drop)]
+#[derive(Drop)]
 pub struct ColumnConstraint {
     pub name: Option<Name>,
     pub rule: ColumnRule,
@@ -56,7 +56,7 @@ pub struct ColumnConstraint {
 
 /// `NOT NULL | NULL | PRIMARY KEY | UNIQUE | REFERENCES name [ "(" name ")" ]
 /// | CHECK "(" test ")"`
-#[derive(PartialEq, Eq, Debug, Drop)]
+#[derive(Drop)]
 pub enum ColumnRule {
     NotNull,
     Null,
@@ -68,7 +68,7 @@ pub enum ColumnRule {
 
 /// `PRIMARY KEY names | UNIQUE names | FOREIGN KEY names REFERENCES name [ names ]
 /// | CHECK "(" test ")" | DEPENDENCY names DETERMINES names`
-#[derive(PartialEq, Eq, Debug, Drop)]
+#[derive(Drop)]
 pub enum TableRule {
     PrimaryKey(Names),
     Unique(Names),
@@ -78,7 +78,7 @@ pub enum TableRule {
 }
 
 /// `"(" name { "," name } ")"`
-#[derive(PartialEq, Eq, Debug, Drop)]
+#[derive(Drop)]
 pub struct Names {
     pub head: Name,
     pub tail: List<Name>,
