@@ -8,7 +8,7 @@ pub enum ColKind {
     Text,
 }
 
-#[derive(Drop)]
+#[derive(PartialEq, Eq, Drop)]
 pub struct Column {
     pub name: Txt,
     pub kind: ColKind,
@@ -16,7 +16,7 @@ pub struct Column {
 
 /// A foreign key: the referencing columns, the number of the referenced table, and its columns in
 /// the same order.
-#[derive(Drop)]
+#[derive(PartialEq, Eq, Drop)]
 pub struct Foreign {
     pub from: List<usize>,
     pub table: usize,
@@ -25,14 +25,14 @@ pub struct Foreign {
 
 /// A functional dependency: rows with the same values in the columns `from`, none of them NULL, are
 /// the same in the columns `to`.
-#[derive(Drop)]
+#[derive(PartialEq, Eq, Drop)]
 pub struct Depend {
     pub from: List<usize>,
     pub to: List<usize>,
 }
 
 /// A rule of a table. Columns and tables are named by their numbers from 0.
-#[derive(Drop)]
+#[derive(PartialEq, Eq, Drop)]
 pub enum Rule {
     NotNull(usize),
     Key(List<usize>),
@@ -41,7 +41,7 @@ pub enum Rule {
     Depend(Depend),
 }
 
-#[derive(Drop)]
+#[derive(PartialEq, Eq, Drop)]
 pub struct Table {
     pub name: Txt,
     pub columns: List<Column>,
