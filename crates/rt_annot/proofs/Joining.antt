@@ -1,5 +1,5 @@
 -- Rows of a product as entries.
-use Rattle.std.proofs.Common.{◌≡◌, ℕ, zero, suc, ◌<◌, Bool, true, false, ◌&&◌, List, [], ◌∷◌, ◌++◌, length, get_or, refl, sym, subst, ap, ap₂, arith, ◌∙◌}
+use Rattle.std.proofs.Common.{◌≡◌, ℕ, zero, suc, ◌<◌, Bool, true, false, ◌&&◌, List, Result, Ok, Err, IfOk, [], ◌∷◌, ◌++◌, length, get_or, refl, sym, subst, ap, ap₂, arith, ◌∙◌}
 use mathlib.Core.Path.{fun_ext}
 use Rattle.std.proofs.lemmas.List.{map-append}
 use Rattle.std.proofs.lemmas.List.Elements.{All-append}
@@ -60,3 +60,8 @@ module _ {old new : Shared} (g : IsGrown old new) where
   pub joint_entries_stay : (js : List Joint) → AreJoints old js → joint_entries new js ≡ joint_entries old js
   joint_entries_stay [] b = refl
   joint_entries_stay (j ∷ js) b = ap₂ ◌∷◌ (joint_stays j (b 0 j (omega arith))) (joint_entries_stay js (λ i f h. b (suc i) f (omega arith)))
+
+-- what is returned as it came, under two facts
+pub both_hold : {X Y : Type 0} (r : Result X Y) (P Q R : X → Type 0) → ((x : X) → P x → Q x → R x) → IfOk r P → IfOk r Q → IfOk r R
+both_hold (Ok x) P Q R f p q = f x p q
+both_hold (Err y) P Q R f p q = tt

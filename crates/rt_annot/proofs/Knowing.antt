@@ -1,5 +1,5 @@
 -- What is known of subqueries stays known, and holds under any rows in scope.
-use Rattle.std.proofs.Common.{◌≡◌, ℕ, zero, suc, ◌+◌, ◌<◌, add-one, take, ◌++◌, Bool, List, [], ◌∷◌, Option, None, Some, length, map, get_or, set, Bor, refl, sym, subst, ap, arith, ◌∙◌}
+use Rattle.std.proofs.Common.{◌≡◌, ℕ, zero, suc, ◌+◌, ◌<◌, add-one, take, ◌++◌, Bool, List, [], ◌∷◌, Option, None, Some, IfSome, length, map, get_or, set, Bor, refl, sym, subst, ap, arith, ◌∙◌}
 use mathlib.Core.Path.{fun_ext}
 use Rattle.std.specs.Option.{unwrap_or}
 use Rattle.std.proofs.lemmas.List.{length-map, length-set}
@@ -99,6 +99,16 @@ known_at {d} {given} {fs} bs q f k env a l e h =
     let m = length-map bs (λ (b : Bor Query). b.now) in
     let P : Query → Type 0 = λ p. Tells d f (λ s. answer_by wrapped p (kept given s) []) in
     tells_under bs q k env a l e (subst P e ((a.each k q None (omega (arith, l, m))).tells f h))
+
+past_end : (fs : List (Option Found)) (f : Found) → get_or fs (length fs) None ≡ Some f → ⊥
+past_end [] f e = cc
+past_end (g ∷ fs) f e = past_end fs f e
+
+-- the same where there is such a place
+pub known_place : {d : Shared} {given : Tables} {fs : List (Option Found)} (bs : List (Bor Query)) (q : Query) (f : Found) (place : Option ℕ) (env : Env) → AreKnown d given (map (λ q. q.now) bs) fs → IfSome place (λ k. k < length bs)
+    → IfSome place (λ k. get_or (map (λ q. q.now) bs) k q ≡ q) → get_or fs (unwrap_or place (length fs)) None ≡ Some f → Tells d f (λ s. answer_by wrapped q (kept given s) env)
+known_place {fs = fs} bs q f None env a l e h = absurd (past_end fs f h)
+known_place bs q f (Some k) env a l e h = known_at bs q f k env a l e h
 
 -- one more query is known
 later : {d : Shared} {given : Tables} {q : Query} {f : Option Found} {qs : List Query} {fs : List (Option Found)} → AreKnown d given (q ∷ qs) (f ∷ fs) → AreKnown d given qs fs

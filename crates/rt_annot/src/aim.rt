@@ -46,8 +46,7 @@ pub fn goal(
     ensures means { IfOk result (λ a. (keep : List Bool) → length keep ≡ dag.old.rows → val dag.new keep a.goal ≡ (lawful schema.now (kept given.now.tables keep) && not (same_rows (plain left.now.query (kept given.now.tables keep)) (plain right.now.query (kept given.now.tables keep))))) }
 {
     let reference = Reference::of(alloc, dag, schema, given, left)?;
-    let aim = goal_beside(alloc, dag, given, &reference, right)?;
-    Ok(aim)
+    goal_beside(alloc, dag, given, &reference, right)
 }
 
 /// The same of a query that stands on the Dag and another one beside it.
@@ -69,6 +68,7 @@ pub fn goal_beside(
 {
     let rows = annotate(alloc, dag, right, given)?;
     let differs = differ(alloc, dag, &reference.rows, &rows)?;
+    drop(rows);
     let both = dag.all(&[reference.lawful, differs])?;
     Ok(Aim {
         differs,

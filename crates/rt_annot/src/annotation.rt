@@ -6,6 +6,7 @@ ghost use Rattle.rt_algebra.specs.Answer.{answer_by, plain, has_row};
 ghost use Rattle.rt_algebra.specs.Expression.{wrapped};
 ghost use Rattle.rt_algebra.specs.Typed.{IsTyped};
 ghost use Rattle.rt_formula.specs.Shared.{IsGrown};
+ghost use Rattle.rt_annot.specs.Annotated.{Gives};
 ghost use Rattle.rt_annot.specs.Ann.{AreOf, node_at, node_value, rows_of};
 
 use crate::ann::Ann;
@@ -13,7 +14,7 @@ use crate::evaluate::annotated;
 use crate::gather::in_query;
 use crate::known::unknown;
 use rt_algebra::{Query, Typed};
-use rt_formula::Dag;
+use rt_formula::{Dag, Noted};
 use rt_schema::Given;
 use rt_value::{List, NoMemory, Row};
 use std::alloc::Global;
@@ -28,8 +29,7 @@ pub fn annotate(alloc: Global, dag: &mut Dag, typed: &Typed, given: &Given) -> R
     ensures rows { IfOk result (λ a. (keep : List Bool) (r : List Value) → has_row (rows_of dag.new keep a) r ≡ has_row (plain typed.now.query (kept given.now.tables keep)) r) }
     ensures entries { IfOk result (λ a. (keep : List Bool) (r : List Value) → node_value dag.new keep (node_at a r) ≡ has_row (plain typed.now.query (kept given.now.tables keep)) r) }
 {
-    let ann = wrapped_annotation(alloc, dag, typed.query.get(), given.tables())?;
-    Ok(ann)
+    wrapped_annotation(alloc, dag, typed.query.get(), given.tables())
 }
 
 /// The answer with arithmetic modulo 2^128, which asks for no bounds.
@@ -45,11 +45,26 @@ fn wrapped_annotation(
     ensures rows { IfOk result (λ a. (keep : List Bool) (r : List Value) → has_row (rows_of dag.new keep a) r ≡ has_row (answer_by wrapped query.now (kept tables.now keep) []) r) }
     ensures entries { IfOk result (λ a. (keep : List Bool) (r : List Value) → node_value dag.new keep (node_at a r) ≡ has_row (answer_by wrapped query.now (kept tables.now keep) []) r) }
 {
-    let closed = in_query(query, List::new(alloc))?;
-    let queries = closed.as_slice();
-    let mut founds = unknown(alloc, queries)?;
-    let rows = annotated(alloc, dag, tables, queries, &mut founds, query, &[])?;
+    let rows = noted_rows(alloc, dag, query, tables)?;
     let ann = Ann::merged(alloc, dag, rows.as_slice())?;
     let _len = ann.len();
     Ok(ann)
+}
+
+/// The rows that may come out, each with its node. A subquery that names no row outside of it is
+/// looked at once.
+fn noted_rows(
+    alloc: Global,
+    dag: &mut Dag,
+    query: &Query,
+    tables: &[List<Row>],
+) -> Result<List<Noted>, NoMemory>
+    requires { dag.old.rows ≡ places tables.now }
+    ensures grown { IsGrown dag.old dag.new }
+    ensures gives { IfOk result (λ out. Gives dag.new out (λ s. answer_by wrapped query.now (kept tables.now s) [])) }
+{
+    let closed = in_query(query, List::new(alloc))?;
+    let queries = closed.as_slice();
+    let mut founds = unknown(alloc, queries)?;
+    annotated(alloc, dag, tables, queries, &mut founds, query, &[])
 }

@@ -1,10 +1,12 @@
 //! The evaluation of conditions over all given rows.
-ghost use Rattle.std.specs.Prelude.{◌≡◌, [], map, IfOk};
-ghost use Rattle.rt_algebra.specs.Answer.{answer_by};
-ghost use Rattle.rt_algebra.specs.Expression.{wrapped};
+ghost use Rattle.std.specs.Prelude.{◌≡◌, ◌<◌, [], length, map, slice_index_or, IfOk, IfSome};
+ghost use Rattle.rt_value.specs.Value.{null_truth, value_truth};
+ghost use Rattle.rt_algebra.specs.Answer.{answer_by, one_of_truth};
+ghost use Rattle.rt_algebra.specs.Expression.{value_by, wrapped};
 ghost use Rattle.rt_schema.specs.Given.{places};
 ghost use Rattle.rt_schema.specs.Kept.{kept};
 ghost use Rattle.rt_formula.specs.Shared.{IsGrown};
+ghost use Rattle.rt_annot.specs.Entries.{constant};
 ghost use Rattle.rt_annot.specs.Annotated.{IsGate, yes_when, no_when, test_under, test_joined};
 ghost use Rattle.rt_annot.specs.Known.{AreKnown, Tells, exists_test, among_test};
 
@@ -12,9 +14,9 @@ use crate::evaluate::annotated;
 use crate::gate::{Gate, Gates, Junction, constant, is_always};
 use crate::known::{Found, find, known};
 use crate::member::{exists, member};
-use rt_algebra::{Pred, Query, one_of_truth, scope, value};
+use rt_algebra::{Expr, Pred, Query, one_of_truth, scope, value};
 use rt_formula::Dag;
-use rt_value::{List, NoMemory, Row, Value, compare, null_truth};
+use rt_value::{List, NoMemory, Op, Row, Value, compare, null_truth};
 use std::alloc::Global;
 
 /// Where a condition is true and where it is false.
@@ -35,29 +37,16 @@ pub fn test(
     ensures gate { IfOk result (λ g. IsGate dag.new g (yes_when p.now tables.now (map (λ r. r.now) env.now), no_when p.now tables.now (map (λ r. r.now) env.now))) }
 {
     match p {
-        Pred::Cmp(op, a, b) => {
-            let x = value(alloc, a, env)?;
-            let y = value(alloc, b, env)?;
-            Ok(constant(dag, compare(&x, &y, *op)))
-        }
-        Pred::IsNull(e) => {
-            let x = value(alloc, e, env)?;
-            Ok(constant(dag, null_truth(&x)))
-        }
-        Pred::OneOf(e, items) => {
-            let x = value(alloc, e, env)?;
-            let truth = one_of_truth(alloc, &x, items.as_slice(), env)?;
-            Ok(constant(dag, truth))
-        }
+        Pred::Cmp(op, a, b) => compared(alloc, dag, *op, a, b, env),
+        Pred::IsNull(e) => missing(alloc, dag, e, env),
+        Pred::OneOf(e, items) => listed(alloc, dag, e, items.as_slice(), env),
         Pred::And(ps) => {
             let all = &Junction::All;
-            let gate = together(alloc, dag, tables, queries, founds, all, ps.as_slice(), env)?;
-            Ok(gate)
+            together(alloc, dag, tables, queries, founds, all, ps.as_slice(), env)
         }
         Pred::Or(ps) => {
             let any = &Junction::Any;
-            let gate = together(alloc, dag, tables, queries, founds, any, ps.as_slice(), env)?;
-            Ok(gate)
+            together(alloc, dag, tables, queries, founds, any, ps.as_slice(), env)
         }
         Pred::Not(p) => {
             let gate = test(alloc, dag, tables, queries, founds, p.get(), env)?;
@@ -66,16 +55,51 @@ pub fn test(
                 no: gate.yes,
             })
         }
-        Pred::Exists(q) => {
-            let gate = has_rows(alloc, dag, tables, queries, founds, q.get(), env)?;
-            Ok(gate)
-        }
+        Pred::Exists(q) => has_rows(alloc, dag, tables, queries, founds, q.get(), env),
         Pred::Member(e, q) => {
             let x = value(alloc, e, env)?;
-            let gate = has_value(alloc, dag, tables, queries, founds, &x, q.get(), env)?;
-            Ok(gate)
+            has_value(alloc, dag, tables, queries, founds, &x, q.get(), env)
         }
     }
+}
+
+/// A comparison, which no choice of rows changes.
+fn compared(
+    alloc: Global,
+    dag: &Dag,
+    op: Op,
+    a: &Expr,
+    b: &Expr,
+    env: &[&Row],
+) -> Result<Gate, NoMemory>
+    ensures { IfOk result (λ g. IsGate dag.now g (constant (value_truth op (value_by wrapped a.now (map (λ r. r.now) env.now)) (value_by wrapped b.now (map (λ r. r.now) env.now))))) }
+{
+    let x = value(alloc, a, env)?;
+    let y = value(alloc, b, env)?;
+    Ok(constant(dag, compare(&x, &y, op)))
+}
+
+/// The test for NULL, which no choice of rows changes.
+fn missing(alloc: Global, dag: &Dag, e: &Expr, env: &[&Row]) -> Result<Gate, NoMemory>
+    ensures { IfOk result (λ g. IsGate dag.now g (constant (null_truth (value_by wrapped e.now (map (λ r. r.now) env.now))))) }
+{
+    let x = value(alloc, e, env)?;
+    Ok(constant(dag, null_truth(&x)))
+}
+
+/// Whether a value is in a list, which no choice of rows changes.
+fn listed(
+    alloc: Global,
+    dag: &Dag,
+    e: &Expr,
+    items: &[Expr],
+    env: &[&Row],
+) -> Result<Gate, NoMemory>
+    ensures { IfOk result (λ g. IsGate dag.now g (constant (one_of_truth wrapped (value_by wrapped e.now (map (λ r. r.now) env.now)) items.now (map (λ r. r.now) env.now)))) }
+{
+    let x = value(alloc, e, env)?;
+    let truth = one_of_truth(alloc, &x, items, env)?;
+    Ok(constant(dag, truth))
 }
 
 /// Where the query has a row.
@@ -95,20 +119,12 @@ fn has_rows(
     ensures known { AreKnown dag.new tables.now (map (λ q. q.now) queries.now) founds.new }
     ensures gate { IfOk result (λ g. IsGate dag.new g (exists_test (λ s. answer_by wrapped q.now (kept tables.now s) (map (λ r. r.now) env.now)))) }
 {
-    match find(queries, q) {
-        Some(at) => match known(founds.as_slice(), at) {
-            Some(found) => Ok(found.some),
-            None => {
-                let found = newly(alloc, dag, tables, queries, founds, q)?;
-                let gate = found.some;
-                founds.set(at, Some(found));
-                Ok(gate)
-            }
-        },
+    let place = looked_up(alloc, dag, tables, queries, founds, q)?;
+    match known(founds.as_slice(), place) {
+        Some(found) => Ok(found.some),
         None => {
             let rows = annotated(alloc, dag, tables, queries, founds, q, env)?;
-            let gate = exists(alloc, dag, rows.as_slice())?;
-            Ok(gate)
+            exists(alloc, dag, rows.as_slice())
         }
     }
 }
@@ -131,24 +147,44 @@ fn has_value(
     ensures known { AreKnown dag.new tables.now (map (λ q. q.now) queries.now) founds.new }
     ensures gate { IfOk result (λ g. IsGate dag.new g (among_test x.now (λ s. answer_by wrapped q.now (kept tables.now s) (map (λ r. r.now) env.now)))) }
 {
-    match find(queries, q) {
-        Some(at) => match known(founds.as_slice(), at) {
-            Some(found) => {
-                let gate = found.member(alloc, dag, x)?;
-                Ok(gate)
-            }
-            None => {
-                let found = newly(alloc, dag, tables, queries, founds, q)?;
-                let gate = found.member(alloc, dag, x)?;
-                founds.set(at, Some(found));
-                Ok(gate)
-            }
-        },
+    let place = looked_up(alloc, dag, tables, queries, founds, q)?;
+    match known(founds.as_slice(), place) {
+        Some(found) => found.member(alloc, dag, x),
         None => {
             let rows = annotated(alloc, dag, tables, queries, founds, q, env)?;
-            let gate = member(alloc, dag, x, rows.as_slice())?;
-            Ok(gate)
+            member(alloc, dag, x, rows.as_slice())
         }
+    }
+}
+
+/// The place of a query among those that are known once they are asked for, with what its rows come
+/// to.
+#[cycle(annotate)]
+fn looked_up(
+    alloc: Global,
+    dag: &mut Dag,
+    tables: &[List<Row>],
+    queries: &[&Query],
+    founds: &mut List<Option<Found>>,
+    q: &Query,
+) -> Result<Option<usize>, NoMemory>
+    requires places { dag.old.rows ≡ places tables.now }
+    requires known { AreKnown dag.old tables.now (map (λ q. q.now) queries.now) founds.old }
+    ensures grown { IsGrown dag.old dag.new }
+    ensures known { AreKnown dag.new tables.now (map (λ q. q.now) queries.now) founds.new }
+    ensures within { IfOk result (λ place. IfSome place (λ at. at < length queries.now)) }
+    ensures same { IfOk result (λ place. IfSome place (λ at. slice_index_or (map (λ q. q.now) queries.now) at q.now ≡ q.now)) }
+{
+    match find(queries, q) {
+        None => Ok(None),
+        Some(at) => match known(founds.as_slice(), Some(at)) {
+            Some(_) => Ok(Some(at)),
+            None => {
+                let found = newly(alloc, dag, tables, queries, founds, q)?;
+                founds.set(at, Some(found));
+                Ok(Some(at))
+            }
+        },
     }
 }
 
@@ -169,8 +205,7 @@ fn newly(
     ensures tells { IfOk result (λ f. Tells dag.new f (λ s. answer_by wrapped q.now (kept tables.now s) [])) }
 {
     let rows = annotated(alloc, dag, tables, queries, founds, q, &[])?;
-    let found = Found::of(alloc, dag, rows.as_slice())?;
-    Ok(found)
+    Found::of(alloc, dag, rows.as_slice())
 }
 
 /// Where the conditions together are true and where they are false. One that decides them at every
@@ -192,19 +227,18 @@ fn together(
     ensures known { AreKnown dag.new tables.now (map (λ q. q.now) queries.now) founds.new }
     ensures gate { IfOk result (λ g. IsGate dag.new g (test_joined junction.now ps.now tables.now (map (λ r. r.now) env.now))) }
 {
-    let mut yes = List::new(alloc);
-    let mut no = List::new(alloc);
+    let mut gates = Gates {
+        yes: List::new(alloc),
+        no: List::new(alloc),
+    };
     for p in ps {
         let gate = test(alloc, dag, tables, queries, founds, p, env)?;
         if is_always(dag, junction.deciding(&gate)) {
             return Ok(gate);
         }
-        yes.push(gate.yes)?;
-        no.push(gate.no)?;
+        gates.push(gate)?;
     }
-    let gates = Gates { yes, no };
-    let joined = junction.of(dag, &gates)?;
-    Ok(joined)
+    junction.of(dag, &gates)
 }
 
 /// The condition with the row as the innermost in scope.
@@ -226,6 +260,5 @@ pub fn test_row<'a>(
     ensures gate { IfOk result (λ g. IsGate dag.new g (test_under p.now tables.now (map (λ r. r.now) env.now) row.now)) }
 {
     let inner = scope(alloc, row, env)?;
-    let gate = test(alloc, dag, tables, queries, founds, p, inner.as_slice())?;
-    Ok(gate)
+    test(alloc, dag, tables, queries, founds, p, inner.as_slice())
 }

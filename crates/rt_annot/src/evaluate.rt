@@ -13,9 +13,9 @@ ghost use Rattle.rt_annot.specs.Joints.{AreJoints, GiveEach, Makes, joint_entrie
 use crate::conditions::test_row;
 use crate::gate::is_never;
 use crate::join::narrowed;
-use crate::joint::{Joint, meeting, noted, product};
+use crate::joint::{Joint, meeting, noted_product};
 use crate::known::Found;
-use crate::rows::{appended, merged, projected, table};
+use crate::rows::{alone, appended, note, projection, table};
 use crate::sets::{Side, sifted};
 use rt_algebra::{Pred, Query};
 use rt_formula::{Dag, Noted};
@@ -47,8 +47,7 @@ fn chosen(
         let gate = test_row(alloc, dag, tables, queries, founds, p, &joint.row, &*env)?;
         let node = meeting(alloc, dag, joint.nodes.as_slice(), gate.yes)?;
         if !is_never(dag, node) {
-            let row = joint.row.copy(alloc)?;
-            out.push(Noted { row, node })?;
+            note(alloc, &mut out, &joint.row, node)?;
         }
     }
     Ok(out)
@@ -97,15 +96,10 @@ fn source(
     ensures makes { IfOk result (λ out. Makes dag.new out (λ s. answer_by wrapped q.now (kept tables.now s) (map (λ r. r.now) env.now))) }
 {
     match q {
-        Query::Product(qs) => {
-            let out = members(alloc, dag, tables, queries, founds, qs.as_slice(), env)?;
-            Ok(out)
-        }
+        Query::Product(qs) => members(alloc, dag, tables, queries, founds, qs.as_slice(), env),
         _ => {
             let rows = annotated(alloc, dag, tables, queries, founds, q, env)?;
-            let mut out = List::new(alloc);
-            out.push(rows)?;
-            Ok(out)
+            alone(alloc, rows)
         }
     }
 }
@@ -128,14 +122,11 @@ pub fn annotated(
     ensures gives { IfOk result (λ out. Gives dag.new out (λ s. answer_by wrapped q.now (kept tables.now s) (map (λ r. r.now) env.now))) }
 {
     match q {
-        Query::Table(t) => {
-            let out = table(alloc, dag, tables, *t)?;
-            Ok(out)
-        }
+        Query::Table(t) => table(alloc, dag, tables, *t),
         Query::Select(a, p) => {
             let parts = source(alloc, dag, tables, queries, founds, a.get(), env)?;
             let joints = narrowed(alloc, parts.as_slice(), p, env)?;
-            let out = chosen(
+            chosen(
                 alloc,
                 dag,
                 tables,
@@ -144,40 +135,32 @@ pub fn annotated(
                 p,
                 joints.as_slice(),
                 env,
-            )?;
-            Ok(out)
+            )
         }
         Query::Project(a, items) => {
             let rows = annotated(alloc, dag, tables, queries, founds, a.get(), env)?;
-            let projected = projected(alloc, rows.as_slice(), items.as_slice(), env)?;
-            let out = merged(alloc, dag, projected.as_slice())?;
-            Ok(out)
+            projection(alloc, dag, rows.as_slice(), items.as_slice(), env)
         }
         Query::Product(qs) => {
             let parts = members(alloc, dag, tables, queries, founds, qs.as_slice(), env)?;
-            let joints = product(alloc, parts.as_slice())?;
-            let out = noted(alloc, dag, joints.as_slice())?;
-            Ok(out)
+            noted_product(alloc, dag, parts.as_slice())
         }
         Query::Union(a, b) => {
             let first = annotated(alloc, dag, tables, queries, founds, a.get(), env)?;
             let second = annotated(alloc, dag, tables, queries, founds, b.get(), env)?;
-            let out = appended(alloc, first, second.as_slice())?;
-            Ok(out)
+            appended(alloc, first, second.as_slice())
         }
         Query::Except(a, b) => {
             let first = annotated(alloc, dag, tables, queries, founds, a.get(), env)?;
             let second = annotated(alloc, dag, tables, queries, founds, b.get(), env)?;
             let side = Side::Missing;
-            let out = sifted(alloc, dag, first.as_slice(), second.as_slice(), side)?;
-            Ok(out)
+            sifted(alloc, dag, first.as_slice(), second.as_slice(), side)
         }
         Query::Intersect(a, b) => {
             let first = annotated(alloc, dag, tables, queries, founds, a.get(), env)?;
             let second = annotated(alloc, dag, tables, queries, founds, b.get(), env)?;
             let side = Side::Standing;
-            let out = sifted(alloc, dag, first.as_slice(), second.as_slice(), side)?;
-            Ok(out)
+            sifted(alloc, dag, first.as_slice(), second.as_slice(), side)
         }
     }
 }

@@ -1,5 +1,5 @@
 //! The nodes of conditions.
-ghost use Rattle.std.specs.Prelude.{◌≡◌, ◌<◌, List, Bool, true, false, not, ◌&&◌, IfOk, length};
+ghost use Rattle.std.specs.Prelude.{◌≡◌, ◌<◌, ◌++◌, ◌∷◌, [], List, Bool, true, false, not, ◌&&◌, IfOk, OnOk, length};
 ghost use Rattle.std.specs.List.{list_all, list_any};
 ghost use Rattle.rt_formula.specs.Shared.{val, IsGrown};
 ghost use Rattle.rt_annot.specs.Entries.{constant};
@@ -20,6 +20,17 @@ pub struct Gate {
 pub struct Gates {
     pub yes: List<Node>,
     pub no: List<Node>,
+}
+
+impl Gates {
+    /// Puts one more condition at the end.
+    pub fn push(&mut self, gate: Gate) -> Result<(), NoMemory>
+        ensures yes { OnOk result (self.new.yes ≡ self.old.yes ++ gate.yes ∷ []) }
+        ensures no { OnOk result (self.new.no ≡ self.old.no ++ gate.no ∷ []) }
+    {
+        self.yes.push(gate.yes)?;
+        self.no.push(gate.no)
+    }
 }
 
 /// A condition that no choice of rows changes.

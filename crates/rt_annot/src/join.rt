@@ -1,13 +1,15 @@
 //! The rows of a product that a condition may choose: each member's rows are narrowed by its own
 //! conjuncts, and joined by its keys.
-ghost use Rattle.std.specs.Prelude.{◌≡◌, ◌++◌, ◌∷◌, [], length, map, nat_eq, slice_get, IfOk};
+ghost use Rattle.std.specs.Prelude.{◌≡◌, ◌++◌, ◌∷◌, [], length, map, nat_eq, slice_get, IfOk, OnOk};
 ghost use Rattle.std.specs.List.{cons_option, filter_map, list_all};
 ghost use Rattle.rt_algebra.specs.Expression.{wrapped};
+ghost use Rattle.rt_algebra.specs.Join.{matches};
 ghost use Rattle.rt_algebra.specs.Split.{all_simple};
 ghost use Rattle.rt_annot.specs.Joints.{join_joint, unit_joints};
 ghost use Rattle.rt_annot.specs.Narrowed.{IsNarrowed, are_long, joined_joints, matched_joints, own_rows};
 
 use crate::joint::{Joint, joined_one, product, unit};
+use crate::rows::note;
 use rt_algebra::{KeyPair, Pred, Split, all_true, matches, scope, split};
 use rt_formula::Noted;
 use rt_value::{List, NoMemory, Row};
@@ -25,11 +27,9 @@ pub fn narrowed(
     let widths = widths(alloc, members)?;
     if are_long(widths.as_slice(), members) {
         let parts = split(alloc, condition, widths.as_slice())?;
-        let out = chosen(alloc, members, &parts, env)?;
-        Ok(out)
+        chosen(alloc, members, &parts, env)
     } else {
-        let out = product(alloc, members)?;
-        Ok(out)
+        product(alloc, members)
     }
 }
 
@@ -63,9 +63,7 @@ fn own_rows(
     for noted in rows {
         let own = is_own(alloc, &noted.row, conditions, env)?;
         if own {
-            let row = noted.row.copy(alloc)?;
-            let node = noted.node;
-            out.push(Noted { row, node })?;
+            note(alloc, &mut out, &noted.row, noted.node)?;
         }
     }
     Ok(out)
@@ -75,8 +73,7 @@ fn is_own(alloc: Global, row: &Row, conditions: &[Pred], env: &[&Row]) -> Result
     ensures { IfOk result (λ b. b ≡ all_simple wrapped conditions.now (row.now ∷ map (λ r. r.now) env.now)) }
 {
     let inner = scope(alloc, row, env)?;
-    let holds = all_true(alloc, conditions, inner.as_slice())?;
-    Ok(holds)
+    all_true(alloc, conditions, inner.as_slice())
 }
 
 /// Each of the rows before each row of the member that matches it by the keys.
@@ -88,14 +85,32 @@ fn matched(
 ) -> Result<List<Joint>, NoMemory>
     ensures { IfOk result (λ out. out ≡ matched_joints keys.now befores.now rows.now) }
 {
-    let firsts = joint_rows(alloc, befores)?;
-    let seconds = noted_rows(alloc, rows)?;
-    let places = matches(alloc, keys, firsts.as_slice(), seconds.as_slice())?;
+    let places = places_of(alloc, keys, befores, rows)?;
     let mut out = List::new(alloc);
     for (at, before) in befores.iter().enumerate() {
-        out = picked_each(alloc, out, before, rows, places.as_slice()[at].as_slice())?;
+        picked_each(
+            alloc,
+            &mut out,
+            before,
+            rows,
+            places.as_slice()[at].as_slice(),
+        )?;
     }
     Ok(out)
+}
+
+/// For each of the rows before, the places of the member's rows that match it by the keys.
+fn places_of(
+    alloc: Global,
+    keys: &[KeyPair],
+    befores: &[Joint],
+    rows: &[Noted],
+) -> Result<List<List<usize>>, NoMemory>
+    ensures { IfOk result (λ places. places ≡ matches keys.now (map (λ j. j.row) befores.now) (map (λ n. n.row) rows.now)) }
+{
+    let firsts = joint_rows(alloc, befores)?;
+    let seconds = noted_rows(alloc, rows)?;
+    matches(alloc, keys, firsts.as_slice(), seconds.as_slice())
 }
 
 fn joint_rows<'a>(alloc: Global, joints: &'a [Joint]) -> Result<List<&'a Row>, NoMemory>
@@ -118,40 +133,35 @@ fn noted_rows<'a>(alloc: Global, rows: &'a [Noted]) -> Result<List<&'a Row>, NoM
     Ok(out)
 }
 
-/// `out`, and the row before each of the rows at the places.
+/// Puts the row before each of the rows at the places at the end.
 fn picked_each(
     alloc: Global,
-    out: List<Joint>,
+    out: &mut List<Joint>,
     before: &Joint,
     rows: &[Noted],
     places: &[usize],
-) -> Result<List<Joint>, NoMemory>
-    ensures { IfOk result (λ o. o ≡ out ++ join_joint before.now (filter_map (slice_get rows.now) places.now)) }
+) -> Result<(), NoMemory>
+    ensures { OnOk result (out.new ≡ out.old ++ join_joint before.now (filter_map (slice_get rows.now) places.now)) }
 {
-    let mut out = out;
     for place in places {
-        out = with_picked(alloc, out, before, rows, *place)?;
+        with_picked(alloc, out, before, rows, *place)?;
     }
-    Ok(out)
+    Ok(())
 }
 
-/// `out`, and the row before the one at the place, where there is one.
+/// Puts the row before the one at the place at the end, where there is one.
 fn with_picked(
     alloc: Global,
-    out: List<Joint>,
+    out: &mut List<Joint>,
     before: &Joint,
     rows: &[Noted],
     place: usize,
-) -> Result<List<Joint>, NoMemory>
-    ensures { IfOk result (λ o. o ≡ out ++ join_joint before.now (cons_option (slice_get rows.now place) [])) }
+) -> Result<(), NoMemory>
+    ensures { OnOk result (out.new ≡ out.old ++ join_joint before.now (cons_option (slice_get rows.now place) [])) }
 {
-    let mut out = out;
     match rows.get(place) {
-        Some(row) => {
-            out.push(joined_one(alloc, before, row)?)?;
-            Ok(out)
-        }
-        None => Ok(out),
+        Some(row) => out.push(joined_one(alloc, before, row)?),
+        None => Ok(()),
     }
 }
 

@@ -1,11 +1,12 @@
 //! Products: rows put together from the rows of several queries.
-ghost use Rattle.std.specs.Prelude.{◌≡◌, ◌++◌, ◌∷◌, [], ◌<◌, ◌&&◌, length, IfOk};
+ghost use Rattle.std.specs.Prelude.{◌≡◌, ◌++◌, ◌∷◌, [], ◌<◌, ◌&&◌, length, IfOk, OnOk};
 ghost use Rattle.std.specs.List.{list_all};
 ghost use Rattle.rt_formula.specs.Shared.{val, IsGrown};
 ghost use Rattle.rt_annot.specs.Annotated.{AreNodes, IsNode, Reads};
-ghost use Rattle.rt_annot.specs.Joints.{AreJoints, join_joint, pair_joints, product_joints, unit_joints, joint_entries};
+ghost use Rattle.rt_annot.specs.Joints.{AreJoints, AreMembers, join_joint, pair_joints, product_joints, unit_joints, joint_entries};
 
 use crate::gate::is_never;
+use crate::rows::note;
 use rt_formula::{Dag, Node, Noted};
 use rt_value::{List, NoMemory, Row};
 use std::alloc::Global;
@@ -47,20 +48,19 @@ pub fn joined_one(alloc: Global, first: &Joint, rest: &Noted) -> Result<Joint, N
     Ok(Joint { row, nodes })
 }
 
-/// The list with `first` before each row of `rests` at its end.
+/// Puts `first` before each row of `rests` at the end.
 fn joined_each(
     alloc: Global,
-    joints: List<Joint>,
+    joints: &mut List<Joint>,
     first: &Joint,
     rests: &[Noted],
-) -> Result<List<Joint>, NoMemory>
-    ensures { IfOk result (λ out. out ≡ joints ++ join_joint first.now rests.now) }
+) -> Result<(), NoMemory>
+    ensures { OnOk result (joints.new ≡ joints.old ++ join_joint first.now rests.now) }
 {
-    let mut out = joints;
     for rest in rests {
-        out.push(joined_one(alloc, first, rest)?)?;
+        joints.push(joined_one(alloc, first, rest)?)?;
     }
-    Ok(out)
+    Ok(())
 }
 
 /// Each row of `firsts` before each row of `rests`.
@@ -69,9 +69,23 @@ fn joined(alloc: Global, firsts: &[Joint], rests: &[Noted]) -> Result<List<Joint
 {
     let mut out = List::new(alloc);
     for first in firsts {
-        out = joined_each(alloc, out, first, rests)?;
+        joined_each(alloc, &mut out, first, rests)?;
     }
     Ok(out)
+}
+
+/// Each concatenation of a row of each member, with one node.
+pub fn noted_product(
+    alloc: Global,
+    dag: &mut Dag,
+    members: &[List<Noted>],
+) -> Result<List<Noted>, NoMemory>
+    requires { AreMembers dag.old members.now }
+    ensures grown { IsGrown dag.old dag.new }
+    ensures reads { IfOk result (λ out. Reads dag.new out (joint_entries dag.old (product_joints unit_joints members.now))) }
+{
+    let joints = product(alloc, members)?;
+    noted(alloc, dag, joints.as_slice())
 }
 
 /// Each concatenation of a row of each member.
@@ -86,7 +100,7 @@ pub fn product(alloc: Global, members: &[List<Noted>]) -> Result<List<Joint>, No
 }
 
 /// The rows, each with one node.
-pub fn noted(alloc: Global, dag: &mut Dag, joints: &[Joint]) -> Result<List<Noted>, NoMemory>
+fn noted(alloc: Global, dag: &mut Dag, joints: &[Joint]) -> Result<List<Noted>, NoMemory>
     requires { AreJoints dag.old joints.now }
     ensures grown { IsGrown dag.old dag.new }
     ensures reads { IfOk result (λ out. Reads dag.new out (joint_entries dag.old joints.now)) }
@@ -94,8 +108,7 @@ pub fn noted(alloc: Global, dag: &mut Dag, joints: &[Joint]) -> Result<List<Note
     let mut out = List::new(alloc);
     for joint in joints {
         let node = dag.all(joint.nodes.as_slice())?;
-        let row = joint.row.copy(alloc)?;
-        out.push(Noted { row, node })?;
+        note(alloc, &mut out, &joint.row, node)?;
     }
     Ok(out)
 }
@@ -116,6 +129,5 @@ pub fn meeting(
         return Ok(condition);
     }
     let children = with_node(alloc, nodes, condition)?;
-    let meeting = dag.all(children.as_slice())?;
-    Ok(meeting)
+    dag.all(children.as_slice())
 }

@@ -1,6 +1,7 @@
 //! The subqueries that name no row outside of them: what their rows come to is found once, when it
 //! is first asked for.
 ghost use Rattle.std.specs.Prelude.{◌≡◌, ◌∷◌, [], ◌<◌, map, length, slice_index_or, IfOk, IfSome, None, Some, List, Bool};
+ghost use Rattle.std.specs.Option.{unwrap_or};
 ghost use Rattle.rt_value.specs.declared.value.Value.{Value};
 ghost use Rattle.rt_value.specs.Value.{value_eq, null_truth};
 ghost use Rattle.rt_schema.specs.Given.{Rows};
@@ -52,12 +53,15 @@ pub fn unknown(alloc: Global, queries: &[&Query]) -> Result<List<Option<Found>>,
     Ok(founds)
 }
 
-/// What is known of the query at a place.
-pub fn known(founds: &[Option<Found>], at: usize) -> Option<&Found>
-    ensures { IfSome result (λ f. slice_index_or founds.now at None ≡ Some f.now) }
+/// What is known of the query at a place, where there is one.
+pub fn known(founds: &[Option<Found>], place: Option<usize>) -> Option<&Found>
+    ensures { IfSome result (λ f. slice_index_or founds.now (unwrap_or place (length founds.now)) None ≡ Some f.now) }
 {
-    match founds.get(at) {
-        Some(found) => found.as_ref(),
+    match place {
+        Some(at) => match founds.get(at) {
+            Some(found) => found.as_ref(),
+            None => None,
+        },
         None => None,
     }
 }
@@ -126,6 +130,7 @@ impl Found {
         }
         let row = single(alloc, x)?;
         let yes = dag.any(self.groups.get(&row))?;
+        drop(row);
         let some = dag.any(&[yes, self.null])?;
         let no = dag.not(some)?;
         Ok(Gate { yes, no })

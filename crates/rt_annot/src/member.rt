@@ -27,8 +27,7 @@ pub fn exists(alloc: Global, dag: &mut Dag, rows: &[Noted]) -> Result<Gate, NoMe
     ensures gate { IfOk result (λ g. IsGate dag.new g (any_entry (entries_of dag.old rows.now), λ s. not (any_entry (entries_of dag.old rows.now) s))) }
 {
     let nodes = nodes_of(alloc, rows)?;
-    let gate = either(dag, nodes.as_slice())?;
-    Ok(gate)
+    either(dag, nodes.as_slice())
 }
 
 /// The nodes of the rows to whose first value `x` compares equal.
@@ -64,9 +63,11 @@ pub fn member(alloc: Global, dag: &mut Dag, x: &Value, rows: &[Noted]) -> Result
     ensures gate { IfOk result (λ g. IsGate dag.new g (member_test x.now (entries_of dag.old rows.now))) }
 {
     let sure = sure(alloc, x, rows)?;
-    let possible = possible(alloc, x, rows)?;
     let yes = dag.any(sure.as_slice())?;
+    drop(sure);
+    let possible = possible(alloc, x, rows)?;
     let some = dag.any(possible.as_slice())?;
+    drop(possible);
     let no = dag.not(some)?;
     Ok(Gate { yes, no })
 }

@@ -1,22 +1,34 @@
 //! Rows with their nodes: tables, unions, projections.
-ghost use Rattle.std.specs.Prelude.{◌≡◌, ◌∷◌, ◌++◌, ◌+◌, ◌<◌, ◌≤◌, [], map, length, slice_index_or, IfOk, ◌^◌};
+ghost use Rattle.std.specs.Prelude.{◌≡◌, ◌∷◌, ◌++◌, ◌+◌, ◌<◌, ◌≤◌, [], map, length, slice_index_or, IfOk, OnOk, ◌^◌};
 ghost use Rattle.rt_algebra.specs.Expression.{wrapped, row_by};
 ghost use Rattle.rt_schema.specs.Given.{places, base_of};
 ghost use Rattle.rt_formula.specs.Shared.{IsGrown};
 ghost use Rattle.rt_annot.specs.Annotated.{AreMerged, AreNoted, Reads, entries_of, placed, projected_rows};
 
 use rt_algebra::{Expr, row, scope};
-use rt_formula::{Dag, Groups, Noted};
+use rt_formula::{Dag, Groups, Node, Noted};
 use rt_value::{List, NoMemory, Row};
 use std::alloc::Global;
 
+/// Puts a copy of the row, with its node, at the end.
+pub fn note(alloc: Global, out: &mut List<Noted>, row: &Row, node: Node) -> Result<(), NoMemory>
+    ensures { OnOk result (out.new ≡ out.old ++ record { row = row.now; node = node } ∷ []) }
+{
+    let row = row.copy(alloc)?;
+    out.push(Noted { row, node })
+}
+
+/// A list of these rows alone.
+pub fn alone(alloc: Global, rows: List<Noted>) -> Result<List<List<Noted>>, NoMemory>
+    ensures { IfOk result (λ out. out ≡ rows ∷ []) }
+{
+    let mut out = List::new(alloc);
+    out.push(rows)?;
+    Ok(out)
+}
+
 /// Each row of a table whose first place is `base`, where its place is kept.
-pub fn placed(
-    alloc: Global,
-    dag: &mut Dag,
-    rows: &[Row],
-    base: usize,
-) -> Result<List<Noted>, NoMemory>
+fn placed(alloc: Global, dag: &mut Dag, rows: &[Row], base: usize) -> Result<List<Noted>, NoMemory>
     requires { base + length rows.now ≤ dag.old.rows }
     ensures grown { IsGrown dag.old dag.new }
     ensures reads { IfOk result (λ out. Reads dag.new out (placed base rows.now)) }
@@ -25,8 +37,7 @@ pub fn placed(
     let mut out = List::new(alloc);
     for (at, row) in rows.iter().enumerate() {
         let node = dag.row(base + at)?;
-        let row = row.copy(alloc)?;
-        out.push(Noted { row, node })?;
+        note(alloc, &mut out, row, node)?;
     }
     Ok(out)
 }
@@ -64,8 +75,7 @@ pub fn table(
         None => Ok(List::new(alloc)),
         Some(rows) => {
             let base = first_place(given, number);
-            let out = placed(alloc, dag, rows.as_slice(), base)?;
-            Ok(out)
+            placed(alloc, dag, rows.as_slice(), base)
         }
     }
 }
@@ -76,9 +86,7 @@ pub fn appended(alloc: Global, rows: List<Noted>, more: &[Noted]) -> Result<List
 {
     let mut out = rows;
     for noted in more {
-        let row = noted.row.copy(alloc)?;
-        let node = noted.node;
-        out.push(Noted { row, node })?;
+        note(alloc, &mut out, &noted.row, noted.node)?;
     }
     Ok(out)
 }
@@ -97,7 +105,7 @@ fn values_under<'a>(
 }
 
 /// The values of the items for each row as the innermost in scope.
-pub fn projected(
+fn projected(
     alloc: Global,
     from: &[Noted],
     items: &[Expr],
@@ -114,8 +122,24 @@ pub fn projected(
     Ok(out)
 }
 
+/// The values of the items for each row, each row once.
+pub fn projection(
+    alloc: Global,
+    dag: &mut Dag,
+    from: &[Noted],
+    items: &[Expr],
+    env: &[&Row],
+) -> Result<List<Noted>, NoMemory>
+    requires { AreNoted dag.old from.now }
+    ensures grown { IsGrown dag.old dag.new }
+    ensures merged { IfOk result (λ out. AreMerged dag.new out (entries_of dag.old (projected_rows from.now items.now (map (λ r. r.now) env.now)))) }
+{
+    let rows = projected(alloc, from, items, env)?;
+    merged(alloc, dag, rows.as_slice())
+}
+
 /// Each row once, in the order of their first coming, where one of its nodes is true.
-pub fn merged(alloc: Global, dag: &mut Dag, rows: &[Noted]) -> Result<List<Noted>, NoMemory>
+fn merged(alloc: Global, dag: &mut Dag, rows: &[Noted]) -> Result<List<Noted>, NoMemory>
     requires { AreNoted dag.old rows.now }
     ensures grown { IsGrown dag.old dag.new }
     ensures merged { IfOk result (λ out. AreMerged dag.new out (entries_of dag.old rows.now)) }
@@ -127,8 +151,7 @@ pub fn merged(alloc: Global, dag: &mut Dag, rows: &[Noted]) -> Result<List<Noted
         if known.get(&noted.row).is_empty() {
             known.put(noted)?;
             let node = dag.any(groups.get(&noted.row))?;
-            let row = noted.row.copy(alloc)?;
-            out.push(Noted { row, node })?;
+            note(alloc, &mut out, &noted.row, node)?;
         }
     }
     Ok(out)

@@ -5,6 +5,7 @@ ghost use Rattle.rt_annot.specs.Entries.{selected};
 ghost use Rattle.rt_annot.specs.Annotated.{AreNoted, Reads, entries_of, side_node, side_test};
 
 use crate::gate::{Gate, both, either};
+use crate::rows::note;
 use rt_formula::{Dag, Groups, Node, Noted};
 use rt_value::{List, NoMemory};
 use std::alloc::Global;
@@ -45,8 +46,7 @@ pub fn sifted(
     for noted in from {
         let found = either(dag, groups.get(&noted.row))?;
         let node = both(dag, noted.node, side.node(found))?;
-        let row = noted.row.copy(alloc)?;
-        out.push(Noted { row, node })?;
+        note(alloc, &mut out, &noted.row, node)?;
     }
     Ok(out)
 }

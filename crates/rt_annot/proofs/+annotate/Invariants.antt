@@ -13,8 +13,8 @@ abbrev pub invariant-conditions::together-loop-p : goal.invariant-conditions::to
 invariant-conditions::together-loop-p l = record {
   grown : IsGrown l.fn.dag l.dag;
   known : AreKnown l.dag l.tables (map (λ q. q.now) l.queries) l.founds;
-  yes : Mean l.dag l.yes (yes_of (take l.p-index l.ps) l.tables (map (λ r. r.now) l.env));
-  no : Mean l.dag l.no (no_of (take l.p-index l.ps) l.tables (map (λ r. r.now) l.env));
+  yes : Mean l.dag l.gates.yes (yes_of (take l.p-index l.ps) l.tables (map (λ r. r.now) l.env));
+  no : Mean l.dag l.gates.no (no_of (take l.p-index l.ps) l.tables (map (λ r. r.now) l.env));
 }
 
 abbrev pub invariant-evaluate::chosen-loop-joint : goal.invariant-evaluate::chosen-loop-joint

@@ -1,13 +1,15 @@
 use Rattle.std.proofs.Common.{◌∙◌, ap, map, sym, List, ℕ}
+use Rattle.std.proofs.lemmas.Result.{IfOk-weaker}
 use Rattle.rt_annot.specs.Narrowed.{are_long}
 use Rattle.rt_annot.proofs.Narrowing.{joined_narrowed, whole_narrowed}
 use Rattle.rt_annot.proofs.join.narrowed.Goals as goal
 
 pub returns-then-are_long : goal.returns-then-are_long
 returns-then-are_long c =
-    joined_narrowed c.args.condition.now (map (λ r. r.now) c.args.env.now) c.args.members.now c.as_slice-then-are_long.result.now c.in_ok-parts.parts c.in_ok-out.out c.in_ok-parts.ensures.joins
+    IfOk-weaker c.chosen.result _ _
+    (λ out h. joined_narrowed c.args.condition.now (map (λ r. r.now) c.args.env.now) c.args.members.now c.as_slice-then-are_long.result.now c.in_ok-parts.parts out c.in_ok-parts.ensures.joins
     (ap (λ (ws : List ℕ). are_long ws c.args.members.now) (c.as_slice-then-are_long.ensures ∙ sym c.as_slice.ensures) ∙ sym c.are_long.ensures ∙ c.if-are_long.true)
-    c.in_ok-out.ensures
+    h) c.chosen.ensures
 
 pub returns : goal.returns
-returns c = whole_narrowed c.args.condition.now (map (λ r. r.now) c.args.env.now) c.args.members.now c.in_ok-out-2.out c.in_ok-out-2.ensures
+returns c = IfOk-weaker c.product.result _ _ (λ out h. whole_narrowed c.args.condition.now (map (λ r. r.now) c.args.env.now) c.args.members.now out h) c.product.ensures

@@ -11,5 +11,5 @@ use Rattle.rt_annot.proofs.join.with_picked.Goals as goal
 pub returns-in-None : goal.returns-in-None
 returns-in-None c =
     let past = ltb-false c.args.place (length c.args.rows.now) (sym c.get.ensures.lookup.0 ∙ ap is_some c.in-None.is) in
-    sym (append-nil c.args.out)
-    ∙ ap (λ (o : Option Noted). c.args.out ++ join_joint c.args.before.now (cons_option o [])) (sym (slice_get_past c.args.rows.now c.args.place past))
+    sym (append-nil c.args.out.now)
+    ∙ ap (λ (o : Option Noted). c.args.out.now ++ join_joint c.args.before.now (cons_option o [])) (sym (slice_get_past c.args.rows.now c.args.place past))

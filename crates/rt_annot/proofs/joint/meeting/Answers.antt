@@ -1,8 +1,9 @@
-use Rattle.std.proofs.Common.{◌≡◌, ◌∙◌, Bool, true, false, ◌&&◌, sym, ap, refl}
+use Rattle.std.proofs.Common.{◌≡◌, ◌<◌, ◌∙◌, Bool, true, false, ◌&&◌, List, length, sym, ap, refl}
 use Rattle.std.specs.List.{list_all}
 use Rattle.rt_formula.specs.Shared.{val}
+use Rattle.rt_annot.specs.Annotated.{IsNode}
 use Rattle.rt_annot.proofs.Growing.{nodes_are}
-use Rattle.rt_annot.proofs.Joining.{all_more, one_more}
+use Rattle.rt_annot.proofs.Joining.{all_more, both_hold, one_more}
 use Rattle.rt_annot.proofs.joint.meeting.Goals as goal
 
 and_false : (b : Bool) → (b && false) ≡ false
@@ -23,9 +24,12 @@ all-requires c =
     nodes_are c.args.dag.now (c.as_slice.ensures ∙ c.in_ok-children.ensures) (one_more c.args.dag.now c.args.nodes.now c.args.condition c.requires.nodes c.requires.condition)
 
 pub returns-clause-node : goal.returns-clause-node
-returns-clause-node c = record {
-  below = c.in_ok-meeting.ensures.node;
-  same = λ s.
-      let v = val c.args.dag.now s in
-      c.in_ok-meeting.ensures.means s ∙ ap (list_all v) (c.as_slice.ensures ∙ c.in_ok-children.ensures) ∙ all_more v c.args.nodes.now c.args.condition;
-}
+returns-clause-node c =
+    both_hold c.all.result (λ n. n < length c.all.new.self.entries) (λ n. (s : List Bool) → val c.all.new.self s n ≡ list_all (val c.args.dag.now s) c.as_slice.result.now)
+    (λ n. IsNode c.all.new.self n (λ s. list_all (val c.args.dag.now s) c.args.nodes.now && val c.args.dag.now s c.args.condition))
+    (λ n l m. record {
+      below = l;
+      same = λ s.
+          let v = val c.args.dag.now s in
+          m s ∙ ap (list_all v) (c.as_slice.ensures ∙ c.in_ok-children.ensures) ∙ all_more v c.args.nodes.now c.args.condition;
+    }) c.all.ensures.node c.all.ensures.means

@@ -1,4 +1,4 @@
-use Rattle.std.proofs.Common.{ap}
+use Rattle.std.proofs.Common.{ap, refl}
 use Rattle.std.specs.List.{list_all}
 use Rattle.rt_formula.specs.Shared.{val}
 use Rattle.rt_annot.specs.Joints.{joint_entries}
@@ -19,8 +19,8 @@ loop-joint-preserved c =
     let i = c.loop-joint.joint-index in
     let j = c.joint-item.result in
     let b = joint_below d c.args.joints.now i j c.loop-joint-test.true c.joint-item.is c.requires in
-    along_push _ j.row (λ s. list_all (val d s) j.nodes) c.loop-joint.invariant
+    along_push (record { row = j.row; node = c.in_ok-node.node }) j.row (λ s. list_all (val d s) j.nodes) c.loop-joint.invariant
     (ap (joint_entries d) (next_is c.args.joints.now i j c.loop-joint-test.true c.joint-item.is))
-    c.all.ensures.grown c.in_ok-row.ensures
+    c.all.ensures.grown refl
     (all_over c.loop-joint.invariant.grown c.in_ok-node.node _ j.nodes b c.as_slice.ensures c.in_ok-node.ensures.node c.in_ok-node.ensures.means)
-    c.in_ok-push.ensures.ok
+    c.in_ok-note.ensures

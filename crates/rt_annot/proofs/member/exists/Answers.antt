@@ -1,4 +1,5 @@
 use Rattle.std.proofs.Common.{◌∙◌}
+use Rattle.std.proofs.lemmas.Result.{IfOk-weaker}
 use Rattle.rt_annot.specs.Entries.{any_entry}
 use Rattle.rt_annot.specs.Annotated.{entries_of}
 use Rattle.rt_annot.proofs.Growing.{nodes_are, either_means}
@@ -9,4 +10,6 @@ pub either-requires : goal.either-requires
 either-requires c = nodes_are c.args.dag.now (c.as_slice.ensures ∙ c.in_ok-nodes.ensures) (nodes_below c.args.dag.now c.args.rows.now c.requires)
 
 pub returns-clause-gate : goal.returns-clause-gate
-returns-clause-gate c = either_means c.args.dag.now _ _ (any_entry (entries_of c.args.dag.now c.args.rows.now)) c.in_ok-gate.ensures.gate (c.as_slice.ensures ∙ c.in_ok-nodes.ensures) (λ s. any_nodes c.args.dag.now s c.args.rows.now)
+returns-clause-gate c =
+    IfOk-weaker c.either.result _ _
+    (λ g h. either_means c.args.dag.now _ _ (any_entry (entries_of c.args.dag.now c.args.rows.now)) h (c.as_slice.ensures ∙ c.in_ok-nodes.ensures) (λ s. any_nodes c.args.dag.now s c.args.rows.now)) c.either.ensures.gate

@@ -1,4 +1,4 @@
-use Rattle.std.proofs.Common.{◌∙◌, subst, sym, ◌≡◌, ℕ, ◌<◌, length}
+use Rattle.std.proofs.Common.{◌∙◌, refl, subst, sym, ◌≡◌, ℕ, ◌<◌, length}
 use Rattle.rt_annot.specs.Entries.{stands, Test}
 use Rattle.rt_formula.specs.Groups.{standing}
 use Rattle.rt_annot.specs.Annotated.{IsNode, entries_of, side_test, IsGate, side_node}
@@ -31,11 +31,11 @@ loop-noted-preserved c =
     let l = node_below d c.args.from.now i n c.loop-noted-test.true c.noted-item.is c.requires.from in
     let found = either_means c.loop-noted.dag _ _ (stands (entries_of d others) n.row) c.in_ok-found.ensures.gate (c.get.ensures ∙ c.in_ok-groups.ensures n.row)
     (λ s. any_stays g (standing n.row others) (where_below d _ others c.requires.others) s ∙ any_standing d s n.row others) in
-    along_push _ _ _ c.loop-noted.invariant (next_selected d c.args.from.now i n c.loop-noted-test.true c.noted-item.is t)
-    (grown_trans c.either.ensures.grown c.both.ensures.grown) c.in_ok-row.ensures
+    along_push (record { row = n.row; node = c.in_ok-node.node }) n.row _ c.loop-noted.invariant (next_selected d c.args.from.now i n c.loop-noted-test.true c.noted-item.is t)
+    (grown_trans c.either.ensures.grown c.both.ensures.grown) refl
     (both_over n.node c.node.result c.in_ok-node.node (t n.row).0 (grown_trans g c.either.ensures.grown) l
     (subst (λ k. IsNode c.either.new.dag k (t n.row).0) (sym c.node.ensures) (side_is c.args.side (entries_of d others) n.row found)) c.in_ok-node.ensures.node)
-    c.in_ok-push.ensures.ok
+    c.in_ok-note.ensures
 
 pub returns-in_err-found-clause-grown : goal.returns-in_err-found-clause-grown
 returns-in_err-found-clause-grown c = grown_trans c.loop-noted.invariant.grown c.either.ensures.grown
@@ -43,11 +43,8 @@ returns-in_err-found-clause-grown c = grown_trans c.loop-noted.invariant.grown c
 pub returns-in_err-node-clause-grown : goal.returns-in_err-node-clause-grown
 returns-in_err-node-clause-grown c = grown_trans (grown_trans c.loop-noted.invariant.grown c.either.ensures.grown) c.both.ensures.grown
 
-pub returns-in_err-row-clause-grown : goal.returns-in_err-row-clause-grown
-returns-in_err-row-clause-grown c = grown_trans (grown_trans c.loop-noted.invariant.grown c.either.ensures.grown) c.both.ensures.grown
-
-pub returns-in_err-push-clause-grown : goal.returns-in_err-push-clause-grown
-returns-in_err-push-clause-grown c = grown_trans (grown_trans c.loop-noted.invariant.grown c.either.ensures.grown) c.both.ensures.grown
+pub returns-in_err-note-clause-grown : goal.returns-in_err-note-clause-grown
+returns-in_err-note-clause-grown c = grown_trans (grown_trans c.loop-noted.invariant.grown c.either.ensures.grown) c.both.ensures.grown
 
 pub both-requires-clause-a : goal.both-requires-clause-a
 both-requires-clause-a c = (node_stays (grown_trans c.loop-noted.invariant.grown c.either.ensures.grown) (itself c.args.dag.now c.noted-item.result.node (node_below c.args.dag.now c.args.from.now c.loop-noted.noted-index c.noted-item.result c.loop-noted-test.true c.noted-item.is c.requires.from))).below

@@ -11,7 +11,7 @@ returns-then-branch c keep =
     elim c.then-branch.branch [
       | then-branch-via-then-branch w ↦ subst S w.if-branch.true c.in_ok-sift.ensures keep
       | then-branch-via-else-branch+then-is_contrary w ↦ (
-        let found = w.is_contrary.ensures w.if-is_contrary.true in
-        let sifted = subst S w.if-branch.false c.in_ok-sift.ensures in
-        sym (sifted.1 keep) ∙ contrary-decides c.args.gate (val c.args.self.now keep) c.sift.new.kept found.one found.other found.has_one found.has_other (found.contrary keep))
+          let found = w.is_contrary.ensures w.if-is_contrary.true in
+          let sifted = subst S w.if-branch.false c.in_ok-sift.ensures in
+          sym (sifted.1 keep) ∙ contrary-decides c.args.gate (val c.args.self.now keep) c.sift.new.kept found.one found.other found.has_one found.has_other (found.contrary keep))
     ]
