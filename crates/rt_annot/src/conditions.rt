@@ -157,8 +157,8 @@ fn has_value(
     }
 }
 
-/// The place of a query among those that are known once they are asked for, with what its rows come
-/// to.
+/// The place of a query that names no row outside of it; what its rows come to is known from then
+/// on.
 #[cycle(annotate)]
 fn looked_up(
     alloc: Global,

@@ -1,4 +1,4 @@
-use Rattle.std.proofs.Common.{◌∙◌, ap, ap₂, sym, Option, None, get_or, List, Bool, map, Bor, ◌∷◌, ◌++◌, ◌&&◌, refl, [], subst, length, IfOk}
+use Rattle.std.proofs.Common.{◌∙◌, ap, ap₂, sym, Option, None, get_or, List, Bool, map, Bor, ◌∷◌, ◌&&◌, refl, [], subst, length, IfOk}
 use Rattle.std.proofs.lemmas.List.{take_all}
 use Rattle.std.proofs.lemmas.Result.{IfOk-weaker}
 use Rattle.std.specs.List.{filter, list_all}
@@ -11,20 +11,19 @@ use Rattle.rt_algebra.specs.Expression.{wrapped, Env, row_by, value_by}
 use Rattle.rt_algebra.specs.declared.query.Pred.TheVariants as w
 use Rattle.rt_algebra.specs.declared.query.Query.TheVariants as v
 use Rattle.rt_schema.specs.Kept.{kept}
-use Rattle.rt_formula.specs.declared.noted.Noted.{Noted}
 use Rattle.rt_annot.specs.Entries.{rows_at, selected}
 use Rattle.rt_annot.specs.Annotated.{IsGate, IsNode, entries_of, test_under, yes_when, no_when, yes_of, no_of}
 use Rattle.rt_annot.specs.Joints.{joint_entries}
 use Rattle.rt_annot.proofs.Exact.{table_exact}
 use Rattle.rt_annot.specs.declared.known.Found.{Found}
 use Rattle.rt_annot.specs.Known.{AreKnown}
-use Rattle.rt_annot.proofs.Knowing.{known_stay, known_at, known_place, known_set, tells_same, tells_stay, tells_under}
+use Rattle.rt_annot.proofs.Knowing.{known_stay, known_place, place_within, known_set, tells_same}
 use Rattle.rt_annot.proofs.Growing.{grown_refl, grown_trans, all_stays, mean_stays, node_as, nodes_are, nodes_stay, noted_stay}
 use Rattle.rt_annot.proofs.Distinct.{noted_at}
-use Rattle.rt_annot.proofs.Walking.{next_is, projected_below, table_entries}
+use Rattle.rt_annot.proofs.Walking.{next_is, table_entries}
 use Rattle.rt_annot.proofs.Layers.{at_table, at_cmp, at_is_null, at_one_of, outcome, at_select, at_project, at_union, at_except, at_intersect, mean_push, mean_as, yes_more, no_more, joined_gate, joined_stops, and_gate, or_gate, exists_gate, member_gate, exists_of, member_of, gives_as, gives_same, gives_stay, gives_of, gives_append, gives_projected, gives_merged, gives_except, gives_intersect, choose, leave_out, choosing_at}
 use Rattle.rt_annot.proofs.Joining.{joint_below}
-use Rattle.rt_annot.proofs.Members.{choosing_rows, whole_rows, whole_joints, members_same, members_below, makes_product, makes_single, give_push, answers_more}
+use Rattle.rt_annot.proofs.Members.{choosing_rows, whole_rows, members_same, members_below, makes_product, makes_single, give_push, answers_more}
 use Rattle.rt_annot.proofs.+annotate.Goals as goal
 use Rattle.rt_annot.proofs.+annotate.Goals.{evaluate::chosen-then-not-is_never+in_ok-note, evaluate::chosen-else-not-is_never}
 
@@ -413,3 +412,6 @@ conditions::test_row-returns-clause-gate t c =
     let p = c.args.p.now in
     let G : Env → Type 0 = λ e. IfOk c.test.result (λ x. IsGate c.test.new.dag x (yes_when p g e, no_when p g e)) in
     subst G (ap scope_of c.as_slice.ensures.value ∙ c.in_ok-inner.ensures) c.test.ensures.gate
+
+pub conditions::looked_up-set-requires : goal.conditions::looked_up-set-requires
+conditions::looked_up-set-requires t c = place_within c.args.queries.now c.in-Some.at c.newly.ensures.known c.in-Some.ensures.within
