@@ -8,3 +8,4 @@ pub mod Splitting
 pub mod Keys
 pub mod Joins
 pub mod Places
+pub mod Steps
