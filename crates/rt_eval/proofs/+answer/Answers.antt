@@ -1,4 +1,5 @@
 use Rattle.std.proofs.Common.{◌∙◌, ◌∷◌, ◌++◌, [], arith, drop, refl, ap, ap₂, map, not, subst, List, Option, IfSome, IfOk, ◌≡◌}
+use Rattle.std.proofs.lemmas.Grind.{common_steps}
 use Rattle.std.specs.List.{filter}
 use Rattle.rt_schema.specs.Given.{Rows}
 use Rattle.rt_algebra.specs.Answer.{answer_by, has_row, is_yes, pred_by}
@@ -116,3 +117,18 @@ query::answer-returns-in_ok-rows-in_default t c =
     let O : Rows → Type 0 = λ rows. IfOk c.selected-out.result (λ out. out ≡ rows) in
     subst O (ap (filter (λ r. is_yes (pred_by wrapped c.in-Select.condition db (r ∷ env)))) (c.as_slice-in_default.ensures ∙ c.in_ok-rows-in_default.ensures ∙ ap (λ (q : Query). answer_by wrapped q db env) c.get.ensures)
     ∙ at_select c.in-Select.source c.in-Select.condition db env c.in-Select.is) c.selected-out.ensures
+
+pub condition::all-loop-member-preserved : goal.condition::all-loop-member-preserved
+condition::all-loop-member-preserved t c = grind (arith, common_steps)
+
+pub condition::any-loop-member-preserved : goal.condition::any-loop-member-preserved
+condition::any-loop-member-preserved t c = grind (arith, common_steps)
+
+pub items::row_items-loop-source-preserved : goal.items::row_items-loop-source-preserved
+items::row_items-loop-source-preserved t c = grind (arith, common_steps)
+
+pub query::each_answer-loop-query-preserved : goal.query::each_answer-loop-query-preserved
+query::each_answer-loop-query-preserved t c = grind (arith, common_steps)
+
+pub query::selected-loop-row-preserved : goal.query::selected-loop-row-preserved
+query::selected-loop-row-preserved t c = grind (arith, common_steps)
