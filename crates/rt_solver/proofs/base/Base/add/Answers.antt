@@ -1,4 +1,5 @@
-use Rattle.std.proofs.Common.{◌∙◌, ap, sym, subst, List, ◌∷◌, [], ◌++◌}
+use Rattle.std.proofs.Common.{◌∙◌, ap, arith, sym, subst, List, ◌∷◌, [], ◌++◌}
+use Rattle.std.proofs.lemmas.Grind.{common_steps}
 use Rattle.rt_clause.specs.Literal.{Literal}
 use Rattle.rt_solver.specs.Based.{IsBased}
 use Rattle.rt_solver.proofs.Basing.{has-lists, based-push, based-room}
@@ -23,3 +24,12 @@ invariant_of-self-in_err-add g c =
     subst B (sym c.in_err-add.ensures.err_lines)
     (based-room (g.L.Adds.lines c.self.inside.lines) c.self.inside.clauses.items c.make_room.new.clauses.items c.self.inside.watches c.make_room.new.watches c.self.inside.vars c.self.inside.short.items c.make_room.new.short.items c.self.invariant
     c.in_ok-make_room.ensures.items c.in_ok-make_room.ensures.short c.in_ok-make_room.ensures.listed)
+
+pub make_room-requires-clause-few : goal.make_room-requires-clause-few
+make_room-requires-clause-few g c = grind (arith, common_steps)
+
+pub put-requires-clause-few : goal.put-requires-clause-few
+put-requires-clause-few g c = grind (arith, common_steps)
+
+pub put-requires-clause-short : goal.put-requires-clause-short
+put-requires-clause-short g c = grind (arith, common_steps)
