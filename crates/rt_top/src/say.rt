@@ -1,5 +1,5 @@
 //! The texts of refusals and faults.
-ghost use Rattle.std.specs.Prelude.{◌≡◌, IfOk, string_bytes};
+ghost use Rattle.std.specs.Prelude.{◌≡◌, ◌++◌, IfOk, codes, decimal, string_bytes};
 ghost use Rattle.rt_top.specs.Texts.{part_text, fault_text, lex_text, limit_text, load_text, name_text, refusal_line, schema_text, sql_text, syntax_text};
 
 use crate::outcome::{Fault, Limit, Outcome};
@@ -16,16 +16,34 @@ use std::alloc::{AllocError, Global};
 pub const USAGE: &str =
     "usage: ratest SCHEMA DATADIR QUERY1 QUERY2 [--conflicts N] [--work N]\n       ratest made N [--conflicts N] [--work N]\n";
 
+// A text behind a label.
+fn labelled(alloc: Global, label: &str, text: &str) -> Result<String, AllocError>
+    ensures { IfOk result (λ s. string_bytes s ≡ label.now ++ text.now) }
+{
+    format!(in alloc; "{label}{text}")
+}
+
+// A number behind a label.
+fn numbered(alloc: Global, label: &str, number: usize) -> Result<String, AllocError>
+    ensures { IfOk result (λ s. string_bytes s ≡ label.now ++ decimal number) }
+{
+    format!(in alloc; "{label}{number}")
+}
+
+// A text between two others.
+fn between(alloc: Global, before: &str, text: &str, after: &str) -> Result<String, AllocError>
+    ensures { IfOk result (λ s. string_bytes s ≡ before.now ++ (text.now ++ after.now)) }
+{
+    format!(in alloc; "{before}{text}{after}")
+}
+
 /// How the line of a refusal names a part.
 pub fn part_text(alloc: Global, part: &Part) -> Result<String, AllocError>
     ensures { IfOk result (λ s. string_bytes s ≡ part_text part.now) }
 {
     match part {
         Part::Schema => String::from_str(alloc, "schema"),
-        Part::Table(_, name) => {
-            let name = name.as_str();
-            format!(in alloc; "table {name}")
-        }
+        Part::Table(_, name) => labelled(alloc, "table ", name.as_str()),
         Part::Query1 => String::from_str(alloc, "query 1"),
         Part::Query2 => String::from_str(alloc, "query 2"),
         Part::Queries => String::from_str(alloc, "queries"),
@@ -49,11 +67,11 @@ pub fn lex_text(alloc: Global, fault: &LexFault) -> Result<String, AllocError>
     ensures { IfOk result (λ s. string_bytes s ≡ lex_text fault.now) }
 {
     match fault {
-        LexFault::NotUtf8(at) => format!(in alloc; "not UTF-8 at byte {at}"),
-        LexFault::BadByte(at) => format!(in alloc; "unexpected byte at {at}"),
-        LexFault::OpenText(at) => format!(in alloc; "text without end from byte {at}"),
-        LexFault::OpenComment(at) => format!(in alloc; "comment without end from byte {at}"),
-        LexFault::BigNumber(at) => format!(in alloc; "number past 128 bits at byte {at}"),
+        LexFault::NotUtf8(at) => numbered(alloc, "not UTF-8 at byte ", *at),
+        LexFault::BadByte(at) => numbered(alloc, "unexpected byte at ", *at),
+        LexFault::OpenText(at) => numbered(alloc, "text without end from byte ", *at),
+        LexFault::OpenComment(at) => numbered(alloc, "comment without end from byte ", *at),
+        LexFault::BigNumber(at) => numbered(alloc, "number past 128 bits at byte ", *at),
         LexFault::NoMemory => Ok(String::new(alloc)),
     }
 }
@@ -61,7 +79,7 @@ pub fn lex_text(alloc: Global, fault: &LexFault) -> Result<String, AllocError>
 fn syntax_text(alloc: Global, at: usize) -> Result<String, AllocError>
     ensures { IfOk result (λ s. string_bytes s ≡ syntax_text at) }
 {
-    format!(in alloc; "syntax fault near byte {at}")
+    numbered(alloc, "syntax fault near byte ", at)
 }
 
 fn schema_text(alloc: Global, fault: &SchemaFault) -> Result<String, AllocError>
@@ -70,24 +88,28 @@ fn schema_text(alloc: Global, fault: &SchemaFault) -> Result<String, AllocError>
     match fault {
         SchemaFault::Lex(fault) => lex_text(alloc, fault),
         SchemaFault::Syntax(at) => syntax_text(alloc, *at),
-        SchemaFault::DuplicateName(name) => {
-            let name = name.as_str();
-            format!(in alloc; "name twice: {name}")
-        }
-        SchemaFault::UnknownName(name) => {
-            let name = name.as_str();
-            format!(in alloc; "unknown name: {name}")
-        }
+        SchemaFault::DuplicateName(name) => labelled(alloc, "name twice: ", name.as_str()),
+        SchemaFault::UnknownName(name) => labelled(alloc, "unknown name: ", name.as_str()),
         SchemaFault::KeyTypes(table) => {
-            let table = table.as_str();
-            format!(in alloc; "foreign key of {table} does not match")
+            between(alloc, "foreign key of ", table.as_str(), " does not match")
         }
         SchemaFault::CheckTypes(table) => {
-            let table = table.as_str();
-            format!(in alloc; "check of {table} does not type")
+            between(alloc, "check of ", table.as_str(), " does not type")
         }
         SchemaFault::TooMany(_) | SchemaFault::NoMemory => Ok(String::new(alloc)),
     }
+}
+
+// A field, and what is wrong with it.
+fn field_text(
+    alloc: Global,
+    number: usize,
+    column: usize,
+    wrong: &str,
+) -> Result<String, AllocError>
+    ensures { IfOk result (λ s. string_bytes s ≡ codes "record " ++ (decimal number ++ (codes ", column " ++ (decimal column ++ wrong.now)))) }
+{
+    format!(in alloc; "record {number}, column {column}{wrong}")
 }
 
 fn load_text(alloc: Global, fault: &LoadFault) -> Result<String, AllocError>
@@ -99,11 +121,9 @@ fn load_text(alloc: Global, fault: &LoadFault) -> Result<String, AllocError>
             format!(in alloc; "record {record} has another number of fields")
         }
         LoadFault::BadInteger(record, column) => {
-            format!(in alloc; "record {record}, column {column}: not an integer")
+            field_text(alloc, *record, *column, ": not an integer")
         }
-        LoadFault::BadText(record, column) => {
-            format!(in alloc; "record {record}, column {column}: not UTF-8")
-        }
+        LoadFault::BadText(record, column) => field_text(alloc, *record, *column, ": not UTF-8"),
         LoadFault::TooManyRows | LoadFault::NoMemory => Ok(String::new(alloc)),
     }
 }
@@ -112,10 +132,7 @@ fn sql_text(alloc: Global, fault: &SqlFault) -> Result<String, AllocError>
     ensures { IfOk result (λ s. string_bytes s ≡ sql_text fault.now) }
 {
     match fault {
-        SqlFault::Unsupported(word, _) => {
-            let word = word.as_str();
-            format!(in alloc; "not supported: {word}")
-        }
+        SqlFault::Unsupported(word, _) => labelled(alloc, "not supported: ", word.as_str()),
         SqlFault::TooDeep => String::from_str(alloc, "nested too deep"),
         SqlFault::Syntax(at) => syntax_text(alloc, *at),
         SqlFault::NoMemory => Ok(String::new(alloc)),
@@ -126,22 +143,10 @@ fn name_text(alloc: Global, fault: &NameFault) -> Result<String, AllocError>
     ensures { IfOk result (λ s. string_bytes s ≡ name_text fault.now) }
 {
     match fault {
-        NameFault::UnknownTable(name) => {
-            let name = name.as_str();
-            format!(in alloc; "unknown table: {name}")
-        }
-        NameFault::UnknownColumn(name) => {
-            let name = name.as_str();
-            format!(in alloc; "unknown column: {name}")
-        }
-        NameFault::Ambiguous(name) => {
-            let name = name.as_str();
-            format!(in alloc; "ambiguous column: {name}")
-        }
-        NameFault::DuplicateAlias(name) => {
-            let name = name.as_str();
-            format!(in alloc; "alias twice: {name}")
-        }
+        NameFault::UnknownTable(name) => labelled(alloc, "unknown table: ", name.as_str()),
+        NameFault::UnknownColumn(name) => labelled(alloc, "unknown column: ", name.as_str()),
+        NameFault::Ambiguous(name) => labelled(alloc, "ambiguous column: ", name.as_str()),
+        NameFault::DuplicateAlias(name) => labelled(alloc, "alias twice: ", name.as_str()),
         NameFault::TypeMismatch => String::from_str(alloc, "types do not match"),
         NameFault::Columns => String::from_str(alloc, "numbers of columns differ"),
         NameFault::ArithWidth => String::from_str(alloc, "arithmetic past 128 bits"),
@@ -160,13 +165,9 @@ fn limit_text(alloc: Global, most: u64, limit: &Limit) -> Result<String, AllocEr
         }
         Limit::Tables => String::from_str(alloc, "more than 64 tables"),
         Limit::Columns(table) => {
-            let table = table.as_str();
-            format!(in alloc; "table {table} has more than 64 columns")
+            between(alloc, "table ", table.as_str(), " has more than 64 columns")
         }
-        Limit::Rules(table) => {
-            let table = table.as_str();
-            format!(in alloc; "table {table} has more than 64 rules")
-        }
+        Limit::Rules(table) => between(alloc, "table ", table.as_str(), " has more than 64 rules"),
         Limit::Rows => String::from_str(alloc, "more than 2000 rows"),
         Limit::Work(work) => format!(in alloc; "work {work} is above {most}"),
     }
@@ -200,11 +201,11 @@ fn line(alloc: Global, most: u64, outcome: &Outcome) -> Result<String, AllocErro
         }
         Outcome::Limit(limit) => {
             let limit = limit_text(alloc, most, limit)?;
-            format!(in alloc; "ratest: limit: {limit}\n")
+            between(alloc, "ratest: limit: ", limit.as_str(), "\n")
         }
         Outcome::ReadFault(part) => {
             let part = part_text(alloc, part)?;
-            format!(in alloc; "ratest: cannot read {part}\n")
+            between(alloc, "ratest: cannot read ", part.as_str(), "\n")
         }
         Outcome::Agree
         | Outcome::Witness(_)

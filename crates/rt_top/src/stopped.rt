@@ -5,9 +5,9 @@ ghost use Rattle.rt_top.specs.Answers.{limit_of};
 ghost use Rattle.rt_top.specs.Texts.{stopped_text};
 
 use crate::outcome::Outcome;
-use crate::read::read_words;
 use crate::say::refusal_line;
 use rt_value::{Bytes, List, NoMemory, Txt};
+use rt_words::{WordFault, read_words};
 use std::alloc::Global;
 
 /// The work limit of the command that the words are.
@@ -16,8 +16,8 @@ fn work_limit(alloc: Global, words: &[Txt]) -> Result<u64, NoMemory>
 {
     match read_words(alloc, words) {
         Ok(command) => Ok(command.work_limit),
-        Err(Outcome::NoMemory) => Err(NoMemory),
-        Err(_) => Ok(0),
+        Err(WordFault::Usage) => Ok(0),
+        Err(WordFault::NoMemory) => Err(NoMemory),
     }
 }
 

@@ -16,8 +16,20 @@ use crate::say::USAGE;
 use crate::stopped::stopped_text;
 use crate::verdicts::{Answer, verdict};
 use rt_io::{Files, Sink, SinkFail, write_at};
-use rt_value::{NoMemory, Txt};
+use rt_value::{Bytes, NoMemory, Txt};
 use std::alloc::Global;
+
+// The text of what stopped the reading; none where memory was wanting.
+fn said(alloc: Global, words: &[Txt], outcome: &Outcome) -> Result<Bytes, NoMemory>
+    ensures stopped { IfOk result (λ text. is_memory outcome.now ≡ false) }
+    ensures text { IfOk result (λ text. text ≡ refusal_text (limit_of (command words.now)) outcome.now) }
+{
+    if outcome.is_memory() {
+        Err(NoMemory)
+    } else {
+        stopped_text(alloc, USAGE, words, outcome)
+    }
+}
 
 /// What is to be said of what stopped the reading.
 fn refused(alloc: Global, words: &[Txt], outcome: Outcome) -> Result<Answer, NoMemory>
@@ -25,10 +37,7 @@ fn refused(alloc: Global, words: &[Txt], outcome: Outcome) -> Result<Answer, NoM
     ensures outcome { IfOk result (λ a. a.outcome ≡ outcome) }
     ensures text { IfOk result (λ a. a.text ≡ refusal_text (limit_of (command words.now)) outcome) }
 {
-    if outcome.is_memory() {
-        return Err(NoMemory);
-    }
-    match stopped_text(alloc, USAGE, words, &outcome) {
+    match said(alloc, words, &outcome) {
         Ok(text) => Ok(Answer { outcome, text }),
         Err(NoMemory) => {
             drop(outcome);
@@ -60,11 +69,18 @@ fn prepare<F: Files>(alloc: Global, words: &[Txt], files: &mut F) -> Result<Answ
 fn speak<O: Sink, E: Sink>(out: &mut O, err: &mut E, answer: Answer) -> Outcome
     ensures { Writes (log O.Sink out.old out.new) (log E.Sink err.old err.new) answer.outcome answer.text result }
 {
-    let place = answer.outcome.place();
-    match write_at(out, err, place, answer.text.as_slice()) {
-        Ok(()) => answer.outcome,
-        Err(SinkFail::Failed) => Outcome::WriteFault,
-        Err(SinkFail::NoMemory) => Outcome::NoMemory,
+    let Answer { outcome, text } = answer;
+    let written = write_at(out, err, outcome.place(), text.as_slice());
+    drop(text);
+    match written {
+        Ok(()) => outcome,
+        Err(fail) => {
+            drop(outcome);
+            match fail {
+                SinkFail::Failed => Outcome::WriteFault,
+                SinkFail::NoMemory => Outcome::NoMemory,
+            }
+        }
     }
 }
 

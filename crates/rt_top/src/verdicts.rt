@@ -1,7 +1,7 @@
 //! Verdicts on an input, and their texts.
-ghost use Rattle.std.specs.Prelude.{◌≡◌, IfOk};
+ghost use Rattle.std.specs.Prelude.{◌≡◌, IfOk, Some};
 ghost use Rattle.rt_top.specs.Answers.{Judges};
-ghost use Rattle.rt_top.specs.Smallest.{IsSmallest};
+ghost use Rattle.rt_top.specs.Smallest.{Agrees, IsGivenUp, IsSmallest};
 ghost use Rattle.rt_top.specs.Texts.{agree_of, witness_of};
 
 use crate::budget::{GivenUp, given_up};
@@ -10,7 +10,7 @@ use crate::input::Input;
 use crate::outcome::Outcome;
 use rt_eval::answers;
 use rt_print::{MadeVerdict, made_text, witness_text};
-use rt_search::Best;
+use rt_search::{Best, SpentBest};
 use rt_value::{Bytes, Keep, List, NoMemory};
 use std::alloc::Global;
 
@@ -51,28 +51,49 @@ fn witness_of(alloc: Global, input: &Input, keep: &Keep) -> Result<Bytes, NoMemo
     )
 }
 
+fn agreement(alloc: Global, input: &Input) -> Result<Answer, NoMemory>
+    requires { Agrees input.now }
+    ensures { IfOk result (λ a. Judges input.now a.outcome a.text) }
+{
+    let text = agree_of(alloc, input)?;
+    let outcome = Outcome::Agree;
+    Ok(Answer { outcome, text })
+}
+
+fn witness(alloc: Global, input: &Input, keep: Keep) -> Result<Answer, NoMemory>
+    requires { IsSmallest input.now keep }
+    ensures { IfOk result (λ a. Judges input.now a.outcome a.text) }
+{
+    let text = witness_of(alloc, input, &keep)?;
+    let outcome = Outcome::Witness(keep);
+    Ok(Answer { outcome, text })
+}
+
+fn undecided(
+    alloc: Global,
+    input: &Input,
+    budget: u64,
+    found: SpentBest,
+) -> Result<Answer, NoMemory>
+    requires budget { input.now.conflicts ≡ Some budget }
+    requires given_up { IsGivenUp input.now budget found.best found.least found.nogoods }
+    ensures { IfOk result (λ a. Judges input.now a.outcome a.text) }
+{
+    let GivenUp { spent, text } = given_up(alloc, input, budget, found)?;
+    let outcome = Outcome::Spent(spent);
+    Ok(Answer { outcome, text })
+}
+
 /// What is to be said of an accepted input: agreement, a smallest counterexample, or that the budget
 /// is spent.
 pub fn verdict(alloc: Global, input: &Input) -> Result<Answer, NoMemory>
     ensures { IfOk result (λ a. Judges input.now a.outcome a.text) }
 {
     match decide(alloc, input)? {
-        Best::Never => {
-            let text = agree_of(alloc, input)?;
-            let outcome = Outcome::Agree;
-            Ok(Answer { outcome, text })
-        }
-        Best::Least(keep) => {
-            let text = witness_of(alloc, input, &keep)?;
-            let outcome = Outcome::Witness(keep);
-            Ok(Answer { outcome, text })
-        }
+        Best::Never => agreement(alloc, input),
+        Best::Least(keep) => witness(alloc, input, keep),
         Best::Spent(found) => match input.conflicts() {
-            Some(budget) => {
-                let GivenUp { spent, text } = given_up(alloc, input, budget, found)?;
-                let outcome = Outcome::Spent(spent);
-                Ok(Answer { outcome, text })
-            }
+            Some(budget) => undecided(alloc, input, budget, found),
             None => unreachable!(),
         },
     }
