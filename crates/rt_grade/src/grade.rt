@@ -5,7 +5,7 @@ use rt_value::{Keep, NoMemory};
 use std::alloc::Global;
 
 /// How a candidate stands to its reference: what a run of the two alone ends with.
-#[derive(Debug, Drop)]
+#[derive(Drop)]
 pub enum Grade {
     /// They agree on every lawful sub-instance.
     Agree,

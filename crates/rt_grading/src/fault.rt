@@ -2,7 +2,7 @@ use rt_top::Outcome;
 use rt_value::{NoMemory, Txt};
 
 /// Why there are no grades.
-#[derive(Debug, Drop)]
+#[derive(Drop)]
 pub enum GradeFault {
     /// The list isn't UTF-8; its longest prefix that is has so many bytes.
     BadList(usize),

@@ -6,7 +6,7 @@ use rt_ra_tree::RaFault;
 use rt_top::{Outcome, Part};
 
 /// How a call of `ra_run` ends.
-#[derive(Debug, Drop)]
+#[derive(Drop)]
 pub enum RaOutcome {
     /// As a call of `ratest` does. A refusal is one of the schema, of a table, or of the two queries
     /// beside each other.

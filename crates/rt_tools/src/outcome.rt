@@ -10,7 +10,7 @@ use rt_top::{Outcome, Spent};
 use rt_value::{Keep, List, Txt};
 
 /// How a call of `tool_run` ends.
-#[derive(Debug, Drop)]
+#[derive(Drop)]
 pub enum ToolOutcome {
     /// The first of the smallest lawful choices of rows at which the first query alone answers with
     /// the row.

@@ -13,7 +13,7 @@ use rt_value::{Keep, List, NoMemory, Txt};
 
 /// What is wrong with the contents of a file. Want of memory and limits are outcomes of their own,
 /// and stand in none of these.
-#[derive(PartialEq, Eq, Debug, Drop)]
+#[derive(Drop)]
 pub enum Fault {
     /// The text of a schema or of a query has no tokens.
     Lex(LexFault),
@@ -28,7 +28,7 @@ pub enum Fault {
 }
 
 /// A limit that the input passes.
-#[derive(Debug, Drop)]
+#[derive(Drop)]
 pub enum Limit {
     /// The file of this part has too many bytes.
     TooLong(Part),
@@ -57,7 +57,7 @@ pub struct Spent {
 }
 
 /// How a call of `ratest` ends.
-#[derive(Debug, Drop)]
+#[derive(Drop)]
 pub enum Outcome {
     /// The queries agree on every lawful sub-instance.
     Agree,
