@@ -1,19 +1,19 @@
 //! The checks and dependencies of a table as a short text, for tests: columns by their numbers, each
 //! condition in square brackets, `!` before a negation, `&` for AND and `|` for OR.
 
+use crate::told::Told;
 use rt_schema::{Check, CheckAtom, CheckLeaf, CheckPart, Depend, Rule, Side};
 use rt_value::{Op, Value};
-use std::alloc::AllocError;
-use std::fmt::Write;
 
-type Put = Result<(), AllocError>;
-
-fn side(out: &mut String, side: &Side) -> Put {
+fn side(out: &mut Told, side: &Side) {
     match side {
-        Side::Column(column) => write!(out, "#{column}"),
-        Side::Constant(Value::Null) => out.push_str("N"),
-        Side::Constant(Value::Int(number)) => write!(out, "{number}"),
-        Side::Constant(Value::Text(text)) => write!(out, "'{}'", text.as_str()),
+        Side::Column(column) => {
+            out.put("#");
+            out.put_number(*column as i128);
+        }
+        Side::Constant(Value::Null) => out.put("N"),
+        Side::Constant(Value::Int(number)) => out.put_number(*number),
+        Side::Constant(Value::Text(text)) => out.put_quoted(text.as_str()),
     }
 }
 
@@ -29,91 +29,88 @@ fn sign(op: Op) -> &'static str {
 }
 
 // Two sides with the sign between them.
-fn pair(out: &mut String, left: &Side, sign: &str, right: &Side) -> Put {
-    side(out, left)?;
-    out.push_str(sign)?;
-    side(out, right)
+fn pair(out: &mut Told, left: &Side, sign: &str, right: &Side) {
+    side(out, left);
+    out.put(sign);
+    side(out, right);
 }
 
-fn sides(out: &mut String, sides: &[Side]) -> Put {
+fn sides(out: &mut Told, sides: &[Side]) {
     for item in sides {
-        out.push_str(" ")?;
-        side(out, item)?;
+        out.put(" ");
+        side(out, item);
     }
-    Ok(())
 }
 
-fn leaf(out: &mut String, leaf: &CheckLeaf) -> Put {
+fn leaf(out: &mut Told, leaf: &CheckLeaf) {
     match leaf {
         CheckLeaf::Cmp(op, left, right) => pair(out, left, sign(*op), right),
         CheckLeaf::IsNull(left) => {
-            side(out, left)?;
-            out.push_str(" null")
+            side(out, left);
+            out.put(" null");
         }
         CheckLeaf::Between(left, low, high) => {
-            pair(out, left, " between ", low)?;
-            out.push_str(" ")?;
-            side(out, high)
+            pair(out, left, " between ", low);
+            out.put(" ");
+            side(out, high);
         }
         CheckLeaf::OneOf(left, items) => {
-            side(out, left)?;
-            out.push_str(" in")?;
-            sides(out, items.as_slice())
+            side(out, left);
+            out.put(" in");
+            sides(out, items.as_slice());
         }
     }
 }
 
-fn atom(out: &mut String, atom: &CheckAtom) -> Put {
+fn atom(out: &mut Told, atom: &CheckAtom) {
     if atom.not {
-        out.push_str("!")?;
+        out.put("!");
     }
-    leaf(out, &atom.of)
+    leaf(out, &atom.of);
 }
 
-fn part(out: &mut String, part: &CheckPart) -> Put {
+fn part(out: &mut Told, part: &CheckPart) {
     for (at, item) in part.all.as_slice().iter().enumerate() {
         if 0 < at {
-            out.push_str(" & ")?;
+            out.put(" & ");
         }
-        atom(out, item)?;
+        atom(out, item);
     }
-    Ok(())
 }
 
-fn check(out: &mut String, check: &Check) -> Put {
-    out.push_str("[")?;
+fn check(out: &mut Told, check: &Check) {
+    out.put("[");
     for (at, item) in check.any.as_slice().iter().enumerate() {
         if 0 < at {
-            out.push_str(" | ")?;
+            out.put(" | ");
         }
-        part(out, item)?;
+        part(out, item);
     }
-    out.push_str("]")
+    out.put("]");
 }
 
-fn numbers(out: &mut String, numbers: &[usize]) -> Put {
+fn numbers(out: &mut Told, numbers: &[usize]) {
     for number in numbers {
-        write!(out, " {number}")?;
+        out.put(" ");
+        out.put_number(*number as i128);
     }
-    Ok(())
 }
 
-fn depend(out: &mut String, depend: &Depend) -> Put {
-    out.push_str("[")?;
-    numbers(out, depend.from.as_slice())?;
-    out.push_str(" ->")?;
-    numbers(out, depend.to.as_slice())?;
-    out.push_str("]")
+fn depend(out: &mut Told, depend: &Depend) {
+    out.put("[");
+    numbers(out, depend.from.as_slice());
+    out.put(" ->");
+    numbers(out, depend.to.as_slice());
+    out.put("]");
 }
 
 /// Puts the checks and dependencies at the end of the text, and a dot for each other rule.
-pub fn rules(out: &mut String, rules: &[Rule]) -> Put {
+pub fn rules(out: &mut Told, rules: &[Rule]) {
     for rule in rules {
         match rule {
-            Rule::Check(item) => check(out, item)?,
-            Rule::Depend(item) => depend(out, item)?,
-            _ => out.push_str(".")?,
+            Rule::Check(item) => check(out, item),
+            Rule::Depend(item) => depend(out, item),
+            _ => out.put("."),
         }
     }
-    Ok(())
 }

@@ -18,6 +18,8 @@ mod terminals;
 #[cfg(test)]
 mod tokens;
 #[cfg(test)]
+mod told;
+#[cfg(test)]
 mod values;
 #[cfg(test)]
 mod words;

@@ -1,39 +1,57 @@
 use crate::shape::shape;
+use crate::told::Told;
 use rt_sql::{SqlFault, parse};
 use rt_token::tokens;
 use rt_tree::Sql;
 use std::alloc::{AllocError, Global};
 
 fn parsed(alloc: Global, text: &str) -> Result<Sql, SqlFault> {
-    match tokens(alloc, text.as_bytes()) {
-        Ok(tokens) => parse(alloc, tokens.as_slice()),
-        Err(_) => Err(SqlFault::NoMemory),
+    let Ok(tokens) = tokens(alloc, text.as_bytes()) else {
+        return Err(SqlFault::NoMemory);
+    };
+    let parsed = parse(alloc, tokens.as_slice());
+    drop(tokens);
+    parsed
+}
+
+fn put_fault(out: &mut Told, fault: &SqlFault) {
+    match fault {
+        SqlFault::Unsupported(word, at) => {
+            out.put("no ");
+            out.put(word.as_str());
+            out.put(" ");
+            out.put_number(*at as i128);
+        }
+        SqlFault::TooDeep => out.put("deep"),
+        SqlFault::Syntax(at) => {
+            out.put("syntax ");
+            out.put_number(*at as i128);
+        }
+        SqlFault::NoMemory => out.put("memory"),
     }
 }
 
-fn is_parsed(alloc: Global, text: &str) -> bool {
-    parsed(alloc, text).is_ok()
-}
-
-// The tree's short text, or the fault.
-fn told(alloc: Global, text: &str) -> Result<String, AllocError> {
+// Puts the tree's short text, or the fault.
+fn put_read(out: &mut Told, alloc: Global, text: &str) {
     match parsed(alloc, text) {
-        Ok(sql) => shape(alloc, &sql),
-        Err(SqlFault::Unsupported(word, at)) => format!(in alloc; "no {} {at}", word.as_str()),
-        Err(SqlFault::TooDeep) => format!(in alloc; "deep"),
-        Err(SqlFault::Syntax(at)) => format!(in alloc; "syntax {at}"),
-        Err(SqlFault::NoMemory) => format!(in alloc; "memory"),
+        Ok(sql) => {
+            shape(out, &sql);
+            drop(sql);
+        }
+        Err(fault) => {
+            put_fault(out, &fault);
+            drop(fault);
+        }
     }
 }
 
 fn is_told(alloc: Global, text: &str, wanted: &str) -> bool {
-    match told(alloc, text) {
-        Ok(told) => told.as_str() == wanted,
-        Err(_) => false,
-    }
+    let mut out = Told::new(alloc);
+    put_read(&mut out, alloc, text);
+    out.is(wanted)
 }
 
-// Texts of the grammar, what tree they have, and beside each one that has none.
+// Texts of the grammar, what tree they have, and beside each one that has none: a syntax fault.
 #[test]
 fn reads_each_rule(rt: HostRuntime) {
     for (text, wanted, other) in &[
@@ -156,7 +174,7 @@ fn reads_each_rule(rt: HostRuntime) {
         ),
     ] {
         assert!(rt; is_told(rt.alloc(), text, wanted), "{text}");
-        assert!(rt; !is_parsed(rt.alloc(), other), "{other}");
+        assert!(rt; ends(rt.alloc(), other) == Ending::Syntax, "{other}");
     }
 }
 
@@ -194,12 +212,24 @@ fn nested(
     Ok(text)
 }
 
-// Whether it is read, or else nested too deep; nothing where another fault is told.
-fn ends(alloc: Global, text: &str) -> Option<bool> {
+// How a text ends.
+#[derive(Clone, Copy, PartialEq, Eq)]
+enum Ending {
+    Read,
+    TooDeep,
+    Syntax,
+    Other,
+}
+
+fn ends(alloc: Global, text: &str) -> Ending {
     match parsed(alloc, text) {
-        Ok(_) => Some(true),
-        Err(SqlFault::TooDeep) => Some(false),
-        Err(_) => None,
+        Ok(sql) => {
+            drop(sql);
+            Ending::Read
+        }
+        Err(SqlFault::TooDeep) => Ending::TooDeep,
+        Err(SqlFault::Syntax(_)) => Ending::Syntax,
+        Err(_) => Ending::Other,
     }
 }
 
@@ -210,10 +240,10 @@ fn nested_ends(
     times: usize,
     middle: &str,
     close: &str,
-) -> Option<bool> {
+) -> Ending {
     match nested(alloc, front, open, times, middle, close) {
         Ok(text) => ends(alloc, text.as_str()),
-        Err(_) => None,
+        Err(_) => Ending::Other,
     }
 }
 
@@ -230,9 +260,9 @@ fn counts_nesting(rt: HostRuntime) {
         ("", "(", 64, "SELECT a FROM t", ")"),
     ] {
         let read = nested_ends(alloc, front, open, *times, middle, close);
-        assert!(rt; read == Some(true), "{open}");
+        assert!(rt; read == Ending::Read, "{open}");
         let more = nested_ends(alloc, front, open, *times + 1, middle, close);
-        assert!(rt; more == Some(false), "{open}");
+        assert!(rt; more == Ending::TooDeep, "{open}");
     }
 }
 
@@ -241,5 +271,20 @@ fn counts_nesting(rt: HostRuntime) {
 fn reads_a_long_condition(rt: HostRuntime) {
     let front = "SELECT a FROM t WHERE a=1 ";
     let read = nested_ends(rt.alloc(), front, "OR a=1 ", 599_182, "", "");
-    assert!(rt; read == Some(true));
+    assert!(rt; read == Ending::Read);
+}
+
+// `a` in sixty parentheses, between two texts.
+fn sixty(alloc: Global, front: &str, back: &str) -> Result<String, AllocError> {
+    let mut text = nested(alloc, front, "(", 60, "a", ")")?;
+    text.push_str(back)?;
+    Ok(text)
+}
+
+// The parentheses are those of a sum, as the comparison behind the last one says.
+#[test]
+fn reads_a_sum_in_sixty_parentheses(rt: HostRuntime) {
+    let text = sixty(rt.alloc(), "SELECT a FROM t WHERE ", " > 1").expect(&rt, "memory");
+    let wanted = sixty(rt.alloc(), "<S a F t{", ">1}>").expect(&rt, "memory");
+    assert!(rt; is_told(rt.alloc(), text.as_str(), wanted.as_str()));
 }

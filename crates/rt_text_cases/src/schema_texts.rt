@@ -1,4 +1,5 @@
 use crate::checks::rules;
+use crate::told::Told;
 use rt_ddl::{Excess, SchemaFault, read_schema};
 use rt_schema::{ColKind, Column, Foreign, Rule, Table};
 use rt_value::{List, NoMemory, Txt};
@@ -155,20 +156,13 @@ fn tells_faults(rt: HostRuntime) {
     }
 }
 
-// The rules of the first table as a text.
-fn rules_told(alloc: Global, tables: &[Table]) -> Result<String, AllocError> {
-    let mut text = String::new(alloc);
-    if let [table, ..] = tables {
-        rules(&mut text, table.rules.as_slice())?;
-    }
-    Ok(text)
-}
-
+// Whether the rules of the first table are these.
 fn are_in(alloc: Global, tables: &[Table], wanted: &str) -> bool {
-    match rules_told(alloc, tables) {
-        Ok(told) => told.as_str() == wanted,
-        Err(_) => false,
+    let mut out = Told::new(alloc);
+    if let [table, ..] = tables {
+        rules(&mut out, table.rules.as_slice());
     }
+    out.is(wanted)
 }
 
 fn are_told(alloc: Global, text: &str, wanted: &str) -> bool {

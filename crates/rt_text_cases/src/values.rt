@@ -1,6 +1,7 @@
-use rt_value::{Boxed, Keep, List, NoMemory, Op, Row, Truth, Txt, Value, compare};
+use rt_value::{Boxed, Keep, List, Op, Row, Truth, Txt, Value, compare};
 use std::alloc::Global;
 use std::cmp::Ordering;
+use std::process::Abort;
 
 #[test]
 fn comparison_with_null_is_unknown(rt: HostRuntime) {
@@ -26,29 +27,54 @@ fn null_comes_first_and_a_prefix_before_its_row(rt: HostRuntime) {
     long.push(Value::Null).expect(&rt, "memory");
     assert!(rt; short.cmp(&long) == Ordering::Less);
     let joined = short.join(rt.alloc(), &long).expect(&rt, "memory");
-    assert!(rt; joined.len() == 3);
+    assert!(rt; are_one_one_null(joined.as_slice()));
+    let again = joined.copy(rt.alloc()).expect(&rt, "memory");
+    assert!(rt; are_one_one_null(again.as_slice()));
 }
 
-// How many items a list of three has, and how many once it is boxed.
-fn lengths(alloc: Global) -> Result<(usize, usize), NoMemory> {
+fn are_one_one_null(cells: &[Value]) -> bool {
+    matches!(cells, [Value::Int(1), Value::Int(1), Value::Null])
+}
+
+#[test]
+fn a_copy_is_its_source(rt: HostRuntime) {
+    let text = Txt::of(rt.alloc(), "it's").expect(&rt, "memory");
+    let again = text.copy(rt.alloc()).expect(&rt, "memory");
+    assert!(rt; again.as_str() == "it's");
+    let values = [Value::Null, Value::Int(-5), Value::Text(text)];
+    for value in &values {
+        let copy = value.copy(rt.alloc()).expect(&rt, "memory");
+        assert!(rt; copy.cmp(value) == Ordering::Equal);
+    }
+}
+
+// Whether a list, and a box of it, holds an item that was pushed and two behind it.
+fn is_filled(rt: &impl Abort, alloc: Global) -> bool {
     let mut list = List::new(alloc);
-    list.push(7)?;
-    list.extend(&[8, 9])?;
-    let len = list.len();
-    let boxed = Boxed::new(alloc, list)?;
-    Ok((len, boxed.get().len()))
+    list.push(7u8).expect(rt, "memory");
+    list.extend(&[8, 9]).expect(rt, "memory");
+    let wanted = [7, 8, 9];
+    let is_held = list.as_slice() == wanted.as_slice();
+    let boxed = Boxed::new(alloc, list).expect(rt, "memory");
+    let is_boxed = boxed.get().as_slice() == wanted.as_slice();
+    drop(boxed);
+    is_held && is_boxed
 }
 
-// The size and the length of a choice of three, all but one of them kept.
-fn sizes(alloc: Global) -> Result<(usize, usize), NoMemory> {
-    let mut keep = Keep::all(alloc, 2, true)?;
+// Whether a choice of three keeps all but the first, and so does a copy of it.
+fn is_kept(rt: &impl Abort, alloc: Global) -> bool {
+    let mut keep = Keep::all(alloc, 1, true).expect(rt, "memory");
     keep.set(0, false);
-    let more = keep.with(alloc, true)?;
-    Ok((more.size(), more.len()))
+    keep.push(true).expect(rt, "memory");
+    let more = keep.with(alloc, true).expect(rt, "memory");
+    let copy = more.copy(alloc).expect(rt, "memory");
+    let wanted = [false, true, true];
+    let found = more.as_slice() == wanted.as_slice() && copy.as_slice() == wanted.as_slice();
+    found && more.size() == 2
 }
 
 #[test]
 fn memory_is_granted(rt: HostRuntime) {
-    assert!(rt; lengths(rt.alloc()).expect(&rt, "memory") == (3, 3));
-    assert!(rt; sizes(rt.alloc()).expect(&rt, "memory") == (2, 3));
+    assert!(rt; is_filled(&rt, rt.alloc()));
+    assert!(rt; is_kept(&rt, rt.alloc()));
 }

@@ -1,0 +1,44 @@
+//! A text that tests put together, part by part.
+
+use std::alloc::Global;
+use std::fmt::Write;
+
+/// A text, and whether memory was wanting for a part of it.
+#[derive(Drop)]
+pub struct Told {
+    text: String,
+    is_cut: bool,
+}
+
+impl Told {
+    pub fn new(alloc: Global) -> Told {
+        Told {
+            text: String::new(alloc),
+            is_cut: false,
+        }
+    }
+
+    pub fn put(&mut self, part: &str) {
+        if self.text.push_str(part).is_err() {
+            self.is_cut = true;
+        }
+    }
+
+    /// Puts a text between quotes.
+    pub fn put_quoted(&mut self, text: &str) {
+        self.put("'");
+        self.put(text);
+        self.put("'");
+    }
+
+    pub fn put_number(&mut self, number: i128) {
+        if write!(self.text, "{number}").is_err() {
+            self.is_cut = true;
+        }
+    }
+
+    /// Whether the whole text is this one.
+    pub fn is(&self, wanted: &str) -> bool {
+        !self.is_cut && self.text.as_str() == wanted
+    }
+}
