@@ -2,7 +2,7 @@ use rt_algebra::{Query, Typed};
 use rt_row::{RowFault, read_row};
 use rt_schema::ColKind;
 use rt_token::LexFault;
-use rt_value::{Boxed, List, Row, Txt, Value};
+use rt_value::{Boxed, List, Row, Value};
 use std::alloc::Global;
 use std::process::Abort;
 

@@ -1,7 +1,7 @@
 use rt_ddl::read_schema;
 use rt_load::{LoadFault, load, made};
 use rt_schema::{Given, Schema};
-use rt_value::Value;
+use rt_value::{Bytes, Value};
 use std::alloc::Global;
 use std::process::Abort;
 
@@ -127,13 +127,37 @@ fn row_2001_is_one_too_many(rt: HostRuntime) {
     drop(file);
 }
 
-#[test]
-fn a_generated_file(rt: HostRuntime) {
-    let alloc = rt.alloc();
-    let texts = made(alloc, 3).expect(&rt, "memory");
-    let want = "id,num,dept\n1,1,CS\n1,4,MA\n2,2,CS\n2,5,MA\n3,3,CS\n3,6,CS\n";
-    match texts.files.as_slice() {
-        [_, reg, _] => assert!(rt; reg.as_slice() == want.as_bytes()),
-        _ => panic!(rt; "no three files"),
+fn are_files(files: &[Bytes], wanted: [&str; 3]) -> bool {
+    match files {
+        [first, second, third] => {
+            first.as_slice() == wanted[0].as_bytes()
+                && second.as_slice() == wanted[1].as_bytes()
+                && third.as_slice() == wanted[2].as_bytes()
+        }
+        _ => false,
     }
+}
+
+const MADE_SCHEMA: &str = "CREATE TABLE student (id INTEGER PRIMARY KEY);\n\
+    CREATE TABLE reg (id INTEGER REFERENCES student, num INTEGER, dept TEXT, PRIMARY KEY (id, num));\n\
+    CREATE TABLE room (num INTEGER PRIMARY KEY, id INTEGER REFERENCES student);\n";
+
+const MADE_FILES: [&str; 3] = [
+    "id\n1\n2\n3\n",
+    "id,num,dept\n1,1,CS\n1,4,MA\n2,2,CS\n2,5,MA\n3,3,CS\n3,6,CS\n",
+    "num,id\n1,1\n2,2\n3,3\n4,1\n5,2\n6,3\n",
+];
+
+const MADE_LEFT: &str = "SELECT id FROM reg WHERE dept = 'CS'\n";
+
+const MADE_RIGHT: &str =
+    "SELECT id FROM reg WHERE dept = 'CS' EXCEPT SELECT r.id FROM reg r, reg s WHERE r.id = s.id AND r.num < s.num AND r.dept = 'CS' AND s.dept = 'CS'\n";
+
+#[test]
+fn generated_texts(rt: HostRuntime) {
+    let made = made(rt.alloc(), 3).expect(&rt, "memory");
+    assert!(rt; made.schema.as_slice() == MADE_SCHEMA.as_bytes());
+    assert!(rt; are_files(made.files.as_slice(), MADE_FILES));
+    assert!(rt; made.query1.as_slice() == MADE_LEFT.as_bytes());
+    assert!(rt; made.query2.as_slice() == MADE_RIGHT.as_bytes());
 }
