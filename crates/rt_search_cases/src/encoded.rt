@@ -12,10 +12,15 @@ fn only_nodes_under_the_goal_have_variables(rt: HostRuntime) {
 fn models_are_the_choices_of_the_goal(rt: HostRuntime) {
     let mut drawing = Drawing::new(&rt, rt.alloc(), 2);
     let goal = drawing.draw_all(&rt, &[Step::Row(0), Step::Row(1), Step::Any(&[0, 1])]);
-    assert!(rt; drawing.has_model(&rt, goal, [true, false]));
-    assert!(rt; drawing.has_model(&rt, goal, [false, true]));
-    assert!(rt; drawing.has_model(&rt, goal, [true, true]));
-    assert!(rt; !drawing.has_model(&rt, goal, [false, false]));
+    let choices = [
+        ([true, false], true),
+        ([false, true], true),
+        ([true, true], true),
+        ([false, false], false),
+    ];
+    for (kept, wanted) in &choices {
+        assert!(rt; drawing.has_model(&rt, goal, *kept) == *wanted, "{kept:?}");
+    }
 }
 
 #[test]
