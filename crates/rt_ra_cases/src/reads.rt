@@ -26,7 +26,7 @@ fn answer_of(alloc: Global, text: &str) -> Told {
 // a quoted one always.
 #[test]
 fn reads_each_rule(rt: HostRuntime) {
-    for text in [
+    for text in &[
         "u;",
         "\"u\"",
         "select(t, a = -1 AND b IS NOT NULL AND 2 <> b)",
@@ -44,7 +44,7 @@ fn reads_each_rule(rt: HostRuntime) {
 
 #[test]
 fn refuses_other_texts(rt: HostRuntime) {
-    for (text, at) in [
+    for (text, at) in &[
         ("", 0usize),
         ("join", 0),
         ("\"semi\"(t, u)", 6),
@@ -54,14 +54,14 @@ fn refuses_other_texts(rt: HostRuntime) {
         ("select(t, a = 1 OR a = 2)", 16),
         ("t;;", 2),
     ] {
-        assert!(rt; answer_of(rt.alloc(), text) == Told::Syntax(at), "{text}");
+        assert!(rt; answer_of(rt.alloc(), text) == Told::Syntax(*at), "{text}");
     }
 }
 
 // 64 open parentheses, and 8 words whose operators repeat their operands, are not too deep.
 #[test]
 fn refuses_what_is_too_deep(rt: HostRuntime) {
-    for (text, wanted) in [
+    for (text, wanted) in &[
         (
             "((((((((((((((((((((((((((((((((((((((((((((((((((((((((((((((((",
             Told::Syntax(0),
@@ -79,6 +79,6 @@ fn refuses_what_is_too_deep(rt: HostRuntime) {
             Told::Deep,
         ),
     ] {
-        assert!(rt; answer_of(rt.alloc(), text) == wanted, "{text}");
+        assert!(rt; answer_of(rt.alloc(), text) == *wanted, "{text}");
     }
 }

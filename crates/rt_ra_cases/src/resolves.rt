@@ -115,7 +115,7 @@ fn tells(rt: &impl Abort, alloc: Global, text: &str, wanted: &str) -> bool {
 
 #[test]
 fn answers_of_each_operator(rt: HostRuntime) {
-    for (text, wanted) in [
+    for (text, wanted) in &[
         ("select(t, a = 1 AND b IS NOT NULL)", "1, 1; 1, 2; "),
         ("select(t, b > -1)", "1, 1; 1, 2; 2, 1; "),
         (
@@ -155,7 +155,7 @@ fn answers_of_each_operator(rt: HostRuntime) {
 // Operands come before the tests of their operator, and the left one before the right one.
 #[test]
 fn the_first_fault(rt: HostRuntime) {
-    for (text, wanted) in [
+    for (text, wanted) in &[
         ("regs", "unknown table: regs"),
         ("cross(lost, regs)", "unknown table: lost"),
         ("cross(student, reg)", "column twice: name"),
