@@ -2,9 +2,10 @@ use rt_holds::smallest_row;
 use rt_io::MemFiles;
 use rt_row::read_row;
 use rt_search::Best;
-use rt_top::{Input, read_input};
-use rt_value::{List, NoMemory, Row, Txt};
+use rt_top::{Input, Outcome, read_input};
+use rt_value::{List, Row, Txt};
 use std::alloc::Global;
+use std::process::Abort;
 
 const SCHEMA: &str = "CREATE TABLE student (name TEXT PRIMARY KEY, major TEXT);\n\
     CREATE TABLE reg (name TEXT REFERENCES student, course INTEGER, dept TEXT, grade INTEGER, PRIMARY KEY (name, course));";
@@ -23,78 +24,89 @@ const FILES: [(&str, &str); 5] = [
     ),
 ];
 
-fn hold_all(files: &mut MemFiles) -> Result<(), NoMemory> {
-    for (name, text) in FILES {
-        files.hold(name, text.as_bytes())?;
-    }
-    Ok(())
-}
-
-fn held(alloc: Global) -> Result<MemFiles, NoMemory> {
+fn held(rt: &impl Abort, alloc: Global) -> MemFiles {
     let mut files = MemFiles::new(alloc);
-    hold_all(&mut files)?;
-    Ok(files)
+    for (name, text) in &FILES {
+        files.hold(name, text.as_bytes()).expect(rt, "memory");
+    }
+    files
 }
 
-fn words(alloc: Global) -> Result<List<Txt>, NoMemory> {
+fn words(rt: &impl Abort, alloc: Global) -> List<Txt> {
     let mut words = List::new(alloc);
-    for word in ["s", "d", "p", "q"] {
-        words.push(Txt::of(alloc, word)?)?;
+    for word in &["s", "d", "p", "q"] {
+        let word = Txt::of(alloc, word).expect(rt, "memory");
+        words.push(word).expect(rt, "memory");
     }
-    Ok(words)
+    words
 }
 
-fn input(alloc: Global) -> Result<Input, NoMemory> {
-    let mut files = held(alloc)?;
-    let words = words(alloc)?;
-    match read_input(alloc, words.as_slice(), &mut files) {
-        Ok(input) => Ok(input),
-        Err(_) => Err(NoMemory),
-    }
+fn read(rt: &impl Abort, alloc: Global) -> Result<Input, Outcome> {
+    let mut files = held(rt, alloc);
+    let words = words(rt, alloc);
+    let read = read_input(alloc, words.as_slice(), &mut files);
+    drop(words);
+    drop(files);
+    read
 }
 
-// The places that the least choice keeps, and None where there is none.
-fn least(alloc: Global, input: &Input, row: &Row) -> Result<Option<List<usize>>, NoMemory> {
+// The least choice that has a row in the first answer alone.
+fn least_choice(rt: &impl Abort, alloc: Global, input: &Input, row: &Row) -> Best {
     let schema = input.schema();
-    let found = smallest_row(
-        alloc,
-        schema,
-        input.given(),
-        input.left(),
-        input.right(),
-        row,
-        None,
-    )?;
-    let Best::Least(keep) = found else {
-        return Ok(None);
-    };
-    let mut places = List::new(alloc);
-    for (place, kept) in keep.as_slice().iter().enumerate() {
-        if *kept {
-            places.push(place)?;
-        }
-    }
-    Ok(Some(places))
+    let (given, left, right) = (input.given(), input.left(), input.right());
+    smallest_row(alloc, schema, given, left, right, row, None).expect(rt, "memory")
 }
 
 // The same of a row that is a text.
-fn least_of(alloc: Global, text: &str) -> Result<Option<List<usize>>, NoMemory> {
-    let input = input(alloc)?;
-    match read_row(alloc, text.as_bytes(), input.left()) {
-        Ok(row) => least(alloc, &input, &row),
-        Err(_) => Err(NoMemory),
+fn least_of(rt: &impl Abort, alloc: Global, input: &Input, text: &str) -> Best {
+    let row = read_row(alloc, text.as_bytes(), input.left()).expect(rt, "a row");
+    let best = least_choice(rt, alloc, input, &row);
+    drop(row);
+    best
+}
+
+// Whether the best choice keeps just these of the five rows, or there is none.
+fn is_choice(best: &Best, wanted: Option<[bool; 5]>) -> bool {
+    match (best, wanted) {
+        (Best::Least(keep), Some(places)) => keep.as_slice() == places.as_slice(),
+        (Best::Never, None) => true,
+        _ => false,
     }
+}
+
+fn is_least(
+    rt: &impl Abort,
+    alloc: Global,
+    input: &Input,
+    text: &str,
+    wanted: Option<[bool; 5]>,
+) -> bool {
+    let best = least_of(rt, alloc, input, text);
+    let found = is_choice(&best, wanted);
+    drop(best);
+    found
 }
 
 /// Mary is in the first answer alone where her second registration alone is kept, and John where
 /// no row of his tells the two queries apart.
+fn mary_and_john_are_told(rt: &impl Abort, alloc: Global, read: Result<Input, Outcome>) -> bool {
+    match read {
+        Ok(input) => {
+            let mary = Some([true, false, false, true, false]);
+            let found = is_least(rt, alloc, &input, "'Mary'", mary)
+                && is_least(rt, alloc, &input, "'John'", None);
+            drop(input);
+            found
+        }
+        Err(outcome) => {
+            drop(outcome);
+            false
+        }
+    }
+}
+
 #[test]
 fn mary_and_john(rt: HostRuntime) {
-    let mary = least_of(rt.alloc(), "'Mary'").expect(&rt, "memory");
-    match mary {
-        Some(places) => assert_eq!(rt; places.as_slice(), [0, 3].as_slice()),
-        None => assert!(rt; false, "there is such a choice"),
-    }
-    let john = least_of(rt.alloc(), "'John'").expect(&rt, "memory");
-    assert!(rt; john.is_none());
+    let read = read(&rt, rt.alloc());
+    assert!(rt; mary_and_john_are_told(&rt, rt.alloc(), read));
 }
