@@ -3,6 +3,8 @@ use rt_io::{MemFiles, MemSink};
 use rt_top::{Outcome, USAGE, ratest};
 use rt_value::{List, NoMemory, Txt};
 use std::alloc::{AllocError, Global};
+use std::fmt::Write;
+use std::process::Abort;
 
 mod annotated;
 mod checks;
@@ -11,9 +13,11 @@ mod compared;
 mod failing;
 mod first;
 mod generated;
+mod names;
 mod nodes;
 mod parts;
 mod refused;
+mod spent;
 mod worked;
 
 const SCHEMA: &str = "CREATE TABLE t (a INTEGER, b INTEGER);";
@@ -96,24 +100,45 @@ fn words_end(
     ended == status && to_out.bytes() == out.as_bytes() && to_err.bytes() == err.as_bytes()
 }
 
+/// Whether these words end so, over two queries of one table.
+fn command_ends(
+    rt: &impl Abort,
+    alloc: Global,
+    command: &[&str],
+    status: u8,
+    out: &str,
+    err: &str,
+) -> bool {
+    let same = "SELECT * FROM t WHERE a >= 2";
+    let mut files = files(alloc, SCHEMA, &[TABLE], ALL, same).expect(rt, "memory");
+    let found = ends(alloc, &mut files, command, status, out, err).expect(rt, "memory");
+    drop(files);
+    found
+}
+
+#[test]
+fn words_that_are_no_command(rt: HostRuntime) {
+    let lines: &[&[&str]] = &[
+        &[],
+        &["s", "d", "p", "q", "q"],
+        &["made", "0"],
+        &["made", "401"],
+        &["made", "x"],
+        &["made", "20", "21"],
+        &["s", "d", "p", "q", "--conflicts", "0"],
+        &["s", "d", "p", "q", "--work", "9", "--work", "9"],
+    ];
+    for line in lines {
+        assert!(rt;
+            command_ends(&rt, rt.alloc(), line, 2, "", USAGE),
+            "{line:?}"
+        );
+    }
+}
+
 #[test]
 fn words_and_options(rt: HostRuntime) {
-    let alloc = rt.alloc();
-    let work = "ratest: limit: work 28040 is above 28039\n";
-    let table: [(&[&str], u8, &str, &str); 18] = [
-        (&[], 2, "", USAGE),
-        (&["s", "d", "p", "q", "q"], 2, "", USAGE),
-        (&["made", "0"], 2, "", USAGE),
-        (&["made", "401"], 2, "", USAGE),
-        (&["made", "x"], 2, "", USAGE),
-        (&["made", "20", "21"], 2, "", USAGE),
-        (&["s", "d", "p", "q", "--conflicts", "0"], 2, "", USAGE),
-        (
-            &["s", "d", "p", "q", "--work", "9", "--work", "9"],
-            2,
-            "",
-            USAGE,
-        ),
+    let table: &[(&[&str], u8, &str, &str)] = &[
         (
             &["s", "d", "p", "-"],
             6,
@@ -138,15 +163,17 @@ fn words_and_options(rt: HostRuntime) {
             "",
         ),
         (&["made", "400"], 1, "made 400\nrows 2000\nwitness: 3\n", ""),
-        (&["made", "20", "--work", "28039"], 5, "", work),
+        (
+            &["made", "20", "--work", "28039"],
+            5,
+            "",
+            "ratest: limit: work 28040 is above 28039\n",
+        ),
     ];
     for (command, status, out, err) in table {
-        let mut files = files(alloc, SCHEMA, &[TABLE], ALL, "SELECT * FROM t WHERE a >= 2").expect(
-            &rt, "memory",
-        );
         assert!(rt;
-            ends(alloc, &mut files, command, status, out, err).expect(&rt, "memory"),
-            "{out}{err}"
+            command_ends(&rt, rt.alloc(), command, *status, out, err),
+            "{command:?}"
         );
     }
 }
@@ -167,20 +194,20 @@ fn is_begin_fault(alloc: Global) -> Result<bool, NoMemory> {
     ends(alloc, &mut failing, &FOUR, 6, "", line)
 }
 
-/// Whether the text is cut, and the outcome a fault of writing, where its sink takes ten bytes.
-fn is_write_fault(alloc: Global, words: &[Txt], files: &mut MemFiles) -> bool {
+/// Whether the text is cut to this, and the outcome a fault of writing, where its sink takes ten bytes.
+fn is_write_fault(alloc: Global, words: &[Txt], files: &mut MemFiles, held: &[u8]) -> bool {
     let (mut out, mut err) = (MemSink::new(alloc), MemSink::new(alloc));
     out.room(10);
     let outcome = ratest(alloc, words, files, &mut out, &mut err);
     let is_fault = matches!(outcome, Outcome::WriteFault);
     drop(outcome);
-    is_fault && out.bytes() == b"witness: 1".as_slice() && err.bytes().is_empty()
+    is_fault && out.bytes() == held && err.bytes().is_empty()
 }
 
 fn is_cut(alloc: Global) -> Result<bool, NoMemory> {
     let mut files = files(alloc, SCHEMA, &[TABLE], ALL, LARGE)?;
     let command = words(alloc, &FOUR)?;
-    Ok(is_write_fault(alloc, command.as_slice(), &mut files))
+    Ok(is_write_fault(alloc, command.as_slice(), &mut files, b"witness: 1"))
 }
 
 #[test]
@@ -190,68 +217,138 @@ fn faults_of_files_and_sinks(rt: HostRuntime) {
     assert!(rt; is_cut(rt.alloc()).expect(&rt, "memory"));
 }
 
-/// A table with the rows from 1 to `last`.
-fn numbers(alloc: Global, last: u64) -> Result<String, AllocError> {
-    let mut rows = String::from_str(alloc, "a\n")?;
-    for n in 1..=last {
-        let line = format!(in alloc; "{n}\n")?;
-        rows.push_str(line.as_str())?;
-    }
-    Ok(rows)
+/// A table of one column with the rows from 1 to `last`.
+fn numbers(rt: &impl Abort, alloc: Global, column: &str, last: u64) -> String {
+    let mut rows = String::new(alloc);
+    put_numbers(&mut rows, column, last).expect(rt, "memory");
+    rows
 }
 
-#[test]
-fn large_tables(rt: HostRuntime) {
-    let alloc = rt.alloc();
+fn put_numbers(rows: &mut String, column: &str, last: u64) -> Result<(), AllocError> {
+    rows.push_str(column)?;
+    rows.push_str("\n")?;
+    for n in 1..=last {
+        write!(rows, "{n}\n")?;
+    }
+    Ok(())
+}
+
+/// Whether these words end so, over the rows from 1 to `last` and two spellings of one query.
+fn thousands_end(
+    rt: &impl Abort,
+    alloc: Global,
+    last: u64,
+    command: &[&str],
+    status: u8,
+    out: &str,
+    err: &str,
+) -> bool {
     let schema = "CREATE TABLE x (a INTEGER);";
+    let rows = numbers(rt, alloc, "a", last);
+    let tables = [("d/x.csv", rows.as_str())];
     let (left, right) = (
         "SELECT a FROM x WHERE a > 0",
         "SELECT a FROM x WHERE a >= 1",
     );
-    let rows = numbers(alloc, 2000).expect(&rt, "memory");
-    let mut all = files(alloc, schema, &[("d/x.csv", rows.as_str())], left, right).expect(
-        &rt, "memory",
-    );
-    assert!(rt; ends(alloc, &mut all, &FOUR, 0, "agree\n", "").expect(&rt, "memory"));
-    let one = ["s", "d", "p", "q", "--conflicts", "1"];
-    assert!(rt; ends(alloc, &mut all, &one, 0, "agree\n", "").expect(&rt, "memory"));
-    let below = ["--work", "15999", "s", "d", "p", "q"];
-    let work = "ratest: limit: work 16000 is above 15999\n";
-    assert!(rt; ends(alloc, &mut all, &below, 5, "", work).expect(&rt, "memory"));
-    let rows = numbers(alloc, 2001).expect(&rt, "memory");
-    let mut more = files(alloc, schema, &[("d/x.csv", rows.as_str())], left, right).expect(
-        &rt, "memory",
-    );
-    let limit = "ratest: limit: more than 2000 rows\n";
-    assert!(rt; ends(alloc, &mut more, &FOUR, 5, "", limit).expect(&rt, "memory"));
+    let mut files = files(alloc, schema, &tables, left, right).expect(rt, "memory");
+    let found = ends(alloc, &mut files, command, status, out, err).expect(rt, "memory");
+    drop(files);
+    drop(rows);
+    found
 }
 
 #[test]
-fn limits(rt: HostRuntime) {
-    let alloc = rt.alloc();
-    let schema = "CREATE TABLE t (a INTEGER);";
-    let six = "SELECT * FROM t a, t b, t c, t d, t e, t f";
-    let rows = numbers(alloc, 16).expect(&rt, "memory");
-    let mut large = files(alloc, schema, &[("d/t.csv", rows.as_str())], six, six).expect(
-        &rt, "memory",
-    );
-    let work = "ratest: limit: work 413689024 is above 16000000\n";
-    assert!(rt; ends(alloc, &mut large, &FOUR, 5, "", work).expect(&rt, "memory"));
-    let three = "SELECT * FROM t a, t b, t c";
-    let rows = numbers(alloc, 400).expect(&rt, "memory");
-    let mut large = files(alloc, schema, &[("d/t.csv", rows.as_str())], three, three).expect(
-        &rt, "memory",
-    );
-    let work = "ratest: limit: work 768642400 is above 16000000\n";
-    assert!(rt; ends(alloc, &mut large, &FOUR, 5, "", work).expect(&rt, "memory"));
-    let mut text = String::from_str(alloc, ";").expect(&rt, "memory");
-    for _ in 0..65_536 {
-        text.push_str("                                                                ")
-            .expect(&rt, "memory");
+fn large_tables(rt: HostRuntime) {
+    let work = "ratest: limit: work 16000 is above 15999\n";
+    let limit = "ratest: limit: more than 2000 rows\n";
+    let table: &[(u64, &[&str], u8, &str, &str)] = &[
+        (2000, &FOUR, 0, "agree\n", ""),
+        (
+            2000,
+            &["s", "d", "p", "q", "--conflicts", "1"],
+            0,
+            "agree\n",
+            "",
+        ),
+        (2000, &["--work", "15999", "s", "d", "p", "q"], 5, "", work),
+        (2001, &FOUR, 5, "", limit),
+    ];
+    for (last, command, status, out, err) in table {
+        assert!(rt;
+            thousands_end(&rt, rt.alloc(), *last, command, *status, out, err),
+            "{last} {command:?}"
+        );
     }
-    let mut long = files(alloc, schema, &[("d/t.csv", "a\n")], text.as_str(), three).expect(
-        &rt, "memory",
-    );
+}
+
+/// Whether a query against itself passes the limit of work, and the line says so, over tables that
+/// have the rows from 1 to `last` each.
+fn is_past_work(
+    rt: &impl Abort,
+    alloc: Global,
+    schema: &str,
+    names: &[&str],
+    last: u64,
+    query: &str,
+    line: &str,
+) -> bool {
+    let rows = numbers(rt, alloc, "x", last);
+    let mut files = files(alloc, schema, &[], query, query).expect(rt, "memory");
+    for name in names {
+        files.hold(name, rows.as_bytes()).expect(rt, "memory");
+    }
+    drop(rows);
+    let found = ends(alloc, &mut files, &FOUR, 5, "", line).expect(rt, "memory");
+    drop(files);
+    found
+}
+
+#[test]
+fn limit_of_work(rt: HostRuntime) {
+    let one = "CREATE TABLE t (x INTEGER);";
+    let abc = "CREATE TABLE a (x INTEGER); CREATE TABLE b (x INTEGER); CREATE TABLE c (x INTEGER)";
+    let six = "ratest: limit: work 413689024 is above 16000000\n";
+    let three = "ratest: limit: work 768642400 is above 16000000\n";
+    let table: &[(&str, &[&str], u64, &str, &str)] = &[
+        (
+            one,
+            &["d/t.csv"],
+            16,
+            "SELECT * FROM t a, t b, t c, t d, t e, t f",
+            six,
+        ),
+        (one, &["d/t.csv"], 400, "SELECT * FROM t a, t b, t c", three),
+        (
+            abc,
+            &["d/a.csv", "d/b.csv", "d/c.csv"],
+            400,
+            "SELECT * FROM a, b, c",
+            three,
+        ),
+    ];
+    for (schema, names, last, query, line) in table {
+        assert!(rt;
+            is_past_work(&rt, rt.alloc(), schema, names, *last, query, line),
+            "{query}"
+        );
+    }
+}
+
+/// A query of 4,194,305 bytes.
+fn put_long(text: &mut String) -> Result<(), AllocError> {
+    text.push_str(";")?;
+    for _ in 0..65_536 {
+        text.push_str("                                                                ")?;
+    }
+    Ok(())
+}
+
+#[test]
+fn limit_of_bytes(rt: HostRuntime) {
+    let mut text = String::new(rt.alloc());
+    put_long(&mut text).expect(&rt, "memory");
+    let mut long = files(rt.alloc(), SCHEMA, &[TABLE], text.as_str(), ALL).expect(&rt, "memory");
+    drop(text);
     let limit = "ratest: limit: query 1 is longer than 4194304 bytes\n";
-    assert!(rt; ends(alloc, &mut long, &FOUR, 5, "", limit).expect(&rt, "memory"));
+    assert!(rt; ends(rt.alloc(), &mut long, &FOUR, 5, "", limit).expect(&rt, "memory"));
 }

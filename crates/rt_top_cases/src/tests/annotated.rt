@@ -78,7 +78,7 @@ fn are_answer(dag: &Dag, noted: &[Noted], keep: &Keep, answer: &Rows) -> Result<
 }
 
 /// The answer of the first query on the kept rows.
-fn answer(alloc: Global, input: &Input, keep: &Keep) -> Result<Rows, NoMemory>
+pub(super) fn answer(alloc: Global, input: &Input, keep: &Keep) -> Result<Rows, NoMemory>
     requires { places input.now.given.tables ≡ length keep.now }
 {
     let _schema = input.schema();

@@ -1,11 +1,12 @@
 //! Calls that fail and texts that are cut, over the files of the first worked row: the answer is the
 //! right one, or says what failed, and no byte already written is lost.
 use super::worked::{MARY, ONE, REG, SCHOOL, SOME, STUDENT};
-use super::{FOUR, ends, files, status_of, words};
+use super::{FOUR, ends, files, is_write_fault, status_of, words};
 use rt_io::{MemFiles, MemSink};
 use rt_top::ratest;
 use rt_value::NoMemory;
 use std::alloc::{AllocError, Global};
+use std::process::Abort;
 
 /// The names of the files, and what a refusal calls each.
 const PARTS: [(&str, &str); 5] = [
@@ -85,6 +86,32 @@ fn is_named(alloc: Global, name: &str, part: &str, read: u64) -> Result<bool, No
     }
     let line = format!(in alloc; "ratest: cannot read {part}\n")?;
     ends(alloc, &mut files, &FOUR, 6, "", line.as_str())
+}
+
+/// Whether a table is named whose file fails at its first read.
+fn is_read_fault(rt: &impl Abort, alloc: Global) -> bool {
+    let mut files = school(alloc, ONE).expect(rt, "memory");
+    files.fail_read("d/student.csv", 1).expect(rt, "memory");
+    let line = "ratest: cannot read table student\n";
+    let found = ends(alloc, &mut files, &FOUR, 6, "", line).expect(rt, "memory");
+    drop(files);
+    found
+}
+
+/// Whether the text is cut where its sink takes ten bytes.
+fn is_cut(rt: &impl Abort, alloc: Global) -> bool {
+    let mut files = school(alloc, ONE).expect(rt, "memory");
+    let command = words(alloc, &FOUR).expect(rt, "memory");
+    let found = is_write_fault(alloc, command.as_slice(), &mut files, b"witness: 3");
+    drop(command);
+    drop(files);
+    found
+}
+
+#[test]
+fn a_failing_table_and_a_full_sink(rt: HostRuntime) {
+    assert!(rt; is_read_fault(&rt, rt.alloc()));
+    assert!(rt; is_cut(&rt, rt.alloc()));
 }
 
 #[test]

@@ -101,7 +101,7 @@ fn first_of_a_thousand(rt: HostRuntime) {
     let alloc = rt.alloc();
     let schema = "CREATE TABLE x (a INTEGER); CREATE TABLE y (a INTEGER);";
     let (left, right) = ("SELECT x.a FROM x, y WHERE x.a = y.a", "SELECT a FROM x");
-    let rows = numbers(alloc, 1000).expect(&rt, "memory");
+    let rows = numbers(&rt, alloc, "a", 1000);
     let tables = [("d/x.csv", rows.as_str()), ("d/y.csv", rows.as_str())];
     let mut files = files(alloc, schema, &tables, left, right).expect(&rt, "memory");
     let out = "witness: 1\nx 1: 1\nonly query 1: 0\nonly query 2: 1\n  1\nboth: 0\n";

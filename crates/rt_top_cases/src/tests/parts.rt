@@ -7,6 +7,7 @@ use rt_top::{
 };
 use rt_value::{Bytes, NoMemory, Txt};
 use std::alloc::Global;
+use std::process::Abort;
 
 /// The work limit that the words name, and none where they are no command.
 fn limit_named(alloc: Global, command: &[&str]) -> Result<Option<u64>, NoMemory> {
@@ -35,25 +36,37 @@ fn words_of_a_command(rt: HostRuntime) {
 }
 
 /// The text of a file that begins with a byte order mark, or the line of the fault.
-fn marked_text(alloc: Global, name: &str) -> Result<Bytes, NoMemory> {
-    let mut held = files(alloc, SCHEMA, &[TABLE], "\u{feff}SELECT", "")?;
-    let name = Txt::of(alloc, name)?;
-    match read_text(alloc, Part::Query1, &name, &mut held) {
-        Ok(text) => Ok(text),
-        Err(fault) => refusal_line(alloc, &fault, 1),
+fn marked_text(rt: &impl Abort, alloc: Global, name: &str) -> Bytes {
+    let mut held = files(alloc, SCHEMA, &[TABLE], "\u{feff}SELECT", "").expect(rt, "memory");
+    let name = Txt::of(alloc, name).expect(rt, "memory");
+    let read = read_text(alloc, Part::Query1, &name, &mut held);
+    drop(name);
+    drop(held);
+    text_or_line(rt, alloc, read)
+}
+
+fn text_or_line(rt: &impl Abort, alloc: Global, read: Result<Bytes, Outcome>) -> Bytes {
+    match read {
+        Ok(text) => text,
+        Err(outcome) => {
+            let line = refusal_line(alloc, &outcome, 1).expect(rt, "memory");
+            drop(outcome);
+            line
+        }
     }
+}
+
+fn is_text(rt: &impl Abort, alloc: Global, name: &str, wanted: &str) -> bool {
+    let text = marked_text(rt, alloc, name);
+    let found = text.as_slice() == wanted.as_bytes();
+    drop(text);
+    found
 }
 
 #[test]
 fn text_of_a_file(rt: HostRuntime) {
-    let alloc = rt.alloc();
-    let text = marked_text(alloc, "p").expect(&rt, "memory");
-    assert_eq!(rt; text.as_slice(), b"SELECT".as_slice());
-    let line = marked_text(alloc, "x").expect(&rt, "memory");
-    assert_eq!(rt;
-        line.as_slice(),
-        b"ratest: cannot read query 1\n".as_slice()
-    );
+    assert!(rt; is_text(&rt, rt.alloc(), "p", "SELECT"));
+    assert!(rt; is_text(&rt, rt.alloc(), "x", "ratest: cannot read query 1\n"));
 }
 
 fn rows_or_none(read: Result<Tables, Outcome>) -> Result<Option<usize>, NoMemory> {

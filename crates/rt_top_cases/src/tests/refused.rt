@@ -1,15 +1,8 @@
 //! The refusals, one line each, in memory.
+use super::worked::{ABC, ONES, REG, SCHOOL, STUDENT};
 use super::{ALL, FOUR, SCHEMA, TABLE, ends, files};
-use rt_value::NoMemory;
 use std::alloc::Global;
-
-const TWO: &str = "CREATE TABLE student (name TEXT PRIMARY KEY, major TEXT);\n\
-    CREATE TABLE reg (name TEXT REFERENCES student, course INTEGER);";
-
-const BOTH: [(&str, &str); 2] = [
-    ("d/student.csv", "name,major\n"),
-    ("d/reg.csv", "name,course\n"),
-];
+use std::process::Abort;
 
 /// A table with 65 columns.
 const WIDE: &str = "CREATE TABLE t (\
@@ -25,218 +18,203 @@ const WIDE: &str = "CREATE TABLE t (\
     INTEGER, c57 INTEGER, c58 INTEGER, c59 INTEGER, c60 INTEGER, c61 INTEGER, c62 \
     INTEGER, c63 INTEGER, c64 INTEGER, c65 INTEGER)";
 
-/// Whether each query, beside `SELECT name FROM reg`, is refused with its line.
-fn all_refused(
+/// Whether two queries over these tables are refused with this status and line.
+fn is_refused(
+    rt: &impl Abort,
     alloc: Global,
     schema: &str,
     tables: &[(&str, &str)],
-    cases: &[(&str, u8, &str)],
-) -> Result<bool, NoMemory> {
-    let mut good = true;
-    for (query, status, line) in cases {
-        let mut files = files(alloc, schema, tables, query, "SELECT name FROM reg")?;
-        let err = format!(in alloc; "ratest: {line}\n")?;
-        good = ends(alloc, &mut files, &FOUR, *status, "", err.as_str())? && good;
-    }
-    Ok(good)
+    queries: [&str; 2],
+    refusal: (u8, &str),
+) -> bool {
+    let mut files = files(alloc, schema, tables, queries[0], queries[1]).expect(rt, "memory");
+    let (status, line) = refusal;
+    let err = format!(in alloc; "ratest: {line}\n").expect(rt, "memory");
+    let found = ends(alloc, &mut files, &FOUR, status, "", err.as_str()).expect(rt, "memory");
+    drop(err);
+    drop(files);
+    found
 }
 
 #[test]
-fn schemas_and_tables(rt: HostRuntime) {
-    let alloc = rt.alloc();
-    assert!(rt;
-        all_refused(
-            alloc,
+fn schemas(rt: HostRuntime) {
+    for (schema, status, line) in &[
+        (
             "CREATE TABLE t (a INTEGER, A TEXT);",
-            &[TABLE],
-            &[(ALL, 3, "schema: name twice: a"),],
-        )
-        .expect(&rt, "memory")
-    );
-    assert!(rt;
-        all_refused(
-            alloc,
+            3,
+            "schema: name twice: a",
+        ),
+        (
             "CREATE TABLE t (a INTEGER REFERENCES u);",
-            &[TABLE],
-            &[(ALL, 3, "schema: unknown name: u"),],
-        )
-        .expect(&rt, "memory")
-    );
-    assert!(rt;
-        all_refused(
-            alloc,
+            3,
+            "schema: unknown name: u",
+        ),
+        (
             "CREATE TABLE u (x TEXT PRIMARY KEY); CREATE TABLE t (a INTEGER REFERENCES u);",
-            &[TABLE],
-            &[(ALL, 3, "schema: foreign key of t does not match"),],
-        )
-        .expect(&rt, "memory")
-    );
-    assert!(rt;
-        all_refused(
-            alloc,
+            3,
+            "schema: foreign key of t does not match",
+        ),
+        (
             "CREATE TABLE h (a INTEGER CHECK (a > 'x'));",
-            &[("d/h.csv", "a\n")],
-            &[(ALL, 3, "schema: check of h does not type"),],
-        )
-        .expect(&rt, "memory")
-    );
-    assert!(rt;
-        all_refused(
-            alloc,
+            3,
+            "schema: check of h does not type",
+        ),
+        (
             "CREATE TABLE t (a FLOAT);",
-            &[TABLE],
-            &[(ALL, 3, "schema: syntax fault near byte 18"),],
-        )
-        .expect(&rt, "memory")
-    );
-    assert!(rt;
-        all_refused(
-            alloc,
+            3,
+            "schema: syntax fault near byte 18",
+        ),
+        (
             "CREATE TABLE t (a INTEGER) /*",
-            &[TABLE],
-            &[(ALL, 3, "schema: comment without end from byte 27"),],
-        )
-        .expect(&rt, "memory")
-    );
-    assert!(rt;
-        all_refused(
-            alloc,
-            WIDE,
-            &[TABLE],
-            &[(ALL, 5, "limit: table t has more than 64 columns"),],
-        )
-        .expect(&rt, "memory")
-    );
-    assert!(rt;
-        all_refused(
-            alloc,
-            SCHEMA,
-            &[("d/t.csv", "a,c\n")],
-            &[("(", 3, "table t: header differs from the schema"),],
-        )
-        .expect(&rt, "memory")
-    );
-    assert!(rt;
-        all_refused(
-            alloc,
-            SCHEMA,
-            &[("d/t.csv", "")],
-            &[(ALL, 3, "table t: header differs from the schema"),],
-        )
-        .expect(&rt, "memory")
-    );
-    assert!(rt;
-        all_refused(
-            alloc,
-            SCHEMA,
-            &[("d/t.csv", "\u{feff}\u{feff}a,b\n")],
-            &[(ALL, 3, "table t: header differs from the schema"),],
-        )
-        .expect(&rt, "memory")
-    );
-    assert!(rt;
-        all_refused(
-            alloc,
-            SCHEMA,
-            &[("d/t.csv", "a,b\n1\n")],
-            &[(ALL, 3, "table t: record 2 has another number of fields"),],
-        )
-        .expect(&rt, "memory")
-    );
-    assert!(rt;
-        all_refused(
-            alloc,
-            SCHEMA,
-            &[("d/t.csv", "a,b\n1,x\n")],
-            &[(ALL, 3, "table t: record 2, column 2: not an integer"),],
-        )
-        .expect(&rt, "memory")
-    );
+            3,
+            "schema: comment without end from byte 27",
+        ),
+        (WIDE, 5, "limit: table t has more than 64 columns"),
+    ] {
+        let refusal = (*status, *line);
+        assert!(rt;
+            is_refused(&rt, rt.alloc(), schema, &[TABLE], [ALL, ALL], refusal),
+            "{line}"
+        );
+    }
 }
 
+/// A table is refused before the first query, which is none.
 #[test]
-fn queries(rt: HostRuntime) {
-    let alloc = rt.alloc();
-    assert!(rt;
-        all_refused(
-            alloc,
-            SCHEMA,
-            &[TABLE],
-            &[
-                ("SELECT 'abc", 3, "query 1: text without end from byte 7"),
-                ("SELECT a/2 FROM t", 3, "query 1: unexpected byte at 8"),
-                (
-                    "SELECT 170141183460469231731687303715884105728 FROM t",
-                    3,
-                    "query 1: number past 128 bits at byte 7"
-                ),
-                ("SELECT count(*) FROM t", 3, "query 1: not supported: count"),
-                (
-                    "SELECT a FROM t UNION ALL SELECT b FROM t",
-                    3,
-                    "query 1: not supported: all"
-                ),
-                (
-                    "(((((((((((((((((((((((((((((((((((((((((((((((((((((((((((((((((",
-                    3,
-                    "query 1: nested too deep"
-                ),
-                ("SELECT a FROM", 3, "query 1: syntax fault near byte 13"),
-            ],
-        )
-        .expect(&rt, "memory")
-    );
-    assert!(rt;
-        all_refused(
-            alloc,
+fn tables(rt: HostRuntime) {
+    for (rows, line) in &[
+        ("a,c\n", "table t: header differs from the schema"),
+        ("", "table t: header differs from the schema"),
+        (
+            "\u{feff}\u{feff}a,b\n",
+            "table t: header differs from the schema",
+        ),
+        ("a,b\n1\n", "table t: record 2 has another number of fields"),
+        ("a,b\n1,x\n", "table t: record 2, column 2: not an integer"),
+    ] {
+        let tables = [("d/t.csv", *rows)];
+        assert!(rt;
+            is_refused(&rt, rt.alloc(), SCHEMA, &tables, ["(", ALL], (3, *line)),
+            "{line} {rows}"
+        );
+    }
+}
+
+const TWO: &str = "CREATE TABLE t (a INTEGER, b INTEGER); CREATE TABLE reg (name TEXT);";
+
+const BOTH: [(&str, &str); 2] = [("d/t.csv", "a,b\n1,10\n"), ("d/reg.csv", "name\nMary\n")];
+
+#[test]
+fn texts_that_are_no_query(rt: HostRuntime) {
+    for (query, line) in &[
+        ("SELECT 'abc", "query 1: text without end from byte 7"),
+        ("SELECT a/2 FROM t", "query 1: unexpected byte at 8"),
+        (
+            "SELECT 170141183460469231731687303715884105728 FROM t",
+            "query 1: number past 128 bits at byte 7",
+        ),
+        ("SELECT count(*) FROM t", "query 1: not supported: count"),
+        ("SELECT count(*) FROM reg", "query 1: not supported: count"),
+        (
+            "SELECT a FROM t UNION ALL SELECT b FROM t",
+            "query 1: not supported: all",
+        ),
+        (
+            "(((((((((((((((((((((((((((((((((((((((((((((((((((((((((((((((((",
+            "query 1: nested too deep",
+        ),
+        ("SELECT a FROM", "query 1: syntax fault near byte 13"),
+        ("SELECT name FROM", "query 1: syntax fault near byte 16"),
+    ] {
+        let queries = [*query, "SELECT name FROM reg"];
+        assert!(rt;
+            is_refused(&rt, rt.alloc(), TWO, &BOTH, queries, (3, *line)),
+            "{query}"
+        );
+    }
+}
+
+/// The students, and two queries that are read, but not both of them typed.
+#[test]
+fn names_and_types(rt: HostRuntime) {
+    for (query, line) in &[
+        (
+            "SELECT name FROM student, reg",
+            "query 1: ambiguous column: name",
+        ),
+        ("SELECT foo FROM reg", "query 1: unknown column: foo"),
+        ("SELECT name FROM regs", "query 1: unknown table: regs"),
+        ("SELECT x.name FROM reg", "query 1: unknown table: x"),
+        ("SELECT * FROM student s, reg s", "query 1: alias twice: s"),
+        (
+            "SELECT name FROM reg WHERE name > 5",
+            "query 1: types do not match",
+        ),
+        (
+            "SELECT name FROM reg WHERE name IN (SELECT name, course FROM reg)",
+            "query 1: numbers of columns differ",
+        ),
+        (
+            "SELECT course * course * 2 FROM reg",
+            "query 1: arithmetic past 128 bits",
+        ),
+        (
+            "SELECT name, course FROM reg",
+            "queries: numbers of columns differ",
+        ),
+        ("SELECT course FROM reg", "queries: types do not match"),
+    ] {
+        let queries = [*query, "SELECT name FROM reg"];
+        assert!(rt;
+            is_refused(
+                &rt,
+                rt.alloc(),
+                SCHOOL,
+                &[STUDENT, REG],
+                queries,
+                (3, *line)
+            ),
+            "{query}"
+        );
+    }
+}
+
+/// Each over a schema of its own.
+#[test]
+fn other_inputs(rt: HostRuntime) {
+    let table: &[(&str, &[(&str, &str)], [&str; 2], &str)] = &[
+        (
             "",
             &[],
-            &[("SELECT a FROM t", 3, "query 1: unknown table: t"),],
-        )
-        .expect(&rt, "memory")
-    );
-    assert!(rt;
-        all_refused(
-            alloc,
-            TWO,
-            &BOTH,
-            &[
-                (
-                    "SELECT name FROM student, reg",
-                    3,
-                    "query 1: ambiguous column: name"
-                ),
-                ("SELECT foo FROM reg", 3, "query 1: unknown column: foo"),
-                ("SELECT name FROM regs", 3, "query 1: unknown table: regs"),
-                ("SELECT x.name FROM reg", 3, "query 1: unknown table: x"),
-                (
-                    "SELECT * FROM student s, reg s",
-                    3,
-                    "query 1: alias twice: s"
-                ),
-                (
-                    "SELECT name FROM reg WHERE name > 5",
-                    3,
-                    "query 1: types do not match"
-                ),
-                (
-                    "SELECT name FROM reg WHERE name IN (SELECT name, course FROM reg)",
-                    3,
-                    "query 1: numbers of columns differ"
-                ),
-                (
-                    "SELECT course * course * 2 FROM reg",
-                    3,
-                    "query 1: arithmetic past 128 bits"
-                ),
-                (
-                    "SELECT name, course FROM reg",
-                    3,
-                    "queries: numbers of columns differ"
-                ),
-                ("SELECT course FROM reg", 3, "queries: types do not match"),
+            ["SELECT a FROM t", "SELECT name FROM reg"],
+            "query 1: unknown table: t",
+        ),
+        (
+            SCHOOL,
+            &[STUDENT, REG],
+            ["SELECT name FROM reg", "SELECT name, course FROM reg"],
+            "queries: numbers of columns differ",
+        ),
+        (
+            "CREATE TABLE w (a INTEGER);",
+            &[("d/w.csv", "a\n-9223372036854775808\n")],
+            ["SELECT a*a*2 FROM w", "SELECT a*a FROM w"],
+            "query 1: arithmetic past 128 bits",
+        ),
+        (
+            ABC,
+            &ONES,
+            [
+                "SELECT x FROM a EXCEPT SELECT x FROM b UNION ALL SELECT x FROM c",
+                "(SELECT x FROM a EXCEPT SELECT x FROM b) UNION SELECT x FROM c",
             ],
-        )
-        .expect(&rt, "memory")
-    );
+            "query 1: not supported: all",
+        ),
+    ];
+    for (schema, tables, queries, line) in table {
+        assert!(rt;
+            is_refused(&rt, rt.alloc(), schema, tables, *queries, (3, *line)),
+            "{line}"
+        );
+    }
 }

@@ -2,6 +2,7 @@
 use super::{ALL, FOUR, LARGE, SCHEMA, TABLE, ends, files};
 use rt_value::NoMemory;
 use std::alloc::Global;
+use std::process::Abort;
 
 pub(super) const SCHOOL: &str = "CREATE TABLE student (name TEXT PRIMARY KEY, major TEXT);\n\
     CREATE TABLE reg (name TEXT REFERENCES student, course INTEGER, dept TEXT, grade INTEGER, PRIMARY KEY (name, course));";
@@ -43,9 +44,9 @@ const TWOS: [(&str, &str); 3] = [
     ("d/c.csv", "x\n1\n2\n"),
 ];
 
-const MEET: &str = "SELECT x FROM a INTERSECT (SELECT x FROM b UNION SELECT x FROM c)";
+pub(super) const MEET: &str = "SELECT x FROM a INTERSECT (SELECT x FROM b UNION SELECT x FROM c)";
 
-const MEETS: &str =
+pub(super) const MEETS: &str =
     "SELECT x FROM a INTERSECT SELECT x FROM b UNION SELECT x FROM a INTERSECT SELECT x FROM c";
 
 /// Whether each pair of queries ends with its status and writes just its text.
@@ -363,25 +364,60 @@ fn sets_and_files(rt: HostRuntime) {
     );
 }
 
-/// The work of the first row is 663; one clause is learned where the queries meet.
+/// Whether these words end so, over these files.
+fn command_ends(
+    rt: &impl Abort,
+    alloc: Global,
+    held: [&str; 3],
+    tables: &[(&str, &str)],
+    command: &[&str],
+    ended: (u8, &str, &str),
+) -> bool {
+    let mut files = files(alloc, held[0], tables, held[1], held[2]).expect(rt, "memory");
+    let (status, out, err) = ended;
+    let found = ends(alloc, &mut files, command, status, out, err).expect(rt, "memory");
+    drop(files);
+    found
+}
+
+/// The work of the first row is 663.
 #[test]
-fn limits_of_the_command(rt: HostRuntime) {
-    let alloc = rt.alloc();
-    let mut school = files(alloc, SCHOOL, &[STUDENT, REG], ONE, SOME).expect(&rt, "memory");
-    let within = ["s", "d", "p", "q", "--work", "663"];
-    assert!(rt; ends(alloc, &mut school, &within, 1, MARY, "").expect(&rt, "memory"));
-    let below = ["--work=662", "s", "d", "p", "q"];
+fn work_of_the_first_row(rt: HostRuntime) {
     let limit = "ratest: limit: work 663 is above 662\n";
-    assert!(rt; ends(alloc, &mut school, &below, 5, "", limit).expect(&rt, "memory"));
-    let mut sets = files(alloc, ABC, &ONES, MEET, MEETS).expect(&rt, "memory");
-    let enough = ["s", "d", "p", "q", "--conflicts", "8"];
-    assert!(rt; ends(alloc, &mut sets, &enough, 0, "agree\n", "").expect(&rt, "memory"));
-    let one = ["s", "d", "p", "q", "--conflicts", "1"];
-    assert!(rt;
-        ends(alloc, &mut sets, &one, 4, "undecided: 1 conflicts\n", "").expect(&rt, "memory")
-    );
-    drop(sets);
-    let more = ["s", "d", "p", "q", "--conflicts=64"];
-    let mut sets = files(alloc, ABC, &TWOS, MEET, MEETS).expect(&rt, "memory");
-    assert!(rt; ends(alloc, &mut sets, &more, 0, "agree\n", "").expect(&rt, "memory"));
+    let table: &[(&[&str], u8, &str, &str)] = &[
+        (&["s", "d", "p", "q", "--work", "663"], 1, MARY, ""),
+        (&["--work=662", "s", "d", "p", "q"], 5, "", limit),
+    ];
+    for (command, status, out, err) in table {
+        let ended = (*status, *out, *err);
+        let held = [SCHOOL, ONE, SOME];
+        assert!(rt;
+            command_ends(&rt, rt.alloc(), held, &[STUDENT, REG], command, ended),
+            "{command:?}"
+        );
+    }
+}
+
+/// One clause is learned where the queries meet.
+#[test]
+fn conflicts_of_a_meeting(rt: HostRuntime) {
+    let spent = "undecided: 1 conflicts\n";
+    let table: &[(&[(&str, &str)], &[&str], u8, &str)] = &[
+        (
+            &ONES,
+            &["s", "d", "p", "q", "--conflicts", "8"],
+            0,
+            "agree\n",
+        ),
+        (&ONES, &["s", "d", "p", "q", "--conflicts", "1"], 4, spent),
+        (&TWOS, &["s", "d", "p", "q", "--conflicts=64"], 0, "agree\n"),
+    ];
+    for (tables, command, status, out) in table {
+        let ended = (*status, *out, "");
+        let held = [ABC, MEET, MEETS];
+        assert!(rt;
+            command_ends(&rt, rt.alloc(), held, tables, command, ended),
+            "{command:?}"
+        );
+    }
 }
