@@ -1,6 +1,6 @@
-//! The verdict on an input whose budget is spent.
-use super::worked::{ABC, MEET, MEETS, ONES};
-use super::{files, words};
+//! Limits of work and budgets of clauses: what is still decided, and the verdict where one is spent.
+use super::worked::{ABC, MARY, MEET, MEETS, ONE, ONES, REG, SCHOOL, SOME, STUDENT, TWOS};
+use super::{ends, files, words};
 use rt_top::{Best, Input, Outcome, decide, read_input};
 use std::alloc::Global;
 use std::process::Abort;
@@ -51,4 +51,62 @@ fn read(rt: &impl Abort, alloc: Global) -> Result<Input, Outcome> {
 fn a_budget_of_one_clause(rt: HostRuntime) {
     let read = read(&rt, rt.alloc());
     assert!(rt; is_input_spent(&rt, rt.alloc(), read));
+}
+
+/// Whether these words end so, over these files.
+fn command_ends(
+    rt: &impl Abort,
+    alloc: Global,
+    held: [&str; 3],
+    tables: &[(&str, &str)],
+    command: &[&str],
+    ended: (u8, &str, &str),
+) -> bool {
+    let mut files = files(alloc, held[0], tables, held[1], held[2]).expect(rt, "memory");
+    let (status, out, err) = ended;
+    let found = ends(alloc, &mut files, command, status, out, err).expect(rt, "memory");
+    drop(files);
+    found
+}
+
+/// The work of the first row is 663.
+#[test]
+fn work_of_the_first_row(rt: HostRuntime) {
+    let limit = "ratest: limit: work 663 is above 662\n";
+    let table: &[(&[&str], u8, &str, &str)] = &[
+        (&["s", "d", "p", "q", "--work", "663"], 1, MARY, ""),
+        (&["--work=662", "s", "d", "p", "q"], 5, "", limit),
+    ];
+    for (command, status, out, err) in table {
+        let ended = (*status, *out, *err);
+        let held = [SCHOOL, ONE, SOME];
+        assert!(rt;
+            command_ends(&rt, rt.alloc(), held, &[STUDENT, REG], command, ended),
+            "{command:?}"
+        );
+    }
+}
+
+/// One clause is learned where the queries meet.
+#[test]
+fn conflicts_of_a_meeting(rt: HostRuntime) {
+    let spent = "undecided: 1 conflicts\n";
+    let table: &[(&[(&str, &str)], &[&str], u8, &str)] = &[
+        (
+            &ONES,
+            &["s", "d", "p", "q", "--conflicts", "8"],
+            0,
+            "agree\n",
+        ),
+        (&ONES, &["s", "d", "p", "q", "--conflicts", "1"], 4, spent),
+        (&TWOS, &["s", "d", "p", "q", "--conflicts=64"], 0, "agree\n"),
+    ];
+    for (tables, command, status, out) in table {
+        let ended = (*status, *out, "");
+        let held = [ABC, MEET, MEETS];
+        assert!(rt;
+            command_ends(&rt, rt.alloc(), held, tables, command, ended),
+            "{command:?}"
+        );
+    }
 }

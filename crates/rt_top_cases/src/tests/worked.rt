@@ -2,7 +2,6 @@
 use super::{ALL, FOUR, LARGE, SCHEMA, TABLE, ends, files};
 use rt_value::NoMemory;
 use std::alloc::Global;
-use std::process::Abort;
 
 pub(super) const SCHOOL: &str = "CREATE TABLE student (name TEXT PRIMARY KEY, major TEXT);\n\
     CREATE TABLE reg (name TEXT REFERENCES student, course INTEGER, dept TEXT, grade INTEGER, PRIMARY KEY (name, course));";
@@ -38,7 +37,7 @@ pub(super) const ONES: [(&str, &str); 3] = [
     ("d/c.csv", "x\n1\n"),
 ];
 
-const TWOS: [(&str, &str); 3] = [
+pub(super) const TWOS: [(&str, &str); 3] = [
     ("d/a.csv", "x\n1\n2\n"),
     ("d/b.csv", "x\n1\n2\n"),
     ("d/c.csv", "x\n1\n2\n"),
@@ -362,62 +361,4 @@ fn sets_and_files(rt: HostRuntime) {
         )
         .expect(&rt, "memory")
     );
-}
-
-/// Whether these words end so, over these files.
-fn command_ends(
-    rt: &impl Abort,
-    alloc: Global,
-    held: [&str; 3],
-    tables: &[(&str, &str)],
-    command: &[&str],
-    ended: (u8, &str, &str),
-) -> bool {
-    let mut files = files(alloc, held[0], tables, held[1], held[2]).expect(rt, "memory");
-    let (status, out, err) = ended;
-    let found = ends(alloc, &mut files, command, status, out, err).expect(rt, "memory");
-    drop(files);
-    found
-}
-
-/// The work of the first row is 663.
-#[test]
-fn work_of_the_first_row(rt: HostRuntime) {
-    let limit = "ratest: limit: work 663 is above 662\n";
-    let table: &[(&[&str], u8, &str, &str)] = &[
-        (&["s", "d", "p", "q", "--work", "663"], 1, MARY, ""),
-        (&["--work=662", "s", "d", "p", "q"], 5, "", limit),
-    ];
-    for (command, status, out, err) in table {
-        let ended = (*status, *out, *err);
-        let held = [SCHOOL, ONE, SOME];
-        assert!(rt;
-            command_ends(&rt, rt.alloc(), held, &[STUDENT, REG], command, ended),
-            "{command:?}"
-        );
-    }
-}
-
-/// One clause is learned where the queries meet.
-#[test]
-fn conflicts_of_a_meeting(rt: HostRuntime) {
-    let spent = "undecided: 1 conflicts\n";
-    let table: &[(&[(&str, &str)], &[&str], u8, &str)] = &[
-        (
-            &ONES,
-            &["s", "d", "p", "q", "--conflicts", "8"],
-            0,
-            "agree\n",
-        ),
-        (&ONES, &["s", "d", "p", "q", "--conflicts", "1"], 4, spent),
-        (&TWOS, &["s", "d", "p", "q", "--conflicts=64"], 0, "agree\n"),
-    ];
-    for (tables, command, status, out) in table {
-        let ended = (*status, *out, "");
-        let held = [ABC, MEET, MEETS];
-        assert!(rt;
-            command_ends(&rt, rt.alloc(), held, tables, command, ended),
-            "{command:?}"
-        );
-    }
 }
