@@ -8,11 +8,12 @@
 use rt_annot::goal;
 use rt_eval::answers;
 use rt_formula::Dag;
+use rt_input::{Input, Outcome, read_input};
 use rt_io::{RealFiles, RealSink, Sink, SinkFail, write_text};
 use rt_program::{refuse, words};
 use rt_rules::cone;
 use rt_search::smallest_counted;
-use rt_top::{Input, Outcome, USAGE, read_input};
+use rt_top::USAGE;
 use rt_value::{Keep, Txt};
 use std::alloc::Global;
 use std::process::ExitCode;

@@ -11,7 +11,7 @@ use Rattle.rt_recorder.specs.Checking.{IsChecked}
 use Rattle.rt_recorder.specs.declared.check.Checked.TheVariants as checked
 use Rattle.rt_recorder.specs.declared.encoded.Encoded.{Encoded}
 use Rattle.rt_encode.specs.Encoding.{IsEncoding}
-use Rattle.rt_top.specs.Accepted.{Accepted}
+use Rattle.rt_input.specs.Accepted.{Accepted}
 use Rattle.rt_top.specs.Smallest.{IsCounter, counters, differ_at, lawful_at}
 use Rattle.rt_cert.specs.Certified.{IsJudged, IsToBeRefuted, IsTried, IsWrong, choice_fault, claim_fault, places_fault, rows_of}
 use Rattle.rt_cert.specs.Claims.{Holds, IsJudgedOver, IsWrongOver}

@@ -11,7 +11,7 @@ use Rattle.rt_recorder.specs.Checking.{AreAccepted, IsChecked, clauses}
 use Rattle.rt_recorder.specs.declared.check.Checked.TheVariants as checked
 use Rattle.rt_recorder.specs.declared.encoded.Encoded.{Encoded}
 use Rattle.rt_encode.specs.Encoding.{IsEncoding}
-use Rattle.rt_top.specs.Accepted.{Accepted}
+use Rattle.rt_input.specs.Accepted.{Accepted}
 use Rattle.rt_top.specs.Smallest.{differ_at, lawful_at}
 use Rattle.rt_cert.specs.Least.{IsLeastOrNone, IsSmallestOrNone}
 use Rattle.rt_cert.specs.Places.{keep_of}

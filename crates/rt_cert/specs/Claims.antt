@@ -5,7 +5,7 @@ use Rattle.rt_cert_text.specs.declared.cert.Cert.{Cert}
 use Rattle.rt_recorder.specs.Checking.{HasNoModel, IsChecked}
 use Rattle.rt_recorder.specs.declared.check.Checked.TheVariants as checked
 use Rattle.rt_recorder.specs.declared.encoded.Encoded.{Encoded}
-use Rattle.rt_top.specs.Accepted.{Accepted}
+use Rattle.rt_input.specs.Accepted.{Accepted}
 use Rattle.rt_top.specs.Smallest.{IsCounter}
 use Rattle.rt_cert.specs.Certified.{IsToBeRefuted, claim_fault, rows_of}
 use Rattle.rt_cert.specs.Places.{keep_of}

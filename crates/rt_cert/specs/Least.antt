@@ -1,6 +1,6 @@
 -- What a certificate may claim.
 use Rattle.std.specs.Prelude.{Bool, List, Option, None, Some}
-use Rattle.rt_top.specs.Accepted.{Accepted}
+use Rattle.rt_input.specs.Accepted.{Accepted}
 use Rattle.rt_top.specs.Smallest.{Agrees, HasFewest, IsCounter, IsSmallest}
 
 -- a counterexample, and none keeps fewer rows

@@ -10,8 +10,8 @@ use crate::judgement::{Judgement, Why};
 use crate::lines::put_lines;
 use rt_cert_text::Cert;
 use rt_derive::Checker;
+use rt_input::Input;
 use rt_recorder::{Checked, Encoded, check_steps};
-use rt_top::Input;
 use rt_value::{Keep, NoMemory};
 use std::alloc::Global;
 

@@ -7,8 +7,8 @@ ghost use Rattle.rt_cert.specs.Claims.{IsClaim};
 use crate::judgement::Why;
 use crate::places::keep_of;
 use rt_eval::answers;
+use rt_input::Input;
 use rt_schema::lawful;
-use rt_top::Input;
 use rt_value::{Keep, List, NoMemory};
 use std::alloc::Global;
 

@@ -4,8 +4,8 @@ ghost use Rattle.rt_schema.specs.Given.{places};
 ghost use Rattle.rt_encode.specs.Encoding.{IsEncoding};
 
 use rt_encode::encode;
+use rt_input::Input;
 use rt_recorder::Encoded;
-use rt_top::Input;
 use rt_value::{Keep, NoMemory};
 use std::alloc::Global;
 

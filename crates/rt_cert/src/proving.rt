@@ -14,8 +14,8 @@ use crate::encoding::encoding;
 use crate::places::places_of;
 use crate::refutation::refutation;
 use rt_cert_text::{Cert, Step};
+use rt_input::Input;
 use rt_recorder::Encoded;
-use rt_top::Input;
 use rt_value::{Keep, List, NoMemory};
 use std::alloc::Global;
 

@@ -1,8 +1,8 @@
 //! The check of a certificate in a file.
 ghost use Rattle.std.specs.Prelude.{◌≡◌, IfOk};
 ghost use Rattle.rt_io.specs.Edge.{NoneFell, OnlyRises};
-ghost use Rattle.rt_top.specs.Answers.{call};
-ghost use Rattle.rt_top.specs.Steps.{over};
+ghost use Rattle.rt_input.specs.Reading.{call};
+ghost use Rattle.rt_input.specs.Steps.{over};
 ghost use Rattle.rt_cert_run.specs.Steps.{ChecksIn, IsFaultTold, JudgesIn, SaysCheck};
 
 use crate::file::{FileFault, cert_in};
@@ -11,8 +11,8 @@ use crate::say::{fault_text, judgement_text};
 use crate::told::{Told, stopped};
 use rt_cert::check;
 use rt_cert_text::{Cert, CertFault};
+use rt_input::{Input, read_input};
 use rt_io::Files;
-use rt_top::{Input, read_input};
 use rt_value::{NoMemory, Txt};
 use std::alloc::Global;
 

@@ -2,16 +2,17 @@
 ghost use Rattle.std.specs.Prelude.{◌≡◌, IfOk};
 ghost use Rattle.rt_cert.specs.Least.{IsSmallestOrNone};
 ghost use Rattle.rt_io.specs.Edge.{NoneFell};
-ghost use Rattle.rt_top.specs.Answers.{call};
+ghost use Rattle.rt_input.specs.Reading.{call};
 ghost use Rattle.rt_cert_run.specs.Steps.{ProvesIn, SaysProve};
 
 use crate::outcome::CertOutcome;
 use crate::told::{Told, stopped};
 use rt_cert::{Proof, prove};
 use rt_cert_text::cert_text;
+use rt_input::{Input, Outcome, read_input};
 use rt_io::Files;
 use rt_search::Best;
-use rt_top::{GivenUp, Input, Outcome, decide, given_up, read_input};
+use rt_top::{GivenUp, decide, given_up};
 use rt_value::{Keep, NoMemory, Txt};
 use std::alloc::Global;
 

@@ -12,7 +12,7 @@ use Rattle.rt_algebra.specs.declared.typed.Typed.{Typed}
 use Rattle.rt_clause.specs.Literal.{Literal}
 use Rattle.rt_formula.specs.Shared.{Shared, val}
 use Rattle.rt_search.proofs.Keeps.{size-most}
-use Rattle.rt_top.specs.Accepted.{Accepted}
+use Rattle.rt_input.specs.Accepted.{Accepted}
 use Rattle.rt_top.specs.Smallest.{counters}
 use Rattle.rt_encode.specs.Encodes.{Encodes}
 use Rattle.rt_encode.specs.Encoding.{IsEncoding, most_of}

@@ -3,7 +3,7 @@ use Rattle.std.specs.Prelude.{◌≡◌, ℕ, Bool, true, List, Option, None, So
 use Rattle.rt_value.specs.Keep.{size}
 use Rattle.rt_schema.specs.Given.{places}
 use Rattle.rt_clause.specs.Literal.{Literal}
-use Rattle.rt_top.specs.Accepted.{Accepted}
+use Rattle.rt_input.specs.Accepted.{Accepted}
 use Rattle.rt_top.specs.Smallest.{counters}
 use Rattle.rt_encode.specs.Encodes.{Encodes}
 

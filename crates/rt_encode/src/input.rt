@@ -7,7 +7,7 @@ use crate::goal::encode_goal;
 use rt_annot::goal;
 use rt_clause::{Adds, Lit};
 use rt_formula::Dag;
-use rt_top::Input;
+use rt_input::Input;
 use rt_value::{Keep, NoMemory};
 use std::alloc::Global;
 

@@ -9,12 +9,12 @@ use Rattle.rt_algebra.specs.declared.typed.Typed.{Typed}
 use Rattle.rt_algebra.specs.Typed.{IsTypedOf}
 use Rattle.rt_clause.specs.Literal.{Literal}
 use Rattle.rt_words.specs.Ranges.{Command}
-use Rattle.rt_top.specs.declared.first.First.{First}
-use Rattle.rt_top.specs.declared.outcome.Limit.TheVariants as limit
-use Rattle.rt_top.specs.declared.outcome.Outcome.{Outcome}
-use Rattle.rt_top.specs.declared.outcome.Outcome.TheVariants as outcome
-use Rattle.rt_top.specs.Accepted.{Accepted, IsAccepted}
-use Rattle.rt_top.specs.Judged.{total_work, within_limit}
+use Rattle.rt_input.specs.declared.first.First.{First}
+use Rattle.rt_input.specs.declared.outcome.Limit.TheVariants as limit
+use Rattle.rt_input.specs.declared.outcome.Outcome.{Outcome}
+use Rattle.rt_input.specs.declared.outcome.Outcome.TheVariants as outcome
+use Rattle.rt_input.specs.Accepted.{Accepted, IsAccepted}
+use Rattle.rt_input.specs.Judged.{total_work, within_limit}
 use Rattle.rt_top.specs.Smallest.{Agrees, IsFirst, IsGivenUp, IsSmallest, counters}
 use Rattle.rt_grade.specs.declared.grade.Grade.{Grade}
 use Rattle.rt_grade.specs.declared.grade.Grade.TheVariants.{Agree, Witness, Undecided, Refused, Work, TooLong}

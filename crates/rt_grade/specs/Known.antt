@@ -5,8 +5,8 @@ use Rattle.rt_algebra.specs.declared.query.Query.{Query}
 use Rattle.rt_algebra.specs.declared.typed.Typed.{Typed}
 use Rattle.rt_algebra.specs.Typed.{IsTypedOf}
 use Rattle.rt_words.specs.Ranges.{Command}
-use Rattle.rt_top.specs.declared.first.First.{First}
-use Rattle.rt_top.specs.Judged.{within_limit}
+use Rattle.rt_input.specs.declared.first.First.{First}
+use Rattle.rt_input.specs.Judged.{within_limit}
 use Rattle.rt_grade.specs.Grades.{IsGrade, beside}
 use Rattle.rt_grade.specs.declared.grade.Grade.{Grade}
 use Rattle.rt_grade.specs.declared.known.Known.{Known}

@@ -2,7 +2,7 @@
 use Rattle.std.specs.Prelude.{◌≡◌}
 use Rattle.rt_schema.specs.Given.{places}
 use Rattle.rt_annot.specs.Reference.{IsReference}
-use Rattle.rt_top.specs.declared.first.First.{First}
+use Rattle.rt_input.specs.declared.first.First.{First}
 use Rattle.rt_grade.specs.declared.prepared.Prepared.{Prepared}
 
 -- the reference on the Dag is this one, over these rows

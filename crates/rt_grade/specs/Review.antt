@@ -1,7 +1,7 @@
 -- What is known of a reference for the candidates to come.
 use Rattle.std.specs.Prelude.{IfSome}
 use Rattle.rt_words.specs.Ranges.{Command}
-use Rattle.rt_top.specs.declared.first.First.{First}
+use Rattle.rt_input.specs.declared.first.First.{First}
 use Rattle.rt_grade.specs.declared.review.Review.{Review}
 use Rattle.rt_grade.specs.Known.{AreKnown}
 use Rattle.rt_grade.specs.Prepared.{IsPreparedOf}

@@ -2,7 +2,7 @@
 
 ghost use Rattle.std.specs.Prelude.{IfOk, IfSome};
 ghost use Rattle.rt_words.specs.Ranges.{Command};
-ghost use Rattle.rt_top.specs.declared.first.First.{First as Before};
+ghost use Rattle.rt_input.specs.declared.first.First.{First as Before};
 ghost use Rattle.rt_grade.specs.Known.{AreKnown, IsQueryGrade};
 
 use crate::grade::Grade;

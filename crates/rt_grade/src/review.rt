@@ -1,9 +1,9 @@
 ghost use Rattle.std.specs.Prelude.{◌≡◌, IfOk};
 ghost use Rattle.rt_algebra.specs.Typed.{IsTypedOf};
 ghost use Rattle.rt_words.specs.Ranges.{Command};
-ghost use Rattle.rt_top.specs.declared.first.First.{First as Before};
-ghost use Rattle.rt_top.specs.First.{IsFirst};
-ghost use Rattle.rt_top.specs.Judged.{within_limit};
+ghost use Rattle.rt_input.specs.declared.first.First.{First as Before};
+ghost use Rattle.rt_input.specs.First.{IsFirst};
+ghost use Rattle.rt_input.specs.Judged.{within_limit};
 ghost use Rattle.rt_grade.specs.Grades.{IsGrade, IsPlacedIn, beside, candidate_judged, outcome_of};
 ghost use Rattle.rt_grade.specs.Review.{IsReviewOf};
 
@@ -12,7 +12,7 @@ use crate::judge::{grade_query, right_of};
 use crate::known::{Known, keep, known_grade};
 use crate::prepared::Prepared;
 use rt_algebra::Typed;
-use rt_top::{First, Outcome};
+use rt_input::{First, Outcome};
 use rt_value::{List, NoMemory};
 use rt_words::Words;
 use std::alloc::Global;

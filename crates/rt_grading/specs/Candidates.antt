@@ -2,13 +2,13 @@
 use Rattle.std.specs.Prelude.{◌≡◌, ℕ, Bool, List, Some, Ok, Err, IsTrue, slice_get}
 use Rattle.rt_io.specs.Edge.{Rose}
 use Rattle.rt_words.specs.Ranges.{Command}
-use Rattle.rt_top.specs.declared.first.First.{First}
-use Rattle.rt_top.specs.declared.outcome.Limit.TheVariants as limit
-use Rattle.rt_top.specs.declared.outcome.Outcome.TheVariants as outcome
-use Rattle.rt_top.specs.declared.part.Part.TheVariants.{Query2}
-use Rattle.rt_top.specs.Judged.{Holding, text_read}
-use Rattle.rt_top.specs.Source.{Text}
-use Rattle.rt_top.specs.Steps.{Seen}
+use Rattle.rt_input.specs.declared.first.First.{First}
+use Rattle.rt_input.specs.declared.outcome.Limit.TheVariants as limit
+use Rattle.rt_input.specs.declared.outcome.Outcome.TheVariants as outcome
+use Rattle.rt_input.specs.declared.part.Part.TheVariants.{Query2}
+use Rattle.rt_input.specs.Judged.{Holding, text_read}
+use Rattle.rt_input.specs.Source.{Text}
+use Rattle.rt_input.specs.Steps.{Seen}
 use Rattle.rt_grade.specs.Grades.{IsGrade, IsPlacedIn, candidate_judged, outcome_of}
 use Rattle.rt_grade.specs.declared.grade.Grade.{Grade}
 use Rattle.rt_grade.specs.declared.grade.Grade.TheVariants.{Agree, Witness, Undecided, Refused, Work, TooLong}

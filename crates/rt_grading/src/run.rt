@@ -1,8 +1,8 @@
 ghost use Rattle.std.specs.Prelude.{◌≡◌, IfOk, IfErr};
 ghost use Rattle.rt_io.specs.Edge.{NoneFell};
-ghost use Rattle.rt_top.specs.Answers.{call};
-ghost use Rattle.rt_top.specs.First.{IsFirst};
-ghost use Rattle.rt_top.specs.Steps.{over};
+ghost use Rattle.rt_input.specs.Reading.{call};
+ghost use Rattle.rt_input.specs.First.{IsFirst};
+ghost use Rattle.rt_input.specs.Steps.{over};
 ghost use Rattle.rt_grading.specs.Words.{IsSpelled};
 ghost use Rattle.rt_grading.specs.Answers.{AreGraded, AreGradedBeside, AreGradedBy, Stops, StopsBeside, StopsOf};
 
@@ -11,8 +11,8 @@ use crate::fault::GradeFault;
 use crate::list::read_list;
 use crate::words::{GradeWords, grade_words};
 use rt_grade::Grade;
+use rt_input::{First, read_first};
 use rt_io::Files;
-use rt_top::{First, read_first};
 use rt_value::{List, Txt};
 use std::alloc::Global;
 

@@ -1,8 +1,8 @@
 use rt_holds::smallest_row;
+use rt_input::{Input, Outcome, read_input};
 use rt_io::MemFiles;
 use rt_row::read_row;
 use rt_search::Best;
-use rt_top::{Input, Outcome, read_input};
 use rt_value::{List, Row, Txt};
 use std::alloc::Global;
 use std::process::Abort;

@@ -4,8 +4,8 @@ use Rattle.std.specs.Prelude.{Option, None, Some}
 use Rattle.std.specs.Option.{ForSome}
 use Rattle.rt_schema.specs.Given.{IsOf, is_instance, places, row_limit}
 use Rattle.rt_words.specs.Ranges.{IsWithin, most_made}
-use Rattle.rt_top.specs.declared.tables.Tables.{Tables}
-use Rattle.rt_top.specs.Accepted.{Accepted, IsAccepted}
+use Rattle.rt_input.specs.declared.tables.Tables.{Tables}
+use Rattle.rt_input.specs.Accepted.{Accepted, IsAccepted}
 use Rattle.rt_ra_run.specs.declared.asked.Asked.{Asked}
 use Rattle.rt_ra_run.specs.declared.command.RaCommand.{RaCommand}
 use Rattle.rt_ra_run.specs.declared.query.Lowered.{Lowered}

@@ -7,7 +7,7 @@ use Rattle.rt_algebra.specs.declared.typed.Typed.{Typed}
 use Rattle.rt_ra_tree.specs.declared.tree.RaText.{RaText}
 use Rattle.rt_ra.specs.Lowered.{ra_lowered}
 use Rattle.rt_ra.specs.Meaning.{MeansSame}
-use Rattle.rt_top.specs.Accepted.{IsAccepted}
+use Rattle.rt_input.specs.Accepted.{IsAccepted}
 use Rattle.rt_ra_run.specs.declared.asked.Asked.{Asked}
 use Rattle.rt_ra_run.specs.declared.query.Lowered.{Lowered}
 use Rattle.rt_ra_run.specs.declared.command.RaCommand.{RaCommand}

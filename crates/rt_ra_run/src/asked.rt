@@ -1,5 +1,5 @@
+use rt_input::Input;
 use rt_ra_tree::RaText;
-use rt_top::Input;
 
 /// What is asked of an accepted input: its two algebra texts, beside the input of their queries.
 #[derive(Drop)]

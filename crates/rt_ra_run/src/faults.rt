@@ -3,9 +3,9 @@ ghost use Rattle.std.specs.Prelude.{◌≡◌};
 ghost use Rattle.rt_ra_run.specs.Faults.{fault_outcome, lex_outcome};
 
 use crate::outcome::RaOutcome;
+use rt_input::{Outcome, Part};
 use rt_ra_tree::RaFault;
 use rt_token::LexFault;
-use rt_top::{Outcome, Part};
 
 fn lex_outcome(part: Part, fault: LexFault) -> RaOutcome
     ensures { result ≡ lex_outcome part fault }

@@ -2,10 +2,10 @@
 ghost use Rattle.std.specs.Prelude.{◌≡◌, ◌≤◌, IsTrue, IfOk, IfErr, Ok};
 ghost use Rattle.rt_io.specs.Edge.{NoneFell};
 ghost use Rattle.rt_schema.specs.Given.{IsOf, places, row_limit};
-ghost use Rattle.rt_top.specs.Accepted.{IsAccepted};
-ghost use Rattle.rt_top.specs.Source.{query_part};
-ghost use Rattle.rt_top.specs.Steps.{over};
-ghost use Rattle.rt_top.specs.declared.part.Part.TheVariants as parts;
+ghost use Rattle.rt_input.specs.Accepted.{IsAccepted};
+ghost use Rattle.rt_input.specs.Source.{query_part};
+ghost use Rattle.rt_input.specs.Steps.{over};
+ghost use Rattle.rt_input.specs.declared.part.Part.TheVariants as parts;
 ghost use Rattle.rt_ra_run.specs.Asked.{HasNumbers, IsAsked, IsLowered, IsMeant};
 ghost use Rattle.rt_ra_run.specs.Judged.{QueryReached, Reaches, asked_judged, asked_of, beside, data_in, data_judged, queries_judged, query_judged, right_judged, text_judged, within_judged};
 ghost use Rattle.rt_ra_run.specs.Placed.{Placed, IsPlaceless};
@@ -16,9 +16,9 @@ use crate::asked::Asked;
 use crate::command::RaCommand;
 use crate::outcome::RaOutcome;
 use crate::query::{Lowered, query_of};
+use rt_input::{Input, QueryPart, Tables, like_left, read_tables, read_text, within_limit};
 use rt_io::Files;
 use rt_schema::Schema;
-use rt_top::{Input, QueryPart, Tables, like_left, read_tables, read_text, within_limit};
 use rt_value::Bytes;
 use std::alloc::Global;
 

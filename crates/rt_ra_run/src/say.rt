@@ -3,8 +3,8 @@ ghost use Rattle.std.specs.Prelude.{◌≡◌, IfOk, string_bytes};
 ghost use Rattle.rt_ra_run.specs.Texts.{fault_text, refusal_text, refused_line};
 
 use crate::outcome::RaOutcome;
+use rt_input::{Outcome, Part, lex_text, part_text, refusal_line};
 use rt_ra_tree::RaFault;
-use rt_top::{Outcome, Part, lex_text, part_text, refusal_line};
 use rt_value::{Bytes, List, NoMemory};
 use std::alloc::{AllocError, Global};
 

@@ -5,8 +5,8 @@ use Rattle.rt_schema.specs.Given.{places}
 use Rattle.rt_search.specs.Least.{IsLeast, IsSpentBest}
 use Rattle.rt_row.specs.Rows.{is_memory, row_read}
 use Rattle.rt_holds.specs.Holds.{Holds, holds_at}
-use Rattle.rt_top.specs.Accepted.{Accepted}
-use Rattle.rt_top.specs.Answers.{Call, IsRead}
+use Rattle.rt_input.specs.Accepted.{Accepted}
+use Rattle.rt_input.specs.Reading.{Call, IsRead}
 use Rattle.rt_row_run.specs.declared.answer.RowAnswer.{RowAnswer}
 use Rattle.rt_row_run.specs.declared.answer.RowVerdict.{RowVerdict}
 use Rattle.rt_row_run.specs.declared.answer.RowVerdict.TheVariants.{Witness, Never, Spent, Refused}

@@ -3,8 +3,9 @@ use Rattle.std.specs.Prelude.{ℕ, List, [], ◌++◌, codes}
 use Rattle.rt_print.specs.Texts.{spent_text}
 use Rattle.rt_row.specs.declared.fault.RowFault.{RowFault}
 use Rattle.rt_row.specs.declared.fault.RowFault.TheVariants.{Lex, RowSyntax, RowWidth, RowKind, NoMemory}
-use Rattle.rt_top.specs.Accepted.{Accepted}
-use Rattle.rt_top.specs.Texts.{lex_text, rows_text}
+use Rattle.rt_input.specs.Accepted.{Accepted}
+use Rattle.rt_input.specs.Texts.{lex_text}
+use Rattle.rt_top.specs.Texts.{rows_text}
 use Rattle.rt_row_run.specs.declared.answer.RowVerdict.{RowVerdict}
 use Rattle.rt_row_run.specs.declared.answer.RowVerdict.TheVariants.{Witness, Never, Spent, Refused}
 

@@ -1,5 +1,5 @@
+use rt_input::Spent;
 use rt_row::RowFault;
-use rt_top::Spent;
 use rt_value::{Bytes, Keep};
 
 /// What is found of one named row.

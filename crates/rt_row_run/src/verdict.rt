@@ -3,17 +3,17 @@ ghost use Rattle.rt_io.specs.Edge.{NoneFell};
 ghost use Rattle.rt_holds.specs.Holds.{IsRowVerdict};
 ghost use Rattle.rt_schema.specs.Given.{places};
 ghost use Rattle.rt_search.specs.Least.{IsSpentBest};
-ghost use Rattle.rt_top.specs.Answers.{call, Stop};
+ghost use Rattle.rt_input.specs.Reading.{call, Stop};
 ghost use Rattle.rt_row_run.specs.RowVerdicts.{Finds, HoldsIn, IsRowAnswer, Judges};
 ghost use Rattle.rt_row_run.specs.Said.{fault_line, row_text};
 
 use crate::answer::{RowAnswer, RowVerdict};
 use crate::say::{fault_line, rows_text, spent_text};
 use rt_holds::smallest_row;
+use rt_input::{Input, Outcome, Spent, read_input};
 use rt_io::Files;
 use rt_row::{RowFault, read_row};
 use rt_search::{Best, SpentBest};
-use rt_top::{Input, Outcome, Spent, read_input};
 use rt_value::{List, NoMemory, Row, Txt};
 use std::alloc::Global;
 

@@ -20,7 +20,7 @@ use Rattle.rt_search.specs.Nogoods.{IsSpentBy}
 use Rattle.rt_search.proofs.Targets.{spent-narrowed}
 use Rattle.rt_search.specs.declared.best.Best.{Best}
 use Rattle.rt_search.specs.declared.best.Best.TheVariants.{Least, Never, Spent}
-use Rattle.rt_top.specs.Accepted.{Accepted}
+use Rattle.rt_input.specs.Accepted.{Accepted}
 use Rattle.rt_top.specs.Smallest.{HasFewest, IsCounter, IsFirst, IsGivenUp, IsVerdict, counters, differ_at, lawful_at}
 
 -- the node is true at just the counterexamples

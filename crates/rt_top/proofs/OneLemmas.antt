@@ -3,11 +3,12 @@ use Rattle.std.proofs.Common.{◌≡◌, ℕ, Bool, true, false, List, Ok, inl, 
 use Rattle.rt_search.specs.declared.best.Best.{Best}
 use Rattle.rt_search.specs.declared.best.Best.TheVariants.{Least, Never, Spent}
 use Rattle.rt_search.proofs.Keeps.{either-before}
-use Rattle.rt_top.specs.declared.outcome.Outcome.{Outcome}
-use Rattle.rt_top.specs.declared.outcome.Outcome.TheVariants as outcome
-use Rattle.rt_top.specs.Accepted.{Accepted}
-use Rattle.rt_top.specs.Answers.{Call, IsRead, IsTextOf}
-use Rattle.rt_top.specs.Judged.{judged}
+use Rattle.rt_input.specs.declared.outcome.Outcome.{Outcome}
+use Rattle.rt_input.specs.declared.outcome.Outcome.TheVariants as outcome
+use Rattle.rt_input.specs.Accepted.{Accepted}
+use Rattle.rt_input.specs.Reading.{Call, IsRead}
+use Rattle.rt_top.specs.Answers.{IsTextOf}
+use Rattle.rt_input.specs.Judged.{judged}
 use Rattle.rt_top.specs.One.{AreAlike, IsDecided, IsFinal}
 use Rattle.rt_top.specs.Smallest.{Agrees, IsFirst, IsSmallest, IsVerdict}
 use Rattle.rt_top.specs.Texts.{agree_of, witness_of}

@@ -1,57 +1,27 @@
 -- When each outcome of a call comes, and what the call writes.
 use Rattle.std.specs.Option.{ForSome}
-use Rattle.std.specs.Prelude.{◌≡◌, ℕ, ◌≤◌, ◌^◌, ◌⊎◌, Bool, IsTrue, List, Option, None, Some, Ok, Err, IsSome, IsSomeAnd, ⊤}
+use Rattle.std.specs.Prelude.{◌≡◌, ℕ, ◌≤◌, ◌^◌, ◌⊎◌, Bool, List, Some, ⊤}
 use Rattle.rt_io.specs.Logs.{Log, Grew, GrewPartly, IsKept, Broke, at_place, other_place}
-use Rattle.rt_io.specs.declared.files.Files.{Ghosts as Files}
-use Rattle.rt_top.specs.declared.part.Part.{Part}
-use Rattle.rt_top.specs.declared.outcome.Fault.{Fault}
-use Rattle.rt_top.specs.declared.outcome.Limit.{Limit}
-use Rattle.rt_top.specs.declared.outcome.Outcome.{Outcome}
-use Rattle.rt_top.specs.declared.outcome.Outcome.TheVariants as outcome
-use Rattle.rt_top.specs.declared.outcome.Spent.{Spent}
+use Rattle.rt_schema.specs.Given.{places}
 use Rattle.rt_words.specs.Command.{command}
 use Rattle.rt_words.specs.Ranges.{Command}
-use Rattle.rt_top.specs.Accepted.{Accepted, HasOptions, IsAccepted}
-use Rattle.rt_top.specs.Judged.{judged, Reaches, IsNamed, text_of}
-use Rattle.rt_top.specs.Placed.{Placed}
+use Rattle.rt_input.specs.declared.part.Part.{Part}
+use Rattle.rt_input.specs.declared.outcome.Fault.{Fault}
+use Rattle.rt_input.specs.declared.outcome.Limit.{Limit}
+use Rattle.rt_input.specs.declared.outcome.Outcome.{Outcome}
+use Rattle.rt_input.specs.declared.outcome.Outcome.TheVariants as outcome
+use Rattle.rt_input.specs.declared.outcome.Spent.{Spent}
+use Rattle.rt_input.specs.Accepted.{Accepted}
+use Rattle.rt_input.specs.Faults.{placeless}
+use Rattle.rt_input.specs.Judged.{IsNamed}
+use Rattle.rt_input.specs.Reading.{Call, IsRead, LimitRow, ReadFaultRow, RefusedRow, UsageRow, limit_of}
+use Rattle.rt_input.specs.Source.{file_of, source_of}
+use Rattle.rt_input.specs.Steps.{Failed}
+use Rattle.rt_input.specs.Texts.{place}
 use Rattle.rt_top.specs.Smallest.{IsSmallest, Agrees, IsGivenUp}
-use Rattle.rt_top.specs.Source.{IsKnown, IsMade, file_of, source_of}
-use Rattle.rt_top.specs.Faults.{is_refusal, placeless}
-use Rattle.rt_top.specs.Steps.{BeginsOnly, Seen, over, Failed, IsLongFor}
-use Rattle.rt_schema.specs.Given.{places}
-use Rattle.rt_top.specs.Texts.{agree_of, place, refusal_text, spent_of, witness_of}
+use Rattle.rt_top.specs.Texts.{agree_of, refusal_text, spent_of, witness_of}
 
 -- ---- when an outcome comes
-
--- a call: its words, and what is known of the files over it
-pub record Call : Type 0 where
-  pub words : List (List ℕ)
-  pub files : Seen
-
--- the call on these words that found the files as `old` and left them as `new`
-abbrev pub call : {F : Type 0} → Files F → List (List ℕ) → F → F → Call
-call files words old new = record { words = words; files = over files old new }
-
--- the contents of the command's source are known
-abbrev pub IsTold : Call → Type 0
-IsTold c = ForSome (command c.words) (λ k. IsKnown c.files.tells (source_of k))
-
--- the command asks for a generated input
-abbrev pub IsMadeCall : Option Command → Type 0
-IsMadeCall o = IsSomeAnd o (λ k. IsMade (source_of k))
-
--- the file that a call begins last, if it begins one, is that of a part that the reading comes to; so
--- none is begun after a refusal
-abbrev pub LastBegun : {F : Type 0} → Files F → Option Command → F → F → Type 0
-LastBegun files None old new = files.current new ≡ files.current old
-LastBegun files (Some k) old new = BeginsOnly files old new (source_of k) (Reaches (source_of k) (files.held old))
-
--- an input that was read in the call: an accepted one with the numbers of the command, and where the
--- contents of its source are known, the one that is judged
-pub record IsRead (c : Call) (input : Accepted) : Type 0 where
-  pub sound : IsAccepted input
-  pub options : IsSomeAnd (command c.words) (λ k. HasOptions k input)
-  pub told : IsTold c → judged c.words c.files.held ≡ Ok input
 
 abbrev pub AgreeRow : Call → Type 0
 AgreeRow c = (input : Accepted) × IsRead c input × Agrees input
@@ -62,31 +32,6 @@ WitnessRow c keep = (input : Accepted) × IsRead c input × IsSmallest input kee
 -- the budget of conflicts of the command is spent
 abbrev pub SpentRow : Call → Spent → Type 0
 SpentRow c s = (input : Accepted) × IsRead c input × (input.conflicts ≡ Some s.budget) × IsGivenUp input s.budget s.best s.least s.nogoods
-
-abbrev pub UsageRow : Call → Type 0
-UsageRow c = command c.words ≡ None
-
--- where the contents of the source are known, a syntax fault stands in the text of its part
-abbrev pub PlacedRow : Call → Outcome → Type 0
-PlacedRow c o = ForSome (command c.words) (λ k. IsKnown c.files.tells (source_of k) → Placed (text_of (source_of k) c.files.held) o)
-
--- the refusal that is judged; which place of its text a syntax fault names is left open
-abbrev pub RefusedRow : Call → Part → Fault → Type 0
-RefusedRow c part fault =
-    IsSome (command c.words) × IsTrue (is_refusal fault) × (IsTold c → judged c.words c.files.held ≡ Err (outcome.Refused part (placeless fault)))
-    × PlacedRow c (outcome.Refused part fault)
-
--- a file is too long where one byte more than it may have was taken
-abbrev pub LimitRow : Call → Limit → Type 0
-LimitRow c limit = IsSomeAnd (command c.words) (λ k. IsLongFor c.files (source_of k) limit) × (IsTold c → judged c.words c.files.held ≡ Err (outcome.Limit limit))
-
--- the file of this part failed in this call, and nothing before it is refused
-pub record ReadFaultAt (s : Seen) (part : Part) (k : Command) : Type 0 where
-  pub failed : Failed s (file_of (source_of k) part)
-  pub reached : IsKnown s.tells (source_of k) → Reaches (source_of k) s.held part
-
-abbrev pub ReadFaultRow : Call → Part → Type 0
-ReadFaultRow c part = IsSomeAnd (command c.words) (ReadFaultAt c.files part)
 
 -- an outcome that its own row allows, what it says of growth left aside
 abbrev pub Row : Call → Outcome → Type 0
@@ -99,20 +44,6 @@ Row c (outcome.Limit limit) = LimitRow c limit
 Row c (outcome.ReadFault part) = ReadFaultRow c part
 Row c outcome.WriteFault = ⊥
 Row c outcome.NoMemory = ⊥
-
--- what stops the reading of the words
-abbrev pub WordsStop : Option Command → Outcome → Type 0
-WordsStop o outcome.Usage = o ≡ None
-WordsStop o outcome.NoMemory = ⊤
-WordsStop o _ = ⊥
-
--- what stops the reading of an input: its row, where it is no verdict, or want of memory
-abbrev pub Stop : Call → Outcome → Type 0
-Stop c outcome.Agree = ⊥
-Stop c (outcome.Witness keep) = ⊥
-Stop c (outcome.Spent s) = ⊥
-Stop c outcome.NoMemory = ⊤
-Stop c o = Row c o
 
 -- ---- words on one outcome
 
@@ -189,11 +120,6 @@ abbrev pub HasRoom : Accepted → Type 0
 HasRoom input = ForSome input.conflicts (λ budget. 2 ^ places input.given.tables ≤ budget)
 
 -- ---- what is written
-
--- the work limit of the command
-abbrev pub limit_of : Option Command → ℕ
-limit_of None = 0
-limit_of (Some k) = k.work_limit
 
 -- the text of an outcome; a verdict is printed with the input of which it is one
 abbrev pub IsTextOf : Call → Outcome → List ℕ → Type 0

@@ -1,11 +1,4 @@
-pub mod Accepted
 pub mod Answers
-pub mod Faults
-pub mod First
-pub mod Judged
 pub mod One
-pub mod Placed
 pub mod Smallest
-pub mod Source
-pub mod Steps
 pub mod Texts

@@ -2,10 +2,11 @@
 use Rattle.std.specs.Prelude.{◌≡◌, ℕ, Bool, List, ⊤}
 use Rattle.rt_search.specs.declared.best.Best.{Best}
 use Rattle.rt_search.specs.declared.best.Best.TheVariants.{Least, Never, Spent}
-use Rattle.rt_top.specs.declared.outcome.Outcome.{Outcome}
-use Rattle.rt_top.specs.declared.outcome.Outcome.TheVariants as outcome
-use Rattle.rt_top.specs.Accepted.{Accepted}
-use Rattle.rt_top.specs.Answers.{Call, IsTold, IsTextOf}
+use Rattle.rt_input.specs.declared.outcome.Outcome.{Outcome}
+use Rattle.rt_input.specs.declared.outcome.Outcome.TheVariants as outcome
+use Rattle.rt_input.specs.Accepted.{Accepted}
+use Rattle.rt_input.specs.Reading.{Call, IsTold}
+use Rattle.rt_top.specs.Answers.{IsTextOf}
 use Rattle.rt_top.specs.Smallest.{Agrees, IsSmallest, IsVerdict}
 
 -- a smallest counterexample, or that there is none

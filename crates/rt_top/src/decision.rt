@@ -4,14 +4,14 @@ ghost use Rattle.rt_schema.specs.Given.{IsOf, places};
 ghost use Rattle.rt_algebra.specs.Typed.{IsTypedOf};
 ghost use Rattle.rt_formula.specs.Shared.{IsGrown};
 ghost use Rattle.rt_annot.specs.Reference.{IsReference};
-ghost use Rattle.rt_top.specs.First.{IsFirst, IsVerdictBeside};
+ghost use Rattle.rt_input.specs.First.{IsFirst};
+ghost use Rattle.rt_top.specs.Smallest.{IsVerdictBeside};
 ghost use Rattle.rt_top.specs.Smallest.{IsVerdict};
 
-use crate::first::First;
-use crate::input::Input;
 use rt_algebra::Typed;
 use rt_annot::{Reference, goal, goal_beside};
 use rt_formula::Dag;
+use rt_input::{First, Input};
 use rt_rules::cone;
 use rt_schema::{Given, Schema};
 use rt_search::{Best, smallest};

@@ -1,23 +1,25 @@
 ghost use Rattle.std.specs.Prelude.{◌≡◌, ◌⊎◌, false, None, IfOk, Ok, Err};
 ghost use Rattle.rt_io.specs.Edge.{NoneFell};
 ghost use Rattle.rt_words.specs.Command.{command};
-ghost use Rattle.rt_top.specs.Judged.{judged};
-ghost use Rattle.rt_top.specs.Accepted.{Accepted};
+ghost use Rattle.rt_input.specs.Judged.{judged};
+ghost use Rattle.rt_input.specs.Accepted.{Accepted};
 ghost use Rattle.rt_io.specs.Logs.{log, NoSinkRose, WritesNothing};
-ghost use Rattle.rt_top.specs.Answers.{call, limit_of, LastBegun, IsTold, IsMadeCall, Row, AgreeRow, WitnessRow, UsageRow, RefusedRow, SpentRow, LimitRow, ReadFaultRow, HasRoom, IfAgree, IfWitness, IfUsage, IfRefused, IfSpent, IfLimit, IfReadFault, IfWriteFault, IfNoMemory, IfText, YieldsTo, YieldsToWrite, IsVerdictOrMemory, NoFileRose, IsTextOf, Writes, WritesAll, WritesPart, WritesUntilFault};
-ghost use Rattle.rt_top.specs.Steps.{is_memory};
+ghost use Rattle.rt_input.specs.Reading.{call, limit_of, LastBegun, IsTold, IsMadeCall, UsageRow, RefusedRow, LimitRow, ReadFaultRow};
+ghost use Rattle.rt_top.specs.Answers.{Row, AgreeRow, WitnessRow, SpentRow, HasRoom, IfAgree, IfWitness, IfUsage, IfRefused, IfSpent, IfLimit, IfReadFault, IfWriteFault, IfNoMemory, IfText, YieldsTo, YieldsToWrite, IsVerdictOrMemory, NoFileRose, IsTextOf, Writes, WritesAll, WritesPart, WritesUntilFault};
+ghost use Rattle.rt_input.specs.Steps.{is_memory};
 ghost use Rattle.rt_top.specs.Texts.{refusal_text};
-ghost use Rattle.rt_top.specs.declared.outcome.Outcome.{Outcome};
-ghost use Rattle.rt_top.specs.declared.outcome.Outcome.TheVariants as outcome;
+ghost use Rattle.rt_input.specs.declared.outcome.Outcome.{Outcome};
+ghost use Rattle.rt_input.specs.declared.outcome.Outcome.TheVariants as outcome;
 
-use crate::outcome::Outcome;
-use crate::read::read_input;
-use crate::say::USAGE;
-use crate::stopped::stopped_text;
 use crate::verdicts::{Answer, verdict};
+use rt_input::{Outcome, read_input, stopped_text};
 use rt_io::{Files, Sink, SinkFail, write_at};
 use rt_value::{Bytes, NoMemory, Txt};
 use std::alloc::Global;
+
+/// The text for words that are no command.
+pub const USAGE: &str =
+    "usage: ratest SCHEMA DATADIR QUERY1 QUERY2 [--conflicts N] [--work N]\n       ratest made N [--conflicts N] [--work N]\n";
 
 // The text of what stopped the reading; none where memory was wanting.
 fn said(alloc: Global, words: &[Txt], outcome: &Outcome) -> Result<Bytes, NoMemory>

@@ -6,9 +6,8 @@ ghost use Rattle.rt_top.specs.Texts.{agree_of, witness_of};
 
 use crate::budget::{GivenUp, given_up};
 use crate::decision::decide;
-use crate::input::Input;
-use crate::outcome::Outcome;
 use rt_eval::answers;
+use rt_input::{Input, Outcome};
 use rt_print::{MadeVerdict, made_text, witness_text};
 use rt_search::{Best, SpentBest};
 use rt_value::{Bytes, Keep, List, NoMemory};

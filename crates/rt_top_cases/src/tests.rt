@@ -1,6 +1,7 @@
 //! What the command says, over files and sinks in memory.
+use rt_input::Outcome;
 use rt_io::{MemFiles, MemSink};
-use rt_top::{Outcome, USAGE, ratest};
+use rt_top::{USAGE, ratest};
 use rt_value::{List, NoMemory, Txt};
 use std::alloc::{AllocError, Global};
 use std::fmt::Write;

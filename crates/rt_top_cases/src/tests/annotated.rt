@@ -7,8 +7,8 @@ use super::files;
 use rt_annot::{Ann, annotate};
 use rt_eval::{Rows, answers};
 use rt_formula::{Dag, Node, Noted};
+use rt_input::Input;
 use rt_io::MemFiles;
-use rt_top::Input;
 use rt_value::{Keep, List, NoMemory, Row, Value};
 use std::alloc::Global;
 

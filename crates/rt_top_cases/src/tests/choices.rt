@@ -2,8 +2,8 @@
 ghost use Rattle.std.specs.Prelude.{◌≡◌, IfOk, length};
 
 use super::{FOUR, words};
+use rt_input::{Input, Outcome, read_input};
 use rt_io::MemFiles;
-use rt_top::{Input, Outcome, read_input};
 use rt_value::{Keep, NoMemory};
 use std::alloc::Global;
 

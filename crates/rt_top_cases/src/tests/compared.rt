@@ -5,9 +5,10 @@ ghost use Rattle.rt_schema.specs.Given.{places};
 use super::choices::{choice, input};
 use super::files;
 use rt_eval::answers;
+use rt_input::Input;
 use rt_io::MemFiles;
 use rt_schema::lawful;
-use rt_top::{Best, Input, decide};
+use rt_top::{Best, decide};
 use rt_value::{Keep, NoMemory};
 use std::alloc::{AllocError, Global};
 

@@ -1,8 +1,9 @@
 //! Of several smallest witnesses the first in the order of rows is printed.
 use super::worked::{LOOSE, REG, STUDENT, all_end};
 use super::{ALL, FOUR, SCHEMA, TABLE, ends, files, numbers, words};
+use rt_input::Outcome;
 use rt_io::{MemFiles, MemSink};
-use rt_top::{Outcome, ratest};
+use rt_top::ratest;
 use rt_value::{List, NoMemory, Txt};
 use std::alloc::Global;
 

@@ -4,9 +4,9 @@ use super::choices::accepted;
 use super::words;
 use rt_annot::goal;
 use rt_formula::Dag;
+use rt_input::{Input, read_input};
 use rt_io::MemFiles;
 use rt_rules::cone;
-use rt_top::{Input, read_input};
 use rt_value::{Keep, List, NoMemory};
 use std::alloc::Global;
 

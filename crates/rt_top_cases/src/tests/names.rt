@@ -3,7 +3,7 @@
 use super::annotated::answer;
 use super::choices::choice;
 use super::{FOUR, files, words};
-use rt_top::{Input, Outcome, Part, fault_text, read_input, refusal_line};
+use rt_input::{Input, Outcome, Part, fault_text, read_input, refusal_line};
 use rt_value::{Row, Value};
 use std::alloc::{AllocError, Global};
 use std::fmt::Write;

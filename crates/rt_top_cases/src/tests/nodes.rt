@@ -9,8 +9,8 @@ use super::files;
 use super::worked::{ABC, ONE, ONES, REG, SCHOOL, STUDENT};
 use rt_annot::{annotate, differ};
 use rt_formula::{Dag, Node};
+use rt_input::Input;
 use rt_io::MemFiles;
-use rt_top::Input;
 use rt_value::{NoMemory, Row, Txt, Value};
 use std::alloc::Global;
 

@@ -1,10 +1,10 @@
 //! The parts of a command that other commands stand on, each called by itself.
 use super::{SCHEMA, TABLE, files, words};
-use rt_load::LoadFault;
-use rt_resolve::NameFault;
-use rt_top::{
+use rt_input::{
     Fault, Outcome, Part, Tables, fault_text, read_tables, read_text, read_words, refusal_line,
 };
+use rt_load::LoadFault;
+use rt_resolve::NameFault;
 use rt_value::{Bytes, NoMemory, Txt};
 use std::alloc::Global;
 use std::process::Abort;

@@ -1,4 +1,4 @@
-use Rattle.rt_top.specs.Answers.{call}
+use Rattle.rt_input.specs.Reading.{call}
 use Rattle.rt_cert_run.proofs.SayLemmas.{prove_says}
 use Rattle.rt_cert_run.proofs.proving.prove_told.Goals as goal
 

@@ -1,5 +1,5 @@
 use Rattle.rt_io.specs.Logs.{log}
-use Rattle.rt_top.specs.Answers.{call}
+use Rattle.rt_input.specs.Reading.{call}
 use Rattle.rt_cert_run.proofs.ExactLemmas.{bad_told, check_all, claim_told, either_all, long_told, prove_all, proved_told, refusal_told, usage_told}
 use Rattle.rt_cert_run.proofs.WriteLemmas.{broken, wanting, written}
 use Rattle.rt_cert_run.specs.Words.{asked_by}

@@ -1,6 +1,6 @@
 use Rattle.std.proofs.Common.{◌∙◌, ap, subst}
 use Rattle.rt_words.specs.Ranges.{Command, IsInRange}
-use Rattle.rt_top.specs.Judged.{within_limit}
+use Rattle.rt_input.specs.Judged.{within_limit}
 use Rattle.rt_grade.specs.Grades.{beside}
 use Rattle.rt_grade.proofs.JudgeLemmas.{accepted, decided_result, is_within}
 use Rattle.rt_grade.proofs.judge.grade_query.Goals as goal

@@ -1,5 +1,5 @@
 use Rattle.std.proofs.Common.{ap}
-use Rattle.rt_top.specs.Accepted.{Accepted}
+use Rattle.rt_input.specs.Accepted.{Accepted}
 use Rattle.rt_ra_run.specs.declared.asked.Asked.{Asked}
 use Rattle.rt_ra_run.proofs.AskedLemmas.{accepted_of, asked_means, asked_sound}
 use Rattle.rt_ra_run.proofs.read.asked_of.Goals as goal

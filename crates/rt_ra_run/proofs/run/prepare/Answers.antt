@@ -1,6 +1,6 @@
 use Rattle.std.proofs.Common.{◌≡◌, List, ℕ}
 use Rattle.std.specs.Prelude.{Some}
-use Rattle.rt_top.specs.Answers.{call}
+use Rattle.rt_input.specs.Reading.{call}
 use Rattle.rt_ra_run.specs.Answers.{IsTextOf, Row}
 use Rattle.rt_ra_run.specs.Words.{ra_command}
 use Rattle.rt_ra_run.specs.declared.verdicts.RaAnswer.{RaAnswer}

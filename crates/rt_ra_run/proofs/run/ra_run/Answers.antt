@@ -1,5 +1,5 @@
 use Rattle.rt_io.specs.Logs.{log}
-use Rattle.rt_top.specs.Answers.{call}
+use Rattle.rt_input.specs.Reading.{call}
 use Rattle.rt_ra_run.proofs.RowLemmas.{gets_verdict, said_of, yields}
 use Rattle.rt_ra_run.proofs.run.ra_run.Goals as goal
 

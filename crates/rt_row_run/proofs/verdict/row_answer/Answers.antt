@@ -1,4 +1,4 @@
-use Rattle.rt_top.specs.Answers.{call}
+use Rattle.rt_input.specs.Reading.{call}
 use Rattle.rt_row_run.proofs.RowLemmas.{answered}
 use Rattle.rt_row_run.proofs.verdict.row_answer.Goals as goal
 

@@ -1,5 +1,5 @@
 use Rattle.rt_io.specs.Logs.{log}
-use Rattle.rt_top.specs.Answers.{call}
+use Rattle.rt_input.specs.Reading.{call}
 use Rattle.rt_tools.proofs.JudgedLemmas.{written_as_judged, written_complete, written_usage}
 use Rattle.rt_tools.proofs.WriteLemmas.{broken, wanting, written}
 use Rattle.rt_tools.proofs.run.tool_run.Goals as goal

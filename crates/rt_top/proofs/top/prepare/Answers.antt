@@ -1,6 +1,8 @@
 use Rattle.rt_top.specs.declared.verdicts.Answer.{Answer}
-use Rattle.rt_top.specs.Answers.{call, Judges, Row, IsTextOf}
-use Rattle.rt_top.proofs.VerdictLemmas.{if_ok, verdict_row, verdict_says}
+use Rattle.rt_input.specs.Reading.{call}
+use Rattle.rt_top.specs.Answers.{Judges, Row, IsTextOf}
+use Rattle.rt_input.proofs.RowLemmas.{if_ok}
+use Rattle.rt_top.proofs.VerdictLemmas.{verdict_row, verdict_says}
 use Rattle.rt_top.proofs.top.prepare.Goals as goal
 
 pub returns-in-Ok-clause-row : goal.returns-in-Ok-clause-row

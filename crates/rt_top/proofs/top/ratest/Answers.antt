@@ -1,5 +1,5 @@
 use Rattle.rt_io.specs.Logs.{log}
-use Rattle.rt_top.specs.Answers.{call}
+use Rattle.rt_input.specs.Reading.{call}
 use Rattle.rt_top.proofs.VerdictLemmas.{gets_verdict, said_of}
 use Rattle.rt_top.proofs.top.ratest.Goals as goal
 

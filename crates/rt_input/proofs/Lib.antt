@@ -1,0 +1,6 @@
+mod LastLemmas
+mod PlaceLemmas
+pub mod RowLemmas
+mod ShapeLemmas
+mod StepLemmas
+mod TableLemmas

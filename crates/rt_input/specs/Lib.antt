@@ -1,0 +1,9 @@
+pub mod Accepted
+pub mod Faults
+pub mod First
+pub mod Judged
+pub mod Placed
+pub mod Reading
+pub mod Source
+pub mod Steps
+pub mod Texts

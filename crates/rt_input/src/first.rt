@@ -1,0 +1,68 @@
+//! What a command reads before its second query.
+ghost use Rattle.std.specs.Prelude.{◌≡◌, IfOk, IfErr, Ok};
+ghost use Rattle.rt_io.specs.Edge.{NoneFell};
+ghost use Rattle.rt_input.specs.First.{IsFirst, first_judged};
+ghost use Rattle.rt_input.specs.Judged.{text_of, Reaches};
+ghost use Rattle.rt_input.specs.Placed.{Placed};
+ghost use Rattle.rt_input.specs.Source.{IsKnown, IsMade, source_of};
+ghost use Rattle.rt_input.specs.Steps.{over, BeginsOnly, Stops};
+
+use crate::outcome::Outcome;
+use crate::part::QueryPart;
+use crate::read::read_query;
+use crate::source::Source;
+use crate::tables::{Tables, tables_of};
+use rt_algebra::Typed;
+use rt_io::Files;
+use rt_schema::{Given, Schema};
+use rt_words::Words;
+use std::alloc::Global;
+
+/// A schema, the rows given for it, and a query over it.
+#[derive(Drop)]
+pub struct First {
+    pub schema: Schema,
+    pub given: Given,
+    pub left: Typed,
+}
+
+/// The schema, the rows and the first query of a source; its second query isn't read.
+pub(crate) fn first_of<F: Files>(
+    alloc: Global,
+    files: &mut F,
+    source: &Source,
+) -> Result<First, Outcome>
+    ensures sound { IfOk result IsFirst }
+    ensures ok { IfOk result (λ first. IsKnown F.tells source.now → first_judged source.now (F.held files.old) ≡ Ok first) }
+    ensures err { IfErr result (Stops (over F.Files files.old files.new) source.now (first_judged source.now (F.held files.old)) (Reaches source.now (F.held files.old))) }
+    ensures place { IfErr result (λ o. IsKnown F.tells source.now → Placed (text_of source.now (F.held files.old)) o) }
+    ensures last { BeginsOnly F.Files files.old files.new source.now (Reaches source.now (F.held files.old)) }
+    ensures made { IsMade source.now → files.new ≡ files.old }
+    ensures held { F.held files.new ≡ F.held files.old }
+    ensures rises { NoneFell (F.faults files.old) (F.faults files.new) }
+{
+    let Tables { schema, given } = tables_of(alloc, files, source)?;
+    let left = read_query(alloc, files, source, QueryPart::First, &schema)?;
+    Ok(First {
+        schema,
+        given,
+        left,
+    })
+}
+
+/// The same of a command.
+pub fn read_first<F: Files>(alloc: Global, words: &Words, files: &mut F) -> Result<First, Outcome>
+    ensures sound { IfOk result IsFirst }
+    ensures ok { IfOk result (λ first. IsKnown F.tells (source_of words.now) → first_judged (source_of words.now) (F.held files.old) ≡ Ok first) }
+    ensures err { IfErr result (Stops (over F.Files files.old files.new) (source_of words.now) (first_judged (source_of words.now) (F.held files.old)) (Reaches (source_of words.now) (F.held files.old))) }
+    ensures place { IfErr result (λ o. IsKnown F.tells (source_of words.now) → Placed (text_of (source_of words.now) (F.held files.old)) o) }
+    ensures last { BeginsOnly F.Files files.old files.new (source_of words.now) (Reaches (source_of words.now) (F.held files.old)) }
+    ensures made { IsMade (source_of words.now) → files.new ≡ files.old }
+    ensures held { F.held files.new ≡ F.held files.old }
+    ensures rises { NoneFell (F.faults files.old) (F.faults files.new) }
+{
+    let source = Source::of(alloc, words)?;
+    let first = first_of(alloc, files, &source);
+    drop(source);
+    first
+}

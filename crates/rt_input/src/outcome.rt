@@ -1,0 +1,117 @@
+ghost use Rattle.std.specs.Prelude.{◌≡◌};
+ghost use Rattle.rt_input.specs.Steps.{is_memory};
+ghost use Rattle.rt_input.specs.Texts.{status_of};
+
+use crate::part::Part;
+use rt_clause::LitList;
+use rt_ddl::SchemaFault;
+use rt_load::LoadFault;
+use rt_resolve::NameFault;
+use rt_sql::SqlFault;
+use rt_token::LexFault;
+use rt_value::{Keep, List, NoMemory, Txt};
+
+/// What is wrong with the contents of a file. Want of memory and limits are outcomes of their own,
+/// and stand in none of these.
+#[derive(Drop)]
+pub enum Fault {
+    /// The text of a schema or of a query has no tokens.
+    Lex(LexFault),
+    /// The tokens make no schema.
+    Schema(SchemaFault),
+    /// The table file is no table of the schema.
+    Load(LoadFault),
+    /// The tokens are those of no query.
+    Sql(SqlFault),
+    /// The query has no meaning over the schema, or the two queries have other columns.
+    Name(NameFault),
+}
+
+/// A limit that the input passes.
+#[derive(Drop)]
+pub enum Limit {
+    /// The file of this part has too many bytes.
+    TooLong(Part),
+    /// The schema has too many tables.
+    Tables,
+    /// This table has too many columns.
+    Columns(Txt),
+    /// This table has too many keys and foreign keys.
+    Rules(Txt),
+    /// The tables together have too many rows.
+    Rows,
+    /// The two queries and the rules of the schema are so much work.
+    Work(u128),
+}
+
+/// What is known where the budget of conflicts is spent: the best choice of places so far, if there
+/// is one, whether no counterexample is known to keep fewer rows, and as many clauses over places as
+/// the budget says. Each is true at every counterexample that keeps fewer rows than the best, or at
+/// most as many where none keeps fewer, or at every one where there is no best.
+#[derive(Debug, Drop)]
+pub struct Spent {
+    pub budget: u64,
+    pub best: Option<Keep>,
+    pub least: bool,
+    pub nogoods: List<LitList>,
+}
+
+/// How a call of `ratest` ends.
+#[derive(Drop)]
+pub enum Outcome {
+    /// The queries agree on every lawful sub-instance.
+    Agree,
+    /// The first of the smallest counterexamples in the order of rows, as the choice of the places
+    /// that it keeps.
+    Witness(Keep),
+    /// The words are no command.
+    Usage,
+    /// The first refusal of the input.
+    Refused(Part, Fault),
+    /// The budget of conflicts is spent.
+    Spent(Spent),
+    /// The first refusal, by a limit.
+    Limit(Limit),
+    /// The file of this part could not be read.
+    ReadFault(Part),
+    /// The text could not be written.
+    WriteFault,
+    /// Memory was wanting.
+    NoMemory,
+}
+
+impl Outcome {
+    /// The status that the program ends with.
+    pub fn status(&self) -> u8
+        ensures { result ≡ status_of self.now }
+    {
+        match self {
+            Outcome::Agree => 0,
+            Outcome::Witness(_) => 1,
+            Outcome::Usage => 2,
+            Outcome::Refused(_, _) => 3,
+            Outcome::Spent(_) => 4,
+            Outcome::Limit(_) => 5,
+            Outcome::ReadFault(_) | Outcome::WriteFault => 6,
+            Outcome::NoMemory => 7,
+        }
+    }
+
+    /// Whether memory was wanting.
+    pub fn is_memory(&self) -> bool
+        ensures { result ≡ is_memory self.now }
+    {
+        matches!(self, Outcome::NoMemory)
+    }
+}
+
+impl From<NoMemory> for Outcome {
+    ghost use Rattle.std.specs.Prelude.{◌≡◌};
+    ghost use Rattle.rt_input.specs.declared.outcome.Outcome.TheVariants.{NoMemory as memory};
+
+    ghost from_gives = { λ _ o. o ≡ memory };
+
+    fn from(_e: NoMemory) -> Outcome {
+        Outcome::NoMemory
+    }
+}

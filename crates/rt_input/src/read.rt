@@ -1,0 +1,196 @@
+//! The reading of a command's input.
+ghost use Rattle.std.specs.Prelude.{◌≡◌, ◌≤◌, IsSomeAnd, IfOk, IfErr, Ok, None, Some};
+ghost use Rattle.std.specs.Option.{ForSome};
+ghost use Rattle.rt_io.specs.Edge.{NoneFell};
+ghost use Rattle.rt_schema.specs.Given.{IsOf};
+ghost use Rattle.rt_algebra.specs.Typed.{IsTypedOf};
+ghost use Rattle.rt_words.specs.Command.{command};
+ghost use Rattle.rt_input.specs.Source.{IsKnown, IsMade, query_part, source_of};
+ghost use Rattle.rt_input.specs.First.{IsFirst, data_in};
+ghost use Rattle.rt_input.specs.Judged.{accepted, text_of, query_judged, right_judged, input_judged, total_work, within_limit, work_between, Reaches};
+ghost use Rattle.rt_input.specs.Placed.{IsPlaceless, Placed};
+ghost use Rattle.rt_input.specs.Steps.{over, BeginsOnly, Refuses, Stops};
+ghost use Rattle.rt_input.specs.Reading.{call, LastBegun, IsMadeCall, IsRead, Stop, WordsStop};
+ghost use Rattle.rt_input.specs.declared.part.Part.TheVariants as parts;
+ghost use Rattle.rt_input.specs.Accepted.{HasOptions, IsAccepted};
+
+use crate::first::{First, first_of};
+use crate::input::Input;
+use crate::outcome::{Limit, Outcome};
+use crate::part::QueryPart;
+use crate::query::{like_left, query_of};
+use crate::source::Source;
+use crate::text::source_text;
+use rt_algebra::{Typed, work};
+use rt_io::Files;
+use rt_schema::{Given, Schema, capped_add, law_work};
+use rt_value::Txt;
+use rt_words::{WordFault, Words};
+use std::alloc::Global;
+
+/// The command that the words spell.
+pub fn read_words(alloc: Global, words: &[Txt]) -> Result<Words, Outcome>
+    ensures ok { IfOk result (λ k. command words.now ≡ Some k) }
+    ensures err { IfErr result (WordsStop (command words.now)) }
+{
+    match rt_words::read_words(alloc, words) {
+        Ok(command) => Ok(command),
+        Err(WordFault::Usage) => Err(Outcome::Usage),
+        Err(WordFault::NoMemory) => Err(Outcome::NoMemory),
+    }
+}
+
+/// A query over the tables of the schema.
+pub(crate) fn read_query<F: Files>(
+    alloc: Global,
+    files: &mut F,
+    source: &Source,
+    part: QueryPart,
+    schema: &Schema,
+) -> Result<Typed, Outcome>
+    ensures typed { IfOk result (IsTypedOf schema.now) }
+    ensures ok { IfOk result (λ typed. IsKnown F.tells source.now → query_judged source.now (F.held files.old) (query_part part) schema.now ≡ Ok typed) }
+    ensures err { IfErr result (Stops (over F.Files files.old files.new) source.now (query_judged source.now (F.held files.old) (query_part part) schema.now) (λ p. p ≡ query_part part)) }
+    ensures place { IfErr result (λ o. IsKnown F.tells source.now → Placed (text_of source.now (F.held files.old)) o) }
+    ensures last { BeginsOnly F.Files files.old files.new source.now (λ p. p ≡ query_part part) }
+    ensures made { IsMade source.now → files.new ≡ files.old }
+    ensures held { F.held files.new ≡ F.held files.old }
+    ensures rises { NoneFell (F.faults files.old) (F.faults files.new) }
+{
+    let text = source_text(alloc, files, source, part.part())?;
+    query_of(alloc, part.part(), schema, text.as_slice())
+}
+
+/// The second query, whose columns are as the first's.
+fn read_right<F: Files>(
+    alloc: Global,
+    files: &mut F,
+    source: &Source,
+    schema: &Schema,
+    left: &Typed,
+) -> Result<Typed, Outcome>
+    ensures typed { IfOk result (IsTypedOf schema.now) }
+    ensures kinds { IfOk result (λ right. right.kinds ≡ left.now.kinds) }
+    ensures ok { IfOk result (λ right. IsKnown F.tells source.now → right_judged source.now (F.held files.old) schema.now left.now ≡ Ok right) }
+    ensures err { IfErr result (Stops (over F.Files files.old files.new) source.now (right_judged source.now (F.held files.old) schema.now left.now) (λ p. p ≡ parts.Query2)) }
+    ensures place { IfErr result (λ o. IsKnown F.tells source.now → Placed (text_of source.now (F.held files.old)) o) }
+    ensures last { BeginsOnly F.Files files.old files.new source.now (λ p. p ≡ parts.Query2) }
+    ensures made { IsMade source.now → files.new ≡ files.old }
+    ensures held { F.held files.new ≡ F.held files.old }
+    ensures rises { NoneFell (F.faults files.old) (F.faults files.new) }
+{
+    let right = read_query(alloc, files, source, QueryPart::Second, schema)?;
+    like_left(left, right)
+}
+
+/// The work of two queries over given rows and of the rules of the schema.
+pub fn work_between(schema: &Schema, given: &Given, left: &Typed, right: &Typed) -> u128
+    requires { IsOf schema.now given.now }
+    ensures { result ≡ work_between schema.now given.now left.now right.now }
+{
+    let queries = capped_add(work(left, given), work(right, given));
+    capped_add(queries, law_work(schema, given))
+}
+
+fn total_work(input: &Input) -> u128
+    ensures value { result ≡ total_work input.now }
+    ensures sound { IsAccepted input.now }
+{
+    let schema = input.schema();
+    work_between(schema, input.given(), input.left(), input.right())
+}
+
+/// The input, where its work is within its limit.
+pub fn within_limit(input: Input) -> Result<Input, Outcome>
+    ensures sound { IfOk result IsAccepted }
+    ensures ok { IfOk result (λ same. (same ≡ input) × (within_limit input ≡ Ok same)) }
+    ensures err { IfErr result (Refuses (within_limit input)) }
+    ensures place { IfErr result IsPlaceless }
+{
+    let work = total_work(&input);
+    if work <= u128::from(input.work_limit()) {
+        Ok(input)
+    } else {
+        Err(Outcome::Limit(Limit::Work(work)))
+    }
+}
+
+/// The input of two queries over the rows of the first, with the numbers of the command.
+fn input_of(words: &Words, first: First, right: Typed) -> Input
+    requires sound { IsFirst first }
+    requires right { IsTypedOf first.schema right }
+    requires kinds { right.kinds ≡ first.left.kinds }
+    ensures same { result ≡ accepted words.now (data_in first) first.left right }
+    ensures sound { IsAccepted result }
+{
+    Input {
+        schema: first.schema,
+        given: first.given,
+        left: first.left,
+        right,
+        conflicts: words.conflicts,
+        work_limit: words.work_limit,
+        made: words.made,
+    }
+}
+
+/// What the texts of a source say, with the numbers of the command.
+fn read_source<F: Files>(
+    alloc: Global,
+    words: &Words,
+    files: &mut F,
+    source: &Source,
+) -> Result<Input, Outcome>
+    requires { source.now ≡ source_of words.now }
+    ensures sound { IfOk result IsAccepted }
+    ensures options { IfOk result (HasOptions words.now) }
+    ensures ok { IfOk result (λ input. IsKnown F.tells source.now → input_judged (F.held files.old) words.now ≡ Ok input) }
+    ensures err { IfErr result (Stops (over F.Files files.old files.new) source.now (input_judged (F.held files.old) words.now) (Reaches source.now (F.held files.old))) }
+    ensures place { IfErr result (λ o. IsKnown F.tells source.now → Placed (text_of source.now (F.held files.old)) o) }
+    ensures last { BeginsOnly F.Files files.old files.new source.now (Reaches source.now (F.held files.old)) }
+    ensures made { IsMade source.now → files.new ≡ files.old }
+    ensures held { F.held files.new ≡ F.held files.old }
+    ensures rises { NoneFell (F.faults files.old) (F.faults files.new) }
+{
+    let first = first_of(alloc, files, source)?;
+    match read_right(alloc, files, source, &first.schema, &first.left) {
+        Ok(right) => within_limit(input_of(words, first, right)),
+        Err(outcome) => {
+            drop(first);
+            Err(outcome)
+        }
+    }
+}
+
+/// What the texts of a command say.
+fn read_command<F: Files>(alloc: Global, words: &Words, files: &mut F) -> Result<Input, Outcome>
+    ensures sound { IfOk result IsAccepted }
+    ensures options { IfOk result (HasOptions words.now) }
+    ensures ok { IfOk result (λ input. IsKnown F.tells (source_of words.now) → input_judged (F.held files.old) words.now ≡ Ok input) }
+    ensures err { IfErr result (Stops (over F.Files files.old files.new) (source_of words.now) (input_judged (F.held files.old) words.now) (Reaches (source_of words.now) (F.held files.old))) }
+    ensures place { IfErr result (λ o. IsKnown F.tells (source_of words.now) → Placed (text_of (source_of words.now) (F.held files.old)) o) }
+    ensures last { BeginsOnly F.Files files.old files.new (source_of words.now) (Reaches (source_of words.now) (F.held files.old)) }
+    ensures made { IsMade (source_of words.now) → files.new ≡ files.old }
+    ensures held { F.held files.new ≡ F.held files.old }
+    ensures rises { NoneFell (F.faults files.old) (F.faults files.new) }
+{
+    let source = Source::of(alloc, words)?;
+    let input = read_source(alloc, words, files, &source);
+    drop(source);
+    input
+}
+
+/// The input of a command, or the first refusal.
+pub fn read_input<F: Files>(alloc: Global, words: &[Txt], files: &mut F) -> Result<Input, Outcome>
+    ensures ok { IfOk result (IsRead (call F.Files words.now files.old files.new)) }
+    ensures err { IfErr result (Stop (call F.Files words.now files.old files.new)) }
+    // The file that is begun last is one that the reading comes to: none is begun after a refusal.
+    ensures last { LastBegun F.Files (command words.now) files.old files.new }
+    // A generated input begins no file.
+    ensures made { IsMadeCall (command words.now) → files.new ≡ files.old }
+    ensures held { F.held files.new ≡ F.held files.old }
+    ensures rises { NoneFell (F.faults files.old) (F.faults files.new) }
+{
+    let command = read_words(alloc, words)?;
+    read_command(alloc, &command, files)
+}

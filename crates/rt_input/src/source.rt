@@ -1,0 +1,118 @@
+//! Where the texts of a command stand.
+ghost use Rattle.std.specs.Prelude.{◌≡◌, IfOk};
+ghost use Rattle.rt_input.specs.Source.{file_name, made_part, paths_in, source_of, table_file, table_paths};
+
+use crate::part::Part;
+use rt_load::{Made, made};
+use rt_value::{Bytes, List, NoMemory, Txt};
+use rt_words::Words;
+use std::alloc::Global;
+
+/// The paths of a command.
+#[derive(Drop)]
+pub(crate) struct Paths {
+    pub(crate) schema: Txt,
+    /// The folder of the table files.
+    pub(crate) dir: Txt,
+    /// The queries' files; none where the command reads no query.
+    pub(crate) query1: Option<Txt>,
+    pub(crate) query2: Option<Txt>,
+}
+
+/// The files that a command names, or the texts of a generated input.
+#[derive(Drop)]
+pub(crate) enum Source {
+    Files(Paths),
+    Made(Made),
+}
+
+impl Source {
+    pub(crate) fn of(alloc: Global, words: &Words) -> Result<Source, NoMemory>
+        ensures { IfOk result (λ source. source ≡ source_of words.now) }
+    {
+        match words.made {
+            Some(n) => Ok(Source::Made(made(alloc, n)?)),
+            None => Ok(Source::Files(Paths::of(alloc, words.paths.as_slice())?)),
+        }
+    }
+}
+
+impl Paths {
+    fn of(alloc: Global, words: &[Txt]) -> Result<Paths, NoMemory>
+        ensures { IfOk result (λ paths. paths ≡ paths_in words.now) }
+    {
+        match words {
+            [schema, dir, query1, query2] => Ok(Paths {
+                schema: schema.copy(alloc)?,
+                dir: dir.copy(alloc)?,
+                query1: Some(query1.copy(alloc)?),
+                query2: Some(query2.copy(alloc)?),
+            }),
+            _ => Ok(Paths {
+                schema: Txt::of(alloc, "")?,
+                dir: Txt::of(alloc, "")?,
+                query1: None,
+                query2: None,
+            }),
+        }
+    }
+
+    /// The paths of a command that reads no query.
+    pub(crate) fn of_tables(alloc: Global, schema: &Txt, dir: &Txt) -> Result<Paths, NoMemory>
+        ensures { IfOk result (λ paths. paths ≡ table_paths schema.now dir.now) }
+    {
+        Ok(Paths {
+            schema: schema.copy(alloc)?,
+            dir: dir.copy(alloc)?,
+            query1: None,
+            query2: None,
+        })
+    }
+
+    /// The name of the file of a part. The comparison of the two queries has none.
+    pub(crate) fn file(&self, alloc: Global, part: &Part) -> Result<Option<Txt>, NoMemory>
+        ensures { IfOk result (λ name. name ≡ file_name self.now part.now) }
+    {
+        match part {
+            Part::Schema => Ok(Some(self.schema.copy(alloc)?)),
+            Part::Table(_, name) => Ok(Some(self.table_file(alloc, name)?)),
+            Part::Query1 => copied(alloc, &self.query1),
+            Part::Query2 => copied(alloc, &self.query2),
+            Part::Queries => Ok(None),
+        }
+    }
+
+    fn table_file(&self, alloc: Global, name: &Txt) -> Result<Txt, NoMemory>
+        ensures { IfOk result (λ path. path ≡ table_file self.now name.now) }
+    {
+        let dir = self.dir.as_str();
+        let name = name.as_str();
+        let path = format!(in alloc; "{dir}/{name}.csv")?;
+        Ok(Txt::from_string(path))
+    }
+}
+
+fn copied(alloc: Global, name: &Option<Txt>) -> Result<Option<Txt>, NoMemory>
+    ensures { IfOk result (λ copy. copy ≡ name.now) }
+{
+    match name {
+        Some(name) => Ok(Some(name.copy(alloc)?)),
+        None => Ok(None),
+    }
+}
+
+/// The generated text of a part.
+pub(crate) fn made_part(alloc: Global, texts: &Made, part: &Part) -> Result<Bytes, NoMemory>
+    ensures { IfOk result (λ text. text ≡ made_part texts.now part.now) }
+{
+    match part {
+        Part::Schema => List::from_slice(alloc, texts.schema.as_slice()),
+        Part::Table(at, _) => match texts.files.as_slice().get(*at) {
+            Some(text) => List::from_slice(alloc, text.as_slice()),
+            None => Ok(List::new(alloc)),
+        },
+        Part::Query1 => List::from_slice(alloc, texts.query1.as_slice()),
+        Part::Query2 => List::from_slice(alloc, texts.query2.as_slice()),
+        Part::Queries => Ok(List::new(alloc)),
+    }
+}
