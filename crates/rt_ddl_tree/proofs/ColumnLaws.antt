@@ -1,14 +1,14 @@
 -- Names, kinds and the rules of a column: each reader keeps to the spelling.
-use Rattle.std.proofs.Common.{◌≡◌, ◌≤◌, ◌<◌, ◌+◌, ap, ℕ, ℤ, List, [], ◌∷◌, ◌++◌, length, refl, true, false, Option, Some, None, arith}
+use Rattle.std.proofs.Common.{◌≡◌, ◌≤◌, ◌<◌, ap, ℕ, ℤ, List, [], ◌∷◌, ◌++◌, length, refl, true, false, Option, Some, None, arith}
 use Rattle.std.specs.Prelude.{codes}
 use Rattle.std.specs.List.{flat_map}
-use Rattle.rt_grammar.specs.Readers.{Parser, both, done, lead, lead_word, list_of, made, no_other, optional, paren, read_name, starts}
+use Rattle.rt_grammar.specs.Readers.{both, done, lead, lead_word, list_of, made, no_other, optional, paren, read_name, starts}
 use Rattle.rt_grammar.specs.Terminals.{Kinds, code, front, in_paren, maybe}
 use Rattle.rt_grammar.specs.declared.fixed.Fixed.TheVariants as fixed
 use Rattle.rt_grammar.specs.declared.terminal.Name.{Name}
 use Rattle.rt_grammar.specs.declared.terminal.Terminal.TheVariants as terminal
 use Rattle.rt_grammar.proofs.FrontLemmas.{other-nat}
-use Rattle.rt_grammar.proofs.Laws.{Sound, alternative-sound, both-law, done-law, lead-law, lead-word-sound, loose, made-after, made-law, no-other-sound, optional-law, word-alternative-sound}
+use Rattle.rt_grammar.proofs.Laws.{Sound, alternative-sound, both-law, done-law, lead-law, lead-word-sound, loose, made-after, made-law, no-other-sound, optional-law, shorter, word-alternative-sound}
 use Rattle.rt_grammar.proofs.ListLaws.{StepLaw, after-law, follows, list-law, when-law}
 use Rattle.rt_grammar.proofs.ManyLemmas.{some-is}
 use Rattle.rt_ddl_tree.specs.Reads.{column_constraint_of, column_constraint_step, column_of, is_column_rule, name_step, names_of, read_column, read_column_constraint, read_column_rule, read_constraint, read_kind, read_maybe_names, read_names, read_number, read_references, read_size, read_sized_kind, references_of}
@@ -30,6 +30,9 @@ use Rattle.rt_ddl_tree.proofs.TestLaws.{condition-law}
 
 comma-name : Name → Kinds
 comma-name n = terminal.Fixed fixed.Comma ∷ spelled_name n
+
+pub name-shorter : (ks more : Kinds) (x : Name) → read_name ks ≡ Some (x, more) → length more ≤ length ks
+name-shorter ks more x e = shorter read_name spelled_name 0 0 (a-name 0 0) ks x more e
 
 pub name-step-law : (n : ℕ) → StepLaw false name_step (λ x. terminal.Fixed fixed.Comma ∷ spelled_name x) n 0 29
 name-step-law n = after-law fixed.Comma read_name spelled_name n 0 (a-name n 0) (λ e. omega arith) (λ e. omega arith) (omega arith)

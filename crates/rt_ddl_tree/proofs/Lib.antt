@@ -1,4 +1,5 @@
 pub mod ColumnLaws
+pub mod MemberLemmas
 pub mod ReaderLaws
 pub mod TestLaws
 pub mod TextLaws

@@ -1,16 +1,16 @@
 -- Conditions: each reader keeps to the spelling.
-use Rattle.std.proofs.Common.{◌≡◌, ◌≤◌, ◌<◌, ◌+◌, ap, ℕ, List, [], ◌∷◌, ◌++◌, length, refl, Bool, true, false, Option, Some, None, append_assoc, arith}
+use Rattle.std.proofs.Common.{◌≡◌, ◌≤◌, ◌<◌, ap, ℕ, List, [], ◌∷◌, ◌++◌, length, refl, Bool, true, false, Some, arith}
 use Rattle.std.specs.Prelude.{is_some}
 use Rattle.std.specs.List.{flat_map}
 use Rattle.rt_value.specs.declared.value.Op.{Op}
 use Rattle.rt_value.specs.declared.value.Op.TheVariants as op
 use Rattle.rt_grammar.specs.Comparisons.{op_at, op_sign, read_op}
-use Rattle.rt_grammar.specs.Readers.{Parser, both, done, either, flag_at, flagged, lead, list_of, made, paren, starts}
+use Rattle.rt_grammar.specs.Readers.{Parser, both, done, flag_at, flagged, lead, list_of, made, starts}
 use Rattle.rt_grammar.specs.Terminals.{Kinds, code, flag, front, in_paren}
 use Rattle.rt_grammar.specs.declared.fixed.Fixed.TheVariants as fixed
 use Rattle.rt_grammar.specs.declared.terminal.Terminal.TheVariants as terminal
 use Rattle.rt_grammar.proofs.ComparisonLaws.{op-law, op_kinds}
-use Rattle.rt_grammar.proofs.Laws.{Sound, SoundAfter, alternative-sound, both-law, done-law, either-sound, flagged-law, lead-law, loose, made-after, made-law, made-sound}
+use Rattle.rt_grammar.proofs.Laws.{Sound, SoundAfter, alternative-sound, both-law, done-law, either-sound, flagged-law, lead-law, loose, made-after, made-law, made-sound, shorter}
 use Rattle.rt_grammar.proofs.ListLaws.{StepLaw, after-law, follows, list-law}
 use Rattle.rt_grammar.proofs.ManyLemmas.{some-is}
 use Rattle.rt_ddl_tree.specs.TestReads.{between, compared, is_compared, is_null_test, is_one_of, leaf_of, leaf_step, null_of, one_of, part_of, part_step, past_side, read_between, read_bounds, read_compared, read_condition, read_form, read_is_null, read_leaf, read_negative, read_one_of, read_part, read_plain_side, read_side, read_sides, read_test, side_step, test_of}
@@ -56,6 +56,9 @@ side-reads side.Null rest = refl
 
 side-law : (n : ℕ) → Law read_side spelled_side n 0
 side-law n = loose read_side spelled_side n 0 side-sound (λ x rest h f. side-reads x rest)
+
+pub side-shorter : (ks more : Kinds) (x : TestSide) → read_side ks ≡ Some (x, more) → length more ≤ length ks
+side-shorter ks more x e = shorter read_side spelled_side 0 0 (side-law 0) ks x more e
 
 pub side-step-law : (n : ℕ) → StepLaw false side_step comma_side n 0 29
 side-step-law n = after-law fixed.Comma read_side spelled_side n 0 (side-law n) (λ e. omega arith) (λ e. omega arith) (omega arith)
@@ -206,6 +209,9 @@ leaf-law n = made-law (flagged fixed.Not read_form) leaf_of (λ (l : TestLeaf). 
     (flagged-law fixed.Not read_form spelled_form n 0 (form-law n) (λ e. omega arith) (λ e. omega arith) (λ x rest f e. form-front x rest e))
     (λ y. refl) (λ x. refl)
 
+pub leaf-shorter : (ks more : Kinds) (x : TestLeaf) → read_leaf ks ≡ Some (x, more) → length more ≤ length ks
+leaf-shorter ks more x e = shorter read_leaf spelled_leaf 0 0 (leaf-law 0) ks x more e
+
 pub leaf-step-law : (n : ℕ) → StepLaw false leaf_step and_leaf n 0 21
 leaf-step-law n = after-law fixed.And read_leaf spelled_leaf n 0 (leaf-law n) (λ e. omega arith) (λ e. omega arith) (omega arith)
 
@@ -214,6 +220,9 @@ unfolding read_part
 part-law n = made-law (both read_leaf (list_of leaf_step)) part_of (λ (p : TestPart). (p.head, p.tail)) (λ (x : TestLeaf × List TestLeaf). spelled_leaf x.0 ++ flat_map and_leaf x.1) spelled_part n 21
     (both-law read_leaf (list_of leaf_step) spelled_leaf (flat_map and_leaf) n 0 21 (leaf-law n) (list-law leaf_step and_leaf n 0 21 (leaf-step-law n)) (λ xs rest f. omega arith))
     (λ y. refl) (λ x. refl)
+
+pub part-shorter : (ks more : Kinds) (x : TestPart) → read_part ks ≡ Some (x, more) → length more ≤ length ks
+part-shorter ks more x e = shorter read_part spelled_part 0 21 (part-law 0) ks x more e
 
 pub part-step-law : (n : ℕ) → StepLaw false part_step or_part n 21 22
 part-step-law n = after-law fixed.Or read_part spelled_part n 21 (part-law n) (λ e. omega arith) (λ e. omega arith) (omega arith)

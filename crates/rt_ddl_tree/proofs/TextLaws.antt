@@ -9,7 +9,7 @@ use Rattle.rt_grammar.specs.declared.terminal.Name.{Name}
 use Rattle.rt_grammar.specs.declared.terminal.Terminal.TheVariants as terminal
 use Rattle.rt_grammar.proofs.EndLaws.{end-reads, end-sound}
 use Rattle.rt_grammar.proofs.FrontLemmas.{other-nat}
-use Rattle.rt_grammar.proofs.Laws.{Sound, alternative-sound, both-law, either-sound, lead-law, lead-word-sound, loose, made-after, made-sound, no-other-sound, word-alternative-sound}
+use Rattle.rt_grammar.proofs.Laws.{Sound, alternative-sound, both-law, either-sound, lead-law, lead-word-sound, loose, made-after, made-sound, no-other-sound, word-alternative-sound, shorter}
 use Rattle.rt_grammar.proofs.ListLaws.{StepLaw, after-law, follows, list-law, list-reads, when-law}
 use Rattle.rt_grammar.proofs.ManyLemmas.{bind-some, some-is}
 use Rattle.rt_ddl_tree.specs.Reads.{create_of, create_step, depend_of, foreign_of, is_if, is_table_rule, item_step, read_column, read_constraint, read_create, read_creates, read_depend, read_foreign, read_item, read_items, read_made, read_maybe_names, read_names, read_table_rule, read_text, rule_of, starts_more}
@@ -130,6 +130,9 @@ item-law n = loose read_item spelled_item n 28
     (made-sound (both read_constraint read_table_rule) rule_of spelled_pair spelled_item (pair-law n).sound (λ x. refl))
     (made-sound read_column item.Column spelled_column spelled_item (column-law n).sound (λ x. refl)))
     (item-reads n)
+
+pub item-shorter : (ks more : Kinds) (x : Item) → read_item ks ≡ Some (x, more) → length more ≤ length ks
+item-shorter ks more x e = shorter read_item spelled_item 0 28 (item-law 0) ks x more e
 
 pub item-step-law : (n : ℕ) → StepLaw false item_step (λ x. terminal.Fixed fixed.Comma ∷ spelled_item x) n 28 29
 item-step-law n = after-law fixed.Comma read_item spelled_item n 28 (item-law n) (λ e. omega arith) (λ e. omega arith) (omega arith)

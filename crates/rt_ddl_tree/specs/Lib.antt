@@ -1,3 +1,4 @@
+pub mod Members
 pub mod Reads
 pub mod Spelled
 pub mod TestReads

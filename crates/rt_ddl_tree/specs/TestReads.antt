@@ -2,7 +2,7 @@
 --
 -- What the reading of a schema answers is defined by them; by the law `read_is_tree` it is the tree that
 -- the tokens spell (`TestSpelled`).
-use Rattle.std.specs.Prelude.{Bool, true, false, List, [], ◌∷◌, if◌then◌else◌, Option, Some, None, is_some}
+use Rattle.std.specs.Prelude.{Bool, true, false, List, [], ◌∷◌, if◌then◌else◌, Some, None, is_some}
 use Rattle.rt_value.specs.declared.value.Op.{Op}
 use Rattle.rt_grammar.specs.Comparisons.{op_at, read_op}
 use Rattle.rt_grammar.specs.Readers.{Parser, Step, alternative, both, done, either, flag_at, flagged, lead, list_of, made, paren, starts, step_after}

@@ -1,6 +1,6 @@
 -- The tokens of a CHECK's condition (ISO/IEC 9075-2, search condition, comparison predicate, null
 -- predicate, between predicate, in predicate; the grammar stands at the types of the tree).
-use Rattle.std.specs.Prelude.{List, [], ◌∷◌, ◌++◌}
+use Rattle.std.specs.Prelude.{[], ◌∷◌, ◌++◌}
 use Rattle.std.specs.List.{flat_map}
 use Rattle.rt_grammar.specs.Comparisons.{op_sign}
 use Rattle.rt_grammar.specs.Terminals.{Kinds, flag, in_paren}

@@ -2,10 +2,11 @@
 
 ghost use Rattle.std.specs.Prelude.{◌≡◌};
 ghost use Rattle.rt_ddl_tree.specs.TestReads as spec;
-ghost use Rattle.rt_grammar.specs.Readers.{both, lead, list_of};
+ghost use Rattle.rt_grammar.specs.Readers.{lead};
 ghost use Rattle.rt_grammar.specs.Reads.{Reads};
 ghost use Rattle.rt_grammar.specs.declared.fixed.Fixed.TheVariants as fixed;
 
+use crate::member::{Member, in_parentheses, list};
 use crate::test_tree::{Test, TestForm, TestLeaf, TestPart, TestSide};
 use rt_grammar::{
     Fixed, ReadFault, Terminal, after, expect, flag, front, name_of, op_at, starts, tail,
@@ -41,71 +42,23 @@ fn negative(terminals: &[Terminal]) -> Result<(TestSide, &[Terminal]), ReadFault
     }
 }
 
-#[tactic(auto, unfolding(crate::specs::TestReads::read_side))]
-fn side<'t>(
-    alloc: Global,
-    terminals: &'t [Terminal],
-) -> Result<(TestSide, &'t [Terminal]), ReadFault>
-    ensures { Reads result (spec.read_side terminals.now) }
-{
-    if let Some(rest) = after(terminals, Fixed::Minus) {
-        return negative(rest);
-    }
-    if let Some(rest) = after(terminals, Fixed::Null) {
-        return Ok((TestSide::Null, rest));
-    }
-    plain_side(alloc, terminals)
-}
+impl Member for TestSide {
+    ghost use Rattle.rt_ddl_tree.specs.TestReads.{read_side};
 
-fn more_sides<'t>(
-    alloc: Global,
-    terminals: &'t [Terminal],
-) -> Result<(List<TestSide>, &'t [Terminal]), ReadFault>
-    ensures { Reads result (list_of spec.side_step terminals.now) }
-{
-    let mut items = List::new(alloc);
-    let mut rest = terminals;
-    'items: while let Some(next) = after(rest, Fixed::Comma) {
-        let (item, more) = side(alloc, next)?;
-        items.push(item)?;
-        rest = more;
-    }
-    Ok((items, rest))
-}
+    ghost parser = { read_side };
 
-// A side and those after it.
-fn side_list<'t>(
-    alloc: Global,
-    terminals: &'t [Terminal],
-) -> Result<((TestSide, List<TestSide>), &'t [Terminal]), ReadFault>
-    ensures { Reads result (both spec.read_side (list_of spec.side_step) terminals.now) }
-{
-    let (head, rest) = side(alloc, terminals)?;
-    match more_sides(alloc, rest) {
-        Ok((tail, rest)) => Ok(((head, tail), rest)),
-        Err(fault) => {
-            drop(head);
-            Err(fault)
+    #[tactic(auto, unfolding(crate::specs::TestReads::read_side))]
+    fn read<'t>(
+        alloc: Global,
+        terminals: &'t [Terminal],
+    ) -> Result<(TestSide, &'t [Terminal]), ReadFault> {
+        if let Some(rest) = after(terminals, Fixed::Minus) {
+            return negative(rest);
         }
-    }
-}
-
-// Sides in parentheses.
-#[tactic(auto, unfolding(crate::specs::TestReads::read_sides))]
-fn sides<'t>(
-    alloc: Global,
-    terminals: &'t [Terminal],
-) -> Result<((TestSide, List<TestSide>), &'t [Terminal]), ReadFault>
-    ensures { Reads result (spec.read_sides terminals.now) }
-{
-    let rest = expect(terminals, Fixed::Left)?;
-    let (sides, rest) = side_list(alloc, rest)?;
-    match expect(rest, Fixed::Right) {
-        Ok(rest) => Ok((sides, rest)),
-        Err(fault) => {
-            drop(sides);
-            Err(fault)
+        if let Some(rest) = after(terminals, Fixed::Null) {
+            return Ok((TestSide::Null, rest));
         }
+        plain_side(alloc, terminals)
     }
 }
 
@@ -116,11 +69,11 @@ fn compared<'t>(
 ) -> Result<(TestForm, &'t [Terminal]), ReadFault>
     ensures { Reads result (spec.read_compared terminals.now) }
 {
-    let (left, rest) = side(alloc, terminals)?;
+    let (left, rest) = TestSide::read(alloc, terminals)?;
     let Some(op) = op_at(front(rest)) else {
         return Err(ReadFault::Syntax(rest.len()));
     };
-    let (right, rest) = side(alloc, tail(rest))?;
+    let (right, rest) = TestSide::read(alloc, tail(rest))?;
     Ok((TestForm::Cmp(left, op, right), rest))
 }
 
@@ -131,7 +84,7 @@ fn is_null<'t>(
 ) -> Result<(TestForm, &'t [Terminal]), ReadFault>
     ensures { Reads result (spec.read_is_null terminals.now) }
 {
-    let (side, rest) = side(alloc, terminals)?;
+    let (side, rest) = TestSide::read(alloc, terminals)?;
     let rest = expect(rest, Fixed::Is)?;
     let (not, rest) = flag(rest, Fixed::Not);
     let rest = expect(rest, Fixed::Null)?;
@@ -139,13 +92,14 @@ fn is_null<'t>(
 }
 
 // IN and its sides.
+#[tactic(auto, unfolding(crate::specs::TestReads::read_sides))]
 fn listed<'t>(
     alloc: Global,
     terminals: &'t [Terminal],
 ) -> Result<((TestSide, List<TestSide>), &'t [Terminal]), ReadFault>
     ensures { Reads result (lead fixed.In spec.read_sides terminals.now) }
 {
-    sides(alloc, expect(terminals, Fixed::In)?)
+    in_parentheses(alloc, expect(terminals, Fixed::In)?)
 }
 
 #[tactic(auto, unfolding(crate::specs::TestReads::read_one_of))]
@@ -155,7 +109,7 @@ fn one_of<'t>(
 ) -> Result<(TestForm, &'t [Terminal]), ReadFault>
     ensures { Reads result (spec.read_one_of terminals.now) }
 {
-    let (side, rest) = side(alloc, terminals)?;
+    let (side, rest) = TestSide::read(alloc, terminals)?;
     let (not, rest) = flag(rest, Fixed::Not);
     match listed(alloc, rest) {
         Ok(((head, tail), rest)) => Ok((TestForm::OneOf(side, not, head, tail), rest)),
@@ -175,9 +129,9 @@ fn bounds<'t>(
     ensures { Reads result (spec.read_bounds terminals.now) }
 {
     let rest = expect(terminals, Fixed::Between)?;
-    let (low, rest) = side(alloc, rest)?;
+    let (low, rest) = TestSide::read(alloc, rest)?;
     let rest = expect(rest, Fixed::And)?;
-    let (high, rest) = side(alloc, rest)?;
+    let (high, rest) = TestSide::read(alloc, rest)?;
     Ok(((low, high), rest))
 }
 
@@ -188,7 +142,7 @@ fn between<'t>(
 ) -> Result<(TestForm, &'t [Terminal]), ReadFault>
     ensures { Reads result (spec.read_between terminals.now) }
 {
-    let (side, rest) = side(alloc, terminals)?;
+    let (side, rest) = TestSide::read(alloc, terminals)?;
     let (not, rest) = flag(rest, Fixed::Not);
     let ((low, high), rest) = bounds(alloc, rest)?;
     Ok((TestForm::Between(side, not, low, high), rest))
@@ -242,79 +196,43 @@ fn form<'t>(
     between(alloc, terminals)
 }
 
-#[tactic(auto, unfolding(crate::specs::TestReads::read_leaf))]
-fn leaf<'t>(
-    alloc: Global,
-    terminals: &'t [Terminal],
-) -> Result<(TestLeaf, &'t [Terminal]), ReadFault>
-    ensures { Reads result (spec.read_leaf terminals.now) }
-{
-    let (not, rest) = flag(terminals, Fixed::Not);
-    let (form, rest) = form(alloc, rest)?;
-    Ok((TestLeaf { not, form }, rest))
-}
+impl Member for TestLeaf {
+    ghost use Rattle.rt_ddl_tree.specs.TestReads.{read_leaf};
 
-fn more_leaves<'t>(
-    alloc: Global,
-    terminals: &'t [Terminal],
-) -> Result<(List<TestLeaf>, &'t [Terminal]), ReadFault>
-    ensures { Reads result (list_of spec.leaf_step terminals.now) }
-{
-    let mut items = List::new(alloc);
-    let mut rest = terminals;
-    'items: while let Some(next) = after(rest, Fixed::And) {
-        let (item, more) = leaf(alloc, next)?;
-        items.push(item)?;
-        rest = more;
-    }
-    Ok((items, rest))
-}
+    ghost parser = { read_leaf };
 
-#[tactic(auto, unfolding(crate::specs::TestReads::read_part))]
-fn part<'t>(
-    alloc: Global,
-    terminals: &'t [Terminal],
-) -> Result<(TestPart, &'t [Terminal]), ReadFault>
-    ensures { Reads result (spec.read_part terminals.now) }
-{
-    let (head, rest) = leaf(alloc, terminals)?;
-    match more_leaves(alloc, rest) {
-        Ok((tail, rest)) => Ok((TestPart { head, tail }, rest)),
-        Err(fault) => {
-            drop(head);
-            Err(fault)
-        }
+    #[tactic(auto, unfolding(crate::specs::TestReads::read_leaf))]
+    fn read<'t>(
+        alloc: Global,
+        terminals: &'t [Terminal],
+    ) -> Result<(TestLeaf, &'t [Terminal]), ReadFault> {
+        let (not, rest) = flag(terminals, Fixed::Not);
+        let (form, rest) = form(alloc, rest)?;
+        Ok((TestLeaf { not, form }, rest))
     }
 }
 
-fn more_parts<'t>(
-    alloc: Global,
-    terminals: &'t [Terminal],
-) -> Result<(List<TestPart>, &'t [Terminal]), ReadFault>
-    ensures { Reads result (list_of spec.part_step terminals.now) }
-{
-    let mut items = List::new(alloc);
-    let mut rest = terminals;
-    'items: while let Some(next) = after(rest, Fixed::Or) {
-        let (item, more) = part(alloc, next)?;
-        items.push(item)?;
-        rest = more;
+impl Member for TestPart {
+    ghost use Rattle.rt_ddl_tree.specs.TestReads.{read_part};
+
+    ghost parser = { read_part };
+
+    #[tactic(auto, unfolding(crate::specs::TestReads::read_part))]
+    fn read<'t>(
+        alloc: Global,
+        terminals: &'t [Terminal],
+    ) -> Result<(TestPart, &'t [Terminal]), ReadFault> {
+        let ((head, tail), rest) = list(alloc, terminals, Fixed::And)?;
+        Ok((TestPart { head, tail }, rest))
     }
-    Ok((items, rest))
 }
 
 #[tactic(auto, unfolding(crate::specs::TestReads::read_test))]
 fn test<'t>(alloc: Global, terminals: &'t [Terminal]) -> Result<(Test, &'t [Terminal]), ReadFault>
     ensures { Reads result (spec.read_test terminals.now) }
 {
-    let (head, rest) = part(alloc, terminals)?;
-    match more_parts(alloc, rest) {
-        Ok((tail, rest)) => Ok((Test { head, tail }, rest)),
-        Err(fault) => {
-            drop(head);
-            Err(fault)
-        }
-    }
+    let ((head, tail), rest) = list(alloc, terminals, Fixed::Or)?;
+    Ok((Test { head, tail }, rest))
 }
 
 /// A condition in parentheses.

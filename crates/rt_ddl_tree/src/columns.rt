@@ -7,6 +7,7 @@ ghost use Rattle.rt_grammar.specs.Reads.{Reads};
 ghost use Rattle.rt_grammar.specs.declared.fixed.Fixed.TheVariants as fixed;
 
 use crate::checks::condition;
+use crate::member::{Member, in_parentheses};
 use crate::tree::{Column, ColumnConstraint, ColumnRule, KindWord, Names};
 use rt_grammar::{
     Fixed, Name, ReadFault, Terminal, after, after_word, expect, expect_word, name, starts,
@@ -14,20 +15,15 @@ use rt_grammar::{
 use rt_value::List;
 use std::alloc::Global;
 
-fn more_names<'t>(
-    alloc: Global,
-    terminals: &'t [Terminal],
-) -> Result<(List<Name>, &'t [Terminal]), ReadFault>
-    ensures { Reads result (list_of spec.name_step terminals.now) }
-{
-    let mut items = List::new(alloc);
-    let mut rest = terminals;
-    'items: while let Some(next) = after(rest, Fixed::Comma) {
-        let (item, more) = name(alloc, next)?;
-        items.push(item)?;
-        rest = more;
+impl Member for Name {
+    ghost parser = { read_name };
+
+    fn read<'t>(
+        alloc: Global,
+        terminals: &'t [Terminal],
+    ) -> Result<(Name, &'t [Terminal]), ReadFault> {
+        name(alloc, terminals)
     }
-    Ok((items, rest))
 }
 
 #[tactic(auto, unfolding(crate::specs::Reads::read_names))]
@@ -37,10 +33,7 @@ pub fn names<'t>(
 ) -> Result<(Names, &'t [Terminal]), ReadFault>
     ensures { Reads result (spec.read_names terminals.now) }
 {
-    let rest = expect(terminals, Fixed::Left)?;
-    let (head, rest) = name(alloc, rest)?;
-    let (tail, rest) = more_names(alloc, rest)?;
-    let rest = expect(rest, Fixed::Right)?;
+    let ((head, tail), rest) = in_parentheses(alloc, terminals)?;
     Ok((Names { head, tail }, rest))
 }
 

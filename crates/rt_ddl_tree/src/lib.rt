@@ -6,6 +6,7 @@
 
 mod checks;
 mod columns;
+mod member;
 mod reader;
 mod tables;
 mod test_copy;

@@ -8,6 +8,7 @@ ghost use Rattle.rt_grammar.specs.declared.fixed.Fixed.TheVariants as fixed;
 
 use crate::checks::condition;
 use crate::columns::{column, constraint, maybe_names, names};
+use crate::member::{Member, in_parentheses};
 use crate::tree::{Create, Item, Names, SchemaText, TableRule};
 use rt_grammar::{
     Fixed, Name, ReadFault, Terminal, after, after_word, end, expect, expect_word, name, starts,
@@ -139,72 +140,28 @@ fn is_table_rule(terminals: &[Terminal]) -> bool
                     || (starts(terminals, Fixed::Check) || is_dependency(terminals)))))
 }
 
-#[tactic(auto, unfolding(crate::specs::Reads::read_item))]
-fn item<'t>(alloc: Global, terminals: &'t [Terminal]) -> Result<(Item, &'t [Terminal]), ReadFault>
-    ensures { Reads result (spec.read_item terminals.now) }
-{
-    if is_table_rule(terminals) {
-        let (name, rest) = constraint(alloc, terminals)?;
-        let (rule, rest) = table_rule(alloc, rest)?;
-        return Ok((Item::Rule(name, rule), rest));
-    }
-    let (column, rest) = column(alloc, terminals)?;
-    Ok((Item::Column(column), rest))
-}
+impl Member for Item {
+    ghost use Rattle.rt_ddl_tree.specs.Reads.{read_item};
 
-fn more_items<'t>(
-    alloc: Global,
-    terminals: &'t [Terminal],
-) -> Result<(List<Item>, &'t [Terminal]), ReadFault>
-    ensures { Reads result (list_of spec.item_step terminals.now) }
-{
-    let mut items = List::new(alloc);
-    let mut rest = terminals;
-    'items: while let Some(next) = after(rest, Fixed::Comma) {
-        let (item, more) = item(alloc, next)?;
-        items.push(item)?;
-        rest = more;
-    }
-    Ok((items, rest))
-}
+    ghost parser = { read_item };
 
-// An item and those after it.
-fn item_list<'t>(
-    alloc: Global,
-    terminals: &'t [Terminal],
-) -> Result<((Item, List<Item>), &'t [Terminal]), ReadFault>
-    ensures { Reads result (both spec.read_item (list_of spec.item_step) terminals.now) }
-{
-    let (head, rest) = item(alloc, terminals)?;
-    match more_items(alloc, rest) {
-        Ok((tail, rest)) => Ok(((head, tail), rest)),
-        Err(fault) => {
-            drop(head);
-            Err(fault)
+    #[tactic(auto, unfolding(crate::specs::Reads::read_item))]
+    fn read<'t>(
+        alloc: Global,
+        terminals: &'t [Terminal],
+    ) -> Result<(Item, &'t [Terminal]), ReadFault> {
+        if is_table_rule(terminals) {
+            let (name, rest) = constraint(alloc, terminals)?;
+            let (rule, rest) = table_rule(alloc, rest)?;
+            return Ok((Item::Rule(name, rule), rest));
         }
-    }
-}
-
-#[tactic(auto, unfolding(crate::specs::Reads::read_items))]
-fn items<'t>(
-    alloc: Global,
-    terminals: &'t [Terminal],
-) -> Result<((Item, List<Item>), &'t [Terminal]), ReadFault>
-    ensures { Reads result (spec.read_items terminals.now) }
-{
-    let rest = expect(terminals, Fixed::Left)?;
-    let (items, rest) = item_list(alloc, rest)?;
-    match expect(rest, Fixed::Right) {
-        Ok(rest) => Ok((items, rest)),
-        Err(fault) => {
-            drop(items);
-            Err(fault)
-        }
+        let (column, rest) = column(alloc, terminals)?;
+        Ok((Item::Column(column), rest))
     }
 }
 
 // A table's name and what it is made of.
-#[tactic(auto, unfolding(crate::specs::Reads::read_made))]
+#[tactic(auto, unfolding(crate::specs::Reads::read_made, crate::specs::Reads::read_items))]
 fn made<'t>(
     alloc: Global,
     terminals: &'t [Terminal],
@@ -212,7 +169,7 @@ fn made<'t>(
     ensures { Reads result (spec.read_made terminals.now) }
 {
     let (name, rest) = name(alloc, terminals)?;
-    let (items, rest) = items(alloc, rest)?;
+    let (items, rest) = in_parentheses(alloc, rest)?;
     Ok(((name, items), rest))
 }
 
