@@ -112,7 +112,7 @@ fn push_rule(
         RuleText::Foreign(from, name, to) => {
             rules.push(foreign_of(alloc, tables, table, from.as_slice(), name, to)?)
         }
-        RuleText::Check(test) => rules.push(Rule::Check(check_made(alloc, table, test)?)),
+        RuleText::Check(test) => rules.push(Rule::Check(check_made(alloc, table, test.get())?)),
         RuleText::Depend(from, to) => {
             rules.push(depend_of(alloc, table, from.as_slice(), to.as_slice())?)
         }

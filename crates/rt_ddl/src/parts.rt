@@ -1,6 +1,6 @@
 //! What a table's text says, part by part in text order, without the words that have no effect.
 
-use rt_ddl_tree::Test;
+use rt_ddl_tree::{Shared, Test};
 use rt_schema::Column;
 use rt_value::{List, Txt};
 
@@ -27,7 +27,7 @@ pub enum RuleText {
     Unique(List<Txt>),
     /// The referencing columns, the referenced table, and its columns if they are told.
     Foreign(List<Txt>, Txt, Option<List<Txt>>),
-    Check(Test),
+    Check(Shared<Test>),
     /// The determining columns, and those that they determine.
     Depend(List<Txt>, List<Txt>),
 }

@@ -93,7 +93,7 @@ fn column_rule(alloc: Global, column: &Txt, rule: &ColumnRule) -> Result<Option<
         ColumnRule::References(table, to) => {
             Ok(Some(column_foreign(alloc, column, &table.text, to)?))
         }
-        ColumnRule::Check(test) => Ok(Some(RuleText::Check(test.copy(alloc)?))),
+        ColumnRule::Check(test) => Ok(Some(RuleText::Check(test.share()?))),
     }
 }
 
@@ -143,7 +143,7 @@ fn table_rule(alloc: Global, rule: &TableRule) -> Result<RuleText, NoMemory>
         TableRule::PrimaryKey(columns) => Ok(RuleText::PrimaryKey(names_of(alloc, columns)?)),
         TableRule::Unique(columns) => Ok(RuleText::Unique(names_of(alloc, columns)?)),
         TableRule::Foreign(from, table, to) => table_foreign(alloc, from, &table.text, to),
-        TableRule::Check(test) => Ok(RuleText::Check(test.copy(alloc)?)),
+        TableRule::Check(test) => Ok(RuleText::Check(test.share()?)),
         TableRule::Depend(from, to) => {
             let from = names_of(alloc, from)?;
             Ok(RuleText::Depend(from, names_of(alloc, to)?))

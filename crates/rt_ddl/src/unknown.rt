@@ -66,7 +66,7 @@ fn rule_unknown<'t>(tables: &KnownTables, table: &KnownTable, rule: &'t RuleText
             Some(column) => Some(column),
             None => target_unknown(name, tables.named(name), to),
         },
-        RuleText::Check(test) => test_unknown(table, test),
+        RuleText::Check(test) => test_unknown(table, test.get()),
         RuleText::Depend(from, to) => match missing(table, from.as_slice()) {
             Some(column) => Some(column),
             None => missing(table, to.as_slice()),

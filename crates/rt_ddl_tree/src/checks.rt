@@ -7,6 +7,7 @@ ghost use Rattle.rt_grammar.specs.Reads.{Reads};
 ghost use Rattle.rt_grammar.specs.declared.fixed.Fixed.TheVariants as fixed;
 
 use crate::member::{Member, in_parentheses, list};
+use crate::shared::Shared;
 use crate::test_tree::{Test, TestForm, TestLeaf, TestPart, TestSide};
 use rt_grammar::{
     Fixed, ReadFault, Terminal, after, expect, flag, front, name_of, op_at, starts, tail,
@@ -228,11 +229,15 @@ impl Member for TestPart {
 }
 
 #[tactic(auto, unfolding(crate::specs::TestReads::read_test))]
-fn test<'t>(alloc: Global, terminals: &'t [Terminal]) -> Result<(Test, &'t [Terminal]), ReadFault>
+fn test<'t>(
+    alloc: Global,
+    terminals: &'t [Terminal],
+) -> Result<(Shared<Test>, &'t [Terminal]), ReadFault>
     ensures { Reads result (spec.read_test terminals.now) }
 {
     let ((head, tail), rest) = list(alloc, terminals, Fixed::Or)?;
-    Ok((Test { head, tail }, rest))
+    let test = Shared::new(alloc, Test { head, tail })?;
+    Ok((test, rest))
 }
 
 /// A condition in parentheses.
@@ -240,7 +245,7 @@ fn test<'t>(alloc: Global, terminals: &'t [Terminal]) -> Result<(Test, &'t [Term
 pub fn condition<'t>(
     alloc: Global,
     terminals: &'t [Terminal],
-) -> Result<(Test, &'t [Terminal]), ReadFault>
+) -> Result<(Shared<Test>, &'t [Terminal]), ReadFault>
     ensures { Reads result (spec.read_condition terminals.now) }
 {
     let rest = expect(terminals, Fixed::Left)?;

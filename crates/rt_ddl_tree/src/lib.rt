@@ -8,12 +8,13 @@ mod checks;
 mod columns;
 mod member;
 mod reader;
+mod shared;
 mod tables;
-mod test_copy;
 mod test_tree;
 mod tree;
 
 pub use reader::{one_tree, read_is_tree, read_tree};
+pub use shared::Shared;
 pub use test_tree::{Test, TestForm, TestLeaf, TestPart, TestSide};
 pub use tree::{
     Column, ColumnConstraint, ColumnRule, Create, Item, KindWord, Names, SchemaText, TableRule,

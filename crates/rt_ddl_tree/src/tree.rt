@@ -1,5 +1,6 @@
 //! The tree of a schema text, one type a line of the grammar.
 
+use crate::shared::Shared;
 use crate::test_tree::Test;
 use rt_grammar::Name;
 use rt_value::List;
@@ -63,7 +64,7 @@ pub enum ColumnRule {
     PrimaryKey,
     Unique,
     References(Name, Option<Name>),
-    Check(Test),
+    Check(Shared<Test>),
 }
 
 /// `PRIMARY KEY names | UNIQUE names | FOREIGN KEY names REFERENCES name [ names ]
@@ -73,7 +74,7 @@ pub enum TableRule {
     PrimaryKey(Names),
     Unique(Names),
     Foreign(Names, Name, Option<Names>),
-    Check(Test),
+    Check(Shared<Test>),
     Depend(Names, Names),
 }
 

@@ -1,0 +1,45 @@
+ghost use Rattle.std.specs.Prelude.{◌≡◌, IfOk};
+
+use rt_value::NoMemory;
+use std::alloc::Global;
+use std::marker::Model;
+use std::rc::Rc;
+
+/// A value with several owners, that contracts see as the value.
+#[derive(Drop)]
+pub struct Shared<T> {
+    owner: Rc<T>,
+}
+
+impl<T> Model for Shared<T> {
+    ghost Value = { T };
+
+    ghost coded = { T.code };
+
+    ghost view = { λ s. s.owner.value };
+}
+
+impl<T> Shared<T> {
+    pub fn get(&self) -> &T
+        ensures { result.now ≡ self.now }
+    {
+        self.owner.as_ref()
+    }
+}
+
+impl<T: Drop> Shared<T> {
+    pub fn new(alloc: Global, value: T) -> Result<Shared<T>, NoMemory>
+        ensures { IfOk result (λ s. s ≡ value) }
+    {
+        let owner = Rc::new(alloc, value)?;
+        Ok(Shared { owner })
+    }
+
+    /// One more owner of the value.
+    pub fn share(&self) -> Result<Shared<T>, NoMemory>
+        ensures { IfOk result (λ s. s ≡ self.now) }
+    {
+        let owner = self.owner.clone()?;
+        Ok(Shared { owner })
+    }
+}
