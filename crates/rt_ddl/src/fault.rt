@@ -6,7 +6,7 @@ use rt_token::LexFault;
 use rt_value::{NoMemory, Txt};
 
 /// What a schema has too many of. The text is the table's name.
-#[derive(PartialEq, Eq, Debug, Drop)]
+#[derive(Debug, Drop)]
 pub enum Excess {
     Tables,
     Columns(Txt),
@@ -16,7 +16,7 @@ pub enum Excess {
 
 /// Why a text makes no schema. The faults are tested in this order, each over the whole text; of
 /// those of one kind the first in the text is told.
-#[derive(PartialEq, Eq, Debug, Drop)]
+#[derive(Debug, Drop)]
 pub enum SchemaFault {
     Lex(LexFault),
     /// The tokens are those of no schema. The place is the start of a token or the end of the last
