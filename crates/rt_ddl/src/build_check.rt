@@ -1,42 +1,33 @@
 //! The checks that conditions make.
 
-ghost use Rattle.std.specs.Prelude.{◌≡◌, ◌∷◌, IfOk, map};
+ghost use Rattle.std.specs.Prelude.{◌≡◌, IfOk};
 ghost use Rattle.rt_ddl.specs.Checks as spec;
 ghost use Rattle.rt_ddl.specs.Meaning.{column_at, columns_of};
 ghost use Rattle.rt_schema.specs.declared.check.CheckLeaf.TheVariants as leaves;
 
 use crate::known::KnownTable;
+use crate::made::{Makes, all_made};
 use rt_ddl_tree::{Test, TestForm, TestLeaf, TestPart, TestSide};
 use rt_schema::{Check, CheckAtom, CheckLeaf, CheckPart, Side};
-use rt_value::{List, NoMemory, Value};
+use rt_value::{NoMemory, Value};
 use std::alloc::Global;
 
-fn side_made(alloc: Global, table: &KnownTable, side: &TestSide) -> Result<Side, NoMemory>
-    ensures { IfOk result (λ s. s ≡ spec.side_made (column_at (columns_of table.now.parts)) side.now) }
-{
-    match side {
-        TestSide::Column(name) => Ok(Side::Column(table.column_at(&name.text))),
-        TestSide::Number(false, number) => Ok(Side::Constant(Value::Int(*number))),
-        TestSide::Number(true, number) => Ok(Side::Constant(Value::Int(number.wrapping_neg()))),
-        TestSide::Str(text) => Ok(Side::Constant(Value::Text(text.copy(alloc)?))),
-        TestSide::Null => Ok(Side::Constant(Value::Null)),
-    }
-}
+impl Makes for TestSide {
+    ghost use Rattle.rt_ddl.specs.Checks.{side_made};
 
-fn sides_made(
-    alloc: Global,
-    table: &KnownTable,
-    head: &TestSide,
-    tail: &[TestSide],
-) -> Result<List<Side>, NoMemory>
-    ensures { let place = column_at (columns_of table.now.parts) in IfOk result (λ ss. ss ≡ spec.side_made place head.now ∷ map (spec.side_made place) tail.now) }
-{
-    let mut made = List::new(alloc);
-    made.push(side_made(alloc, table, head)?)?;
-    for side in tail {
-        made.push(side_made(alloc, table, side)?)?;
+    type Made = Side;
+
+    ghost of_places = { side_made };
+
+    fn made(&self, alloc: Global, table: &KnownTable) -> Result<Side, NoMemory> {
+        match self {
+            TestSide::Column(name) => Ok(Side::Column(table.column_at(&name.text))),
+            TestSide::Number(false, number) => Ok(Side::Constant(Value::Int(*number))),
+            TestSide::Number(true, number) => Ok(Side::Constant(Value::Int(number.wrapping_neg()))),
+            TestSide::Str(text) => Ok(Side::Constant(Value::Text(text.copy(alloc)?))),
+            TestSide::Null => Ok(Side::Constant(Value::Null)),
+        }
     }
-    Ok(made)
 }
 
 fn two_made(
@@ -47,8 +38,8 @@ fn two_made(
 ) -> Result<(Side, Side), NoMemory>
     ensures { let place = column_at (columns_of table.now.parts) in IfOk result (λ two. two ≡ (spec.side_made place first.now, spec.side_made place second.now)) }
 {
-    let first = side_made(alloc, table, first)?;
-    match side_made(alloc, table, second) {
+    let first = first.made(alloc, table)?;
+    match second.made(alloc, table) {
         Ok(second) => Ok((first, second)),
         Err(error) => {
             drop(first);
@@ -66,7 +57,7 @@ fn between_made(
 ) -> Result<CheckLeaf, NoMemory>
     ensures { let place = column_at (columns_of table.now.parts) in IfOk result (λ l. l ≡ leaves.Between (spec.side_made place left.now) (spec.side_made place low.now) (spec.side_made place high.now)) }
 {
-    let left = side_made(alloc, table, left)?;
+    let left = left.made(alloc, table)?;
     match two_made(alloc, table, low, high) {
         Ok((low, high)) => Ok(CheckLeaf::Between(left, low, high)),
         Err(error) => {
@@ -84,11 +75,11 @@ fn form_made(alloc: Global, table: &KnownTable, form: &TestForm) -> Result<Check
             let (left, right) = two_made(alloc, table, left, right)?;
             Ok(CheckLeaf::Cmp(*op, left, right))
         }
-        TestForm::IsNull(left, _) => Ok(CheckLeaf::IsNull(side_made(alloc, table, left)?)),
+        TestForm::IsNull(left, _) => Ok(CheckLeaf::IsNull(left.made(alloc, table)?)),
         TestForm::Between(left, _, low, high) => between_made(alloc, table, left, low, high),
         TestForm::OneOf(left, _, head, tail) => {
-            let items = sides_made(alloc, table, head, tail.as_slice())?;
-            Ok(CheckLeaf::OneOf(side_made(alloc, table, left)?, items))
+            let items = all_made(alloc, table, head, tail.as_slice())?;
+            Ok(CheckLeaf::OneOf(left.made(alloc, table)?, items))
         }
     }
 }
@@ -105,34 +96,38 @@ fn form_not(form: &TestForm) -> bool
     }
 }
 
-fn leaf_made(alloc: Global, table: &KnownTable, leaf: &TestLeaf) -> Result<CheckAtom, NoMemory>
-    ensures { IfOk result (λ a. a ≡ spec.leaf_made (column_at (columns_of table.now.parts)) leaf.now) }
-{
-    let inside = form_not(&leaf.form);
-    let not = if leaf.not { !inside } else { inside };
-    let of = form_made(alloc, table, &leaf.form)?;
-    Ok(CheckAtom { not, of })
+impl Makes for TestLeaf {
+    ghost use Rattle.rt_ddl.specs.Checks.{leaf_made};
+
+    type Made = CheckAtom;
+
+    ghost of_places = { leaf_made };
+
+    fn made(&self, alloc: Global, table: &KnownTable) -> Result<CheckAtom, NoMemory> {
+        let inside = form_not(&self.form);
+        let not = if self.not { !inside } else { inside };
+        let of = form_made(alloc, table, &self.form)?;
+        Ok(CheckAtom { not, of })
+    }
 }
 
-fn part_made(alloc: Global, table: &KnownTable, part: &TestPart) -> Result<CheckPart, NoMemory>
-    ensures { IfOk result (λ p. p ≡ spec.part_made (column_at (columns_of table.now.parts)) part.now) }
-{
-    let mut all = List::new(alloc);
-    all.push(leaf_made(alloc, table, &part.head)?)?;
-    for leaf in part.tail.as_slice() {
-        all.push(leaf_made(alloc, table, leaf)?)?;
+impl Makes for TestPart {
+    ghost use Rattle.rt_ddl.specs.Checks.{part_made};
+
+    type Made = CheckPart;
+
+    ghost of_places = { part_made };
+
+    fn made(&self, alloc: Global, table: &KnownTable) -> Result<CheckPart, NoMemory> {
+        let all = all_made(alloc, table, &self.head, self.tail.as_slice())?;
+        Ok(CheckPart { all })
     }
-    Ok(CheckPart { all })
 }
 
 /// The check over the table's columns, where no name is unknown.
 pub fn check_made(alloc: Global, table: &KnownTable, test: &Test) -> Result<Check, NoMemory>
     ensures { IfOk result (λ c. c ≡ spec.check_made (column_at (columns_of table.now.parts)) test.now) }
 {
-    let mut any = List::new(alloc);
-    any.push(part_made(alloc, table, &test.head)?)?;
-    for part in test.tail.as_slice() {
-        any.push(part_made(alloc, table, part)?)?;
-    }
+    let any = all_made(alloc, table, &test.head, test.tail.as_slice())?;
     Ok(Check { any })
 }

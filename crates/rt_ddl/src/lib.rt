@@ -10,6 +10,7 @@ mod fault;
 mod known;
 mod known_tables;
 mod limits;
+mod made;
 mod matches;
 mod name_list;
 mod parts;
