@@ -9,13 +9,24 @@ use std::alloc::Global;
 use std::marker::Model;
 
 /// A table's text. To find a column takes time in the logarithm of their number.
-#[derive(Drop)]
 pub struct KnownTable {
     text: TableText,
     columns: List<Column>,
     names: NameList,
     has_primary: bool,
     primary: List<Txt>,
+}
+
+impl Drop for KnownTable {
+    fn drop(self) {
+        let KnownTable {
+            text: _,
+            columns: _,
+            names: _,
+            has_primary: _,
+            primary: _,
+        } = self;
+    }
 }
 
 impl Model for KnownTable {

@@ -9,10 +9,15 @@ use std::collections::BTreeMap;
 use std::marker::Model;
 
 /// Names in an order. To find one takes time in the logarithm of their number.
-#[derive(Drop)]
 pub struct NameList {
     list: List<Txt>,
     places: BTreeMap<Txt, usize>,
+}
+
+impl Drop for NameList {
+    fn drop(self) {
+        let NameList { list: _, places: _ } = self;
+    }
 }
 
 impl Model for NameList {

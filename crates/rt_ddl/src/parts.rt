@@ -5,10 +5,15 @@ use rt_schema::Column;
 use rt_value::{List, Txt};
 
 /// A table's name and its parts, in text order.
-#[derive(Drop)]
 pub struct TableText {
     pub name: Txt,
     pub parts: List<Part>,
+}
+
+impl Drop for TableText {
+    fn drop(self) {
+        let TableText { name: _, parts: _ } = self;
+    }
 }
 
 /// A column, or a rule; a rule tells whether it stands for itself or with a column.

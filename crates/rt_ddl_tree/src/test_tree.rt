@@ -1,13 +1,18 @@
-//! The tree of a CHECK's condition, one type a line of the grammar.
+//! The tree of a CHECK's condition, one type a line of the grammar, dropped as those of `tree` are.
 
 use rt_grammar::Name;
 use rt_value::{List, Op, Txt};
 
 /// `part { OR part }`
-#[derive(Drop)]
 pub struct Test {
     pub head: TestPart,
     pub tail: List<TestPart>,
+}
+
+impl Drop for Test {
+    fn drop(self) {
+        let Test { head: _, tail: _ } = self;
+    }
 }
 
 /// `leaf { AND leaf }`
@@ -26,7 +31,6 @@ pub struct TestLeaf {
 
 /// `side op side | side IS [ NOT ] NULL | side [ NOT ] BETWEEN side AND side
 /// | side [ NOT ] IN "(" side { "," side } ")"`. The bool tells whether this NOT stands there.
-#[derive(Drop)]
 pub enum TestForm {
     Cmp(TestSide, Op, TestSide),
     IsNull(TestSide, bool),
@@ -34,11 +38,32 @@ pub enum TestForm {
     OneOf(TestSide, bool, TestSide, List<TestSide>),
 }
 
+impl Drop for TestForm {
+    fn drop(self) {
+        match self {
+            TestForm::Cmp(_, _, _) => {}
+            TestForm::IsNull(_, _) => {}
+            TestForm::Between(_, _, _, _) => {}
+            TestForm::OneOf(_, _, _, _) => {}
+        }
+    }
+}
+
 /// `name | [ "-" ] number | text | NULL`. The bool tells whether a minus stands there.
-#[derive(Drop)]
 pub enum TestSide {
     Column(Name),
     Number(bool, i128),
     Str(Txt),
     Null,
+}
+
+impl Drop for TestSide {
+    fn drop(self) {
+        match self {
+            TestSide::Column(_) => {}
+            TestSide::Number(_, _) => {}
+            TestSide::Str(_) => {}
+            TestSide::Null => {}
+        }
+    }
 }

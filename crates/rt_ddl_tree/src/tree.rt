@@ -1,4 +1,7 @@
 //! The tree of a schema text, one type a line of the grammar.
+//!
+//! A type with forms or trees in it has a `drop` of its own, which is called wherever one goes; a
+//! derived one is written out there, in each crate, with all forms.
 
 use crate::shared::Shared;
 use crate::test_tree::Test;
@@ -6,15 +9,22 @@ use rt_grammar::Name;
 use rt_value::List;
 
 /// `[ create { ";" create } [ ";" ] ]`
-#[derive(Drop)]
 pub enum SchemaText {
     Empty,
     /// The first table, the others, and whether a semicolon ends the text.
     Creates(Create, List<Create>, bool),
 }
 
+impl Drop for SchemaText {
+    fn drop(self) {
+        match self {
+            SchemaText::Empty => {}
+            SchemaText::Creates(_, _, _) => {}
+        }
+    }
+}
+
 /// `CREATE TABLE [ IF NOT EXISTS ] name "(" item { "," item } ")"`
-#[derive(Drop)]
 pub struct Create {
     pub if_not_exists: bool,
     pub name: Name,
@@ -22,11 +32,30 @@ pub struct Create {
     pub tail: List<Item>,
 }
 
+impl Drop for Create {
+    fn drop(self) {
+        let Create {
+            if_not_exists: _,
+            name: _,
+            head: _,
+            tail: _,
+        } = self;
+    }
+}
+
 /// `column | [ CONSTRAINT name ] table rule`
-#[derive(Drop)]
 pub enum Item {
     Column(Column),
     Rule(Option<Name>, TableRule),
+}
+
+impl Drop for Item {
+    fn drop(self) {
+        match self {
+            Item::Column(_) => {}
+            Item::Rule(_, _) => {}
+        }
+    }
 }
 
 /// `name kind { [ CONSTRAINT name ] column rule }`
@@ -69,7 +98,6 @@ pub enum ColumnRule {
 
 /// `PRIMARY KEY names | UNIQUE names | FOREIGN KEY names REFERENCES name [ names ]
 /// | CHECK "(" test ")" | DEPENDENCY names DETERMINES names`
-#[derive(Drop)]
 pub enum TableRule {
     PrimaryKey(Names),
     Unique(Names),
@@ -78,9 +106,26 @@ pub enum TableRule {
     Depend(Names, Names),
 }
 
+impl Drop for TableRule {
+    fn drop(self) {
+        match self {
+            TableRule::PrimaryKey(_) => {}
+            TableRule::Unique(_) => {}
+            TableRule::Foreign(_, _, _) => {}
+            TableRule::Check(_) => {}
+            TableRule::Depend(_, _) => {}
+        }
+    }
+}
+
 /// `"(" name { "," name } ")"`
-#[derive(Drop)]
 pub struct Names {
     pub head: Name,
     pub tail: List<Name>,
+}
+
+impl Drop for Names {
+    fn drop(self) {
+        let Names { head: _, tail: _ } = self;
+    }
 }
