@@ -112,13 +112,8 @@ fn one_of<'t>(
 {
     let (side, rest) = TestSide::read(alloc, terminals)?;
     let (not, rest) = flag(rest, Fixed::Not);
-    match listed(alloc, rest) {
-        Ok(((head, tail), rest)) => Ok((TestForm::OneOf(side, not, head, tail), rest)),
-        Err(fault) => {
-            drop(side);
-            Err(fault)
-        }
-    }
+    let ((head, tail), rest) = listed(alloc, rest)?;
+    Ok((TestForm::OneOf(side, not, head, tail), rest))
 }
 
 // BETWEEN and its bounds.
@@ -250,11 +245,6 @@ pub fn condition<'t>(
 {
     let rest = expect(terminals, Fixed::Left)?;
     let (test, rest) = test(alloc, rest)?;
-    match expect(rest, Fixed::Right) {
-        Ok(rest) => Ok((test, rest)),
-        Err(fault) => {
-            drop(test);
-            Err(fault)
-        }
-    }
+    let rest = expect(rest, Fixed::Right)?;
+    Ok((test, rest))
 }

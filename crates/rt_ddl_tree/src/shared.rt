@@ -6,9 +6,14 @@ use std::marker::Model;
 use std::rc::Rc;
 
 /// A value with several owners, that contracts see as the value.
-#[derive(Drop)]
 pub struct Shared<T> {
     owner: Rc<T>,
+}
+
+impl<T: Drop> Drop for Shared<T> {
+    fn drop(self) {
+        let Shared { owner: _ } = self;
+    }
 }
 
 impl<T> Model for Shared<T> {

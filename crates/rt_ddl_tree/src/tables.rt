@@ -261,13 +261,8 @@ fn creates<'t>(
     ensures { Reads result (both spec.read_create (list_of spec.create_step) terminals.now) }
 {
     let (head, rest) = create(alloc, terminals)?;
-    match more_creates(alloc, rest) {
-        Ok((tail, rest)) => Ok(((head, tail), rest)),
-        Err(fault) => {
-            drop(head);
-            Err(fault)
-        }
-    }
+    let (tail, rest) = more_creates(alloc, rest)?;
+    Ok(((head, tail), rest))
 }
 
 /// The tree of all the terminals.
@@ -279,11 +274,6 @@ pub fn text(alloc: Global, terminals: &[Terminal]) -> Result<SchemaText, ReadFau
         return Ok(SchemaText::Empty);
     }
     let ((head, tail), rest) = creates(alloc, terminals)?;
-    match end(rest) {
-        Ok(semi) => Ok(SchemaText::Creates(head, tail, semi)),
-        Err(fault) => {
-            drop((head, tail));
-            Err(fault)
-        }
-    }
+    let semi = end(rest)?;
+    Ok(SchemaText::Creates(head, tail, semi))
 }
