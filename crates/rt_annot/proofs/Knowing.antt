@@ -1,21 +1,22 @@
 -- What is known of subqueries stays known, and holds under any rows in scope.
-use Rattle.std.proofs.Common.{◌≡◌, ℕ, zero, suc, ◌+◌, ◌<◌, add-one, take, ◌++◌, Bool, List, [], ◌∷◌, Option, None, Some, IfSome, length, map, get_or, set, Bor, refl, sym, subst, ap, arith, ◌∙◌}
+use Rattle.std.proofs.Common.{◌≡◌, ℕ, zero, suc, ◌<◌, ◌++◌, Bool, List, [], ◌∷◌, Option, None, Some, IfSome, length, get_or, refl, ap, sym, subst, arith, ◌∙◌}
 use mathlib.Core.Path.{fun_ext}
-use Rattle.std.specs.Option.{unwrap_or}
-use Rattle.std.proofs.lemmas.List.{length-map, length-set}
+use Rattle.std.proofs.lemmas.List.Elements.{All-append}
+use Rattle.std.specs.List.{All as Each}
 use Rattle.rt_value.specs.declared.value.Value.TheVariants.{Null}
 use Rattle.rt_value.specs.Value.{value_eq}
 use Rattle.rt_schema.specs.Given.{Rows, Tables}
 use Rattle.rt_schema.specs.Kept.{kept}
 use Rattle.rt_algebra.specs.Answer.{answer_by}
-use Rattle.rt_algebra.specs.Expression.{wrapped, Env}
+use Rattle.rt_algebra.specs.Expression.{wrapped}
 use Rattle.rt_algebra.specs.declared.query.Query.{Query}
 use Rattle.rt_formula.specs.Shared.{Shared, IsGrown}
 use Rattle.rt_formula.specs.Groups.{group_at}
 use Rattle.rt_annot.specs.declared.known.Found.{Found}
+use Rattle.rt_annot.specs.declared.subquery.Subquery.{Subquery}
 use Rattle.rt_annot.specs.Stays.{StaysQuery}
 use Rattle.rt_annot.specs.Annotated.{SameRows}
-use Rattle.rt_annot.specs.Known.{IsOver, Tells, IsKnown, AreKnown, AreClosed, exists_test, first_of, has_first}
+use Rattle.rt_annot.specs.Known.{IsOver, Tells, TellsOf, AreKnown, exists_test, first_of, has_first}
 use Rattle.rt_annot.proofs.Alike.{same_some_no, same_some_yes}
 use Rattle.rt_annot.proofs.Growing.{longer, nodes_stay, any_stays, gate_stays, node_as, node_stays}
 use Rattle.rt_annot.proofs.Layers.{gate_as}
@@ -47,95 +48,48 @@ tells_same {d} {f} {answer} other h t = record {
   firsts = λ x s. t.firsts x s ∙ any_is (λ r. value_eq x (first_of r)) (answer s) (other s) (h s);
 }
 
-pub known_stay : {old now : Shared} {given : Tables} {qs : List Query} {fs : List (Option Found)} → IsGrown old now → AreKnown old given qs fs → AreKnown now given qs fs
-known_stay g a = record {
-  one_each = a.one_each;
-  each = λ k q f l. record { stays = (a.each k q f l).stays; tells = λ x e. tells_stay g ((a.each k q f l).tells x e) };
-}
+pub known_stay : {old now : Shared} {given : Tables} {ks : List Subquery} → IsGrown old now → AreKnown old given ks → AreKnown now given ks
+known_stay g a = record { each = λ i k l env. tells_stay g (a.each i k l env) }
 
--- nothing is known at first
-abbrev unknown : Bor Query → Option Found
-unknown b = None
+pub none_known : (d : Shared) (given : Tables) {ks : List Subquery} → ks ≡ [] → AreKnown d given ks
+none_known d given e = let P : List Subquery → Type 0 = AreKnown d given in subst P (sym e) (record { each = λ i k l. absurd (omega arith) })
 
-unknown_next : (bs : List (Bor Query)) (k : ℕ) → k < length bs → map unknown (take (suc k) bs) ≡ map unknown (take k bs) ++ None ∷ []
-unknown_next [] k l = absurd (omega arith)
-unknown_next (b ∷ bs) zero l = refl
-unknown_next (b ∷ bs) (suc k) l = ap (λ (fs : List (Option Found)). None ∷ fs) (unknown_next bs k (omega arith))
+-- what a query that names no row outside of it comes to with no rows in scope, it comes to under any
+pub tells_under : {d : Shared} (given : Tables) {f : Found} (q : Query) → StaysQuery 0 q → Tells d f (λ s. answer_by wrapped q (kept given s) []) → TellsOf d given q f
+tells_under given q h t env = tells_as (λ s. answer_by wrapped q (kept given s) env) (λ s. sym (h (kept given s) [] env refl)) t
 
-pub unknown_more : (bs : List (Bor Query)) (k : ℕ) → k < length bs → map unknown (take (k + 1) bs) ≡ map unknown (take k bs) ++ None ∷ []
-unknown_more bs k l = ap (λ i. map unknown (take i bs)) (add-one k) ∙ unknown_next bs k l
+-- one more is known
+one_known : {d : Shared} (given : Tables) (k : Subquery) → TellsOf d given k.query.now k.found → Each (λ x. TellsOf d given x.query.now x.found) (k ∷ [])
+one_known given k t zero x l = t
+one_known given k t (suc i) x l = absurd (omega arith)
 
-nothing : {d : Shared} {answer : List Bool → Rows} (bs : List (Bor Query)) (k : ℕ) (f : Option Found) → k < length bs → (x : Found) → get_or (map unknown bs) k f ≡ Some x → Tells d x answer
-nothing [] k f l x n = absurd (omega arith)
-nothing (b ∷ bs) zero f l x n = absurd (cc)
-nothing (b ∷ bs) (suc k) f l x n = nothing bs k f (omega arith) x n
+pub known_more : {d : Shared} {given : Tables} {ks new : List Subquery} (k : Subquery) → AreKnown d given ks → TellsOf d given k.query.now k.found → new ≡ ks ++ k ∷ [] → AreKnown d given new
+known_more {d} {given} {ks} k a t e =
+    let P : List Subquery → Type 0 = AreKnown d given in
+    subst P (sym e) (record { each = All-append (λ (x : Subquery). TellsOf d given x.query.now x.found) ks (k ∷ []) a.each (one_known given k t) })
 
-pub none_known : {d : Shared} {given : Tables} (bs cs : List (Bor Query)) (fs : List (Option Found)) → bs ≡ cs → AreClosed (map (λ q. q.now) cs) → fs ≡ map unknown bs → AreKnown d given (map (λ q. q.now) bs) fs
-none_known {d} {given} bs cs fs same closed e =
-    let P : List (Option Found) → Type 0 = AreKnown d given (map (λ q. q.now) bs) in
-    let Q : List (Bor Query) → Type 0 = λ xs. AreClosed (map (λ q. q.now) xs) in
-    let h : AreClosed (map (λ q. q.now) bs) = subst Q (sym same) closed in
-    subst P (sym e) (record {
-      one_each = length-map bs unknown ∙ sym (length-map bs (λ (b : Bor Query). b.now));
-      each = λ k q f l. record { stays = h k q l; tells = λ x n. nothing bs k f (let m = length-map bs (λ (b : Bor Query). b.now) in omega (arith, l, m)) x n };
-    })
+-- what is known at the place of a query
+pub known_places : {d : Shared} {given : Tables} {ks js : List Subquery} (q : Query) (place : Option ℕ) → AreKnown d given ks → js ≡ ks → IfSome place (λ i. i < length js) → IfSome place (λ i. (k : Subquery) → (get_or js i k).query.now ≡ q)
+    → IfSome place (λ i. (k : Subquery) → TellsOf d given q (get_or ks i k).found)
+known_places q None a e l h = tt
+known_places {d} {given} {ks} q (Some i) a e l h = λ k.
+    let P : Query → Type 0 = λ p. TellsOf d given p (get_or ks i k).found in
+    let n : i < length ks = (let m = ap length e in omega arith) in
+    subst P (ap (λ (xs : List Subquery). (get_or xs i k).query.now) (sym e) ∙ h k) (a.each i k n)
 
--- the query at a place names no row outside of it
-stays_at : {d : Shared} {given : Tables} {fs : List (Option Found)} (bs : List (Bor Query)) (q : Query) (k : ℕ) → AreKnown d given (map (λ q. q.now) bs) fs → k < length bs → get_or (map (λ q. q.now) bs) k q ≡ q → StaysQuery 0 q
-stays_at {d} {given} {fs} bs q k a l e =
-    let m = length-map bs (λ (b : Bor Query). b.now) in
-    let P : Query → Type 0 = StaysQuery 0 in
-    subst P e (a.each k q None (omega (arith, l, m))).stays
+pub known_place : {d : Shared} (given : Tables) (q : Query) {ks js : List Subquery} (place : Option ℕ) (i : ℕ) (k : Subquery) → place ≡ Some i → IfSome place (λ i. (k : Subquery) → TellsOf d given q (get_or ks i k).found) → js ≡ ks
+    → TellsOf d given q (get_or js i k).found
+known_place {d} given q {ks} {js} place i k e t h =
+    let P : Option ℕ → Type 0 = λ o. IfSome o (λ i. (k : Subquery) → TellsOf d given q (get_or ks i k).found) in
+    let Q : List Subquery → Type 0 = λ xs. TellsOf d given q (get_or xs i k).found in
+    let here : (k : Subquery) → TellsOf d given q (get_or ks i k).found = subst P e t in
+    subst Q (sym h) (here k)
 
--- what a query comes to with no rows in scope, it comes to under any
-pub tells_under : {d e : Shared} {given : Tables} {fs : List (Option Found)} {f : Found} (bs : List (Bor Query)) (q : Query) (k : ℕ) (env : Env) → AreKnown d given (map (λ q. q.now) bs) fs → k < length bs
-    → get_or (map (λ q. q.now) bs) k q ≡ q → Tells e f (λ s. answer_by wrapped q (kept given s) []) → Tells e f (λ s. answer_by wrapped q (kept given s) env)
-tells_under {d} {e} {given} bs q k env a l h t = tells_as (λ s. answer_by wrapped q (kept given s) env) (λ s. sym (stays_at bs q k a l h (kept given s) [] env refl)) t
+last_is : (ks : List Subquery) (k d : Subquery) → get_or (ks ++ k ∷ []) (length ks) d ≡ k
+last_is [] k d = refl
+last_is (x ∷ ks) k d = last_is ks k d
 
--- what is known at the place of a query tells of its rows under any rows in scope
-pub known_at : {d : Shared} {given : Tables} {fs : List (Option Found)} (bs : List (Bor Query)) (q : Query) (f : Found) (k : ℕ) (env : Env) → AreKnown d given (map (λ q. q.now) bs) fs → k < length bs
-    → get_or (map (λ q. q.now) bs) k q ≡ q → get_or fs k None ≡ Some f → Tells d f (λ s. answer_by wrapped q (kept given s) env)
-known_at {d} {given} {fs} bs q f k env a l e h =
-    let m = length-map bs (λ (b : Bor Query). b.now) in
-    let P : Query → Type 0 = λ p. Tells d f (λ s. answer_by wrapped p (kept given s) []) in
-    tells_under bs q k env a l e (subst P e ((a.each k q None (omega (arith, l, m))).tells f h))
-
-past_end : (fs : List (Option Found)) (f : Found) → get_or fs (length fs) None ≡ Some f → ⊥
-past_end [] f e = cc
-past_end (g ∷ fs) f e = past_end fs f e
-
--- the same where there is such a place
-pub known_place : {d : Shared} {given : Tables} {fs : List (Option Found)} (bs : List (Bor Query)) (q : Query) (f : Found) (place : Option ℕ) (env : Env) → AreKnown d given (map (λ q. q.now) bs) fs → IfSome place (λ k. k < length bs)
-    → IfSome place (λ k. get_or (map (λ q. q.now) bs) k q ≡ q) → get_or fs (unwrap_or place (length fs)) None ≡ Some f → Tells d f (λ s. answer_by wrapped q (kept given s) env)
-known_place {fs = fs} bs q f None env a l e h = absurd (past_end fs f h)
-known_place bs q f (Some k) env a l e h = known_at bs q f k env a l e h
-
--- one more query is known
-later : {d : Shared} {given : Tables} {q : Query} {f : Option Found} {qs : List Query} {fs : List (Option Found)} → AreKnown d given (q ∷ qs) (f ∷ fs) → AreKnown d given qs fs
-later a = record { one_each = (let e = a.one_each in omega arith); each = λ k q f l. a.each (suc k) q f (omega arith) }
-
-set_each : {d : Shared} {given : Tables} (qs : List Query) (fs : List (Option Found)) (k : ℕ) (q : Query) (known : Option Found) → AreKnown d given qs fs → k < length qs → IsKnown d given (get_or qs k q) known
-    → (i : ℕ) (p : Query) (f : Option Found) → i < length qs → IsKnown d given (get_or qs i p) (get_or (set fs k known) i f)
-set_each [] fs k q known a l n i p f h = absurd (omega arith)
-set_each (r ∷ qs) [] k q known a l n i p f h = absurd (let e = a.one_each in omega arith)
-set_each (r ∷ qs) (g ∷ fs) zero q known a l n zero p f h = n
-set_each (r ∷ qs) (g ∷ fs) zero q known a l n (suc i) p f h = a.each (suc i) p f h
-set_each (r ∷ qs) (g ∷ fs) (suc k) q known a l n zero p f h = a.each zero p f h
-set_each (r ∷ qs) (g ∷ fs) (suc k) q known a l n (suc i) p f h = set_each qs fs k q known (later a) (omega arith) n i p f (omega arith)
-
-pub known_set : {d : Shared} {given : Tables} {fs new : List (Option Found)} {f : Found} (bs : List (Bor Query)) (q : Query) (k : ℕ) → AreKnown d given (map (λ q. q.now) bs) fs → k < length bs
-    → get_or (map (λ q. q.now) bs) k q ≡ q → Tells d f (λ s. answer_by wrapped q (kept given s) []) → new ≡ set fs k (Some f) → AreKnown d given (map (λ q. q.now) bs) new
-known_set {d} {given} {fs} {new} {f} bs q k a l e t n =
-    let m = length-map bs (λ (b : Bor Query). b.now) in
-    let P : List (Option Found) → Type 0 = AreKnown d given (map (λ q. q.now) bs) in
-    let Q : Found → Type 0 = λ x. Tells d x (λ s. answer_by wrapped q (kept given s) []) in
-    let K : Query → Type 0 = λ p. IsKnown d given p (Some f) in
-    let known : IsKnown d given q (Some f) = record { stays = stays_at bs q k a l e; tells = λ x h. subst Q (ap (λ (o : Option Found). unwrap_or o f) h) t } in
-    subst P (sym n) (record {
-      one_each = length-set fs k (Some f) ∙ a.one_each;
-      each = set_each (map (λ q. q.now) bs) fs k q (Some f) a (omega (arith, l, m)) (subst K (sym e) known);
-    })
-
--- there is a place for what is known of the query
-pub place_within : {d : Shared} {given : Tables} {fs : List (Option Found)} (bs : List (Bor Query)) (k : ℕ) → AreKnown d given (map (λ q. q.now) bs) fs → k < length bs → k < length fs
-place_within bs k a l = let m = length-map bs (λ (b : Bor Query). b.now) in let e = a.one_each in omega (arith, l, m, e)
+pub known_last : {d : Shared} (given : Tables) (q : Query) (ks : List Subquery) {new : List Subquery} (k x : Subquery) (i : ℕ) → TellsOf d given q k.found → new ≡ ks ++ k ∷ [] → i ≡ length ks → TellsOf d given q (get_or new i x).found
+known_last {d} given q ks {new} k x i t e l =
+    let P : Subquery → Type 0 = λ y. TellsOf d given q y.found in
+    subst P (sym (ap (λ (xs : List Subquery). get_or xs i x) e ∙ ap (λ j. get_or (ks ++ k ∷ []) j x) l ∙ last_is ks k x)) t

@@ -1,5 +1,5 @@
 -- The nodes of one layer of a query or condition, against its answer at every Keep.
-use Rattle.std.proofs.Common.{◌≡◌, ℕ, ◌+◌, ◌<◌, Bool, true, false, cond, not, ◌&&◌, ◌||◌, List, [], ◌∷◌, zero, suc, ◌++◌, length, map, take, get_or, refl, sym, subst, ap, ap₂, arith, ◌∙◌}
+use Rattle.std.proofs.Common.{◌≡◌, ℕ, ◌+◌, ◌<◌, Bool, true, false, cond, not, ◌&&◌, ◌||◌, List, [], ◌∷◌, zero, suc, ◌++◌, Some, length, map, take, get_or, refl, sym, subst, ap, ap₂, arith, ◌∙◌}
 use Rattle.std.proofs.lemmas.List.{take_more, map-append, append_assoc}
 use Rattle.std.proofs.lemmas.List.Elements.{All-append}
 use Rattle.std.specs.List.{list_all, list_any, filter}
@@ -31,7 +31,7 @@ use Rattle.rt_annot.specs.declared.gate.Junction.{Junction}
 use Rattle.rt_annot.specs.declared.gate.Junction.TheVariants.{All, Any}
 use Rattle.rt_annot.specs.declared.sets.Side.{Side}
 use Rattle.rt_annot.specs.declared.sets.Side.TheVariants.{Standing, Missing}
-use Rattle.rt_annot.specs.Annotated.{formula, entry_of, entries_of, AreMerged, AreNodes, IsNode, IsGate, Mean, Reads, Gives, Choosing, yes_of, no_of, yes_when, no_when, test_joined, gates_joined, deciding, side_test, side_node, projected_rows}
+use Rattle.rt_annot.specs.Annotated.{formula, entry_of, entries_of, AreMerged, AreNodes, IsNode, IsGate, Mean, Reads, Gives, Choosing, yes_of, no_of, yes_when, no_when, test_joined, gates_joined, deciding, set_rows, side_test, side_node, projected_rows}
 use Rattle.rt_annot.specs.Known.{exists_test, among_test}
 use Rattle.rt_annot.proofs.Alike.{same_append, same_except, same_intersect, same_map, same_member_no, same_member_yes, same_some_yes}
 use Rattle.rt_annot.proofs.Growing.{grown_trans, node_as, noted_stay, entries_stay}
@@ -269,7 +269,7 @@ gives_merged {old} {now} {ns} {out} m i = record {
   same = λ s r. sym (stands_exact s (entries_of now out) r) ∙ m.same r s ∙ stands_exact s (entries_of old ns) r ∙ i.same s r;
 }
 
-pub gives_except : {d now : Shared} {ms ns out : List Noted} {f h : List Bool → Rows} → Gives d ms f → Gives d ns h → Reads now out (selected (entries_of d ms) (side_test Missing (entries_of d ns)))
+gives_except : {d now : Shared} {ms ns out : List Noted} {f h : List Bool → Rows} → Gives d ms f → Gives d ns h → Reads now out (selected (entries_of d ms) (side_test Missing (entries_of d ns)))
     → Gives now out (λ s. filter (λ r. not (has_row (h s) r)) (f s))
 gives_except {d} {now} {ms} {ns} {out} {f} {h} i j k = record {
   below = k.below;
@@ -277,13 +277,18 @@ gives_except {d} {now} {ms} {ns} {out} {f} {h} i j k = record {
       ∙ same_except (rows_at s (entries_of d ms)) (f s) (rows_at s (entries_of d ns)) (h s) (i.same s) (j.same s) r;
 }
 
-pub gives_intersect : {d now : Shared} {ms ns out : List Noted} {f h : List Bool → Rows} → Gives d ms f → Gives d ns h → Reads now out (selected (entries_of d ms) (side_test Standing (entries_of d ns)))
+gives_intersect : {d now : Shared} {ms ns out : List Noted} {f h : List Bool → Rows} → Gives d ms f → Gives d ns h → Reads now out (selected (entries_of d ms) (side_test Standing (entries_of d ns)))
     → Gives now out (λ s. filter (has_row (h s)) (f s))
 gives_intersect {d} {now} {ms} {ns} {out} {f} {h} i j k = record {
   below = k.below;
   same = λ s r. ap (λ rows. has_row rows r) (ap (rows_at s) k.same ∙ standing_rows s (entries_of d ms) (entries_of d ns))
       ∙ same_intersect (rows_at s (entries_of d ms)) (f s) (rows_at s (entries_of d ns)) (h s) (i.same s) (j.same s) r;
 }
+
+pub gives_sifted : (side : Side) {d now : Shared} {ms ns out : List Noted} {f h : List Bool → Rows} → Gives d ms f → Gives d ns h → Reads now out (selected (entries_of d ms) (side_test side (entries_of d ns)))
+    → Gives now out (λ s. set_rows (Some side) (f s) (h s))
+gives_sifted Standing i j k = gives_intersect i j k
+gives_sifted Missing i j k = gives_except i j k
 
 -- the node of a side, of a gate that says where a row stands
 pub side_is : (side : Side) (es : List Entry) (r : List Value) {d : Shared} {g : Gate} → IsGate d g (stands es r, λ s. not (stands es r s)) → IsNode d (side_node side g) (side_test side es r).0

@@ -7,7 +7,7 @@ use Rattle.std.specs.List.{filter}
 use Rattle.rt_value.specs.declared.value.Value.{Value}
 use Rattle.rt_schema.specs.Given.{Rows, Tables}
 use Rattle.rt_schema.specs.Kept.{kept}
-use Rattle.rt_algebra.specs.Answer.{has_row, join_each, pairs, product_after, answer_by}
+use Rattle.rt_algebra.specs.Answer.{has_row, is_yes, pred_by, join_each, pairs, product_after, answer_by}
 use Rattle.rt_algebra.specs.Expression.{Env, wrapped}
 use Rattle.rt_algebra.specs.Join.{product_rows}
 use Rattle.rt_algebra.specs.declared.query.Pred.{Pred}
@@ -19,24 +19,29 @@ use Rattle.rt_annot.specs.declared.joint.Joint.{Joint}
 use Rattle.rt_annot.specs.Entries.{rows_at, selected}
 use Rattle.rt_annot.specs.Annotated.{entries_of, AreNoted, Gives, Reads, Choosing, test_under, yes_when}
 use Rattle.rt_annot.specs.Joints.{joint_entries, AreJoints, product_joints, unit_joints, member_rows, AreMembers, GiveEach, Makes}
-use Rattle.rt_annot.specs.Narrowed.{IsNarrowed}
+use Rattle.rt_annot.specs.Narrowed.{IsNarrowed, IsSelected}
 use Rattle.rt_annot.proofs.Alike.{same_filter, same_product}
 use Rattle.rt_annot.proofs.Exact.{select_exact}
 use Rattle.rt_annot.proofs.Growing.{noted_stay, entries_stay}
 use Rattle.rt_annot.proofs.Layers.{at_product}
 use Rattle.rt_annot.proofs.Narrowing.{whole_exact, whole_below}
 
--- the rows that a condition leaves
-pub choosing_rows : {old now : Shared} {out : List Noted} {joints chosen : List Joint} {members : List (List Noted)} {rows : List Bool → Rows} (p : Pred) (given : Tables) (env : Env)
-    → chosen ≡ joints → Choosing old now out [] (selected (joint_entries old chosen) (test_under p given env)) → IsNarrowed p env members joints → Makes old members rows
+-- the rows that a condition may leave
+pub narrowed_rows : {d : Shared} {joints : List Joint} {members : List (List Noted)} {rows : List Bool → Rows} (p : Pred) (env : Env) → IsNarrowed p env members joints → Makes d members rows → IsSelected d p env joints rows
+narrowed_rows {d} {joints} {members} {rows} p env n m s db r =
+    let t = λ (x : List Value). is_yes (pred_by wrapped p db (x ∷ env)) in
+    ap (λ xs. has_row xs r) (n.same d s db) ∙ same_filter t (product_rows ([] ∷ []) (member_rows d s members)) (rows s) (m.same s) r
+
+-- those that it leaves
+pub choosing_rows : {old now : Shared} {out : List Noted} {joints chosen : List Joint} (rows : List Bool → Rows) (p : Pred) (given : Tables) (env : Env)
+    → chosen ≡ joints → Choosing old now out [] (selected (joint_entries old chosen) (test_under p given env)) → IsSelected old p env joints rows
     → Gives now out (λ s. filter (λ r. yes_when p given (r ∷ env) s) (rows s))
-choosing_rows {old} {now} {out} {joints} {chosen} {members} {rows} p given env e a n m = record {
+choosing_rows {old} {now} {out} {joints} {chosen} rows p given env e a n = record {
   below = a.below;
   same = λ s r. ap (λ xs. has_row xs r) (ap (rows_at s) (sym (append-nil (entries_of now out))) ∙ a.same s
       ∙ select_exact s (joint_entries old chosen) (test_under p given env) (λ x. yes_when p given (x ∷ env) s) (λ x. refl)
-      ∙ ap (λ (js : List Joint). filter (λ x. yes_when p given (x ∷ env) s) (rows_at s (joint_entries old js))) e
-      ∙ n.same old s (kept given s))
-      ∙ same_filter (λ x. yes_when p given (x ∷ env) s) (product_rows ([] ∷ []) (member_rows old s members)) (rows s) (m.same s) r;
+      ∙ ap (λ (js : List Joint). filter (λ x. yes_when p given (x ∷ env) s) (rows_at s (joint_entries old js))) e)
+      ∙ n s (kept given s) r;
 }
 
 -- the rows of a product

@@ -1,6 +1,6 @@
 -- What nodes and noted rows mean: formulas on the Keep.
-use Rattle.std.specs.Prelude.{◌≡◌, ℕ, ◌<◌, ◌+◌, nat_eq, Bool, false, not, List, [], ◌∷◌, ◌++◌, map, length}
-use Rattle.std.specs.List.{All as Each, IsDistinct, list_all, list_any}
+use Rattle.std.specs.Prelude.{◌≡◌, ℕ, ◌<◌, ◌+◌, nat_eq, Bool, false, not, List, [], ◌∷◌, ◌++◌, Option, None, Some, map, length}
+use Rattle.std.specs.List.{All as Each, IsDistinct, filter, list_all, list_any}
 use Rattle.rt_schema.specs.Kept.{kept}
 use Rattle.rt_value.specs.declared.value.Value.{Value}
 use Rattle.rt_value.specs.Row.{row_eq}
@@ -65,6 +65,12 @@ side_test Missing es r = (λ s. not (stands es r s), λ s. false)
 abbrev pub side_node : Side → Gate → ℕ
 side_node Standing g = g.yes
 side_node Missing g = g.no
+
+-- the rows of a set operator: those of the first on a side of the second, or all of both
+abbrev pub set_rows : Option Side → Rows → Rows → Rows
+set_rows None xs ys = xs ++ ys
+set_rows (Some Standing) xs ys = filter (has_row ys) xs
+set_rows (Some Missing) xs ys = filter (λ r. not (has_row ys r)) xs
 
 -- rows in order, each where its place is kept
 abbrev pub placed : ℕ → Rows → List Entry

@@ -1,5 +1,6 @@
 -- What is known of the subqueries that name no row outside of them.
-use Rattle.std.specs.Prelude.{◌≡◌, ℕ, ◌<◌, Bool, List, [], ◌∷◌, Option, Some, length, slice_index_or}
+use Rattle.std.specs.Prelude.{◌≡◌, ◌<◌, Bool, List, [], ◌∷◌, Option, None, Some, length, slice_index_or}
+use Rattle.std.specs.Borrow.{Bor}
 use Rattle.std.specs.List.{All as Each, list_any}
 use Rattle.rt_value.specs.declared.value.Value.{Value}
 use Rattle.rt_value.specs.declared.value.Value.TheVariants.{Null}
@@ -7,14 +8,14 @@ use Rattle.rt_value.specs.Value.{value_eq}
 use Rattle.rt_schema.specs.Given.{Rows, Tables}
 use Rattle.rt_schema.specs.Kept.{kept}
 use Rattle.rt_algebra.specs.Answer.{is_yes, some_truth, member_truth, answer_by}
-use Rattle.rt_algebra.specs.Expression.{wrapped}
+use Rattle.rt_algebra.specs.Expression.{Env, wrapped}
 use Rattle.rt_algebra.specs.declared.query.Query.{Query}
 use Rattle.rt_formula.specs.Shared.{Shared, val}
 use Rattle.rt_formula.specs.Groups.{group_at}
 use Rattle.rt_annot.specs.Entries.{Test, is_no}
 use Rattle.rt_annot.specs.Annotated.{AreNodes, IsNode, IsGate}
-use Rattle.rt_annot.specs.Stays.{StaysQuery}
 use Rattle.rt_annot.specs.declared.known.Found.{Found}
+use Rattle.rt_annot.specs.declared.subquery.Subquery.{Subquery}
 
 -- where there is a row, and where a value is among the rows, as conditions
 abbrev pub exists_test : (List Bool → Rows) → Test
@@ -22,6 +23,11 @@ exists_test answer = (λ s. is_yes (some_truth (answer s)), λ s. is_no (some_tr
 
 abbrev pub among_test : Value → (List Bool → Rows) → Test
 among_test x answer = (λ s. is_yes (member_truth x (answer s)), λ s. is_no (member_truth x (answer s)))
+
+-- the one where no value is sought, else the other
+abbrev pub sought_test : Option (Bor Value) → (List Bool → Rows) → Test
+sought_test None answer = exists_test answer
+sought_test (Some x) answer = among_test x.now answer
 
 -- the first value of a row, and whether a row begins with the value; NULL is the same as NULL
 abbrev pub first_of : List Value → Value
@@ -43,15 +49,10 @@ pub record Tells (d : Shared) (f : Found) (answer : List Bool → Rows) : Type 0
   pub null : IsNode d f.null (λ s. has_first Null (answer s))
   pub firsts : (x : Value) (s : List Bool) → list_any (val d s) (group_at f.groups (x ∷ [])) ≡ has_first x (answer s)
 
--- what is known of a query, if anything
-pub record IsKnown (d : Shared) (given : Tables) (q : Query) (known : Option Found) : Type 0 where
-  pub stays : StaysQuery 0 q
-  pub tells : (f : Found) → known ≡ Some f → Tells d f (λ s. answer_by wrapped q (kept given s) [])
+-- the nodes say it of a query's rows under any rows in scope
+abbrev pub TellsOf : Shared → Tables → Query → Found → Type 0
+TellsOf d given q f = (env : Env) → Tells d f (λ s. answer_by wrapped q (kept given s) env)
 
--- what is known of each query
-pub record AreKnown (d : Shared) (given : Tables) (qs : List Query) (fs : List (Option Found)) : Type 0 where
-  pub one_each : length fs ≡ length qs
-  pub each : (k : ℕ) (q : Query) (f : Option Found) → k < length qs → IsKnown d given (slice_index_or qs k q) (slice_index_or fs k f)
-
-abbrev pub AreClosed : List Query → Type 0
-AreClosed qs = Each (StaysQuery 0) qs
+-- what is known of subqueries
+pub record AreKnown (d : Shared) (given : Tables) (ks : List Subquery) : Type 0 where
+  pub each : Each (λ k. TellsOf d given k.query.now k.found) ks

@@ -1,7 +1,7 @@
 -- The rows of a product on which each member's own conditions and keys hold.
 use Rattle.std.specs.Prelude.{◌≡◌, ℕ, Bool, true, false, ◌&&◌, nat_eq, List, [], ◌∷◌, ◌++◌, length}
 use Rattle.std.specs.List.{filter, list_all}
-use Rattle.rt_schema.specs.Given.{Tables}
+use Rattle.rt_schema.specs.Given.{Rows, Tables}
 use Rattle.rt_algebra.specs.Answer.{is_yes, pred_by}
 use Rattle.rt_algebra.specs.Expression.{Env, wrapped}
 use Rattle.rt_algebra.specs.Join.{product_rows}
@@ -11,6 +11,7 @@ use Rattle.rt_algebra.specs.declared.parts.KeyPair.{KeyPair}
 use Rattle.rt_formula.specs.Shared.{Shared}
 use Rattle.rt_formula.specs.declared.noted.Noted.{Noted}
 use Rattle.rt_annot.specs.declared.joint.Joint.{Joint}
+use Rattle.rt_annot.specs.Annotated.{SameRows}
 use Rattle.rt_annot.specs.Entries.{rows_at}
 use Rattle.rt_annot.specs.Joints.{AreJoints, AreMembers, join_joint, joint_entries, member_rows}
 
@@ -41,3 +42,7 @@ pub record IsNarrowed (p : Pred) (env : Env) (members : List (List Noted)) (join
   pub below : (d : Shared) → AreMembers d members → AreJoints d joints
   pub same : (d : Shared) (s : List Bool) (db : Tables) → filter (λ r. is_yes (pred_by wrapped p db (r ∷ env))) (rows_at s (joint_entries d joints))
       ≡ filter (λ r. is_yes (pred_by wrapped p db (r ∷ env))) (product_rows ([] ∷ []) (member_rows d s members))
+
+-- at every choice of rows the condition is true on the same of these rows as of the others
+abbrev pub IsSelected : Shared → Pred → Env → List Joint → (List Bool → Rows) → Type 0
+IsSelected d p env joints rows = (s : List Bool) (db : Tables) → SameRows (filter (λ r. is_yes (pred_by wrapped p db (r ∷ env))) (rows_at s (joint_entries d joints))) (filter (λ r. is_yes (pred_by wrapped p db (r ∷ env))) (rows s))

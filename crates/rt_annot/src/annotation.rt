@@ -11,8 +11,6 @@ ghost use Rattle.rt_annot.specs.Ann.{AreOf, node_at, node_value, rows_of};
 
 use crate::ann::Ann;
 use crate::evaluate::annotated;
-use crate::gather::in_query;
-use crate::known::unknown;
 use rt_algebra::{Query, Typed};
 use rt_formula::{Dag, Noted};
 use rt_schema::Given;
@@ -51,8 +49,7 @@ fn wrapped_annotation(
     Ok(ann)
 }
 
-/// The rows that may come out, each with its node. A subquery that names no row outside of it is
-/// looked at once.
+/// The rows that may come out, each with its node.
 fn noted_rows(
     alloc: Global,
     dag: &mut Dag,
@@ -63,8 +60,6 @@ fn noted_rows(
     ensures grown { IsGrown dag.old dag.new }
     ensures gives { IfOk result (λ out. Gives dag.new out (λ s. answer_by wrapped query.now (kept tables.now s) [])) }
 {
-    let closed = in_query(query, List::new(alloc))?;
-    let queries = closed.as_slice();
-    let mut founds = unknown(alloc, queries)?;
-    annotated(alloc, dag, tables, queries, &mut founds, query, &[])
+    let mut known = List::new(alloc);
+    annotated(alloc, dag, tables, &mut known, query, &[])
 }

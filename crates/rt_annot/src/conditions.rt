@@ -8,12 +8,15 @@ ghost use Rattle.rt_schema.specs.Kept.{kept};
 ghost use Rattle.rt_formula.specs.Shared.{IsGrown};
 ghost use Rattle.rt_annot.specs.Entries.{constant};
 ghost use Rattle.rt_annot.specs.Annotated.{IsGate, yes_when, no_when, test_under, test_joined};
-ghost use Rattle.rt_annot.specs.Known.{AreKnown, Tells, exists_test, among_test};
+ghost use Rattle.rt_annot.specs.Known.{AreKnown, Tells, TellsOf, sought_test};
+ghost use Rattle.rt_annot.specs.declared.subquery.Subquery.{Subquery};
 
+use crate::closed::query_is_closed;
 use crate::evaluate::annotated;
 use crate::gate::{Gate, Gates, Junction, constant, is_always};
-use crate::known::{Found, find, known};
-use crate::member::{exists, member};
+use crate::known::Found;
+use crate::member::among;
+use crate::subquery::{Subquery, place_of};
 use rt_algebra::{Expr, Pred, Query, one_of_truth, scope, value};
 use rt_formula::Dag;
 use rt_value::{List, NoMemory, Op, Row, Value, compare, null_truth};
@@ -21,19 +24,18 @@ use std::alloc::Global;
 
 /// Where a condition is true and where it is false.
 #[cycle(annotate)]
-pub fn test(
+pub fn test<'q>(
     alloc: Global,
     dag: &mut Dag,
     tables: &[List<Row>],
-    queries: &[&Query],
-    founds: &mut List<Option<Found>>,
-    p: &Pred,
+    known: &mut List<Subquery<'q>>,
+    p: &'q Pred,
     env: &[&Row],
 ) -> Result<Gate, NoMemory>
     requires places { dag.old.rows ≡ places tables.now }
-    requires known { AreKnown dag.old tables.now (map (λ q. q.now) queries.now) founds.old }
+    requires known { AreKnown dag.old tables.now known.old }
     ensures grown { IsGrown dag.old dag.new }
-    ensures known { AreKnown dag.new tables.now (map (λ q. q.now) queries.now) founds.new }
+    ensures known { AreKnown dag.new tables.now known.new }
     ensures gate { IfOk result (λ g. IsGate dag.new g (yes_when p.now tables.now (map (λ r. r.now) env.now), no_when p.now tables.now (map (λ r. r.now) env.now))) }
 {
     match p {
@@ -42,23 +44,23 @@ pub fn test(
         Pred::OneOf(e, items) => listed(alloc, dag, e, items.as_slice(), env),
         Pred::And(ps) => {
             let all = &Junction::All;
-            together(alloc, dag, tables, queries, founds, all, ps.as_slice(), env)
+            together(alloc, dag, tables, known, all, ps.as_slice(), env)
         }
         Pred::Or(ps) => {
             let any = &Junction::Any;
-            together(alloc, dag, tables, queries, founds, any, ps.as_slice(), env)
+            together(alloc, dag, tables, known, any, ps.as_slice(), env)
         }
         Pred::Not(p) => {
-            let gate = test(alloc, dag, tables, queries, founds, p.get(), env)?;
+            let gate = test(alloc, dag, tables, known, p.get(), env)?;
             Ok(Gate {
                 yes: gate.no,
                 no: gate.yes,
             })
         }
-        Pred::Exists(q) => has_rows(alloc, dag, tables, queries, founds, q.get(), env),
+        Pred::Exists(q) => asked(alloc, dag, tables, known, None, q.get(), env),
         Pred::Member(e, q) => {
             let x = value(alloc, e, env)?;
-            has_value(alloc, dag, tables, queries, founds, &x, q.get(), env)
+            asked(alloc, dag, tables, known, Some(&x), q.get(), env)
         }
     }
 }
@@ -102,57 +104,28 @@ fn listed(
     Ok(constant(dag, truth))
 }
 
-/// Where the query has a row.
+/// Where the query has a row, or where the value that is sought is among its rows.
 #[cycle(annotate)]
-fn has_rows(
+fn asked<'q>(
     alloc: Global,
     dag: &mut Dag,
     tables: &[List<Row>],
-    queries: &[&Query],
-    founds: &mut List<Option<Found>>,
-    q: &Query,
+    known: &mut List<Subquery<'q>>,
+    sought: Option<&Value>,
+    q: &'q Query,
     env: &[&Row],
 ) -> Result<Gate, NoMemory>
     requires places { dag.old.rows ≡ places tables.now }
-    requires known { AreKnown dag.old tables.now (map (λ q. q.now) queries.now) founds.old }
+    requires known { AreKnown dag.old tables.now known.old }
     ensures grown { IsGrown dag.old dag.new }
-    ensures known { AreKnown dag.new tables.now (map (λ q. q.now) queries.now) founds.new }
-    ensures gate { IfOk result (λ g. IsGate dag.new g (exists_test (λ s. answer_by wrapped q.now (kept tables.now s) (map (λ r. r.now) env.now)))) }
+    ensures known { AreKnown dag.new tables.now known.new }
+    ensures gate { IfOk result (λ g. IsGate dag.new g (sought_test sought.entry (λ s. answer_by wrapped q.now (kept tables.now s) (map (λ r. r.now) env.now)))) }
 {
-    let place = looked_up(alloc, dag, tables, queries, founds, q)?;
-    match known(founds.as_slice(), place) {
-        Some(found) => Ok(found.some),
+    match looked_up(alloc, dag, tables, known, q)? {
+        Some(at) => known.as_slice()[at].found.gate(alloc, dag, sought),
         None => {
-            let rows = annotated(alloc, dag, tables, queries, founds, q, env)?;
-            exists(alloc, dag, rows.as_slice())
-        }
-    }
-}
-
-/// Where `x` is among the rows of the query.
-#[cycle(annotate)]
-fn has_value(
-    alloc: Global,
-    dag: &mut Dag,
-    tables: &[List<Row>],
-    queries: &[&Query],
-    founds: &mut List<Option<Found>>,
-    x: &Value,
-    q: &Query,
-    env: &[&Row],
-) -> Result<Gate, NoMemory>
-    requires places { dag.old.rows ≡ places tables.now }
-    requires known { AreKnown dag.old tables.now (map (λ q. q.now) queries.now) founds.old }
-    ensures grown { IsGrown dag.old dag.new }
-    ensures known { AreKnown dag.new tables.now (map (λ q. q.now) queries.now) founds.new }
-    ensures gate { IfOk result (λ g. IsGate dag.new g (among_test x.now (λ s. answer_by wrapped q.now (kept tables.now s) (map (λ r. r.now) env.now)))) }
-{
-    let place = looked_up(alloc, dag, tables, queries, founds, q)?;
-    match known(founds.as_slice(), place) {
-        Some(found) => found.member(alloc, dag, x),
-        None => {
-            let rows = annotated(alloc, dag, tables, queries, founds, q, env)?;
-            member(alloc, dag, x, rows.as_slice())
+            let rows = annotated(alloc, dag, tables, known, q, env)?;
+            among(alloc, dag, sought, rows.as_slice())
         }
     }
 }
@@ -160,71 +133,65 @@ fn has_value(
 /// The place of a query that names no row outside of it; what its rows come to is known from then
 /// on.
 #[cycle(annotate)]
-fn looked_up(
+fn looked_up<'q>(
     alloc: Global,
     dag: &mut Dag,
     tables: &[List<Row>],
-    queries: &[&Query],
-    founds: &mut List<Option<Found>>,
-    q: &Query,
+    known: &mut List<Subquery<'q>>,
+    q: &'q Query,
 ) -> Result<Option<usize>, NoMemory>
     requires places { dag.old.rows ≡ places tables.now }
-    requires known { AreKnown dag.old tables.now (map (λ q. q.now) queries.now) founds.old }
+    requires known { AreKnown dag.old tables.now known.old }
     ensures grown { IsGrown dag.old dag.new }
-    ensures known { AreKnown dag.new tables.now (map (λ q. q.now) queries.now) founds.new }
-    ensures within { IfOk result (λ place. IfSome place (λ at. at < length queries.now)) }
-    ensures same { IfOk result (λ place. IfSome place (λ at. slice_index_or (map (λ q. q.now) queries.now) at q.now ≡ q.now)) }
+    ensures known { AreKnown dag.new tables.now known.new }
+    ensures within { IfOk result (λ place. IfSome place (λ at. at < length known.new)) }
+    ensures tells { IfOk result (λ place. IfSome place (λ at. (k : Subquery) → TellsOf dag.new tables.now q.now (slice_index_or known.new at k).found)) }
 {
-    match find(queries, q) {
-        None => Ok(None),
-        Some(at) => match known(founds.as_slice(), Some(at)) {
-            Some(_) => Ok(Some(at)),
-            None => {
-                let found = newly(alloc, dag, tables, queries, founds, q)?;
-                founds.set(at, Some(found));
-                Ok(Some(at))
-            }
-        },
+    let place = place_of(known.as_slice(), q);
+    if place.is_some() || !query_is_closed(q, 0) {
+        return Ok(place);
     }
+    let found = newly(alloc, dag, tables, known, q)?;
+    let at = known.len();
+    known.push(Subquery { query: q, found })?;
+    Ok(Some(at))
 }
 
 /// What the rows of a query come to with no rows in scope.
 #[cycle(annotate)]
-fn newly(
+fn newly<'q>(
     alloc: Global,
     dag: &mut Dag,
     tables: &[List<Row>],
-    queries: &[&Query],
-    founds: &mut List<Option<Found>>,
-    q: &Query,
+    known: &mut List<Subquery<'q>>,
+    q: &'q Query,
 ) -> Result<Found, NoMemory>
     requires places { dag.old.rows ≡ places tables.now }
-    requires known { AreKnown dag.old tables.now (map (λ q. q.now) queries.now) founds.old }
+    requires known { AreKnown dag.old tables.now known.old }
     ensures grown { IsGrown dag.old dag.new }
-    ensures known { AreKnown dag.new tables.now (map (λ q. q.now) queries.now) founds.new }
+    ensures known { AreKnown dag.new tables.now known.new }
     ensures tells { IfOk result (λ f. Tells dag.new f (λ s. answer_by wrapped q.now (kept tables.now s) [])) }
 {
-    let rows = annotated(alloc, dag, tables, queries, founds, q, &[])?;
+    let rows = annotated(alloc, dag, tables, known, q, &[])?;
     Found::of(alloc, dag, rows.as_slice())
 }
 
 /// Where the conditions together are true and where they are false. One that decides them at every
 /// choice is the last that is looked at.
 #[cycle(annotate)]
-fn together(
+fn together<'q>(
     alloc: Global,
     dag: &mut Dag,
     tables: &[List<Row>],
-    queries: &[&Query],
-    founds: &mut List<Option<Found>>,
+    known: &mut List<Subquery<'q>>,
     junction: &Junction,
-    ps: &[Pred],
+    ps: &'q [Pred],
     env: &[&Row],
 ) -> Result<Gate, NoMemory>
     requires places { dag.old.rows ≡ places tables.now }
-    requires known { AreKnown dag.old tables.now (map (λ q. q.now) queries.now) founds.old }
+    requires known { AreKnown dag.old tables.now known.old }
     ensures grown { IsGrown dag.old dag.new }
-    ensures known { AreKnown dag.new tables.now (map (λ q. q.now) queries.now) founds.new }
+    ensures known { AreKnown dag.new tables.now known.new }
     ensures gate { IfOk result (λ g. IsGate dag.new g (test_joined junction.now ps.now tables.now (map (λ r. r.now) env.now))) }
 {
     let mut gates = Gates {
@@ -232,7 +199,7 @@ fn together(
         no: List::new(alloc),
     };
     for p in ps {
-        let gate = test(alloc, dag, tables, queries, founds, p, env)?;
+        let gate = test(alloc, dag, tables, known, p, env)?;
         if is_always(dag, junction.deciding(&gate)) {
             return Ok(gate);
         }
@@ -243,22 +210,21 @@ fn together(
 
 /// The condition with the row as the innermost in scope.
 #[cycle(annotate)]
-pub fn test_row<'a>(
+pub fn test_row<'q, 'a>(
     alloc: Global,
     dag: &mut Dag,
     tables: &[List<Row>],
-    queries: &[&Query],
-    founds: &mut List<Option<Found>>,
-    p: &Pred,
+    known: &mut List<Subquery<'q>>,
+    p: &'q Pred,
     row: &'a Row,
     env: &[&'a Row],
 ) -> Result<Gate, NoMemory>
     requires places { dag.old.rows ≡ places tables.now }
-    requires known { AreKnown dag.old tables.now (map (λ q. q.now) queries.now) founds.old }
+    requires known { AreKnown dag.old tables.now known.old }
     ensures grown { IsGrown dag.old dag.new }
-    ensures known { AreKnown dag.new tables.now (map (λ q. q.now) queries.now) founds.new }
+    ensures known { AreKnown dag.new tables.now known.new }
     ensures gate { IfOk result (λ g. IsGate dag.new g (test_under p.now tables.now (map (λ r. r.now) env.now) row.now)) }
 {
     let inner = scope(alloc, row, env)?;
-    test(alloc, dag, tables, queries, founds, p, inner.as_slice())
+    test(alloc, dag, tables, known, p, inner.as_slice())
 }

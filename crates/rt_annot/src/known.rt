@@ -1,7 +1,4 @@
-//! The subqueries that name no row outside of them: what their rows come to is found once, when it
-//! is first asked for.
-ghost use Rattle.std.specs.Prelude.{◌≡◌, ◌∷◌, [], ◌<◌, map, length, slice_index_or, IfOk, IfSome, None, Some, List, Bool};
-ghost use Rattle.std.specs.Option.{unwrap_or};
+ghost use Rattle.std.specs.Prelude.{◌≡◌, ◌∷◌, [], IfOk, List, Bool};
 ghost use Rattle.rt_value.specs.declared.value.Value.{Value};
 ghost use Rattle.rt_value.specs.Value.{value_eq, null_truth};
 ghost use Rattle.rt_schema.specs.Given.{Rows};
@@ -10,14 +7,12 @@ ghost use Rattle.rt_formula.specs.Shared.{IsGrown};
 ghost use Rattle.rt_formula.specs.Groups.{group_at, nodes_where};
 ghost use Rattle.rt_annot.specs.Entries.{rows_at};
 ghost use Rattle.rt_annot.specs.Annotated.{AreNoted, IsGate, entries_of};
-ghost use Rattle.rt_annot.specs.Known.{first_of, among_test, IsOver, Tells};
+ghost use Rattle.rt_annot.specs.Known.{first_of, among_test, sought_test, IsOver, Tells};
 
 use crate::gate::Gate;
 use crate::member::exists;
-use crate::same::same_query;
-use rt_algebra::Query;
 use rt_formula::{Dag, Groups, Node, Noted};
-use rt_value::{List, NoMemory, Row, Value};
+use rt_value::{NoMemory, Row, Value};
 use std::alloc::Global;
 
 /// What the annotated rows of a query come to: whether there is one, whether the first value of
@@ -27,43 +22,6 @@ pub struct Found {
     pub some: Gate,
     pub null: Node,
     pub groups: Groups,
-}
-
-/// The place of a query among those that are known.
-pub fn find(queries: &[&Query], query: &Query) -> Option<usize>
-    ensures within { IfSome result (λ at. at < length queries.now) }
-    ensures same { IfSome result (λ at. slice_index_or (map (λ q. q.now) queries.now) at query.now ≡ query.now) }
-{
-    for (at, known) in queries.iter().enumerate() {
-        if same_query(known, query) {
-            return Some(at);
-        }
-    }
-    None
-}
-
-/// For each query no more than that it may become known.
-pub fn unknown(alloc: Global, queries: &[&Query]) -> Result<List<Option<Found>>, NoMemory>
-    ensures { IfOk result (λ founds. founds ≡ map (λ q. None) queries.now) }
-{
-    let mut founds = List::new(alloc);
-    for _ in 0..queries.len() {
-        founds.push(None)?;
-    }
-    Ok(founds)
-}
-
-/// What is known of the query at a place, where there is one.
-pub fn known(founds: &[Option<Found>], place: Option<usize>) -> Option<&Found>
-    ensures { IfSome result (λ f. slice_index_or founds.now (unwrap_or place (length founds.now)) None ≡ Some f.now) }
-{
-    match place {
-        Some(at) => match founds.get(at) {
-            Some(found) => found.as_ref(),
-            None => None,
-        },
-        None => None,
-    }
 }
 
 fn is_null(value: &Value) -> bool
@@ -117,8 +75,24 @@ impl Found {
         Ok(Found { some, null, groups })
     }
 
-    /// Whether `x` is among the rows.
-    pub fn member(&self, alloc: Global, dag: &mut Dag, x: &Value) -> Result<Gate, NoMemory>
+    /// Whether there is a row, or whether the value that is sought is among the rows.
+    pub fn gate(
+        &self,
+        alloc: Global,
+        dag: &mut Dag,
+        sought: Option<&Value>,
+    ) -> Result<Gate, NoMemory>
+        requires { IsOver dag.old self.now }
+        ensures grown { IsGrown dag.old dag.new }
+        ensures gate { IfOk result (λ g. (answer : List Bool → Rows) → Tells dag.old self.now answer → IsGate dag.new g (sought_test sought.entry answer)) }
+    {
+        match sought {
+            Some(x) => self.member(alloc, dag, x),
+            None => Ok(self.some),
+        }
+    }
+
+    fn member(&self, alloc: Global, dag: &mut Dag, x: &Value) -> Result<Gate, NoMemory>
         requires { IsOver dag.old self.now }
         ensures grown { IsGrown dag.old dag.new }
         ensures gate { IfOk result (λ g. (answer : List Bool → Rows) → Tells dag.old self.now answer → IsGate dag.new g (among_test x.now answer)) }

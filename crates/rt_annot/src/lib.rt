@@ -11,7 +11,6 @@ mod conditions;
 mod difference;
 mod evaluate;
 mod gate;
-mod gather;
 mod join;
 mod joint;
 mod known;
@@ -21,6 +20,7 @@ mod reference;
 mod rows;
 mod same;
 mod sets;
+mod subquery;
 
 pub use aim::{Aim, goal, goal_beside};
 pub use ann::Ann;

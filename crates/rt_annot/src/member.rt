@@ -1,8 +1,10 @@
 //! EXISTS, and IN with a query.
-ghost use Rattle.std.specs.Prelude.{◌≡◌, not, IfOk};
+ghost use Rattle.std.specs.Prelude.{◌≡◌, List, Bool, not, IfOk};
+ghost use Rattle.rt_schema.specs.Given.{Rows};
 ghost use Rattle.rt_formula.specs.Shared.{IsGrown};
 ghost use Rattle.rt_annot.specs.Entries.{any_entry, member_test};
-ghost use Rattle.rt_annot.specs.Annotated.{AreNoted, IsGate, entries_of, nodes_of, sure, possible};
+ghost use Rattle.rt_annot.specs.Annotated.{AreNoted, Gives, IsGate, entries_of, nodes_of, sure, possible};
+ghost use Rattle.rt_annot.specs.Known.{sought_test};
 
 use crate::gate::{Gate, either};
 use rt_algebra::cell_truth;
@@ -56,8 +58,24 @@ fn possible(alloc: Global, x: &Value, rows: &[Noted]) -> Result<List<Node>, NoMe
     Ok(out)
 }
 
-/// Whether `x` is among the rows.
-pub fn member(alloc: Global, dag: &mut Dag, x: &Value, rows: &[Noted]) -> Result<Gate, NoMemory>
+/// Whether there is a row, or whether the value that is sought is among the rows.
+pub fn among(
+    alloc: Global,
+    dag: &mut Dag,
+    sought: Option<&Value>,
+    rows: &[Noted],
+) -> Result<Gate, NoMemory>
+    requires { AreNoted dag.old rows.now }
+    ensures grown { IsGrown dag.old dag.new }
+    ensures gate { IfOk result (λ g. (answer : List Bool → Rows) → Gives dag.old rows.now answer → IsGate dag.new g (sought_test sought.entry answer)) }
+{
+    match sought {
+        Some(x) => member(alloc, dag, x, rows),
+        None => exists(alloc, dag, rows),
+    }
+}
+
+fn member(alloc: Global, dag: &mut Dag, x: &Value, rows: &[Noted]) -> Result<Gate, NoMemory>
     requires { AreNoted dag.old rows.now }
     ensures grown { IsGrown dag.old dag.new }
     ensures gate { IfOk result (λ g. IsGate dag.new g (member_test x.now (entries_of dag.old rows.now))) }

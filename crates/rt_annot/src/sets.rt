@@ -1,11 +1,12 @@
-//! INTERSECT and EXCEPT: the nodes of rows beside those of the rows that are the same as they.
-ghost use Rattle.std.specs.Prelude.{◌≡◌, IfOk};
+//! Set operators: the nodes of rows beside those of the rows that are the same as they.
+ghost use Rattle.std.specs.Prelude.{◌≡◌, List, Bool, IfOk};
+ghost use Rattle.rt_schema.specs.Given.{Rows};
 ghost use Rattle.rt_formula.specs.Shared.{IsGrown};
 ghost use Rattle.rt_annot.specs.Entries.{selected};
-ghost use Rattle.rt_annot.specs.Annotated.{AreNoted, Reads, entries_of, side_node, side_test};
+ghost use Rattle.rt_annot.specs.Annotated.{AreNoted, Gives, Reads, entries_of, set_rows, side_node, side_test};
 
 use crate::gate::{Gate, both, either};
-use crate::rows::note;
+use crate::rows::{appended, note};
 use rt_formula::{Dag, Groups, Node, Noted};
 use rt_value::{List, NoMemory};
 use std::alloc::Global;
@@ -28,8 +29,28 @@ impl Side {
     }
 }
 
+/// The rows of a set operator: those of `first` on a side of `second`, or all of both where there
+/// is no side.
+pub fn set_rows(
+    alloc: Global,
+    dag: &mut Dag,
+    first: List<Noted>,
+    second: &[Noted],
+    side: Option<Side>,
+) -> Result<List<Noted>, NoMemory>
+    requires first { AreNoted dag.old first }
+    requires second { AreNoted dag.old second.now }
+    ensures grown { IsGrown dag.old dag.new }
+    ensures gives { IfOk result (λ out. (f g : List Bool → Rows) → Gives dag.old first f → Gives dag.old second.now g → Gives dag.new out (λ s. set_rows side (f s) (g s))) }
+{
+    match side {
+        Some(side) => sifted(alloc, dag, first.as_slice(), second, side),
+        None => appended(alloc, first, second),
+    }
+}
+
 /// The rows of `from` on this side of `others`.
-pub fn sifted(
+fn sifted(
     alloc: Global,
     dag: &mut Dag,
     from: &[Noted],

@@ -1,29 +1,29 @@
-use Rattle.std.proofs.Common.{◌∙◌, ap, ap₂, sym, Option, None, get_or, List, Bool, map, Bor, ◌∷◌, ◌&&◌, refl, [], subst, length, IfOk}
+use Rattle.std.proofs.Common.{◌∙◌, ap, ap₂, sym, None, Some, List, Bool, map, Bor, ◌∷◌, ◌&&◌, refl, [], subst, IfOk}
 use Rattle.std.proofs.lemmas.List.{take_all}
 use Rattle.std.proofs.lemmas.Result.{IfOk-weaker}
 use Rattle.std.specs.List.{filter, list_all}
 use Rattle.rt_formula.specs.Shared.{val}
 use Rattle.rt_value.specs.declared.value.Value.{Value}
-use Rattle.std.specs.Option.{unwrap_or}
 use Rattle.rt_value.specs.Value.{null_truth, value_truth}
 use Rattle.rt_algebra.specs.Answer.{answer_by, has_row, one_of_truth}
 use Rattle.rt_algebra.specs.Expression.{wrapped, Env, row_by, value_by}
+use Rattle.rt_algebra.specs.declared.query.Query.{Query}
 use Rattle.rt_algebra.specs.declared.query.Pred.TheVariants as w
 use Rattle.rt_algebra.specs.declared.query.Query.TheVariants as v
 use Rattle.rt_schema.specs.Kept.{kept}
 use Rattle.rt_annot.specs.Entries.{rows_at, selected}
-use Rattle.rt_annot.specs.Annotated.{IsGate, IsNode, entries_of, test_under, yes_when, no_when, yes_of, no_of}
+use Rattle.rt_annot.specs.Annotated.{IsGate, IsNode, entries_of, set_rows, test_under, yes_when, no_when, yes_of, no_of}
 use Rattle.rt_annot.specs.Joints.{joint_entries}
 use Rattle.rt_annot.proofs.Exact.{table_exact}
-use Rattle.rt_annot.specs.declared.known.Found.{Found}
+use Rattle.rt_annot.specs.declared.sets.Side.TheVariants.{Standing, Missing}
 use Rattle.rt_annot.specs.Known.{AreKnown}
-use Rattle.rt_annot.proofs.Knowing.{known_stay, known_place, place_within, known_set, tells_same}
-use Rattle.rt_annot.proofs.Growing.{grown_refl, grown_trans, all_stays, mean_stays, node_as, nodes_are, nodes_stay, noted_stay}
+use Rattle.rt_annot.proofs.Knowing.{known_last, known_more, known_place, known_places, known_stay, tells_same, tells_under}
+use Rattle.rt_annot.proofs.Growing.{grown_trans, all_stays, mean_stays, node_as, nodes_are, nodes_stay, noted_stay}
 use Rattle.rt_annot.proofs.Distinct.{noted_at}
 use Rattle.rt_annot.proofs.Walking.{next_is, table_entries}
-use Rattle.rt_annot.proofs.Layers.{at_table, at_cmp, at_is_null, at_one_of, outcome, at_select, at_project, at_union, at_except, at_intersect, mean_push, mean_as, yes_more, no_more, joined_gate, joined_stops, and_gate, or_gate, exists_gate, member_gate, exists_of, member_of, gives_as, gives_same, gives_stay, gives_of, gives_append, gives_projected, gives_merged, gives_except, gives_intersect, choose, leave_out, choosing_at}
+use Rattle.rt_annot.proofs.Layers.{at_table, at_cmp, at_is_null, at_one_of, outcome, at_select, at_project, at_union, at_except, at_intersect, mean_push, mean_as, yes_more, no_more, joined_gate, joined_stops, and_gate, or_gate, exists_gate, member_gate, gives_as, gives_same, gives_stay, gives_of, gives_projected, gives_merged, choose, leave_out, choosing_at}
 use Rattle.rt_annot.proofs.Joining.{joint_below}
-use Rattle.rt_annot.proofs.Members.{choosing_rows, whole_rows, members_same, members_below, makes_product, makes_single, give_push, answers_more}
+use Rattle.rt_annot.proofs.Members.{choosing_rows, narrowed_rows, whole_rows, members_same, members_below, makes_product, makes_single, give_push, answers_more}
 use Rattle.rt_annot.proofs.+annotate.Goals as goal
 use Rattle.rt_annot.proofs.+annotate.Goals.{evaluate::chosen-then-not-is_never+in_ok-note, evaluate::chosen-else-not-is_never}
 
@@ -76,7 +76,7 @@ evaluate::chosen-loop-joint-preserved t c =
     node_as f (λ s. ap₂ ◌&&◌ (ap (list_all (val tested s)) c.as_slice.ensures ∙ all_stays grown j.nodes b s) (gate.yes.same s)) c.in_ok-node.ensures.node in
     let next = ap (λ js. selected (joint_entries d js) u) (next_is c.args.joints.now i j c.loop-joint-test.true c.joint-item.is) in
     let more = grown_trans c.test_row.ensures.grown c.meeting.ensures.grown in
-    let known : AreKnown c.meeting.new.dag c.args.tables.now (map (λ q. q.now) c.args.queries.now) c.test_row.new.founds = known_stay c.meeting.ensures.grown c.test_row.ensures.known in
+    let known : AreKnown c.meeting.new.dag c.args.tables.now c.test_row.new.known = known_stay c.meeting.ensures.grown c.test_row.ensures.known in
     elim c.if-not-is_never.branch [
       | evaluate::chosen-then-not-is_never+in_ok-note w ↦ record { choosing = choosing_at refl w.out-is (choose j.row f v next more (record { row = j.row; node = c.in_ok-node.node }) refl node w.in_ok-note.ensures); known = known }
       | evaluate::chosen-else-not-is_never w ↦ record { choosing = choosing_at refl w.out-is (leave_out j.row f v next more (λ s. sym (node.same s) ∙ c.is_never.ensures w.if-not-is_never.false s)); known = known }
@@ -116,36 +116,6 @@ conditions::newly-returns-clause-known t c = known_stay c.of.ensures.grown c.ann
 pub conditions::together-returns-clause-known : goal.conditions::together-returns-clause-known
 conditions::together-returns-clause-known t c = known_stay c.of.ensures.grown c.loop-p.invariant.known
 
-pub evaluate::annotated-returns-in_ok-second-in-Except-clause-gives : goal.evaluate::annotated-returns-in_ok-second-in-Except-clause-gives
-evaluate::annotated-returns-in_ok-second-in-Except-clause-gives t c =
-    let g = c.args.tables.now in
-    let e = scope_of c.args.env.now in
-    let a = c.in-Except.a in
-    let b = c.in-Except.b in
-    let first = gives_same c.as_slice-in-Except.ensures (gives_stay c.annotated-in-Except-2.ensures.grown (gives_as (λ s. answer_by wrapped a (kept g s) e) (λ s. ap (λ q. answer_by wrapped q (kept g s) e) c.get-in-Except.ensures) c.in_ok-first-in-Except.ensures.gives)) in
-    let second = gives_same c.as_slice-in-Except-2.ensures (gives_as (λ s. answer_by wrapped b (kept g s) e) (λ s. ap (λ q. answer_by wrapped q (kept g s) e) c.get-in-Except-2.ensures) c.in_ok-second-in-Except.ensures.gives) in
-    IfOk-weaker c.sifted.result _ _
-    (λ out h. gives_as (λ s. answer_by wrapped c.args.q.now (kept g s) e)
-    (λ s. sym (at_except (kept g s) e a b c.in-Except.is)) (gives_except first second h)) c.sifted.ensures.reads
-
-pub evaluate::annotated-returns-in_ok-second-in-Intersect-clause-gives : goal.evaluate::annotated-returns-in_ok-second-in-Intersect-clause-gives
-evaluate::annotated-returns-in_ok-second-in-Intersect-clause-gives t c =
-    let g = c.args.tables.now in
-    let e = scope_of c.args.env.now in
-    let a = c.in-Intersect.a in
-    let b = c.in-Intersect.b in
-    let first = gives_same c.as_slice-in-Intersect.ensures (gives_stay c.annotated-in-Intersect-2.ensures.grown (gives_as (λ s. answer_by wrapped a (kept g s) e) (λ s. ap (λ q. answer_by wrapped q (kept g s) e) c.get-in-Intersect.ensures) c.in_ok-first-in-Intersect.ensures.gives)) in
-    let second = gives_same c.as_slice-in-Intersect-2.ensures (gives_as (λ s. answer_by wrapped b (kept g s) e) (λ s. ap (λ q. answer_by wrapped q (kept g s) e) c.get-in-Intersect-2.ensures) c.in_ok-second-in-Intersect.ensures.gives) in
-    IfOk-weaker c.sifted-in-Intersect.result _ _
-    (λ out h. gives_as (λ s. answer_by wrapped c.args.q.now (kept g s) e)
-    (λ s. sym (at_intersect (kept g s) e a b c.in-Intersect.is)) (gives_intersect first second h)) c.sifted-in-Intersect.ensures.reads
-
-pub evaluate::annotated-returns-in_ok-second-in-Except-clause-known : goal.evaluate::annotated-returns-in_ok-second-in-Except-clause-known
-evaluate::annotated-returns-in_ok-second-in-Except-clause-known t c = known_stay c.sifted.ensures.grown c.annotated-in-Except-2.ensures.known
-
-pub evaluate::annotated-returns-in_ok-second-in-Intersect-clause-known : goal.evaluate::annotated-returns-in_ok-second-in-Intersect-clause-known
-evaluate::annotated-returns-in_ok-second-in-Intersect-clause-known t c = known_stay c.sifted-in-Intersect.ensures.grown c.annotated-in-Intersect-2.ensures.known
-
 pub evaluate::chosen-returns-in_err-gate-clause-grown : goal.evaluate::chosen-returns-in_err-gate-clause-grown
 evaluate::chosen-returns-in_err-gate-clause-grown t c = grown_trans c.loop-joint.invariant.choosing.grown c.test_row.ensures.grown
 
@@ -161,32 +131,11 @@ evaluate::members-returns-in_err-rows-clause-grown t c = grown_trans c.loop-q.in
 pub evaluate::members-returns-in_err-push-clause-grown : goal.evaluate::members-returns-in_err-push-clause-grown
 evaluate::members-returns-in_err-push-clause-grown t c = grown_trans c.loop-q.invariant.grown c.annotated.ensures.grown
 
-pub evaluate::annotated-returns-in_ok-joints-in-Select-clause-grown : goal.evaluate::annotated-returns-in_ok-joints-in-Select-clause-grown
-evaluate::annotated-returns-in_ok-joints-in-Select-clause-grown t c = grown_trans c.source.ensures.grown c.chosen.ensures.grown
-
 pub evaluate::annotated-returns-in_ok-rows-in-Project-clause-grown : goal.evaluate::annotated-returns-in_ok-rows-in-Project-clause-grown
 evaluate::annotated-returns-in_ok-rows-in-Project-clause-grown t c = grown_trans c.annotated.ensures.grown c.projection.ensures.grown
 
 pub evaluate::annotated-returns-in_ok-parts-in-Product-clause-grown : goal.evaluate::annotated-returns-in_ok-parts-in-Product-clause-grown
 evaluate::annotated-returns-in_ok-parts-in-Product-clause-grown t c = grown_trans c.members.ensures.grown c.noted_product.ensures.grown
-
-pub evaluate::annotated-returns-in_ok-second-in-Union-clause-grown : goal.evaluate::annotated-returns-in_ok-second-in-Union-clause-grown
-evaluate::annotated-returns-in_ok-second-in-Union-clause-grown t c = grown_trans c.annotated-in-Union.ensures.grown c.annotated-in-Union-2.ensures.grown
-
-pub evaluate::annotated-returns-in_ok-second-in-Except-clause-grown : goal.evaluate::annotated-returns-in_ok-second-in-Except-clause-grown
-evaluate::annotated-returns-in_ok-second-in-Except-clause-grown t c = grown_trans (grown_trans c.annotated-in-Except.ensures.grown c.annotated-in-Except-2.ensures.grown) c.sifted.ensures.grown
-
-pub evaluate::annotated-returns-in_ok-second-in-Intersect-clause-grown : goal.evaluate::annotated-returns-in_ok-second-in-Intersect-clause-grown
-evaluate::annotated-returns-in_ok-second-in-Intersect-clause-grown t c = grown_trans (grown_trans c.annotated-in-Intersect.ensures.grown c.annotated-in-Intersect-2.ensures.grown) c.sifted-in-Intersect.ensures.grown
-
-pub evaluate::annotated-returns-in_err-second-in-Union-clause-grown : goal.evaluate::annotated-returns-in_err-second-in-Union-clause-grown
-evaluate::annotated-returns-in_err-second-in-Union-clause-grown t c = grown_trans c.annotated-in-Union.ensures.grown c.annotated-in-Union-2.ensures.grown
-
-pub evaluate::annotated-returns-in_err-second-in-Except-clause-grown : goal.evaluate::annotated-returns-in_err-second-in-Except-clause-grown
-evaluate::annotated-returns-in_err-second-in-Except-clause-grown t c = grown_trans c.annotated-in-Except.ensures.grown c.annotated-in-Except-2.ensures.grown
-
-pub evaluate::annotated-returns-in_err-second-in-Intersect-clause-grown : goal.evaluate::annotated-returns-in_err-second-in-Intersect-clause-grown
-evaluate::annotated-returns-in_err-second-in-Intersect-clause-grown t c = grown_trans c.annotated-in-Intersect.ensures.grown c.annotated-in-Intersect-2.ensures.grown
 
 pub conditions::newly-returns-clause-grown : goal.conditions::newly-returns-clause-grown
 conditions::newly-returns-clause-grown t c = grown_trans c.annotated.ensures.grown c.of.ensures.grown
@@ -202,18 +151,6 @@ conditions::together-returns-in_err-push-clause-grown t c = grown_trans c.loop-p
 
 pub conditions::together-returns-clause-grown : goal.conditions::together-returns-clause-grown
 conditions::together-returns-clause-grown t c = grown_trans c.loop-p.invariant.grown c.of.ensures.grown
-
-pub evaluate::annotated-sifted-requires-clause-from : goal.evaluate::annotated-sifted-requires-clause-from
-evaluate::annotated-sifted-requires-clause-from t c = noted_at c.annotated-in-Except-2.new.dag c.as_slice-in-Except.ensures (noted_stay c.annotated-in-Except-2.ensures.grown _ c.in_ok-first-in-Except.ensures.gives.below)
-
-pub evaluate::annotated-sifted-requires-clause-others : goal.evaluate::annotated-sifted-requires-clause-others
-evaluate::annotated-sifted-requires-clause-others t c = noted_at c.annotated-in-Except-2.new.dag c.as_slice-in-Except-2.ensures c.in_ok-second-in-Except.ensures.gives.below
-
-pub evaluate::annotated-sifted-requires-in-Intersect-clause-from : goal.evaluate::annotated-sifted-requires-in-Intersect-clause-from
-evaluate::annotated-sifted-requires-in-Intersect-clause-from t c = noted_at c.annotated-in-Intersect-2.new.dag c.as_slice-in-Intersect.ensures (noted_stay c.annotated-in-Intersect-2.ensures.grown _ c.in_ok-first-in-Intersect.ensures.gives.below)
-
-pub evaluate::annotated-sifted-requires-in-Intersect-clause-others : goal.evaluate::annotated-sifted-requires-in-Intersect-clause-others
-evaluate::annotated-sifted-requires-in-Intersect-clause-others t c = noted_at c.annotated-in-Intersect-2.new.dag c.as_slice-in-Intersect-2.ensures c.in_ok-second-in-Intersect.ensures.gives.below
 
 pub evaluate::chosen-meeting-requires-clause-nodes : goal.evaluate::chosen-meeting-requires-clause-nodes
 evaluate::chosen-meeting-requires-clause-nodes t c =
@@ -255,29 +192,6 @@ evaluate::annotated-returns-in_ok-rows-in-Project-clause-gives t c =
     (λ s. ap (λ es. map (λ r. row_by wrapped es (r ∷ e)) (answer_by wrapped a (kept g s) e)) c.as_slice-in-Project-2.ensures ∙ sym (at_project (kept g s) e a c.in-Project.items c.in-Project.is))
     (gives_merged h (gives_projected c.as_slice-in-Project-2.result.now e rows))) c.projection.ensures.merged
 
-pub evaluate::annotated-returns-in_ok-second-in-Union-clause-gives : goal.evaluate::annotated-returns-in_ok-second-in-Union-clause-gives
-evaluate::annotated-returns-in_ok-second-in-Union-clause-gives t c =
-    let g = c.args.tables.now in
-    let e = scope_of c.args.env.now in
-    let a = c.in-Union.a in
-    let b = c.in-Union.b in
-    let first = gives_stay c.annotated-in-Union-2.ensures.grown (gives_as (λ s. answer_by wrapped a (kept g s) e) (λ s. ap (λ q. answer_by wrapped q (kept g s) e) c.get-in-Union.ensures) c.in_ok-first-in-Union.ensures.gives) in
-    let second = gives_same c.as_slice-in-Union.ensures (gives_as (λ s. answer_by wrapped b (kept g s) e) (λ s. ap (λ q. answer_by wrapped q (kept g s) e) c.get-in-Union-2.ensures) c.in_ok-second-in-Union.ensures.gives) in
-    IfOk-weaker c.appended.result _ _
-    (λ out h. gives_as (λ s. answer_by wrapped c.args.q.now (kept g s) e) (λ s. sym (at_union (kept g s) e a b c.in-Union.is)) (gives_same h (gives_append first second))) c.appended.ensures
-
-pub evaluate::annotated-returns-in_ok-joints-in-Select-clause-gives : goal.evaluate::annotated-returns-in_ok-joints-in-Select-clause-gives
-evaluate::annotated-returns-in_ok-joints-in-Select-clause-gives t c =
-    let g = c.args.tables.now in
-    let e = scope_of c.args.env.now in
-    let a = c.in-Select.a in
-    let p = c.in-Select.p in
-    let parts = members_same {rows = λ s. answer_by wrapped c.get.result.now (kept g s) e} c.as_slice.ensures c.in_ok-parts-in-Select.ensures.makes in
-    IfOk-weaker c.chosen.result _ _
-    (λ out h. gives_as (λ s. answer_by wrapped c.args.q.now (kept g s) e)
-    (λ s. ap (λ x. filter (λ r. yes_when p g (r ∷ e) s) (answer_by wrapped x (kept g s) e)) c.get.ensures ∙ sym (at_select (kept g s) e a p c.in-Select.is))
-    (choosing_rows p g e c.as_slice-in-Select.ensures h c.in_ok-joints-in-Select.ensures parts)) c.chosen.ensures.chosen
-
 pub evaluate::annotated-noted_product-requires : goal.evaluate::annotated-noted_product-requires
 evaluate::annotated-noted_product-requires t c = members_below c.members.new.dag c.as_slice-in-Product-2.ensures c.in_ok-parts-in-Product.ensures.give.below
 
@@ -310,14 +224,14 @@ conditions::test-returns-in-Or-clause-gate t c =
 
 pub conditions::test-returns-in-Exists-clause-gate : goal.conditions::test-returns-in-Exists-clause-gate
 conditions::test-returns-in-Exists-clause-gate t c =
-    IfOk-weaker c.has_rows.result _ _
-    (λ g h. exists_gate c.args.tables.now (scope_of c.args.env.now) c.args.p.now c.get-in-Exists.result.now (c.in-Exists.is ∙ ap w.Exists (sym c.get-in-Exists.ensures)) h) c.has_rows.ensures.gate
+    IfOk-weaker c.asked.result _ _
+    (λ g h. exists_gate c.args.tables.now (scope_of c.args.env.now) c.args.p.now c.get-in-Exists.result.now (c.in-Exists.is ∙ ap w.Exists (sym c.get-in-Exists.ensures)) h) c.asked.ensures.gate
 
 pub conditions::test-returns-in_ok-x-in-Member-clause-gate : goal.conditions::test-returns-in_ok-x-in-Member-clause-gate
 conditions::test-returns-in_ok-x-in-Member-clause-gate t c =
-    IfOk-weaker c.has_value.result _ _
+    IfOk-weaker c.asked-in-Member.result _ _
     (λ g h. member_gate c.args.tables.now (scope_of c.args.env.now) c.args.p.now c.in-Member.e c.get-in-Member.result.now (c.in-Member.is ∙ ap (w.Member c.in-Member.e) (sym c.get-in-Member.ensures))
-    c.in_ok-x-in-Member.x c.in_ok-x-in-Member.ensures h) c.has_value.ensures.gate
+    c.in_ok-x-in-Member.x c.in_ok-x-in-Member.ensures h) c.asked-in-Member.ensures.gate
 
 pub conditions::test-returns-in-Cmp-clause-gate : goal.conditions::test-returns-in-Cmp-clause-gate
 conditions::test-returns-in-Cmp-clause-gate t c =
@@ -344,68 +258,6 @@ conditions::test-returns-in-OneOf-clause-gate t c =
     IfOk-weaker c.listed.result _ _
     (λ x h. outcome g e c.args.p.now (λ s. one_of_truth wrapped (value_by wrapped k.e e) items e) (λ s. at_one_of (kept g s) e k.e items (k.is ∙ ap (w.OneOf k.e) (sym c.as_slice.ensures))) (λ s. refl) (λ s. refl) h) c.listed.ensures
 
-pub conditions::has_rows-returns-in-Some-clause-gate : goal.conditions::has_rows-returns-in-Some-clause-gate
-conditions::has_rows-returns-in-Some-clause-gate t c =
-    (known_place c.args.queries.now c.args.q.now c.in-Some.found.now c.in_ok-place.place (scope_of c.args.env.now) c.looked_up.ensures.known c.in_ok-place.ensures.within c.in_ok-place.ensures.same (ap (λ (fs : List (Option Found)). get_or fs (unwrap_or c.in_ok-place.place (length fs)) None) (sym c.as_slice.ensures) ∙ c.in-Some.ensures)).exists
-
-pub conditions::has_rows-exists-requires : goal.conditions::has_rows-exists-requires
-conditions::has_rows-exists-requires t c = noted_at c.annotated.new.dag c.as_slice-in-None.ensures c.in_ok-rows-in-None.ensures.gives.below
-
-pub conditions::has_rows-returns-in_err-rows-in-None-clause-grown : goal.conditions::has_rows-returns-in_err-rows-in-None-clause-grown
-conditions::has_rows-returns-in_err-rows-in-None-clause-grown t c = grown_trans c.looked_up.ensures.grown c.annotated.ensures.grown
-
-pub conditions::has_rows-returns-in_ok-rows-in-None-clause-grown : goal.conditions::has_rows-returns-in_ok-rows-in-None-clause-grown
-conditions::has_rows-returns-in_ok-rows-in-None-clause-grown t c = grown_trans (grown_trans c.looked_up.ensures.grown c.annotated.ensures.grown) c.exists.ensures.grown
-
-pub conditions::has_rows-returns-in_ok-rows-in-None-clause-known : goal.conditions::has_rows-returns-in_ok-rows-in-None-clause-known
-conditions::has_rows-returns-in_ok-rows-in-None-clause-known t c = known_stay c.exists.ensures.grown c.annotated.ensures.known
-
-pub conditions::has_rows-returns-in_ok-rows-in-None-clause-gate : goal.conditions::has_rows-returns-in_ok-rows-in-None-clause-gate
-conditions::has_rows-returns-in_ok-rows-in-None-clause-gate t c =
-    IfOk-weaker c.exists.result _ _ (λ g h. exists_of (gives_same c.as_slice-in-None.ensures c.in_ok-rows-in-None.ensures.gives) h) c.exists.ensures.gate
-
-pub conditions::has_value-member-requires : goal.conditions::has_value-member-requires
-conditions::has_value-member-requires t c =
-    (known_place c.args.queries.now c.args.q.now c.in-Some.found.now c.in_ok-place.place [] c.looked_up.ensures.known c.in_ok-place.ensures.within c.in_ok-place.ensures.same (ap (λ (fs : List (Option Found)). get_or fs (unwrap_or c.in_ok-place.place (length fs)) None) (sym c.as_slice.ensures) ∙ c.in-Some.ensures)).over
-
-pub conditions::has_value-returns-in-Some-clause-grown : goal.conditions::has_value-returns-in-Some-clause-grown
-conditions::has_value-returns-in-Some-clause-grown t c = grown_trans c.looked_up.ensures.grown c.member.ensures.grown
-
-pub conditions::has_value-returns-in-Some-clause-known : goal.conditions::has_value-returns-in-Some-clause-known
-conditions::has_value-returns-in-Some-clause-known t c = known_stay c.member.ensures.grown c.looked_up.ensures.known
-
-pub conditions::has_value-returns-in-Some-clause-gate : goal.conditions::has_value-returns-in-Some-clause-gate
-conditions::has_value-returns-in-Some-clause-gate t c =
-    let g = c.args.tables.now in
-    IfOk-weaker c.member.result _ _
-    (λ x h. h (λ s. answer_by wrapped c.args.q.now (kept g s) (scope_of c.args.env.now)) (known_place c.args.queries.now c.args.q.now c.in-Some.found.now c.in_ok-place.place (scope_of c.args.env.now) c.looked_up.ensures.known c.in_ok-place.ensures.within c.in_ok-place.ensures.same (ap (λ (fs : List (Option Found)). get_or fs (unwrap_or c.in_ok-place.place (length fs)) None) (sym c.as_slice.ensures) ∙ c.in-Some.ensures))) c.member.ensures.gate
-
-pub conditions::has_value-member-requires-in-None : goal.conditions::has_value-member-requires-in-None
-conditions::has_value-member-requires-in-None t c = noted_at c.annotated.new.dag c.as_slice-in-None.ensures c.in_ok-rows-in-None.ensures.gives.below
-
-pub conditions::has_value-returns-in_err-rows-in-None-clause-grown : goal.conditions::has_value-returns-in_err-rows-in-None-clause-grown
-conditions::has_value-returns-in_err-rows-in-None-clause-grown t c = grown_trans c.looked_up.ensures.grown c.annotated.ensures.grown
-
-pub conditions::has_value-returns-in_ok-rows-in-None-clause-grown : goal.conditions::has_value-returns-in_ok-rows-in-None-clause-grown
-conditions::has_value-returns-in_ok-rows-in-None-clause-grown t c = grown_trans (grown_trans c.looked_up.ensures.grown c.annotated.ensures.grown) c.member-in-None.ensures.grown
-
-pub conditions::has_value-returns-in_ok-rows-in-None-clause-known : goal.conditions::has_value-returns-in_ok-rows-in-None-clause-known
-conditions::has_value-returns-in_ok-rows-in-None-clause-known t c = known_stay c.member-in-None.ensures.grown c.annotated.ensures.known
-
-pub conditions::has_value-returns-in_ok-rows-in-None-clause-gate : goal.conditions::has_value-returns-in_ok-rows-in-None-clause-gate
-conditions::has_value-returns-in_ok-rows-in-None-clause-gate t c =
-    IfOk-weaker c.member-in-None.result _ _ (λ g h. member_of c.args.x.now (gives_same c.as_slice-in-None.ensures c.in_ok-rows-in-None.ensures.gives) h) c.member-in-None.ensures.gate
-
-pub conditions::looked_up-returns-in_ok-found-in-None-known-clause-known : goal.conditions::looked_up-returns-in_ok-found-in-None-known-clause-known
-conditions::looked_up-returns-in_ok-found-in-None-known-clause-known t c =
-    known_set c.args.queries.now c.args.q.now c.in-Some.at c.newly.ensures.known c.in-Some.ensures.within c.in-Some.ensures.same c.in_ok-found-in-None-known.ensures.tells c.set.ensures
-
-pub conditions::looked_up-returns-in-None-clause-grown : goal.conditions::looked_up-returns-in-None-clause-grown
-conditions::looked_up-returns-in-None-clause-grown t c = grown_refl _
-
-pub conditions::looked_up-returns-in-Some-known-clause-grown : goal.conditions::looked_up-returns-in-Some-known-clause-grown
-conditions::looked_up-returns-in-Some-known-clause-grown t c = grown_refl _
-
 pub conditions::test_row-returns-clause-gate : goal.conditions::test_row-returns-clause-gate
 conditions::test_row-returns-clause-gate t c =
     let g = c.args.tables.now in
@@ -413,5 +265,109 @@ conditions::test_row-returns-clause-gate t c =
     let G : Env → Type 0 = λ e. IfOk c.test.result (λ x. IsGate c.test.new.dag x (yes_when p g e, no_when p g e)) in
     subst G (ap scope_of c.as_slice.ensures.value ∙ c.in_ok-inner.ensures) c.test.ensures.gate
 
-pub conditions::looked_up-set-requires : goal.conditions::looked_up-set-requires
-conditions::looked_up-set-requires t c = place_within c.args.queries.now c.in-Some.at c.newly.ensures.known c.in-Some.ensures.within
+pub conditions::asked-returns-in-Some-clause-known : goal.conditions::asked-returns-in-Some-clause-known
+conditions::asked-returns-in-Some-clause-known t c = known_stay c.gate.ensures.grown c.looked_up.ensures.known
+
+pub conditions::asked-returns-in_ok-rows-in-None-clause-known : goal.conditions::asked-returns-in_ok-rows-in-None-clause-known
+conditions::asked-returns-in_ok-rows-in-None-clause-known t c = known_stay c.among.ensures.grown c.annotated.ensures.known
+
+pub conditions::asked-returns-in_ok-rows-in-None-clause-gate : goal.conditions::asked-returns-in_ok-rows-in-None-clause-gate
+conditions::asked-returns-in_ok-rows-in-None-clause-gate t c =
+    IfOk-weaker c.among.result _ _ (λ g h. h _ (gives_same c.as_slice-in-None.ensures c.in_ok-rows-in-None.ensures.gives)) c.among.ensures.gate
+
+pub evaluate::annotated-returns-in_ok-joints-in-Select-clause-grown : goal.evaluate::annotated-returns-in_ok-joints-in-Select-clause-grown
+evaluate::annotated-returns-in_ok-joints-in-Select-clause-grown t c = grown_trans c.joints.ensures.grown c.chosen.ensures.grown
+
+pub evaluate::annotated-returns-in_ok-joints-in-Select-clause-gives : goal.evaluate::annotated-returns-in_ok-joints-in-Select-clause-gives
+evaluate::annotated-returns-in_ok-joints-in-Select-clause-gives t c =
+    let g = c.args.tables.now in
+    let e = scope_of c.args.env.now in
+    let p = c.in-Select.p in
+    IfOk-weaker c.chosen.result _ _
+    (λ out h. gives_as (λ s. answer_by wrapped c.args.q.now (kept g s) e)
+    (λ s. ap (λ x. filter (λ r. yes_when p g (r ∷ e) s) (answer_by wrapped x (kept g s) e)) c.get.ensures ∙ sym (at_select (kept g s) e c.in-Select.a p c.in-Select.is))
+    (choosing_rows (λ s. answer_by wrapped c.get.result.now (kept g s) e) p g e c.as_slice.ensures h c.in_ok-joints-in-Select.ensures.selected)) c.chosen.ensures.chosen
+
+pub evaluate::annotated-returns-in_ok-first-in-Union-clause-grown : goal.evaluate::annotated-returns-in_ok-first-in-Union-clause-grown
+evaluate::annotated-returns-in_ok-first-in-Union-clause-grown t c = grown_trans c.annotated-in-Union.ensures.grown c.combined.ensures.grown
+
+pub evaluate::annotated-returns-in_ok-first-in-Union-clause-gives : goal.evaluate::annotated-returns-in_ok-first-in-Union-clause-gives
+evaluate::annotated-returns-in_ok-first-in-Union-clause-gives t c =
+    let g = c.args.tables.now in
+    let e = scope_of c.args.env.now in
+    let rows = λ (q : Query) (s : List Bool). answer_by wrapped q (kept g s) e in
+    IfOk-weaker c.combined.result _ _
+    (λ out h. gives_as (rows c.args.q.now)
+    (λ s. ap₂ (λ a b. set_rows None (rows a s) (rows b s)) c.get-in-Union.ensures c.get-in-Union-2.ensures ∙ sym (at_union (kept g s) e c.in-Union.a c.in-Union.b c.in-Union.is))
+    (h (rows c.get-in-Union.result.now) c.in_ok-first-in-Union.ensures.gives)) c.combined.ensures.gives
+
+pub evaluate::annotated-returns-in_ok-first-in-Except-clause-grown : goal.evaluate::annotated-returns-in_ok-first-in-Except-clause-grown
+evaluate::annotated-returns-in_ok-first-in-Except-clause-grown t c = grown_trans c.annotated-in-Except.ensures.grown c.combined-in-Except.ensures.grown
+
+pub evaluate::annotated-returns-in_ok-first-in-Except-clause-gives : goal.evaluate::annotated-returns-in_ok-first-in-Except-clause-gives
+evaluate::annotated-returns-in_ok-first-in-Except-clause-gives t c =
+    let g = c.args.tables.now in
+    let e = scope_of c.args.env.now in
+    let rows = λ (q : Query) (s : List Bool). answer_by wrapped q (kept g s) e in
+    IfOk-weaker c.combined-in-Except.result _ _
+    (λ out h. gives_as (rows c.args.q.now)
+    (λ s. ap₂ (λ a b. set_rows (Some Missing) (rows a s) (rows b s)) c.get-in-Except.ensures c.get-in-Except-2.ensures ∙ sym (at_except (kept g s) e c.in-Except.a c.in-Except.b c.in-Except.is))
+    (h (rows c.get-in-Except.result.now) c.in_ok-first-in-Except.ensures.gives)) c.combined-in-Except.ensures.gives
+
+pub evaluate::annotated-returns-in_ok-first-in-Intersect-clause-grown : goal.evaluate::annotated-returns-in_ok-first-in-Intersect-clause-grown
+evaluate::annotated-returns-in_ok-first-in-Intersect-clause-grown t c = grown_trans c.annotated-in-Intersect.ensures.grown c.combined-in-Intersect.ensures.grown
+
+pub evaluate::annotated-returns-in_ok-first-in-Intersect-clause-gives : goal.evaluate::annotated-returns-in_ok-first-in-Intersect-clause-gives
+evaluate::annotated-returns-in_ok-first-in-Intersect-clause-gives t c =
+    let g = c.args.tables.now in
+    let e = scope_of c.args.env.now in
+    let rows = λ (q : Query) (s : List Bool). answer_by wrapped q (kept g s) e in
+    IfOk-weaker c.combined-in-Intersect.result _ _
+    (λ out h. gives_as (rows c.args.q.now)
+    (λ s. ap₂ (λ a b. set_rows (Some Standing) (rows a s) (rows b s)) c.get-in-Intersect.ensures c.get-in-Intersect-2.ensures ∙ sym (at_intersect (kept g s) e c.in-Intersect.a c.in-Intersect.b c.in-Intersect.is))
+    (h (rows c.get-in-Intersect.result.now) c.in_ok-first-in-Intersect.ensures.gives)) c.combined-in-Intersect.ensures.gives
+
+pub evaluate::joints-returns-clause-below : goal.evaluate::joints-returns-clause-below
+evaluate::joints-returns-clause-below t c =
+    IfOk-weaker c.narrowed.result _ _ (λ out n. n.below c.source.new.dag (members_below c.source.new.dag c.as_slice.ensures c.in_ok-parts.ensures.makes.below)) c.narrowed.ensures
+
+pub evaluate::joints-returns-clause-selected : goal.evaluate::joints-returns-clause-selected
+evaluate::joints-returns-clause-selected t c =
+    IfOk-weaker c.narrowed.result _ _ (λ out n. narrowed_rows c.args.p.now (scope_of c.args.env.now) n (members_same c.as_slice.ensures c.in_ok-parts.ensures.makes)) c.narrowed.ensures
+
+pub evaluate::combined-set_rows-requires-clause-first : goal.evaluate::combined-set_rows-requires-clause-first
+evaluate::combined-set_rows-requires-clause-first t c = noted_stay c.annotated.ensures.grown _ c.requires.first
+
+pub evaluate::combined-set_rows-requires-clause-second : goal.evaluate::combined-set_rows-requires-clause-second
+evaluate::combined-set_rows-requires-clause-second t c = noted_at c.annotated.new.dag c.as_slice.ensures c.in_ok-second.ensures.gives.below
+
+pub evaluate::combined-returns-clause-grown : goal.evaluate::combined-returns-clause-grown
+evaluate::combined-returns-clause-grown t c = grown_trans c.annotated.ensures.grown c.set_rows.ensures.grown
+
+pub evaluate::combined-returns-clause-known : goal.evaluate::combined-returns-clause-known
+evaluate::combined-returns-clause-known t c = known_stay c.set_rows.ensures.grown c.annotated.ensures.known
+
+pub evaluate::combined-returns-clause-gives : goal.evaluate::combined-returns-clause-gives
+evaluate::combined-returns-clause-gives t c =
+    IfOk-weaker c.set_rows.result _ _ (λ out h rows i. h rows _ (gives_stay c.annotated.ensures.grown i) (gives_same c.as_slice.ensures c.in_ok-second.ensures.gives)) c.set_rows.ensures.gives
+
+pub conditions::asked-gate-requires : goal.conditions::asked-gate-requires
+conditions::asked-gate-requires t c = (known_place c.args.tables.now c.args.q.now c.in_ok-at.field-0 c.in-Some.at c.index-as_slice-at.result c.in-Some.is c.in_ok-at.ensures.tells c.as_slice.ensures []).over
+
+pub conditions::asked-returns-in-Some-clause-gate : goal.conditions::asked-returns-in-Some-clause-gate
+conditions::asked-returns-in-Some-clause-gate t c =
+    let tells = known_place c.args.tables.now c.args.q.now c.in_ok-at.field-0 c.in-Some.at c.index-as_slice-at.result c.in-Some.is c.in_ok-at.ensures.tells c.as_slice.ensures in
+    IfOk-weaker c.gate.result _ _ (λ g h. h _ (tells (scope_of c.args.env.now))) c.gate.ensures.gate
+
+pub conditions::looked_up-returns-then-is_some-clause-tells : goal.conditions::looked_up-returns-then-is_some-clause-tells
+conditions::looked_up-returns-then-is_some-clause-tells t c = known_places c.args.q.now c.place_of-place.result c.requires.known c.as_slice.ensures c.place_of-place.ensures.within c.place_of-place.ensures.same
+
+pub conditions::looked_up-returns-clause-known : goal.conditions::looked_up-returns-clause-known
+conditions::looked_up-returns-clause-known t c =
+    known_more (record { query = c.args.q; found = c.in_ok-found.found }) c.newly.ensures.known
+    (tells_under c.args.tables.now c.args.q.now (c.query_is_closed.ensures c.if-not-query_is_closed.false) c.in_ok-found.ensures.tells) c.in_ok-push.ensures.ok
+
+pub conditions::looked_up-returns-clause-tells : goal.conditions::looked_up-returns-clause-tells
+conditions::looked_up-returns-clause-tells t c k =
+    known_last c.args.tables.now c.args.q.now c.newly.new.known (record { query = c.args.q; found = c.in_ok-found.found }) k c.len-at.result
+    (tells_under c.args.tables.now c.args.q.now (c.query_is_closed.ensures c.if-not-query_is_closed.false) c.in_ok-found.ensures.tells) c.in_ok-push.ensures.ok c.len-at.ensures

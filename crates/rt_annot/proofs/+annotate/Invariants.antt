@@ -12,7 +12,7 @@ use Rattle.rt_annot.proofs.+annotate.Given as goal
 abbrev pub invariant-conditions::together-loop-p : goal.invariant-conditions::together-loop-p
 invariant-conditions::together-loop-p l = record {
   grown : IsGrown l.fn.dag l.dag;
-  known : AreKnown l.dag l.tables (map (λ q. q.now) l.queries) l.founds;
+  known : AreKnown l.dag l.tables l.known;
   yes : Mean l.dag l.gates.yes (yes_of (take l.p-index l.ps) l.tables (map (λ r. r.now) l.env));
   no : Mean l.dag l.gates.no (no_of (take l.p-index l.ps) l.tables (map (λ r. r.now) l.env));
 }
@@ -22,12 +22,12 @@ invariant-evaluate::chosen-loop-joint l = record {
   choosing : Choosing l.fn.dag l.dag l.out
       (selected (joint_entries l.fn.dag (drop l.joint-index l.joints)) (test_under l.p l.tables (map (λ r. r.now) l.env)))
       (selected (joint_entries l.fn.dag l.joints) (test_under l.p l.tables (map (λ r. r.now) l.env)));
-  known : AreKnown l.dag l.tables (map (λ q. q.now) l.queries) l.founds;
+  known : AreKnown l.dag l.tables l.known;
 }
 
 abbrev pub invariant-evaluate::members-loop-q : goal.invariant-evaluate::members-loop-q
 invariant-evaluate::members-loop-q l = record {
   grown : IsGrown l.fn.dag l.dag;
-  known : AreKnown l.dag l.tables (map (λ q. q.now) l.queries) l.founds;
+  known : AreKnown l.dag l.tables l.known;
   give : GiveEach l.dag l.out (λ s. map (λ q. answer_by wrapped q (kept l.tables s) (map (λ r. r.now) l.env)) (take l.q-index l.qs));
 }

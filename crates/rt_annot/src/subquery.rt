@@ -1,0 +1,26 @@
+ghost use Rattle.std.specs.Prelude.{◌≡◌, ◌<◌, length, slice_index_or, IfSome};
+ghost use Rattle.rt_annot.specs.declared.subquery.Subquery.{Subquery};
+
+use crate::known::Found;
+use crate::same::same_query;
+use rt_algebra::Query;
+
+/// A subquery that names no row outside of it, and what its rows come to.
+#[derive(Drop)]
+pub struct Subquery<'q> {
+    pub query: &'q Query,
+    pub found: Found,
+}
+
+/// The place of a query among those that are known.
+pub fn place_of(known: &[Subquery], query: &Query) -> Option<usize>
+    ensures within { IfSome result (λ at. at < length known.now) }
+    ensures same { IfSome result (λ at. (k : Subquery) → (slice_index_or known.now at k).query.now ≡ query.now) }
+{
+    for (at, subquery) in known.iter().enumerate() {
+        if same_query(subquery.query, query) {
+            return Some(at);
+        }
+    }
+    None
+}
