@@ -1,5 +1,5 @@
 -- What stays as the Dag grows.
-use Rattle.std.proofs.Common.{◌≡◌, ℕ, suc, ◌<◌, ◌≤◌, Bool, not, ◌&&◌, ◌||◌, List, [], ◌∷◌, ◌++◌, length, length-append, map, refl, sym, subst, ap, ap₂, arith, ◌∙◌}
+use Rattle.std.proofs.Common.{◌≡◌, ℕ, zero, suc, ◌<◌, ◌≤◌, Bool, not, ◌&&◌, ◌||◌, List, [], ◌∷◌, ◌++◌, length, length-append, map, refl, sym, subst, ap, ap₂, arith, ◌∙◌}
 use mathlib.Core.Path.{fun_ext}
 use Rattle.std.proofs.lemmas.List.{append_assoc, append-nil}
 use Rattle.std.specs.List.{list_all, list_any}
@@ -83,6 +83,11 @@ not_over n m i l h = record { below = l; same = λ s. h s ∙ ap not (i.same s) 
 
 pub nodes_are : (d : Shared) {ns ms : List ℕ} → ns ≡ ms → AreNodes d ms → AreNodes d ns
 nodes_are d e b = let P : List ℕ → Type 0 = λ xs. AreNodes d xs in subst P (sym e) b
+
+pub two_nodes : (d : Shared) {n m : ℕ} → n < length d.entries → m < length d.entries → AreNodes d (n ∷ m ∷ [])
+two_nodes d p q zero e l = p
+two_nodes d p q (suc zero) e l = q
+two_nodes d p q (suc (suc k)) e l = absurd (omega arith)
 
 -- a condition that is Yes where one of the nodes is true, else No
 pub either_means : (old : Shared) {new : Shared} {g : Gate} (ns ms : List ℕ) (f : Formula) → IsGate new g (λ s. list_any (val old s) ns, λ s. not (list_any (val old s) ns))

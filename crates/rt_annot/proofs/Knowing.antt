@@ -1,5 +1,5 @@
 -- What is known of subqueries stays known, and holds under any rows in scope.
-use Rattle.std.proofs.Common.{◌≡◌, ℕ, zero, suc, ◌<◌, ◌++◌, Bool, List, [], ◌∷◌, Option, None, Some, IfSome, length, get_or, refl, ap, sym, subst, arith, ◌∙◌}
+use Rattle.std.proofs.Common.{◌≡◌, ℕ, zero, suc, ◌<◌, ◌++◌, Bool, List, [], ◌∷◌, Option, None, Some, IfSome, length, length-append, get_or, refl, ap, sym, subst, arith, ◌∙◌}
 use mathlib.Core.Path.{fun_ext}
 use Rattle.std.proofs.lemmas.List.Elements.{All-append}
 use Rattle.std.specs.List.{All as Each}
@@ -93,3 +93,6 @@ pub known_last : {d : Shared} (given : Tables) (q : Query) (ks : List Subquery) 
 known_last {d} given q ks {new} k x i t e l =
     let P : Subquery → Type 0 = λ y. TellsOf d given q y.found in
     subst P (sym (ap (λ (xs : List Subquery). get_or xs i x) e ∙ ap (λ j. get_or (ks ++ k ∷ []) j x) l ∙ last_is ks k x)) t
+
+pub last_within : (ks : List Subquery) {new : List Subquery} (k : Subquery) (i : ℕ) → new ≡ ks ++ k ∷ [] → i ≡ length ks → i < length new
+last_within ks k i e l = let n = ap length e in let m = length-append ks (k ∷ []) in omega (arith, l, n, m)

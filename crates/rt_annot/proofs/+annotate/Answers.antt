@@ -17,7 +17,7 @@ use Rattle.rt_annot.specs.Joints.{joint_entries}
 use Rattle.rt_annot.proofs.Exact.{table_exact}
 use Rattle.rt_annot.specs.declared.sets.Side.TheVariants.{Standing, Missing}
 use Rattle.rt_annot.specs.Known.{AreKnown}
-use Rattle.rt_annot.proofs.Knowing.{known_last, known_more, known_place, known_places, known_stay, tells_same, tells_under}
+use Rattle.rt_annot.proofs.Knowing.{known_last, known_more, last_within, known_place, known_places, known_stay, tells_same, tells_under}
 use Rattle.rt_annot.proofs.Growing.{grown_trans, all_stays, mean_stays, node_as, nodes_are, nodes_stay, noted_stay}
 use Rattle.rt_annot.proofs.Distinct.{noted_at}
 use Rattle.rt_annot.proofs.Walking.{next_is, table_entries}
@@ -371,3 +371,18 @@ pub conditions::looked_up-returns-clause-tells : goal.conditions::looked_up-retu
 conditions::looked_up-returns-clause-tells t c k =
     known_last c.args.tables.now c.args.q.now c.newly.new.known (record { query = c.args.q; found = c.in_ok-found.found }) k c.len-at.result
     (tells_under c.args.tables.now c.args.q.now (c.query_is_closed.ensures c.if-not-query_is_closed.false) c.in_ok-found.ensures.tells) c.in_ok-push.ensures.ok c.len-at.ensures
+
+pub conditions::looked_up-returns-clause-within : goal.conditions::looked_up-returns-clause-within
+conditions::looked_up-returns-clause-within t c = last_within c.newly.new.known (record { query = c.args.q; found = c.in_ok-found.found }) c.len-at.result c.in_ok-push.ensures.ok c.len-at.ensures
+
+pub conditions::asked-returns-in-Some-clause-grown : goal.conditions::asked-returns-in-Some-clause-grown
+conditions::asked-returns-in-Some-clause-grown t c = grown_trans c.looked_up.ensures.grown c.gate.ensures.grown
+
+pub conditions::asked-returns-in_err-rows-in-None-clause-grown : goal.conditions::asked-returns-in_err-rows-in-None-clause-grown
+conditions::asked-returns-in_err-rows-in-None-clause-grown t c = grown_trans c.looked_up.ensures.grown c.annotated.ensures.grown
+
+pub conditions::asked-returns-in_ok-rows-in-None-clause-grown : goal.conditions::asked-returns-in_ok-rows-in-None-clause-grown
+conditions::asked-returns-in_ok-rows-in-None-clause-grown t c = grown_trans (grown_trans c.looked_up.ensures.grown c.annotated.ensures.grown) c.among.ensures.grown
+
+pub conditions::asked-among-requires : goal.conditions::asked-among-requires
+conditions::asked-among-requires t c = noted_at c.annotated.new.dag c.as_slice-in-None.ensures c.in_ok-rows-in-None.ensures.gives.below

@@ -2,7 +2,7 @@ use Rattle.std.proofs.Common.{◌∙◌, ◌≡◌, Bool, true, false, not, ◌&
 use Rattle.rt_algebra.specs.Answer.{has_row}
 use Rattle.rt_formula.proofs.Meaning.{val-grown}
 use Rattle.rt_rules.proofs.Meanings.{below-grown}
-use Rattle.rt_annot.proofs.Growing.{grown_trans}
+use Rattle.rt_annot.proofs.Growing.{grown_trans, two_nodes}
 use Rattle.rt_annot.proofs.SameRows.{mapped_stay, rows_stay, same_rows_is}
 use Rattle.rt_annot.proofs.aim.goal_beside.Goals as goal
 
@@ -42,3 +42,7 @@ returns-in_err-both-clause-grown c = grown_trans (grown_trans c.annotate.ensures
 
 pub returns-clause-grown : goal.returns-clause-grown
 returns-clause-grown c = grown_trans (grown_trans c.annotate.ensures.grown c.differ.ensures.grown) c.all.ensures.grown
+
+pub all-requires : goal.all-requires
+all-requires c = 
+    two_nodes c.differ.new.dag (below-grown c.args.dag.now c.differ.new.dag (grown_trans c.annotate.ensures.grown c.differ.ensures.grown) c.args.reference.now.lawful c.requires.stands.lawful) c.in_ok-differs.ensures.node

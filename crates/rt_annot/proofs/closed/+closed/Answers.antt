@@ -31,3 +31,10 @@ query_is_closed-returns-then-query_is_closed-2 t c h =
 
 pub query_is_closed-returns-in-Product : goal.query_is_closed-returns-in-Product
 query_is_closed-returns-in-Product t c h = stays_product c.args.depth c.in-Product.members c.in-Product.is (each_at (StaysQuery c.args.depth) c.as_slice-in-Product.ensures (c.queries_are_closed.ensures h))
+
+pub queries_are_closed-loop-query-preserved : goal.queries_are_closed-loop-query-preserved
+queries_are_closed-loop-query-preserved t c = 
+    each_more (StaysQuery c.args.depth) c.args.queries.now c.loop-query.query-index c.query-item.result c.loop-query-test.true c.query-item.is c.loop-query.invariant (c.query_is_closed.ensures c.if-not-query_is_closed.false)
+
+pub queries_are_closed-returns : goal.queries_are_closed-returns
+queries_are_closed-returns t c h = each_of (StaysQuery c.args.depth) c.args.queries.now c.loop-query.query-index c.loop-query-test.false c.loop-query.invariant

@@ -14,3 +14,10 @@ terms_are_closed-loop-term-preserved t c =
 
 pub terms_are_closed-returns : goal.terms_are_closed-returns
 terms_are_closed-returns t c h = each_of (StaysTerm c.args.depth) c.args.terms.now c.loop-term.term-index c.loop-term-test.false c.loop-term.invariant
+
+pub exprs_are_closed-loop-expr-preserved : goal.exprs_are_closed-loop-expr-preserved
+exprs_are_closed-loop-expr-preserved t c = 
+    each_more (StaysValue c.args.depth) c.args.exprs.now c.loop-expr.expr-index c.expr-item.result c.loop-expr-test.true c.expr-item.is c.loop-expr.invariant (c.expr_is_closed.ensures c.if-not-expr_is_closed.false)
+
+pub exprs_are_closed-returns : goal.exprs_are_closed-returns
+exprs_are_closed-returns t c h = each_of (StaysValue c.args.depth) c.args.exprs.now c.loop-expr.expr-index c.loop-expr-test.false c.loop-expr.invariant

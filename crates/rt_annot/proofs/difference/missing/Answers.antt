@@ -1,3 +1,4 @@
+use Rattle.rt_annot.proofs.SameRows.{mapped_stay}
 use Rattle.std.proofs.Common.{not, ap}
 use Rattle.rt_annot.specs.Ann.{node_at, node_value}
 use Rattle.rt_annot.proofs.Growing.{grown_trans, node_stays, node_as}
@@ -40,3 +41,6 @@ returns-clause-grown c = grown_trans c.loop-row.invariant.grown c.any.ensures.gr
 
 pub both-requires-clause-b : goal.both-requires-clause-b
 both-requires-clause-b c = c.in_ok-none.ensures.node.below
+
+pub lacks-requires : goal.lacks-requires
+lacks-requires c = mapped_stay c.loop-row.invariant.grown c.args.b.now c.requires.b

@@ -2,7 +2,7 @@ use Rattle.std.proofs.Common.{ap, refl}
 use Rattle.std.specs.List.{list_all}
 use Rattle.rt_formula.specs.Shared.{val}
 use Rattle.rt_annot.specs.Joints.{joint_entries}
-use Rattle.rt_annot.proofs.Growing.{nodes_stay, nodes_are, all_over}
+use Rattle.rt_annot.proofs.Growing.{grown_trans, nodes_stay, nodes_are, all_over}
 use Rattle.rt_annot.proofs.Walking.{along_push, next_is}
 use Rattle.rt_annot.proofs.Joining.{joint_below}
 use Rattle.rt_annot.proofs.joint.noted.Goals as goal
@@ -24,3 +24,9 @@ loop-joint-preserved c =
     c.all.ensures.grown refl
     (all_over c.loop-joint.invariant.grown c.in_ok-node.node _ j.nodes b c.as_slice.ensures c.in_ok-node.ensures.node c.in_ok-node.ensures.means)
     c.in_ok-note.ensures
+
+pub returns-in_err-node-clause-grown : goal.returns-in_err-node-clause-grown
+returns-in_err-node-clause-grown c = grown_trans c.loop-joint.invariant.grown c.all.ensures.grown
+
+pub returns-in_err-note-clause-grown : goal.returns-in_err-note-clause-grown
+returns-in_err-note-clause-grown c = grown_trans c.loop-joint.invariant.grown c.all.ensures.grown

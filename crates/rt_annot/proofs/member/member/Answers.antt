@@ -28,3 +28,15 @@ returns-clause-gate c =
           (node_as (member_test x (entries_of d ns)).0 (λ s. any_sure d s x ns) (any_over (grown_refl d) c.in_ok-yes.yes _ (sure x ns) b (c.as_slice.ensures ∙ c.in_ok-sure.ensures) c.in_ok-yes.ensures.node c.in_ok-yes.ensures.means));
       no = node_as (member_test x (entries_of d ns)).1 (λ s. none_possible d s x ns) (not_over c.in_ok-some.some c.in_ok-no.no some c.in_ok-no.ensures.node c.in_ok-no.ensures.means);
     }
+
+pub returns-in_err-some-clause-grown : goal.returns-in_err-some-clause-grown
+returns-in_err-some-clause-grown c = grown_trans c.any.ensures.grown c.any-2.ensures.grown
+
+pub returns-in_err-possible-clause-grown : goal.returns-in_err-possible-clause-grown
+returns-in_err-possible-clause-grown c = c.any.ensures.grown
+
+pub returns-in_err-no-clause-grown : goal.returns-in_err-no-clause-grown
+returns-in_err-no-clause-grown c = grown_trans (grown_trans c.any.ensures.grown c.any-2.ensures.grown) c.not.ensures.grown
+
+pub returns-clause-grown : goal.returns-clause-grown
+returns-clause-grown c = grown_trans (grown_trans c.any.ensures.grown c.any-2.ensures.grown) c.not.ensures.grown

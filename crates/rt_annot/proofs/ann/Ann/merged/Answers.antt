@@ -6,7 +6,7 @@ use Rattle.rt_annot.specs.Entries.{stands}
 use Rattle.rt_formula.specs.Groups.{standing}
 use Rattle.rt_annot.specs.Annotated.{entries_of}
 use Rattle.rt_annot.specs.Ann.{node_at}
-use Rattle.rt_annot.proofs.Growing.{nodes_stay, nodes_are, any_over, node_as}
+use Rattle.rt_annot.proofs.Growing.{grown_trans, nodes_stay, nodes_are, any_over, node_as}
 use Rattle.rt_annot.proofs.Nodes.{where_below, any_standing}
 use Rattle.rt_annot.proofs.Maps.{merging_new, merging_again, merging_at, merged_all}
 use Rattle.rt_annot.proofs.ann.Ann.merged.Goals as goal
@@ -38,3 +38,12 @@ invariant_of-result c = c.len-len.ensures.ordered
 
 pub returns-clause-merged : goal.returns-clause-merged
 returns-clause-merged c = merged_all c.loop-noted.invariant (take_all c.loop-noted.noted-index c.args.rows.now c.loop-noted-test.false)
+
+pub returns-in_err-node-clause-grown : goal.returns-in_err-node-clause-grown
+returns-in_err-node-clause-grown c = grown_trans c.loop-noted.invariant.grown c.any.ensures.grown
+
+pub returns-in_err-key-clause-grown : goal.returns-in_err-key-clause-grown
+returns-in_err-key-clause-grown c = grown_trans c.loop-noted.invariant.grown c.any.ensures.grown
+
+pub returns-in_err-insert-clause-grown : goal.returns-in_err-insert-clause-grown
+returns-in_err-insert-clause-grown c = grown_trans c.loop-noted.invariant.grown c.any.ensures.grown

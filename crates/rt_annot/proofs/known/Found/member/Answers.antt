@@ -1,18 +1,13 @@
-use Rattle.std.proofs.Common.{◌∙◌, ◌∷◌, [], ◌||◌, sym, ap, ap₂, ℕ, zero, suc, ◌<◌, length, arith}
+use Rattle.std.proofs.Common.{◌∙◌, ◌∷◌, [], ◌||◌, sym, ap, ap₂}
 use Rattle.rt_value.specs.declared.value.Value.TheVariants.{Null}
-use Rattle.rt_formula.specs.Shared.{val, Shared}
+use Rattle.rt_formula.specs.Shared.{val}
 use Rattle.rt_formula.specs.Groups.{group_at}
-use Rattle.rt_annot.specs.Annotated.{IsNode, AreNodes}
+use Rattle.rt_annot.specs.Annotated.{IsNode}
 use Rattle.rt_annot.specs.Known.{among_test, has_first}
-use Rattle.rt_annot.proofs.Growing.{grown_refl, grown_trans, node_stays, any_over, not_over, node_as, nodes_are}
+use Rattle.rt_annot.proofs.Growing.{grown_refl, grown_trans, node_stays, any_over, not_over, node_as, nodes_are, two_nodes}
 use Rattle.rt_annot.proofs.Telling.{null_yes, null_no, among_yes, among_no, or_false}
 use Rattle.rt_annot.proofs.Walking.{itself}
 use Rattle.rt_annot.proofs.known.Found.member.Goals as goal
-
-two_nodes : (d : Shared) {n m : ℕ} → n < length d.entries → m < length d.entries → AreNodes d (n ∷ m ∷ [])
-two_nodes d p q zero e l = p
-two_nodes d p q (suc zero) e l = q
-two_nodes d p q (suc (suc k)) e l = absurd (omega arith)
 
 pub returns-then-is_null-clause-gate : goal.returns-then-is_null-clause-gate
 returns-then-is_null-clause-gate c answer tells =

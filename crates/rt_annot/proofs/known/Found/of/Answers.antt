@@ -41,3 +41,9 @@ returns-clause-tells c =
           (any_over c.exists.ensures.grown c.in_ok-null.null c.get.result.now (nodes_where (t Null) ns) (below Null) nulls c.in_ok-null.ensures.node c.in_ok-null.ensures.means);
       firsts = λ x s. ap (list_any (val c.any.new.self s)) (c.in_ok-groups.ensures x) ∙ any_stays grown (nodes_where (t x) ns) (below x) s ∙ where_rows d s (t x) ns;
     }
+
+pub returns-in_err-null-clause-grown : goal.returns-in_err-null-clause-grown
+returns-in_err-null-clause-grown c = grown_trans c.exists.ensures.grown c.any.ensures.grown
+
+pub returns-clause-grown : goal.returns-clause-grown
+returns-clause-grown c = grown_trans c.exists.ensures.grown c.any.ensures.grown

@@ -1,3 +1,4 @@
+use Rattle.rt_annot.proofs.Growing.{grown_trans}
 use Rattle.std.proofs.Common.{◌∙◌}
 use Rattle.rt_formula.proofs.Meaning.{val-grown}
 use Rattle.rt_rules.proofs.Meanings.{below-grown}
@@ -10,3 +11,9 @@ returns-clause-reference c = record {
       ∙ c.in_ok-lawful.ensures.means keep (l ∙ c.annotate.ensures.grown.rows ∙ c.in_ok-lawful.ensures.grown.rows);
   answer = c.in_ok-rows.ensures.rows;
 }
+
+pub returns-in_err-rows-clause-grown : goal.returns-in_err-rows-clause-grown
+returns-in_err-rows-clause-grown c = grown_trans c.law.ensures.grown c.annotate.ensures.grown
+
+pub returns-clause-grown : goal.returns-clause-grown
+returns-clause-grown c = grown_trans c.law.ensures.grown c.annotate.ensures.grown
