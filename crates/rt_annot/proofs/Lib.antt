@@ -10,7 +10,6 @@ pub mod Distinct
 pub mod Exact
 pub mod Joining
 pub mod Knowing
-pub mod Staying
 pub mod Telling
 pub mod Narrowing
 pub mod Members

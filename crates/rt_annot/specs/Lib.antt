@@ -5,4 +5,3 @@ pub mod Joints
 pub mod Known
 pub mod Narrowed
 pub mod Reference
-pub mod Stays

@@ -11,7 +11,6 @@ ghost use Rattle.rt_annot.specs.Annotated.{IsGate, yes_when, no_when, test_under
 ghost use Rattle.rt_annot.specs.Known.{AreKnown, Tells, TellsOf, sought_test};
 ghost use Rattle.rt_annot.specs.declared.subquery.Subquery.{Subquery};
 
-use crate::closed::query_is_closed;
 use crate::evaluate::annotated;
 use crate::gate::{Gate, Gates, Junction, constant, is_always};
 use crate::known::Found;
@@ -19,6 +18,7 @@ use crate::member::among;
 use crate::subquery::{Subquery, place_of};
 use rt_algebra::{Expr, Pred, Query, one_of_truth, scope, value};
 use rt_formula::Dag;
+use rt_shape::query_is_closed;
 use rt_value::{List, NoMemory, Op, Row, Value, compare, null_truth};
 use std::alloc::Global;
 

@@ -6,7 +6,6 @@
 mod aim;
 mod ann;
 mod annotation;
-mod closed;
 mod conditions;
 mod difference;
 mod evaluate;
@@ -18,7 +17,6 @@ pub mod laws;
 mod member;
 mod reference;
 mod rows;
-mod same;
 mod sets;
 mod subquery;
 
@@ -27,4 +25,3 @@ pub use ann::Ann;
 pub use annotation::annotate;
 pub use difference::differ;
 pub use reference::Reference;
-pub use same::same_query;

@@ -8,7 +8,7 @@ ghost use Rattle.rt_grade.specs.Known.{AreKnown, IsQueryGrade};
 use crate::grade::Grade;
 use crate::small::is_small;
 use rt_algebra::Query;
-use rt_annot::same_query;
+use rt_shape::same_query;
 use rt_value::{Boxed, List, NoMemory};
 use std::alloc::Global;
 

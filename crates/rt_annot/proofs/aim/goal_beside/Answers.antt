@@ -44,5 +44,5 @@ pub returns-clause-grown : goal.returns-clause-grown
 returns-clause-grown c = grown_trans (grown_trans c.annotate.ensures.grown c.differ.ensures.grown) c.all.ensures.grown
 
 pub all-requires : goal.all-requires
-all-requires c = 
+all-requires c =
     two_nodes c.differ.new.dag (below-grown c.args.dag.now c.differ.new.dag (grown_trans c.annotate.ensures.grown c.differ.ensures.grown) c.args.reference.now.lawful c.requires.stands.lawful) c.in_ok-differs.ensures.node

@@ -1,7 +1,7 @@
 //! Whether a query names a row outside of it.
 ghost use Rattle.std.specs.Prelude.{IsTrue, ◌+◌};
 ghost use Rattle.std.specs.List.{All as Each};
-ghost use Rattle.rt_annot.specs.Stays.{StaysValue, StaysTerm, StaysPred, StaysQuery};
+ghost use Rattle.rt_shape.specs.Stays.{StaysValue, StaysTerm, StaysPred, StaysQuery};
 
 use rt_algebra::{Expr, Pred, Query, Term};
 

@@ -1,7 +1,7 @@
 use Rattle.std.proofs.Common.{take}
 use Rattle.std.specs.List.{All as Each}
-use Rattle.rt_annot.specs.Stays.{StaysValue, StaysTerm}
-use Rattle.rt_annot.proofs.closed.+closed_value.Given as goal
+use Rattle.rt_shape.specs.Stays.{StaysValue, StaysTerm}
+use Rattle.rt_shape.proofs.closed.+closed_value.Given as goal
 
 abbrev pub invariant-exprs_are_closed-loop-expr : goal.invariant-exprs_are_closed-loop-expr
 invariant-exprs_are_closed-loop-expr l = Each (StaysValue l.depth) (take l.expr-index l.exprs)

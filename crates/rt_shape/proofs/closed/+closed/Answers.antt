@@ -1,7 +1,7 @@
 use Rattle.std.proofs.Common.{◌+◌}
-use Rattle.rt_annot.specs.Stays.{StaysValue, StaysPred, StaysQuery}
-use Rattle.rt_annot.proofs.Staying.{each_more, each_of, each_at, stays_one_of, stays_and, stays_or, stays_select, stays_project, stays_product, query_at}
-use Rattle.rt_annot.proofs.closed.+closed.Goals as goal
+use Rattle.rt_shape.specs.Stays.{StaysValue, StaysPred, StaysQuery}
+use Rattle.rt_shape.proofs.Staying.{each_more, each_of, each_at, stays_one_of, stays_and, stays_or, stays_select, stays_project, stays_product, query_at}
+use Rattle.rt_shape.proofs.closed.+closed.Goals as goal
 
 pub pred_is_closed-returns-then-expr_is_closed-2 : goal.pred_is_closed-returns-then-expr_is_closed-2
 pred_is_closed-returns-then-expr_is_closed-2 t c h =
@@ -33,7 +33,7 @@ pub query_is_closed-returns-in-Product : goal.query_is_closed-returns-in-Product
 query_is_closed-returns-in-Product t c h = stays_product c.args.depth c.in-Product.members c.in-Product.is (each_at (StaysQuery c.args.depth) c.as_slice-in-Product.ensures (c.queries_are_closed.ensures h))
 
 pub queries_are_closed-loop-query-preserved : goal.queries_are_closed-loop-query-preserved
-queries_are_closed-loop-query-preserved t c = 
+queries_are_closed-loop-query-preserved t c =
     each_more (StaysQuery c.args.depth) c.args.queries.now c.loop-query.query-index c.query-item.result c.loop-query-test.true c.query-item.is c.loop-query.invariant (c.query_is_closed.ensures c.if-not-query_is_closed.false)
 
 pub queries_are_closed-returns : goal.queries_are_closed-returns

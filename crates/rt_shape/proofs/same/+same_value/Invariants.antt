@@ -1,5 +1,5 @@
 use Rattle.std.proofs.Common.{◌≡◌, take}
-use Rattle.rt_annot.proofs.same.+same_value.Given as goal
+use Rattle.rt_shape.proofs.same.+same_value.Given as goal
 
 abbrev pub invariant-same_exprs-loop-at : goal.invariant-same_exprs-loop-at
 invariant-same_exprs-loop-at l = take l.at l.a ≡ take l.at l.b

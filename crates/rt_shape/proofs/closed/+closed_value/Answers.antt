@@ -1,6 +1,6 @@
-use Rattle.rt_annot.specs.Stays.{StaysValue, StaysTerm}
-use Rattle.rt_annot.proofs.Staying.{each_more, each_of, each_at, stays_sum, stays_mul}
-use Rattle.rt_annot.proofs.closed.+closed_value.Goals as goal
+use Rattle.rt_shape.specs.Stays.{StaysValue, StaysTerm}
+use Rattle.rt_shape.proofs.Staying.{each_more, each_of, each_at, stays_sum, stays_mul}
+use Rattle.rt_shape.proofs.closed.+closed_value.Goals as goal
 
 pub expr_is_closed-returns-in-Sum : goal.expr_is_closed-returns-in-Sum
 expr_is_closed-returns-in-Sum t c h = stays_sum c.args.depth c.in-Sum.terms c.in-Sum.is (each_at (StaysTerm c.args.depth) c.as_slice.ensures (c.terms_are_closed.ensures h))
@@ -16,7 +16,7 @@ pub terms_are_closed-returns : goal.terms_are_closed-returns
 terms_are_closed-returns t c h = each_of (StaysTerm c.args.depth) c.args.terms.now c.loop-term.term-index c.loop-term-test.false c.loop-term.invariant
 
 pub exprs_are_closed-loop-expr-preserved : goal.exprs_are_closed-loop-expr-preserved
-exprs_are_closed-loop-expr-preserved t c = 
+exprs_are_closed-loop-expr-preserved t c =
     each_more (StaysValue c.args.depth) c.args.exprs.now c.loop-expr.expr-index c.expr-item.result c.loop-expr-test.true c.expr-item.is c.loop-expr.invariant (c.expr_is_closed.ensures c.if-not-expr_is_closed.false)
 
 pub exprs_are_closed-returns : goal.exprs_are_closed-returns

@@ -23,8 +23,8 @@ use Rattle.rt_algebra.specs.declared.query.Pred.{Pred}
 use Rattle.rt_algebra.specs.declared.query.Query.{Query}
 use Rattle.rt_algebra.specs.declared.query.Query.TheVariants as v
 use Rattle.rt_algebra.specs.declared.query.Pred.TheVariants as w
-use Rattle.rt_annot.specs.Stays.{StaysValue, StaysTerm, StaysPred, StaysQuery}
-use Rattle.rt_annot.proofs.Layers.{at_select, at_project, at_product, at_one_of, at_and, at_or}
+use Rattle.rt_shape.specs.Stays.{StaysValue, StaysTerm, StaysPred, StaysQuery}
+use Rattle.rt_shape.proofs.Equations.{at_select, at_project, at_product, at_one_of, at_and, at_or}
 
 -- what holds of each so far, and of the next
 pub each_more : {X : Type 0} (P : X → Type 0) (xs : List X) (i : ℕ) (y : X) → i < length xs → y ≡ get_or xs i y → Each P (take i xs) → P y → Each P (take (i + 1) xs)

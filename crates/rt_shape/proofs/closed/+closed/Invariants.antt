@@ -1,7 +1,7 @@
 use Rattle.std.proofs.Common.{take}
 use Rattle.std.specs.List.{All as Each}
-use Rattle.rt_annot.specs.Stays.{StaysPred, StaysQuery}
-use Rattle.rt_annot.proofs.closed.+closed.Given as goal
+use Rattle.rt_shape.specs.Stays.{StaysPred, StaysQuery}
+use Rattle.rt_shape.proofs.closed.+closed.Given as goal
 
 abbrev pub invariant-queries_are_closed-loop-query : goal.invariant-queries_are_closed-loop-query
 invariant-queries_are_closed-loop-query l = Each (StaysQuery l.depth) (take l.query-index l.queries)
