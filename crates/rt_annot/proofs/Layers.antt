@@ -3,23 +3,17 @@ use Rattle.std.proofs.Common.{◌≡◌, ℕ, ◌+◌, ◌<◌, Bool, true, fals
 use Rattle.std.proofs.lemmas.List.{take_more, map-append, append_assoc}
 use Rattle.std.proofs.lemmas.List.Elements.{All-append}
 use Rattle.std.specs.List.{list_all, list_any, filter}
-use Rattle.rt_value.specs.declared.value.Op.{Op}
 use Rattle.rt_value.specs.declared.value.Value.{Value}
 use Rattle.rt_value.specs.declared.truth.Truth.{Truth}
 use Rattle.rt_value.specs.declared.truth.Truth.TheVariants.{Yes, No, Unknown}
-use Rattle.rt_value.specs.Truth.{truth_not, truth_and, truth_or}
-use Rattle.rt_value.specs.Value.{value_truth, null_truth}
+use Rattle.rt_value.specs.Truth.{truth_and, truth_or}
 use Rattle.rt_schema.specs.Given.{Tables, Rows}
-use Rattle.rt_algebra.specs.Answer.{Condition, Answer, answer_by, pred_by, query_step, pred_step, is_yes, some_truth, member_truth, one_of_truth, has_row, product_after, all_of, any_of}
+use Rattle.rt_algebra.specs.Answer.{answer_by, pred_by, is_yes, some_truth, member_truth, has_row, all_of, any_of}
 use Rattle.rt_algebra.specs.Expression.{wrapped, Env, row_by, value_by}
 use Rattle.rt_algebra.specs.declared.expr.Expr.{Expr}
 use Rattle.rt_algebra.specs.declared.query.Pred.{Pred}
 use Rattle.rt_algebra.specs.declared.query.Query.{Query}
-use Rattle.rt_algebra.specs.declared.query.Query.TheVariants as v
 use Rattle.rt_algebra.specs.declared.query.Pred.TheVariants as w
-use Rattle.rt_algebra.specs.declared.query.Pred.TheOpen.{Pred-F, Query-F, Cmp, IsNull, OneOf, And, Or, Not, Exists, Member, Table, Select, Project, Product, Union, Except, Intersect}
-use Rattle.rt_algebra.specs.declared.query.Pred.TheViews.{roll-Pred, roll-Query}
-use Rattle.rt_algebra.specs.declared.query.Pred.TheFolds.{fold-roll-Pred, fold-roll-Query, map-Pred, map-Query}
 use Rattle.rt_schema.specs.Kept.{kept}
 use Rattle.rt_formula.specs.Shared.{Shared, IsGrown, val}
 use Rattle.rt_annot.specs.Entries.{Formula, Test, Entry, is_no, rows_at, selected, any_entry, member_test, stands}
@@ -33,7 +27,7 @@ use Rattle.rt_annot.specs.declared.sets.Side.{Side}
 use Rattle.rt_annot.specs.declared.sets.Side.TheVariants.{Standing, Missing}
 use Rattle.rt_annot.specs.Annotated.{formula, entry_of, entries_of, AreMerged, AreNodes, IsNode, IsGate, Mean, Reads, Gives, Choosing, yes_of, no_of, yes_when, no_when, test_joined, gates_joined, deciding, set_rows, side_test, side_node, projected_rows}
 use Rattle.rt_annot.specs.Known.{exists_test, among_test}
-use Rattle.rt_shape.proofs.Equations.{at_and, at_or, at_not, at_exists, at_member}
+use Rattle.rt_shape.proofs.Equations.{at_and, at_or, at_exists, at_member}
 use Rattle.rt_annot.proofs.Alike.{same_append, same_except, same_intersect, same_map, same_member_no, same_member_yes, same_some_yes}
 use Rattle.rt_annot.proofs.Growing.{grown_trans, node_as, noted_stay, entries_stay}
 use Rattle.rt_annot.proofs.Walking.{noted_push, entry_is, projected_same, projected_below}

@@ -19,7 +19,7 @@ use std::alloc::Global;
 
 /// The node that says that two queries answer differently, and the one that says that the choice of
 /// rows is lawful too: the choices that are looked for.
-#[derive(Clone, Copy, Debug)]
+#[derive(Clone, Copy)]
 pub struct Aim {
     pub differs: Node,
     pub goal: Node,

@@ -13,7 +13,7 @@ use Rattle.rt_algebra.specs.declared.query.Query.TheVariants as v
 use Rattle.rt_schema.specs.Kept.{kept}
 use Rattle.rt_annot.specs.Entries.{rows_at, selected}
 use Rattle.rt_annot.specs.Annotated.{IsGate, IsNode, entries_of, set_rows, test_under, yes_when, no_when, yes_of, no_of}
-use Rattle.rt_annot.specs.Joints.{joint_entries}
+use Rattle.rt_annot.specs.Joints.{GiveEach, joint_entries}
 use Rattle.rt_annot.proofs.Exact.{table_exact}
 use Rattle.rt_annot.specs.declared.sets.Side.TheVariants.{Standing, Missing}
 use Rattle.rt_annot.specs.Known.{AreKnown}
@@ -387,3 +387,9 @@ conditions::asked-returns-in_ok-rows-in-None-clause-grown t c = grown_trans (gro
 
 pub conditions::asked-among-requires : goal.conditions::asked-among-requires
 conditions::asked-among-requires t c = noted_at c.annotated.new.dag c.as_slice-in-None.ensures c.in_ok-rows-in-None.ensures.gives.below
+
+pub evaluate::members-returns-clause-give : goal.evaluate::members-returns-clause-give
+evaluate::members-returns-clause-give t c =
+    let rows = λ (q : Query) (s : List Bool). answer_by wrapped q (kept c.args.tables.now s) (scope_of c.args.env.now) in
+    let P : List Query → Type 0 = λ qs. GiveEach c.loop-q.dag c.loop-q.out (λ s. map (λ q. rows q s) qs) in
+    subst P (take_all c.loop-q.q-index c.args.qs.now c.loop-q-test.false) c.loop-q.invariant.give
