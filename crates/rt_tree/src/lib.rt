@@ -5,12 +5,14 @@
 //! has. Lists that may not be empty are a first member and the others.
 #![tactic(auto)]
 
+mod ends;
 mod items;
 mod names;
 mod nesting;
 mod sums;
 mod tree;
 
+pub use ends::{before, boxed_before};
 pub use items::items as read_items;
 pub use names::{alias, maybe_alias};
 pub use nesting::{NESTED, is_left, opens_too_many};

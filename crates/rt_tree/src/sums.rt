@@ -5,9 +5,10 @@ ghost use Rattle.rt_grammar.specs.Readers.{list_of};
 ghost use Rattle.rt_grammar.specs.Reads.{Reads};
 ghost use Rattle.rt_tree.specs.Reads as spec;
 
+use crate::ends::boxed_before;
 use crate::tree::{Factor, Leaf, Mul, Sum, SumLink};
 use rt_grammar::{Fixed, ReadFault, Terminal, after, counted, expect, name, starts, starts_name};
-use rt_value::{Boxed, List};
+use rt_value::List;
 use std::alloc::Global;
 
 fn column<'t>(alloc: Global, terminals: &'t [Terminal]) -> Result<(Leaf, &'t [Terminal]), ReadFault>
@@ -69,13 +70,8 @@ fn leaf<'t>(
     }
     let rest = expect(terminals, Fixed::Left)?;
     let (inner, rest) = sum(alloc, depth, rest)?;
-    match expect(rest, Fixed::Right) {
-        Ok(rest) => Ok((Leaf::Paren(Boxed::new(alloc, inner)?), rest)),
-        Err(fault) => {
-            drop(inner);
-            Err(fault)
-        }
-    }
+    let (inner, rest) = boxed_before(alloc, inner, rest, Fixed::Right)?;
+    Ok((Leaf::Paren(inner), rest))
 }
 
 #[tactic(auto, unfolding(crate::specs::Reads::read_factor))]
@@ -120,8 +116,13 @@ fn mul<'t>(
     ensures { Reads result (spec.read_mul (spec.read_sum depth) terminals.now) }
 {
     let (head, rest) = factor(alloc, depth, terminals)?;
-    let (tail, rest) = factors(alloc, depth, rest)?;
-    Ok((Mul { head, tail }, rest))
+    match factors(alloc, depth, rest) {
+        Ok((tail, rest)) => Ok((Mul { head, tail }, rest)),
+        Err(fault) => {
+            drop(head);
+            Err(fault)
+        }
+    }
 }
 
 #[tactic(auto, unfolding(crate::specs::Reads::read_sum_link))]
@@ -177,8 +178,13 @@ fn sum<'t>(
         return Err(ReadFault::Syntax(terminals.len()));
     }
     let (head, rest) = mul(alloc, depth - 1, terminals)?;
-    let (tail, rest) = sum_links(alloc, depth - 1, rest)?;
-    Ok((Sum { head, tail }, rest))
+    match sum_links(alloc, depth - 1, rest) {
+        Ok((tail, rest)) => Ok((Sum { head, tail }, rest)),
+        Err(fault) => {
+            drop(head);
+            Err(fault)
+        }
+    }
 }
 
 /// The sum at the front.
