@@ -35,7 +35,7 @@ use Rattle.rt_grammar.proofs.FrontLemmas.{is-fixed}
 use Rattle.rt_tree.specs.Spelled.{spelled_alias, spelled_base, spelled_chain, spelled_chain_link, spelled_cond, spelled_items, spelled_join, spelled_meet, spelled_meet_link, spelled_name, spelled_pick, spelled_primary, spelled_source, spelled_sql, spelled_where, union_word}
 use Rattle.rt_tree.proofs.SpelledLemmas.{spelled-Chain, spelled-ChainLink, spelled-ChainParen, spelled-Cross, spelled-Inner, spelled-Meet, spelled-MeetLink, spelled-Named, spelled-One, spelled-Pick, spelled-Plain, spelled-Source, spelled-Sub}
 use Rattle.rt_tree.specs.Reads.{is_alias, read_alias, read_items}
-use Rattle.rt_sql.specs.Reads.{Inner, chain_link_of, chain_of, chain_step, inner_of, is_join, is_union, join_step, level, meet_link_of, meet_of, meet_step, named, pick_of, plain, read_base, read_chain, read_chain_link, read_cond, read_join, read_meet, read_meet_link, read_on, read_pick, read_primary, read_source, read_sources, read_sql, read_where, source_of, source_step, sql_of, sub}
+use Rattle.rt_sql.specs.Reads.{Inner, chain_link_of, chain_of, chain_step, is_join, is_union, join_step, joined, level, meet_link_of, meet_of, meet_step, named, pick_of, read_base, read_chain, read_chain_link, read_cond, read_join, read_meet, read_meet_link, read_on, read_pick, read_primary, read_source, read_sources, read_sql, read_where, source_of, source_step, sql_of, sub}
 use Rattle.rt_tree.proofs.SumLaws.{a-name, alias-law, maybe-alias-front, maybe-alias-law}
 use Rattle.rt_tree.proofs.ItemLaws.{items-front, items-law}
 use Rattle.rt_sql.proofs.StartLemmas.{primary-cases}
@@ -117,17 +117,16 @@ unfolding read_on
 on-law inner n l = both-law (read_base inner) (lead fixed.On (read_cond inner)) spelled_base (λ (c : Cond). terminal.Fixed fixed.On ∷ spelled_cond c) (n + 2) 24 22 (base-law inner n l)
     (lead-law fixed.On (read_cond inner) spelled_cond (n + 2) 22 (cond-law inner n l) (λ e. omega arith) (λ e. omega arith)) (λ c rest f. omega arith)
 
-abbrev plain_kinds : Base × Cond → Kinds
-plain_kinds x = terminal.Fixed fixed.Join ∷ on_kinds x
+abbrev joined_kinds : Bool × (Base × Cond) → Kinds
+joined_kinds x = flag fixed.Inner x.0 ++ terminal.Fixed fixed.Join ∷ on_kinds x.1
 
-plain-law : (inner : Inner) (n : ℕ) → InnerLaw inner n → Lawful true (lead fixed.Join (read_on inner)) plain_kinds (n + 2) 22
-plain-law inner n l = lead-law fixed.Join (read_on inner) on_kinds (n + 2) 22 (on-law inner n l) (λ e. omega arith) (λ e. omega arith)
+joined-law : (inner : Inner) (n : ℕ) → InnerLaw inner n → Lawful true (flagged fixed.Inner (lead fixed.Join (read_on inner))) joined_kinds (n + 2) 22
+joined-law inner n l = flagged-law fixed.Inner (lead fixed.Join (read_on inner)) (λ (x : Base × Cond). terminal.Fixed fixed.Join ∷ on_kinds x) (n + 2) 22
+    (lead-law fixed.Join (read_on inner) on_kinds (n + 2) 22 (on-law inner n l) (λ e. omega arith) (λ e. omega arith)) (λ e. omega arith) (λ e. omega arith) (λ x rest f e. omega arith)
 
-abbrev inner_kinds : Base × Cond → Kinds
-inner_kinds x = terminal.Fixed fixed.Inner ∷ plain_kinds x
-
-inner-join-law : (inner : Inner) (n : ℕ) → InnerLaw inner n → Lawful true (lead fixed.Inner (lead fixed.Join (read_on inner))) inner_kinds (n + 2) 22
-inner-join-law inner n l = lead-law fixed.Inner (lead fixed.Join (read_on inner)) plain_kinds (n + 2) 22 (plain-law inner n l) (λ e. omega arith) (λ e. omega arith)
+spelled-joined : (inner : Bool) (b : Base) (c : Cond) → spelled_join (joined (inner, (b, c))) ≡ joined_kinds (inner, (b, c))
+spelled-joined true b c = spelled-Inner b c
+spelled-joined false b c = spelled-Plain b c
 
 abbrev cross_kinds : Base → Kinds
 cross_kinds b = terminal.Fixed fixed.Cross ∷ (terminal.Fixed fixed.Join ∷ spelled_base b)
@@ -139,18 +138,15 @@ cross-law inner n l = lead-law fixed.Cross (lead fixed.Join (read_base inner)) (
 abbrev JoinReads : Inner → ℕ → Join → Type 0
 JoinReads inner n x = (rest : Kinds) → length (spelled_join x) < n + 2 → 24 ≤ front rest → read_join inner (spelled_join x ++ rest) ≡ Some (x, rest)
 
-plain-reads : (inner : Inner) (n : ℕ) → InnerLaw inner n → (b : Base) (c : Cond) → JoinReads inner n (join.Plain b c)
+joined-reads : (inner : Inner) (n : ℕ) → InnerLaw inner n → (i : Bool) (b : Base) (c : Cond) → JoinReads inner n (joined (i, (b, c)))
 unfolding read_join
-plain-reads inner n l b c rest h f =
-    let e = spelled-Plain b c in
-    let one = (plain-law inner n l).reads (b, c) rest (omega (arith, h, ap length e)) (omega arith) in
-    rw (e, one) refl
-
-inner-reads : (inner : Inner) (n : ℕ) → InnerLaw inner n → (b : Base) (c : Cond) → JoinReads inner n (join.Inner b c)
-unfolding read_join
-inner-reads inner n l b c rest h f =
+joined-reads inner n l true b c rest h f =
     let e = spelled-Inner b c in
-    let one = (inner-join-law inner n l).reads (b, c) rest (omega (arith, h, ap length e)) (omega arith) in
+    let one = (joined-law inner n l).reads (true, (b, c)) rest (omega (arith, h, ap length e)) (omega arith) in
+    rw (e, one) refl
+joined-reads inner n l false b c rest h f =
+    let e = spelled-Plain b c in
+    let one = (joined-law inner n l).reads (false, (b, c)) rest (omega (arith, h, ap length e)) (omega arith) in
     rw (e, one) refl
 
 cross-reads : (inner : Inner) (n : ℕ) → InnerLaw inner n → (b : Base) → JoinReads inner n (join.Cross b)
@@ -163,20 +159,17 @@ cross-reads inner n l b rest h f =
 pub join-law : (inner : Inner) (n : ℕ) → InnerLaw inner n → Lawful true (read_join inner) spelled_join (n + 2) 24
 unfolding read_join
 join-law inner n l = record {
-  sound = either-sound (starts fixed.Join) (made plain (lead fixed.Join (read_on inner)))
-      (either (starts fixed.Inner) (made inner_of (lead fixed.Inner (lead fixed.Join (read_on inner)))) (made join.Cross (lead fixed.Cross (lead fixed.Join (read_base inner))))) spelled_join
-      (made-sound (lead fixed.Join (read_on inner)) plain plain_kinds spelled_join (plain-law inner n l).sound (λ x. spelled-Plain x.0 x.1))
-      (either-sound (starts fixed.Inner) (made inner_of (lead fixed.Inner (lead fixed.Join (read_on inner)))) (made join.Cross (lead fixed.Cross (lead fixed.Join (read_base inner)))) spelled_join
-      (made-sound (lead fixed.Inner (lead fixed.Join (read_on inner))) inner_of inner_kinds spelled_join (inner-join-law inner n l).sound (λ x. spelled-Inner x.0 x.1))
-      (made-sound (lead fixed.Cross (lead fixed.Join (read_base inner))) join.Cross cross_kinds spelled_join (cross-law inner n l).sound spelled-Cross));
-  reads = join-cases (JoinReads inner n) (plain-reads inner n l) (inner-reads inner n l) (cross-reads inner n l);
+  sound = either-sound (starts fixed.Cross) (made join.Cross (lead fixed.Cross (lead fixed.Join (read_base inner)))) (made joined (flagged fixed.Inner (lead fixed.Join (read_on inner)))) spelled_join
+      (made-sound (lead fixed.Cross (lead fixed.Join (read_base inner))) join.Cross cross_kinds spelled_join (cross-law inner n l).sound spelled-Cross)
+      (made-sound (flagged fixed.Inner (lead fixed.Join (read_on inner))) joined joined_kinds spelled_join (joined-law inner n l).sound (λ x. spelled-joined x.0 x.1.0 x.1.1));
+  reads = join-cases (JoinReads inner n) (joined-reads inner n l false) (joined-reads inner n l true) (cross-reads inner n l);
   passed = λ s. join-cases (λ x. length (spelled_join x) < n + 2 → Passed (spelled_join x))
-      (λ b c h. let e = spelled-Plain b c in rw e ((plain-law inner n l).passed refl (b, c) (omega (arith, h, ap length e))))
-      (λ b c h. let e = spelled-Inner b c in rw e ((inner-join-law inner n l).passed refl (b, c) (omega (arith, h, ap length e))))
+      (λ b c h. let e = spelled-Plain b c in rw e ((joined-law inner n l).passed refl (false, (b, c)) (omega (arith, h, ap length e))))
+      (λ b c h. let e = spelled-Inner b c in rw e ((joined-law inner n l).passed refl (true, (b, c)) (omega (arith, h, ap length e))))
       (λ b h. let e = spelled-Cross b in rw e ((cross-law inner n l).passed refl b (omega (arith, h, ap length e))));
   calm = λ s. join-cases (λ x. (rest : Kinds) → length (spelled_join x) < n + 2 → 24 ≤ front rest → IsCalm rest → IsCalm (spelled_join x ++ rest))
-      (λ b c rest h f k. let e = spelled-Plain b c in rw e ((plain-law inner n l).calm refl (b, c) rest (omega (arith, h, ap length e)) (omega arith) k))
-      (λ b c rest h f k. let e = spelled-Inner b c in rw e ((inner-join-law inner n l).calm refl (b, c) rest (omega (arith, h, ap length e)) (omega arith) k))
+      (λ b c rest h f k. let e = spelled-Plain b c in rw e ((joined-law inner n l).calm refl (false, (b, c)) rest (omega (arith, h, ap length e)) (omega arith) k))
+      (λ b c rest h f k. let e = spelled-Inner b c in rw e ((joined-law inner n l).calm refl (true, (b, c)) rest (omega (arith, h, ap length e)) (omega arith) k))
       (λ b rest h f k. let e = spelled-Cross b in rw e ((cross-law inner n l).calm refl b rest (omega (arith, h, ap length e)) f k));
 }
 

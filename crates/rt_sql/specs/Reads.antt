@@ -82,8 +82,11 @@ read_in_list = made list_range (lead fixed.In (paren read_sums))
 abbrev pub read_between : Parser Range
 read_between = made bounds (lead fixed.Between (both sum_at (lead fixed.And sum_at)))
 
+abbrev pub read_plain_range : Parser Range
+read_plain_range = either (starts fixed.In) read_in_list read_between
+
 unfoldable pub read_range : Inner → Parser Range
-read_range inner = either is_in_chain (made OfChain (lead fixed.In (paren inner.chain))) (either (starts fixed.In) read_in_list read_between)
+read_range inner = either is_in_chain (made OfChain (lead fixed.In (paren inner.chain))) read_plain_range
 
 abbrev pub op_at : ℕ → Option Op
 op_at c =
@@ -162,29 +165,20 @@ named x = base.Named x.0 x.1
 abbrev pub sub : Chain × Alias → Base
 sub x = base.Sub x.0 x.1
 
+abbrev pub read_named : Parser Base
+read_named = made named (both read_name (optional is_alias read_alias))
+
 unfoldable pub read_base : Inner → Parser Base
-read_base inner = either starts_name (made named (both read_name (optional is_alias read_alias))) (made sub (both (paren inner.chain) read_alias))
+read_base inner = either starts_name read_named (made sub (both (paren inner.chain) read_alias))
 
-abbrev pub plain : Base × Cond → Join
-plain x = join.Plain x.0 x.1
-
-abbrev pub inner_of : Base × Cond → Join
-inner_of x = join.Inner x.0 x.1
+abbrev pub joined : Bool × (Base × Cond) → Join
+joined x = if x.0 then join.Inner x.1.0 x.1.1 else join.Plain x.1.0 x.1.1
 
 unfoldable pub read_on : Inner → Parser (Base × Cond)
 read_on inner = both (read_base inner) (lead fixed.On (read_cond inner))
 
-abbrev pub read_plain_join : Inner → Parser Join
-read_plain_join inner = made plain (lead fixed.Join (read_on inner))
-
-abbrev pub read_inner_join : Inner → Parser Join
-read_inner_join inner = made inner_of (lead fixed.Inner (lead fixed.Join (read_on inner)))
-
-abbrev pub read_cross_join : Inner → Parser Join
-read_cross_join inner = made join.Cross (lead fixed.Cross (lead fixed.Join (read_base inner)))
-
 unfoldable pub read_join : Inner → Parser Join
-read_join inner = either (starts fixed.Join) (read_plain_join inner) (either (starts fixed.Inner) (read_inner_join inner) (read_cross_join inner))
+read_join inner = either (starts fixed.Cross) (made join.Cross (lead fixed.Cross (lead fixed.Join (read_base inner)))) (made joined (flagged fixed.Inner (lead fixed.Join (read_on inner))))
 
 abbrev pub is_join : Kinds → Bool
 is_join ks = starts fixed.Inner ks || (starts fixed.Join ks || starts fixed.Cross ks)
@@ -208,6 +202,10 @@ read_sources inner = both (read_source inner) (list_of (source_step inner))
 
 unfoldable pub read_where : Inner → Parser (Option Cond)
 read_where inner = optional (starts fixed.Where) (lead fixed.Where (read_cond inner))
+
+-- SELECT and the items, and FROM after them
+abbrev pub read_select_from : Parser (Bool × Items)
+read_select_from ks = lead fixed.Select (flagged fixed.Distinct read_items) ks >>= λ a. after fixed.From a.1 >>= λ r. Some (a.0, r)
 
 abbrev pub pick_of : Bool × (Items × ((Source × List Source) × Option Cond)) → Pick
 pick_of x = roll-Pick (record { distinct = x.0; items = x.1.0; head = x.1.1.0.0; tail = x.1.1.0.1; cond = x.1.1.1 })

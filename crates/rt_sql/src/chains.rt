@@ -1,18 +1,48 @@
 //! SELECT and the set operators, with at most `depth` parentheses in one another.
 
 ghost use Rattle.std.specs.Prelude.{◌≡◌};
-ghost use Rattle.rt_grammar.specs.Readers.{list_of};
+ghost use Rattle.rt_grammar.specs.Readers.{list_of, paren};
 ghost use Rattle.rt_grammar.specs.Reads.{Reads};
 ghost use Rattle.rt_sql.specs.Reads as spec;
 
 use crate::looks::is_union;
-use crate::sources::{maybe_where, more_sources, source};
+use crate::sources::sources_where;
 use rt_grammar::{Fixed, ReadFault, Terminal, expect, flag, starts};
-use rt_tree::{Chain, ChainLink, Meet, MeetLink, Pick, Primary, read_items};
+use rt_tree::{
+    Chain, ChainLink, Items, Meet, MeetLink, Pick, Primary, before, boxed_before, read_items,
+};
 use rt_value::{Boxed, List};
 use std::alloc::Global;
 
-#[tactic(auto, unfolding(crate::specs::Reads::read_pick, crate::specs::Reads::read_sources))]
+/// A chain in parentheses.
+#[cycle(chain_reader)]
+pub fn chain_in_parens<'t>(
+    alloc: Global,
+    depth: usize,
+    terminals: &'t [Terminal],
+) -> Result<(Boxed<Chain>, &'t [Terminal]), ReadFault>
+    ensures { Reads result (paren (spec.level depth).chain terminals.now) }
+{
+    let rest = expect(terminals, Fixed::Left)?;
+    let (inner, rest) = chain(alloc, depth, rest)?;
+    boxed_before(alloc, inner, rest, Fixed::Right)
+}
+
+// SELECT and the items, and FROM after them.
+fn select_from<'t>(
+    alloc: Global,
+    terminals: &'t [Terminal],
+) -> Result<((bool, Items), &'t [Terminal]), ReadFault>
+    ensures { Reads result (spec.read_select_from terminals.now) }
+{
+    let rest = expect(terminals, Fixed::Select)?;
+    let (distinct, rest) = flag(rest, Fixed::Distinct);
+    let (items, rest) = read_items(alloc, rest)?;
+    let (items, rest) = before(items, rest, Fixed::From)?;
+    Ok(((distinct, items), rest))
+}
+
+#[tactic(auto, unfolding(crate::specs::Reads::read_pick))]
 #[cycle(chain_reader)]
 fn pick<'t>(
     alloc: Global,
@@ -21,23 +51,23 @@ fn pick<'t>(
 ) -> Result<(Pick, &'t [Terminal]), ReadFault>
     ensures { Reads result (spec.read_pick (spec.level depth) terminals.now) }
 {
-    let rest = expect(terminals, Fixed::Select)?;
-    let (distinct, rest) = flag(rest, Fixed::Distinct);
-    let (items, rest) = read_items(alloc, rest)?;
-    let items = Boxed::new(alloc, items)?;
-    let rest = expect(rest, Fixed::From)?;
-    let (head, rest) = source(alloc, depth, rest)?;
-    let head = Boxed::new(alloc, head)?;
-    let (tail, rest) = more_sources(alloc, depth, rest)?;
-    let (cond, rest) = maybe_where(alloc, depth, rest)?;
-    let pick = Pick {
-        distinct,
-        items: items.into_inner(),
-        head: head.into_inner(),
-        tail,
-        cond,
-    };
-    Ok((pick, rest))
+    let ((distinct, items), rest) = select_from(alloc, terminals)?;
+    match sources_where(alloc, depth, rest) {
+        Ok((((head, tail), cond), rest)) => {
+            let pick = Pick {
+                distinct,
+                items,
+                head,
+                tail,
+                cond,
+            };
+            Ok((pick, rest))
+        }
+        Err(fault) => {
+            drop(items);
+            Err(fault)
+        }
+    }
 }
 
 #[tactic(auto, unfolding(crate::specs::Reads::read_primary))]
@@ -49,15 +79,12 @@ fn primary<'t>(
 ) -> Result<(Primary, &'t [Terminal]), ReadFault>
     ensures { Reads result (spec.read_primary (spec.level depth) terminals.now) }
 {
-    if !starts(terminals, Fixed::Left) {
-        let (pick, rest) = pick(alloc, depth, terminals)?;
-        return Ok((Primary::One(Boxed::new(alloc, pick)?), rest));
+    if starts(terminals, Fixed::Left) {
+        let (inner, rest) = chain_in_parens(alloc, depth, terminals)?;
+        return Ok((Primary::Paren(inner), rest));
     }
-    let rest = expect(terminals, Fixed::Left)?;
-    let (inner, rest) = chain(alloc, depth, rest)?;
-    let inner = Boxed::new(alloc, inner)?;
-    let rest = expect(rest, Fixed::Right)?;
-    Ok((Primary::Paren(inner), rest))
+    let (pick, rest) = pick(alloc, depth, terminals)?;
+    Ok((Primary::One(Boxed::new(alloc, pick)?), rest))
 }
 
 #[tactic(auto, unfolding(crate::specs::Reads::read_meet_link))]
@@ -103,8 +130,13 @@ fn meet<'t>(
     ensures { Reads result (spec.read_meet (spec.level depth) terminals.now) }
 {
     let (head, rest) = primary(alloc, depth, terminals)?;
-    let (tail, rest) = meet_links(alloc, depth, rest)?;
-    Ok((Meet { head, tail }, rest))
+    match meet_links(alloc, depth, rest) {
+        Ok((tail, rest)) => Ok((Meet { head, tail }, rest)),
+        Err(fault) => {
+            drop(head);
+            Err(fault)
+        }
+    }
 }
 
 #[tactic(auto, unfolding(crate::specs::Reads::read_chain_link))]
@@ -160,6 +192,11 @@ pub fn chain<'t>(
         return Err(ReadFault::Syntax(terminals.len()));
     }
     let (head, rest) = meet(alloc, depth - 1, terminals)?;
-    let (tail, rest) = chain_links(alloc, depth - 1, rest)?;
-    Ok((Chain { head, tail }, rest))
+    match chain_links(alloc, depth - 1, rest) {
+        Ok((tail, rest)) => Ok((Chain { head, tail }, rest)),
+        Err(fault) => {
+            drop(head);
+            Err(fault)
+        }
+    }
 }

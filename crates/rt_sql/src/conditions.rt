@@ -1,16 +1,16 @@
 //! Conditions, with at most `depth` parentheses in one another.
 
 ghost use Rattle.std.specs.Prelude.{◌≡◌};
-ghost use Rattle.rt_grammar.specs.Readers.{list_of};
+ghost use Rattle.rt_grammar.specs.Readers.{list_of, paren};
 ghost use Rattle.rt_grammar.specs.Reads.{Reads};
 ghost use Rattle.rt_sql.specs.Reads as spec;
 
-use crate::chains::chain;
+use crate::chains::chain_in_parens;
 use crate::looks::{is_group, is_in_chain, is_op};
-use crate::ranges::{between, compared, in_list, is_null};
+use crate::ranges::{compared, is_null, plain_range};
 use crate::tested::{Range, Test, atom_of};
 use rt_grammar::{Fixed, ReadFault, Terminal, after, counted, expect, flag, starts};
-use rt_tree::{Atom, Cond, Conj, Neg, sum_at};
+use rt_tree::{Atom, Cond, Conj, Neg, boxed_before, sum_at};
 use rt_value::{Boxed, List};
 use std::alloc::Global;
 
@@ -24,17 +24,10 @@ fn range<'t>(
     ensures { Reads result (spec.read_range (spec.level depth) terminals.now) }
 {
     if !is_in_chain(terminals) {
-        return if starts(terminals, Fixed::In) {
-            in_list(alloc, terminals)
-        } else {
-            between(alloc, terminals)
-        };
+        return plain_range(alloc, terminals);
     }
     let rest = expect(terminals, Fixed::In)?;
-    let rest = expect(rest, Fixed::Left)?;
-    let (inner, rest) = chain(alloc, depth, rest)?;
-    let inner = Boxed::new(alloc, inner)?;
-    let rest = expect(rest, Fixed::Right)?;
+    let (inner, rest) = chain_in_parens(alloc, depth, rest)?;
     Ok((Range::OfChain(inner), rest))
 }
 
@@ -58,36 +51,34 @@ fn test<'t>(
     Ok((Test::Ranged(not, range), rest))
 }
 
+// The condition between parentheses.
+#[tactic(auto, unfolding(crate::specs::Reads::level))]
 #[cycle(chain_reader)]
-fn exists<'t>(
+fn inner_cond<'t>(
     alloc: Global,
     depth: usize,
     terminals: &'t [Terminal],
-) -> Result<(Atom, &'t [Terminal]), ReadFault>
-    ensures { Reads result (spec.read_exists (spec.level depth) terminals.now) }
+) -> Result<(Cond, &'t [Terminal]), ReadFault>
+    ensures { Reads result ((spec.level depth).cond terminals.now) }
 {
-    let rest = expect(terminals, Fixed::Exists)?;
-    let rest = expect(rest, Fixed::Left)?;
-    let (inner, rest) = chain(alloc, depth, rest)?;
-    let inner = Boxed::new(alloc, inner)?;
-    let rest = expect(rest, Fixed::Right)?;
-    Ok((Atom::Exists(inner), rest))
+    if depth == 0 {
+        return Err(ReadFault::Syntax(terminals.len()));
+    }
+    cond(alloc, depth - 1, terminals)
 }
 
 // A condition in parentheses.
 #[cycle(chain_reader)]
-fn group<'t>(
+fn cond_in_parens<'t>(
     alloc: Global,
     depth: usize,
     terminals: &'t [Terminal],
-) -> Result<(Atom, &'t [Terminal]), ReadFault>
-    ensures { Reads result (spec.read_group (spec.level depth) terminals.now) }
+) -> Result<(Boxed<Cond>, &'t [Terminal]), ReadFault>
+    ensures { Reads result (paren (spec.level depth).cond terminals.now) }
 {
     let rest = expect(terminals, Fixed::Left)?;
     let (inner, rest) = inner_cond(alloc, depth, rest)?;
-    let inner = Boxed::new(alloc, inner)?;
-    let rest = expect(rest, Fixed::Right)?;
-    Ok((Atom::Paren(inner), rest))
+    boxed_before(alloc, inner, rest, Fixed::Right)
 }
 
 #[tactic(auto, unfolding(crate::specs::Reads::read_atom))]
@@ -100,14 +91,22 @@ fn atom<'t>(
     ensures { Reads result (spec.read_atom (spec.level depth) terminals.now) }
 {
     if starts(terminals, Fixed::Exists) {
-        return exists(alloc, depth, terminals);
+        let rest = expect(terminals, Fixed::Exists)?;
+        let (inner, rest) = chain_in_parens(alloc, depth, rest)?;
+        return Ok((Atom::Exists(inner), rest));
     }
     if is_group(terminals) {
-        return group(alloc, depth, terminals);
+        let (inner, rest) = cond_in_parens(alloc, depth, terminals)?;
+        return Ok((Atom::Paren(inner), rest));
     }
     let (left, rest) = sum_at(alloc, terminals)?;
-    let (test, rest) = test(alloc, depth, rest)?;
-    Ok((atom_of(left, test), rest))
+    match test(alloc, depth, rest) {
+        Ok((test, rest)) => Ok((atom_of(left, test), rest)),
+        Err(fault) => {
+            drop(left);
+            Err(fault)
+        }
+    }
 }
 
 #[tactic(auto, unfolding(crate::specs::Reads::read_neg))]
@@ -152,10 +151,13 @@ fn conj<'t>(
     ensures { Reads result (spec.read_conj (spec.level depth) terminals.now) }
 {
     let (head, rest) = neg(alloc, depth, terminals)?;
-    let head = Boxed::new(alloc, head)?;
-    let (tail, rest) = more_negs(alloc, depth, rest)?;
-    let head = head.into_inner();
-    Ok((Conj { head, tail }, rest))
+    match more_negs(alloc, depth, rest) {
+        Ok((tail, rest)) => Ok((Conj { head, tail }, rest)),
+        Err(fault) => {
+            drop(head);
+            Err(fault)
+        }
+    }
 }
 
 #[cycle(chain_reader)]
@@ -186,24 +188,11 @@ pub fn cond<'t>(
     ensures { Reads result (spec.read_cond (spec.level depth) terminals.now) }
 {
     let (head, rest) = conj(alloc, depth, terminals)?;
-    let head = Boxed::new(alloc, head)?;
-    let (tail, rest) = more_conjs(alloc, depth, rest)?;
-    let head = head.into_inner();
-    Ok((Cond { head, tail }, rest))
-}
-
-// The condition between parentheses.
-#[tactic(auto, unfolding(crate::specs::Reads::level))]
-#[cycle(chain_reader)]
-fn inner_cond<'t>(
-    alloc: Global,
-    depth: usize,
-    terminals: &'t [Terminal],
-) -> Result<(Cond, &'t [Terminal]), ReadFault>
-    ensures { Reads result ((spec.level depth).cond terminals.now) }
-{
-    if depth == 0 {
-        return Err(ReadFault::Syntax(terminals.len()));
+    match more_conjs(alloc, depth, rest) {
+        Ok((tail, rest)) => Ok((Cond { head, tail }, rest)),
+        Err(fault) => {
+            drop(head);
+            Err(fault)
+        }
     }
-    cond(alloc, depth - 1, terminals)
 }

@@ -23,8 +23,13 @@ fn query(alloc: Global, terminals: &[Terminal]) -> Result<Sql, ReadFault>
     ensures { Answers result (spec.read_sql terminals.now) }
 {
     let (chain, rest) = chain(alloc, terminals.len() + 1, terminals)?;
-    let semi = end(rest)?;
-    Ok(Sql { chain, semi })
+    match end(rest) {
+        Ok(semi) => Ok(Sql { chain, semi }),
+        Err(fault) => {
+            drop(chain);
+            Err(fault)
+        }
+    }
 }
 
 fn tree(alloc: Global, tokens: &[Token]) -> Result<Sql, ReadFault>

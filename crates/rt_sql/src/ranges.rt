@@ -6,9 +6,9 @@ ghost use Rattle.rt_grammar.specs.Reads.{Reads};
 ghost use Rattle.rt_sql.specs.Reads as spec;
 
 use crate::tested::{Range, Test};
-use rt_grammar::{Fixed, ReadFault, Terminal, after, code, expect, flag, front, tail};
-use rt_tree::{Op, Sum, sum_at};
-use rt_value::{Boxed, List};
+use rt_grammar::{Fixed, ReadFault, Terminal, after, code, expect, flag, front, starts, tail};
+use rt_tree::{Op, Sum, before, boxed_before, sum_at};
+use rt_value::List;
 use std::alloc::Global;
 
 fn more_sums<'t>(
@@ -27,9 +27,26 @@ fn more_sums<'t>(
     Ok((items, rest))
 }
 
-/// IN and sums in parentheses.
+// Sums with commas in between.
 #[tactic(auto, unfolding(crate::specs::Reads::read_sums))]
-pub fn in_list<'t>(
+fn sums<'t>(
+    alloc: Global,
+    terminals: &'t [Terminal],
+) -> Result<((Sum, List<Sum>), &'t [Terminal]), ReadFault>
+    ensures { Reads result (spec.read_sums terminals.now) }
+{
+    let (head, rest) = sum_at(alloc, terminals)?;
+    match more_sums(alloc, rest) {
+        Ok((tail, rest)) => Ok(((head, tail), rest)),
+        Err(fault) => {
+            drop(head);
+            Err(fault)
+        }
+    }
+}
+
+// IN and sums in parentheses.
+fn in_list<'t>(
     alloc: Global,
     terminals: &'t [Terminal],
 ) -> Result<(Range, &'t [Terminal]), ReadFault>
@@ -37,15 +54,13 @@ pub fn in_list<'t>(
 {
     let rest = expect(terminals, Fixed::In)?;
     let rest = expect(rest, Fixed::Left)?;
-    let (head, rest) = sum_at(alloc, rest)?;
-    let head = Boxed::new(alloc, head)?;
-    let (more, rest) = more_sums(alloc, rest)?;
-    let rest = expect(rest, Fixed::Right)?;
-    Ok((Range::OfList(head.into_inner(), more), rest))
+    let (sums, rest) = sums(alloc, rest)?;
+    let ((head, tail), rest) = before(sums, rest, Fixed::Right)?;
+    Ok((Range::OfList(head, tail), rest))
 }
 
-/// BETWEEN and its bounds.
-pub fn between<'t>(
+// BETWEEN and its bounds.
+fn between<'t>(
     alloc: Global,
     terminals: &'t [Terminal],
 ) -> Result<(Range, &'t [Terminal]), ReadFault>
@@ -53,10 +68,28 @@ pub fn between<'t>(
 {
     let rest = expect(terminals, Fixed::Between)?;
     let (low, rest) = sum_at(alloc, rest)?;
-    let low = Boxed::new(alloc, low)?;
-    let rest = expect(rest, Fixed::And)?;
-    let (high, rest) = sum_at(alloc, rest)?;
-    Ok((Range::OfBounds(low.into_inner(), high), rest))
+    let (low, rest) = boxed_before(alloc, low, rest, Fixed::And)?;
+    match sum_at(alloc, rest) {
+        Ok((high, rest)) => Ok((Range::OfBounds(low.into_inner(), high), rest)),
+        Err(fault) => {
+            drop(low);
+            Err(fault)
+        }
+    }
+}
+
+/// A range that holds no chain.
+pub fn plain_range<'t>(
+    alloc: Global,
+    terminals: &'t [Terminal],
+) -> Result<(Range, &'t [Terminal]), ReadFault>
+    ensures { Reads result (spec.read_plain_range terminals.now) }
+{
+    if starts(terminals, Fixed::In) {
+        in_list(alloc, terminals)
+    } else {
+        between(alloc, terminals)
+    }
 }
 
 fn op_at(place: u8) -> Option<Op>

@@ -1,17 +1,30 @@
 //! Tables, joins and WHERE, with at most `depth` parentheses in one another.
 
 ghost use Rattle.std.specs.Prelude.{◌≡◌};
-ghost use Rattle.rt_grammar.specs.Readers.{list_of};
+ghost use Rattle.rt_grammar.specs.Readers.{both, list_of};
 ghost use Rattle.rt_grammar.specs.Reads.{Reads};
 ghost use Rattle.rt_sql.specs.Reads as spec;
 
-use crate::chains::chain;
+use crate::chains::chain_in_parens;
 use crate::conditions::cond;
 use crate::looks::is_join;
-use rt_grammar::{Fixed, ReadFault, Terminal, after, expect, name, starts, starts_name};
-use rt_tree::{Base, Cond, Join, Source, alias, maybe_alias};
-use rt_value::{Boxed, List};
+use rt_grammar::{Fixed, ReadFault, Terminal, after, expect, flag, name, starts, starts_name};
+use rt_tree::{Base, Cond, Join, Source, alias, boxed_before, maybe_alias};
+use rt_value::List;
 use std::alloc::Global;
+
+fn named<'t>(alloc: Global, terminals: &'t [Terminal]) -> Result<(Base, &'t [Terminal]), ReadFault>
+    ensures { Reads result (spec.read_named terminals.now) }
+{
+    let (name, rest) = name(alloc, terminals)?;
+    match maybe_alias(alloc, rest) {
+        Ok((alias, rest)) => Ok((Base::Named(name, alias), rest)),
+        Err(fault) => {
+            drop(name);
+            Err(fault)
+        }
+    }
+}
 
 #[tactic(auto, unfolding(crate::specs::Reads::read_base))]
 #[cycle(chain_reader)]
@@ -23,16 +36,16 @@ fn base<'t>(
     ensures { Reads result (spec.read_base (spec.level depth) terminals.now) }
 {
     if starts_name(terminals) {
-        let (name, rest) = name(alloc, terminals)?;
-        let (alias, rest) = maybe_alias(alloc, rest)?;
-        return Ok((Base::Named(name, alias), rest));
+        return named(alloc, terminals);
     }
-    let rest = expect(terminals, Fixed::Left)?;
-    let (inner, rest) = chain(alloc, depth, rest)?;
-    let inner = Boxed::new(alloc, inner)?;
-    let rest = expect(rest, Fixed::Right)?;
-    let (alias, rest) = alias(alloc, rest)?;
-    Ok((Base::Sub(inner, alias), rest))
+    let (inner, rest) = chain_in_parens(alloc, depth, terminals)?;
+    match alias(alloc, rest) {
+        Ok((alias, rest)) => Ok((Base::Sub(inner, alias), rest)),
+        Err(fault) => {
+            drop(inner);
+            Err(fault)
+        }
+    }
 }
 
 // A base, ON and a condition.
@@ -46,51 +59,25 @@ fn on<'t>(
     ensures { Reads result (spec.read_on (spec.level depth) terminals.now) }
 {
     let (base, rest) = base(alloc, depth, terminals)?;
-    let base = Boxed::new(alloc, base)?;
-    let rest = expect(rest, Fixed::On)?;
-    let (cond, rest) = cond(alloc, depth, rest)?;
-    Ok(((base.into_inner(), cond), rest))
+    let (base, rest) = boxed_before(alloc, base, rest, Fixed::On)?;
+    match cond(alloc, depth, rest) {
+        Ok((cond, rest)) => Ok(((base.into_inner(), cond), rest)),
+        Err(fault) => {
+            drop(base);
+            Err(fault)
+        }
+    }
 }
 
-#[cycle(chain_reader)]
-fn plain_join<'t>(
-    alloc: Global,
-    depth: usize,
-    terminals: &'t [Terminal],
-) -> Result<(Join, &'t [Terminal]), ReadFault>
-    ensures { Reads result (spec.read_plain_join (spec.level depth) terminals.now) }
+fn joined(inner: bool, on: (Base, Cond)) -> Join
+    ensures { result ≡ spec.joined (inner, on) }
 {
-    let rest = expect(terminals, Fixed::Join)?;
-    let ((base, cond), rest) = on(alloc, depth, rest)?;
-    Ok((Join::Plain(base, cond), rest))
-}
-
-#[cycle(chain_reader)]
-fn inner_join<'t>(
-    alloc: Global,
-    depth: usize,
-    terminals: &'t [Terminal],
-) -> Result<(Join, &'t [Terminal]), ReadFault>
-    ensures { Reads result (spec.read_inner_join (spec.level depth) terminals.now) }
-{
-    let rest = expect(terminals, Fixed::Inner)?;
-    let rest = expect(rest, Fixed::Join)?;
-    let ((base, cond), rest) = on(alloc, depth, rest)?;
-    Ok((Join::Inner(base, cond), rest))
-}
-
-#[cycle(chain_reader)]
-fn cross_join<'t>(
-    alloc: Global,
-    depth: usize,
-    terminals: &'t [Terminal],
-) -> Result<(Join, &'t [Terminal]), ReadFault>
-    ensures { Reads result (spec.read_cross_join (spec.level depth) terminals.now) }
-{
-    let rest = expect(terminals, Fixed::Cross)?;
-    let rest = expect(rest, Fixed::Join)?;
-    let (base, rest) = base(alloc, depth, rest)?;
-    Ok((Join::Cross(base), rest))
+    let (base, cond) = on;
+    if inner {
+        Join::Inner(base, cond)
+    } else {
+        Join::Plain(base, cond)
+    }
 }
 
 #[tactic(auto, unfolding(crate::specs::Reads::read_join))]
@@ -102,13 +89,16 @@ fn join<'t>(
 ) -> Result<(Join, &'t [Terminal]), ReadFault>
     ensures { Reads result (spec.read_join (spec.level depth) terminals.now) }
 {
-    if starts(terminals, Fixed::Join) {
-        plain_join(alloc, depth, terminals)
-    } else if starts(terminals, Fixed::Inner) {
-        inner_join(alloc, depth, terminals)
-    } else {
-        cross_join(alloc, depth, terminals)
+    if starts(terminals, Fixed::Cross) {
+        let rest = expect(terminals, Fixed::Cross)?;
+        let rest = expect(rest, Fixed::Join)?;
+        let (base, rest) = base(alloc, depth, rest)?;
+        return Ok((Join::Cross(base), rest));
     }
+    let (inner, rest) = flag(terminals, Fixed::Inner);
+    let rest = expect(rest, Fixed::Join)?;
+    let (on, rest) = on(alloc, depth, rest)?;
+    Ok((joined(inner, on), rest))
 }
 
 #[cycle(chain_reader)]
@@ -131,7 +121,7 @@ fn joins<'t>(
 
 #[tactic(auto, unfolding(crate::specs::Reads::read_source))]
 #[cycle(chain_reader)]
-pub fn source<'t>(
+fn source<'t>(
     alloc: Global,
     depth: usize,
     terminals: &'t [Terminal],
@@ -139,12 +129,17 @@ pub fn source<'t>(
     ensures { Reads result (spec.read_source (spec.level depth) terminals.now) }
 {
     let (head, rest) = base(alloc, depth, terminals)?;
-    let (joins, rest) = joins(alloc, depth, rest)?;
-    Ok((Source { head, joins }, rest))
+    match joins(alloc, depth, rest) {
+        Ok((joins, rest)) => Ok((Source { head, joins }, rest)),
+        Err(fault) => {
+            drop(head);
+            Err(fault)
+        }
+    }
 }
 
 #[cycle(chain_reader)]
-pub fn more_sources<'t>(
+fn more_sources<'t>(
     alloc: Global,
     depth: usize,
     terminals: &'t [Terminal],
@@ -161,9 +156,28 @@ pub fn more_sources<'t>(
     Ok((items, rest))
 }
 
+#[tactic(auto, unfolding(crate::specs::Reads::read_sources))]
+#[cycle(chain_reader)]
+fn sources<'t>(
+    alloc: Global,
+    depth: usize,
+    terminals: &'t [Terminal],
+) -> Result<((Source, List<Source>), &'t [Terminal]), ReadFault>
+    ensures { Reads result (spec.read_sources (spec.level depth) terminals.now) }
+{
+    let (head, rest) = source(alloc, depth, terminals)?;
+    match more_sources(alloc, depth, rest) {
+        Ok((tail, rest)) => Ok(((head, tail), rest)),
+        Err(fault) => {
+            drop(head);
+            Err(fault)
+        }
+    }
+}
+
 #[tactic(auto, unfolding(crate::specs::Reads::read_where))]
 #[cycle(chain_reader)]
-pub fn maybe_where<'t>(
+fn maybe_where<'t>(
     alloc: Global,
     depth: usize,
     terminals: &'t [Terminal],
@@ -176,4 +190,23 @@ pub fn maybe_where<'t>(
     let rest = expect(terminals, Fixed::Where)?;
     let (cond, rest) = cond(alloc, depth, rest)?;
     Ok((Some(cond), rest))
+}
+
+/// What stands after FROM.
+#[cycle(chain_reader)]
+pub fn sources_where<'t>(
+    alloc: Global,
+    depth: usize,
+    terminals: &'t [Terminal],
+) -> Result<(((Source, List<Source>), Option<Cond>), &'t [Terminal]), ReadFault>
+    ensures { Reads result (both (spec.read_sources (spec.level depth)) (spec.read_where (spec.level depth)) terminals.now) }
+{
+    let (sources, rest) = sources(alloc, depth, terminals)?;
+    match maybe_where(alloc, depth, rest) {
+        Ok((cond, rest)) => Ok(((sources, cond), rest)),
+        Err(fault) => {
+            drop(sources);
+            Err(fault)
+        }
+    }
 }

@@ -6,8 +6,8 @@ use Rattle.rt_sql.proofs.+chain_reader.Given as goal
 abbrev pub decreases-chains::chain : goal.decreases-chains::chain
 decreases-chains::chain l = 40 * l.depth + 0
 
-abbrev pub decreases-conditions::inner_cond : goal.decreases-conditions::inner_cond
-decreases-conditions::inner_cond l = 40 * l.depth + 1
+abbrev pub decreases-chains::chain_in_parens : goal.decreases-chains::chain_in_parens
+decreases-chains::chain_in_parens l = 40 * l.depth + 1
 
 abbrev pub decreases-conditions::range : goal.decreases-conditions::range
 decreases-conditions::range l = 40 * l.depth + 2
@@ -15,80 +15,77 @@ decreases-conditions::range l = 40 * l.depth + 2
 abbrev pub decreases-conditions::test : goal.decreases-conditions::test
 decreases-conditions::test l = 40 * l.depth + 3
 
-abbrev pub decreases-conditions::exists : goal.decreases-conditions::exists
-decreases-conditions::exists l = 40 * l.depth + 4
+abbrev pub decreases-conditions::inner_cond : goal.decreases-conditions::inner_cond
+decreases-conditions::inner_cond l = 40 * l.depth + 1
 
-abbrev pub decreases-conditions::group : goal.decreases-conditions::group
-decreases-conditions::group l = 40 * l.depth + 5
+abbrev pub decreases-conditions::cond_in_parens : goal.decreases-conditions::cond_in_parens
+decreases-conditions::cond_in_parens l = 40 * l.depth + 4
 
 abbrev pub decreases-conditions::atom : goal.decreases-conditions::atom
-decreases-conditions::atom l = 40 * l.depth + 6
+decreases-conditions::atom l = 40 * l.depth + 5
 
 abbrev pub decreases-conditions::neg : goal.decreases-conditions::neg
-decreases-conditions::neg l = 40 * l.depth + 7
+decreases-conditions::neg l = 40 * l.depth + 6
 
 abbrev pub decreases-conditions::more_negs : goal.decreases-conditions::more_negs
-decreases-conditions::more_negs l = 40 * l.depth + 8
+decreases-conditions::more_negs l = 40 * l.depth + 7
 
 abbrev pub decreases-conditions::conj : goal.decreases-conditions::conj
-decreases-conditions::conj l = 40 * l.depth + 9
+decreases-conditions::conj l = 40 * l.depth + 8
 
 abbrev pub decreases-conditions::more_conjs : goal.decreases-conditions::more_conjs
-decreases-conditions::more_conjs l = 40 * l.depth + 10
+decreases-conditions::more_conjs l = 40 * l.depth + 9
 
 abbrev pub decreases-conditions::cond : goal.decreases-conditions::cond
-decreases-conditions::cond l = 40 * l.depth + 11
+decreases-conditions::cond l = 40 * l.depth + 10
 
 abbrev pub decreases-sources::base : goal.decreases-sources::base
-decreases-sources::base l = 40 * l.depth + 12
+decreases-sources::base l = 40 * l.depth + 11
 
 abbrev pub decreases-sources::on : goal.decreases-sources::on
-decreases-sources::on l = 40 * l.depth + 13
-
-abbrev pub decreases-sources::plain_join : goal.decreases-sources::plain_join
-decreases-sources::plain_join l = 40 * l.depth + 14
-
-abbrev pub decreases-sources::inner_join : goal.decreases-sources::inner_join
-decreases-sources::inner_join l = 40 * l.depth + 15
-
-abbrev pub decreases-sources::cross_join : goal.decreases-sources::cross_join
-decreases-sources::cross_join l = 40 * l.depth + 16
+decreases-sources::on l = 40 * l.depth + 12
 
 abbrev pub decreases-sources::join : goal.decreases-sources::join
-decreases-sources::join l = 40 * l.depth + 17
+decreases-sources::join l = 40 * l.depth + 13
 
 abbrev pub decreases-sources::joins : goal.decreases-sources::joins
-decreases-sources::joins l = 40 * l.depth + 18
+decreases-sources::joins l = 40 * l.depth + 14
 
 abbrev pub decreases-sources::source : goal.decreases-sources::source
-decreases-sources::source l = 40 * l.depth + 19
+decreases-sources::source l = 40 * l.depth + 15
 
 abbrev pub decreases-sources::more_sources : goal.decreases-sources::more_sources
-decreases-sources::more_sources l = 40 * l.depth + 20
+decreases-sources::more_sources l = 40 * l.depth + 16
 
 abbrev pub decreases-sources::maybe_where : goal.decreases-sources::maybe_where
-decreases-sources::maybe_where l = 40 * l.depth + 21
+decreases-sources::maybe_where l = 40 * l.depth + 17
+
+abbrev pub decreases-sources::sources : goal.decreases-sources::sources
+decreases-sources::sources l = 40 * l.depth + 18
+
+abbrev pub decreases-sources::sources_where : goal.decreases-sources::sources_where
+decreases-sources::sources_where l = 40 * l.depth + 19
 
 abbrev pub decreases-chains::pick : goal.decreases-chains::pick
-decreases-chains::pick l = 40 * l.depth + 22
+decreases-chains::pick l = 40 * l.depth + 20
 
 abbrev pub decreases-chains::primary : goal.decreases-chains::primary
-decreases-chains::primary l = 40 * l.depth + 23
+decreases-chains::primary l = 40 * l.depth + 21
 
 abbrev pub decreases-chains::meet_link : goal.decreases-chains::meet_link
-decreases-chains::meet_link l = 40 * l.depth + 24
+decreases-chains::meet_link l = 40 * l.depth + 22
 
 abbrev pub decreases-chains::meet_links : goal.decreases-chains::meet_links
-decreases-chains::meet_links l = 40 * l.depth + 25
+decreases-chains::meet_links l = 40 * l.depth + 23
 
 abbrev pub decreases-chains::meet : goal.decreases-chains::meet
-decreases-chains::meet l = 40 * l.depth + 26
+decreases-chains::meet l = 40 * l.depth + 24
 
 abbrev pub decreases-chains::chain_link : goal.decreases-chains::chain_link
-decreases-chains::chain_link l = 40 * l.depth + 27
+decreases-chains::chain_link l = 40 * l.depth + 25
 
 abbrev pub decreases-chains::chain_links : goal.decreases-chains::chain_links
-decreases-chains::chain_links l = 40 * l.depth + 28
+decreases-chains::chain_links l = 40 * l.depth + 26
 
 abbrev pub invariant-conditions::more_negs-items : goal.invariant-conditions::more_negs-items
 invariant-conditions::more_negs-items l = Goes (neg_step (level l.depth)) l.items l.rest l.terminals
