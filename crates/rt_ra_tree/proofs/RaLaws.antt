@@ -1,15 +1,18 @@
 -- Trees and texts: each reader keeps to the spelling.
-use Rattle.std.proofs.Common.{◌≡◌, ◌∙◌, ◌≤◌, ◌<◌, ◌+◌, sym, ap, subst, ℕ, zero, suc, [], ◌∷◌, ◌++◌, length, refl, Bool, false, Option, Some, None, arith, length-append}
-use Rattle.std.specs.Prelude.{codes}
+use Rattle.std.proofs.Common.{◌≡◌, ◌∙◌, ◌≤◌, ◌<◌, ◌+◌, ◌-◌, Bor, sym, ap, subst, ℕ, zero, suc, [], ◌∷◌, ◌++◌, length, refl, Bool, false, Option, Some, None, arith, length-append}
+use Rattle.std.specs.Prelude.{Result, codes}
 use Rattle.rt_grammar.specs.declared.fixed.Fixed.TheVariants as fixed
+use Rattle.rt_grammar.specs.declared.fault.ReadFault.{ReadFault}
 use Rattle.rt_grammar.specs.declared.terminal.Name.{Name}
 use Rattle.rt_grammar.specs.declared.terminal.Terminal.TheVariants as terminal
-use Rattle.rt_grammar.specs.Terminals.{Kinds, flag, front, in_paren}
-use Rattle.rt_grammar.specs.Readers.{Parser, both, lead, plain_word, read_end, read_name}
+use Rattle.rt_grammar.specs.Reads.{Reads}
+use Rattle.rt_grammar.specs.Terminals.{Kinds, after, flag, front, in_paren}
+use Rattle.rt_grammar.specs.Readers.{Parser, both, lead, paren, plain_word, read_end, read_name, ◌>>=◌}
 use Rattle.rt_grammar.proofs.EndLaws.{end-front, end-reads, end-sound}
 use Rattle.rt_grammar.proofs.Laws.{Lawful, both-law, lead-law, loose, made-after, made-sound, paren-law, weaker}
 use Rattle.rt_grammar.proofs.ManyLemmas.{bind-some, some-is}
 use Rattle.rt_ra_tree.specs.Heads.{head_at, head_terminal}
+use Rattle.rt_ra_tree.specs.Operands.{last_operand}
 use Rattle.rt_ra_tree.specs.Reads.{operands, project_of, read_from, read_names, read_ra, read_tests, read_text, read_with, rename_of, select_of, text_of, two_of}
 use Rattle.rt_ra_tree.specs.Spelled.{applied, ra_step, spelled_names, spelled_ra, spelled_tests, spelled_text, word_of_two}
 use Rattle.rt_ra_tree.specs.declared.heads.Head.{Head}
@@ -64,10 +67,49 @@ ra-cases P t s p r w x = subst P (roll-out-Ra x) (go (out-Ra x))
 abbrev pair_kinds : {A : Type 0} → (A → Kinds) → Ra × A → Kinds
 pair_kinds sp x = in_paren (spelled_ra x.0 ++ terminal.Fixed fixed.Comma ∷ sp x.1)
 
+-- an operand, a comma and the rest, read at once
+abbrev at_once : {A : Type 0} → Parser Ra → Parser A → Parser (Ra × A)
+at_once inner p = paren (both inner (lead fixed.Comma p))
+
+abbrev with_rest : {A : Type 0} → A → Kinds → Option (A × Kinds)
+with_rest y s = Some (y, s)
+
+abbrev paired : {A : Type 0} → Ra → A × Kinds → Option ((Ra × A) × Kinds)
+paired x b = Some ((x, b.0), b.1)
+
+abbrev with_last : {A : Type 0} → Parser A → Ra × Kinds → Option ((Ra × A) × Kinds)
+with_last p a = last_operand p a.1 >>= paired a.0
+
+abbrev closed : {A : Type 0} → A × Kinds → Option (A × Kinds)
+closed c = after fixed.Right c.1 >>= with_rest c.0
+
+close : {A : Type 0} (x : Ra) (y : A) (o : Option Kinds) → (o >>= with_rest y) >>= paired x ≡ o >>= with_rest {A = Ra × A} (x, y)
+close x y None = refl
+close x y (Some s) = refl
+
+last-part : {A : Type 0} (x : Ra) (o : Option (A × Kinds)) → (o >>= closed) >>= paired x ≡ (o >>= paired x) >>= closed {A = Ra × A}
+last-part x None = refl
+last-part x (Some b) = close x b.0 (after fixed.Right b.1)
+
+comma-part : {A : Type 0} (p : Parser A) (x : Ra) (o : Option Kinds) → (o >>= with_rest x) >>= with_last p ≡ ((o >>= p) >>= paired x) >>= closed {A = Ra × A}
+comma-part p x None = refl
+comma-part p x (Some s) = last-part x (p s)
+
+first-part : {A : Type 0} (p : Parser A) (o : Option (Ra × Kinds)) → (o >>= λ a. after fixed.Comma a.1 >>= with_rest a.0) >>= with_last p ≡ (o >>= λ a. lead fixed.Comma p a.1 >>= paired a.0) >>= closed {A = Ra × A}
+first-part p None = refl
+first-part p (Some a) = comma-part p a.0 (after fixed.Comma a.1)
+
+in-parts : {A : Type 0} (inner : Parser Ra) (p : Parser A) (o : Option Kinds) → (o >>= λ r. inner r >>= λ a. after fixed.Comma a.1 >>= with_rest a.0) >>= with_last p ≡ o >>= λ r. both inner (lead fixed.Comma p) r >>= closed {A = Ra × A}
+in-parts inner p None = refl
+in-parts inner p (Some r) = first-part p (inner r)
+
 operands-law : {A : Type 0} (inner : Parser Ra) (p : Parser A) (sp : A → Kinds) (n low : ℕ) → Lawful false inner spelled_ra n 28 → Lawful false p sp n low → low ≤ 33
     → Lawful false (operands inner p) (pair_kinds sp) (n + 2) 0
-operands-law {A = A} inner p sp n low l m below = paren-law (both inner (lead fixed.Comma p)) (λ (x : Ra × A). spelled_ra x.0 ++ terminal.Fixed fixed.Comma ∷ sp x.1) n low
-    (both-law inner (lead fixed.Comma p) spelled_ra (λ (x : A). terminal.Fixed fixed.Comma ∷ sp x) n 28 low l (lead-law fixed.Comma p sp n low m (λ e. omega arith) (λ e. omega arith)) (λ y rest f. omega arith)) below
+operands-law {A = A} inner p sp n low l m below =
+    let law : Lawful false (at_once inner p) (pair_kinds sp) (n + 2) 0 = paren-law (both inner (lead fixed.Comma p)) (λ (x : Ra × A). spelled_ra x.0 ++ terminal.Fixed fixed.Comma ∷ sp x.1) n low
+    (both-law inner (lead fixed.Comma p) spelled_ra (λ (x : A). terminal.Fixed fixed.Comma ∷ sp x) n 28 low l (lead-law fixed.Comma p sp n low m (λ e. omega arith) (λ e. omega arith)) (λ y rest f. omega arith)) below in
+    loose (operands inner p) (pair_kinds sp) (n + 2) 0 (λ ks q e. law.sound ks q (sym (in-parts inner p (after fixed.Left ks)) ∙ e))
+    (λ x rest h f. in-parts inner p (after fixed.Left (pair_kinds sp x ++ rest)) ∙ law.reads x rest h f)
 
 module _ (inner : Parser Ra) (n : ℕ) (l : Lawful false inner spelled_ra n 28) where
   select-law : Lawful false (operands inner read_tests) (pair_kinds spelled_tests) (n + 2) 0
@@ -132,6 +174,12 @@ pub ra-law : (n : ℕ) → Lawful false (read_ra n) spelled_ra n 28
 unfolding read_ra
 ra-law zero = loose (read_ra zero) spelled_ra zero 28 (λ ks q e. cc e) (λ x rest h f. absurd (omega arith))
 ra-law (suc n) = loose (read_ra (suc n)) spelled_ra (suc n) 28 (λ ks q e. from-sound (read_ra n) n (ra-law n) ks (head_at ks) q refl e) (from-reads (read_ra n) n (ra-law n))
+
+-- what an operator reads is read
+pub ra-applied : (n : ℕ) (ks rest : Kinds) (h : Head) (r : Result (Ra × Bor Kinds) ReadFault) → (n ≡ 0 → ⊥) → Some (h, rest) ≡ head_at ks → Reads r (read_with h (read_ra (n - 1)) rest) → Reads r (read_ra n ks)
+unfolding read_ra
+ra-applied zero ks rest h r e s a = absurd (e refl)
+ra-applied (suc n) ks rest h r e s a = let one : suc n - 1 ≡ n = omega arith in rw (← s) (rw one at a)
 
 -- ---- all the terminals
 

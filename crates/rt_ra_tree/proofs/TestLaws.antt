@@ -1,13 +1,11 @@
 -- Tests and names: each reader keeps to the spelling.
-use Rattle.std.proofs.Common.{◌≡◌, ◌<◌, ◌+◌, ap, subst, ℕ, ℤ, List, [], ◌∷◌, ◌++◌, length, refl, Bool, true, false, Option, Some, None, append_assoc, cond, arith, ◌==◌}
-use Rattle.std.specs.Prelude.{option_map}
+use Rattle.std.proofs.Common.{◌≡◌, ◌<◌, ◌+◌, ap, ℕ, ℤ, List, [], ◌∷◌, ◌++◌, length, refl, Bool, true, false, Some, append_assoc, arith}
 use Rattle.std.specs.List.{flat_map}
 use Rattle.rt_grammar.specs.declared.fixed.Fixed.TheVariants as fixed
 use Rattle.rt_grammar.specs.declared.terminal.Name.{Name}
-use Rattle.rt_grammar.specs.declared.terminal.Terminal.{Terminal}
 use Rattle.rt_grammar.specs.declared.terminal.Terminal.TheVariants as terminal
 use Rattle.rt_grammar.specs.Comparisons.{op_sign, read_op}
-use Rattle.rt_grammar.specs.Terminals.{Kinds, code, code_of, flag, in_paren}
+use Rattle.rt_grammar.specs.Terminals.{Kinds, flag, in_paren}
 use Rattle.rt_grammar.specs.Readers.{Parser, both, done, flagged, lead, list_of, made, paren, read_name, starts}
 use Rattle.rt_grammar.proofs.ComparisonLaws.{op-law, op_kinds}
 use Rattle.rt_grammar.proofs.Laws.{Lawful, both-law, done-law, either-sound, flagged-law, lead-law, loose, made-law, made-sound, name-law, paren-law}

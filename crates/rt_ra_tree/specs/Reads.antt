@@ -2,15 +2,16 @@
 --
 -- What the reading of a text answers is defined by them; by the law `read_is_tree` it is the tree that
 -- the tokens spell.
-use Rattle.std.specs.Prelude.{ℕ, ℤ, zero, suc, ◌+◌, ◌&&◌, Bool, true, false, if◌then◌else◌, List, [], ◌∷◌, length, Option, Some, None}
+use Rattle.std.specs.Prelude.{ℕ, ℤ, zero, suc, ◌+◌, ◌&&◌, Bool, true, false, List, [], ◌∷◌, length, Option, Some, None}
 use Rattle.rt_grammar.specs.Comparisons.{read_op}
 use Rattle.rt_grammar.specs.Readers.{Parser, Step, both, done, either, flagged, lead, list_of, made, paren, read_end, read_name, starts, starts_name, step_after, ◌>>=◌}
-use Rattle.rt_grammar.specs.Terminals.{Kinds, code, front, tail_of}
+use Rattle.rt_grammar.specs.Terminals.{Kinds, tail_of}
 use Rattle.rt_grammar.specs.declared.fixed.Fixed.TheVariants as fixed
 use Rattle.rt_grammar.specs.declared.terminal.Name.{Name}
 use Rattle.rt_grammar.specs.declared.terminal.Terminal.TheVariants as terminal
 use Rattle.rt_value.specs.declared.value.Op.{Op}
 use Rattle.rt_ra_tree.specs.Heads.{head_at}
+use Rattle.rt_ra_tree.specs.Operands.{first_operand, last_operand}
 use Rattle.rt_ra_tree.specs.declared.heads.Head.{Head}
 use Rattle.rt_ra_tree.specs.declared.heads.Head.TheVariants as head
 use Rattle.rt_ra_tree.specs.declared.tree.Ra.{Ra}
@@ -90,7 +91,7 @@ read_names = made names_of (paren (both read_name (list_of name_step)))
 
 -- in parentheses: an operand, a comma, and the rest
 abbrev pub operands : {A : Type 0} → Parser Ra → Parser A → Parser (Ra × A)
-operands inner p = paren (both inner (lead fixed.Comma p))
+operands inner p = both (first_operand inner) (last_operand p)
 
 abbrev pub select_of : Ra × RaTests → Ra
 select_of x = ra.Select x.0 x.1

@@ -1,7 +1,7 @@
 //! Tests, and lists of tests and of names.
 
 ghost use Rattle.std.specs.Prelude.{◌≡◌};
-ghost use Rattle.rt_grammar.specs.Readers.{list_of};
+ghost use Rattle.rt_grammar.specs.Readers.{both, list_of, made, read_name};
 ghost use Rattle.rt_grammar.specs.Reads.{Reads};
 ghost use Rattle.rt_ra_tree.specs.Reads as spec;
 
@@ -10,6 +10,7 @@ use rt_grammar::{
     Fixed, Name, ReadFault, Terminal, after, expect, flag, front, name, name_of, op_at, starts,
     starts_name, tail,
 };
+use rt_tree::before;
 use rt_value::List;
 use std::alloc::Global;
 
@@ -121,8 +122,13 @@ pub fn tests<'t>(
     ensures { Reads result (spec.read_tests terminals.now) }
 {
     let (head, rest) = test(alloc, terminals)?;
-    let (tail, rest) = more_tests(alloc, rest)?;
-    Ok((RaTests { head, tail }, rest))
+    match more_tests(alloc, rest) {
+        Ok((tail, rest)) => Ok((RaTests { head, tail }, rest)),
+        Err(fault) => {
+            drop(head);
+            Err(fault)
+        }
+    }
 }
 
 fn more_names<'t>(
@@ -141,6 +147,23 @@ fn more_names<'t>(
     Ok((items, rest))
 }
 
+// Names with commas in between.
+fn name_list<'t>(
+    alloc: Global,
+    terminals: &'t [Terminal],
+) -> Result<(RaNames, &'t [Terminal]), ReadFault>
+    ensures { Reads result (made spec.names_of (both read_name (list_of spec.name_step)) terminals.now) }
+{
+    let (head, rest) = name(alloc, terminals)?;
+    match more_names(alloc, rest) {
+        Ok((tail, rest)) => Ok((RaNames { head, tail }, rest)),
+        Err(fault) => {
+            drop(head);
+            Err(fault)
+        }
+    }
+}
+
 /// The names in parentheses at the front.
 #[tactic(auto, unfolding(crate::specs::Reads::read_names))]
 pub fn names<'t>(
@@ -150,8 +173,6 @@ pub fn names<'t>(
     ensures { Reads result (spec.read_names terminals.now) }
 {
     let rest = expect(terminals, Fixed::Left)?;
-    let (head, rest) = name(alloc, rest)?;
-    let (tail, rest) = more_names(alloc, rest)?;
-    let rest = expect(rest, Fixed::Right)?;
-    Ok((RaNames { head, tail }, rest))
+    let (names, rest) = name_list(alloc, rest)?;
+    before(names, rest, Fixed::Right)
 }

@@ -9,6 +9,7 @@ use crate::conditions::{names, tests};
 use crate::heads::{Head, head_at};
 use crate::tree::{Ra, RaNames, RaOp, RaTests};
 use rt_grammar::{Fixed, ReadFault, Terminal, expect, name};
+use rt_tree::{before, boxed_before};
 use rt_value::Boxed;
 use std::alloc::Global;
 
@@ -20,13 +21,7 @@ fn last_tests<'t>(
     ensures { Reads result (last_operand spec.read_tests terminals.now) }
 {
     let (tests, rest) = tests(alloc, terminals)?;
-    match expect(rest, Fixed::Right) {
-        Ok(rest) => Ok((tests, rest)),
-        Err(fault) => {
-            drop(tests);
-            Err(fault)
-        }
-    }
+    before(tests, rest, Fixed::Right)
 }
 
 // The names and the parenthesis after them.
@@ -37,8 +32,7 @@ fn last_names<'t>(
     ensures { Reads result (last_operand spec.read_names terminals.now) }
 {
     let (names, rest) = names(alloc, terminals)?;
-    let rest = expect(rest, Fixed::Right)?;
-    Ok((names, rest))
+    before(names, rest, Fixed::Right)
 }
 
 // The first operand, with the parenthesis before it and the comma after it.
@@ -52,9 +46,7 @@ fn first<'t>(
 {
     let rest = expect(terminals, Fixed::Left)?;
     let (of, rest) = ra(alloc, depth, rest)?;
-    let of = Boxed::new(alloc, of)?;
-    let rest = expect(rest, Fixed::Comma)?;
-    Ok((of, rest))
+    boxed_before(alloc, of, rest, Fixed::Comma)
 }
 
 // The other operand and the parenthesis after it.
@@ -67,9 +59,7 @@ fn last<'t>(
     ensures { Reads result (last_operand (spec.read_ra depth) terminals.now) }
 {
     let (of, rest) = ra(alloc, depth, terminals)?;
-    let of = Boxed::new(alloc, of)?;
-    let rest = expect(rest, Fixed::Right)?;
-    Ok((of, rest))
+    boxed_before(alloc, of, rest, Fixed::Right)
 }
 
 #[cycle(ra_reader)]
@@ -81,34 +71,32 @@ fn select<'t>(
     ensures { Reads result (spec.read_select (spec.read_ra depth) terminals.now) }
 {
     let (of, rest) = first(alloc, depth, terminals)?;
-    let (tests, rest) = last_tests(alloc, rest)?;
-    Ok((Ra::Select(of, tests), rest))
+    match last_tests(alloc, rest) {
+        Ok((tests, rest)) => Ok((Ra::Select(of, tests), rest)),
+        Err(fault) => {
+            drop(of);
+            Err(fault)
+        }
+    }
 }
 
+// The operand and the names of PROJECT and RENAME.
 #[cycle(ra_reader)]
-fn project<'t>(
+fn named<'t>(
     alloc: Global,
     depth: usize,
     terminals: &'t [Terminal],
-) -> Result<(Ra, &'t [Terminal]), ReadFault>
-    ensures { Reads result (spec.read_project (spec.read_ra depth) terminals.now) }
+) -> Result<((Boxed<Ra>, RaNames), &'t [Terminal]), ReadFault>
+    ensures { Reads result (spec.operands (spec.read_ra depth) spec.read_names terminals.now) }
 {
     let (of, rest) = first(alloc, depth, terminals)?;
-    let (names, rest) = last_names(alloc, rest)?;
-    Ok((Ra::Project(of, names), rest))
-}
-
-#[cycle(ra_reader)]
-fn rename<'t>(
-    alloc: Global,
-    depth: usize,
-    terminals: &'t [Terminal],
-) -> Result<(Ra, &'t [Terminal]), ReadFault>
-    ensures { Reads result (spec.read_rename (spec.read_ra depth) terminals.now) }
-{
-    let (of, rest) = first(alloc, depth, terminals)?;
-    let (names, rest) = last_names(alloc, rest)?;
-    Ok((Ra::Rename(of, names), rest))
+    match last_names(alloc, rest) {
+        Ok((names, rest)) => Ok(((of, names), rest)),
+        Err(fault) => {
+            drop(of);
+            Err(fault)
+        }
+    }
 }
 
 #[cycle(ra_reader)]
@@ -121,8 +109,37 @@ fn two<'t>(
     ensures { Reads result (spec.read_two op (spec.read_ra depth) terminals.now) }
 {
     let (left, rest) = first(alloc, depth, terminals)?;
-    let (right, rest) = last(alloc, depth, rest)?;
-    Ok((Ra::Two(op, left, right), rest))
+    match last(alloc, depth, rest) {
+        Ok((right, rest)) => Ok((Ra::Two(op, left, right), rest)),
+        Err(fault) => {
+            drop(left);
+            Err(fault)
+        }
+    }
+}
+
+// What follows the word of an operator.
+#[cycle(ra_reader)]
+fn applied<'t>(
+    alloc: Global,
+    depth: usize,
+    head: Head,
+    terminals: &'t [Terminal],
+) -> Result<(Ra, &'t [Terminal]), ReadFault>
+    ensures { Reads result (spec.read_with head (spec.read_ra depth) terminals.now) }
+{
+    match head {
+        Head::Select => select(alloc, depth, terminals),
+        Head::Project => {
+            let ((of, names), rest) = named(alloc, depth, terminals)?;
+            Ok((Ra::Project(of, names), rest))
+        }
+        Head::Rename => {
+            let ((of, names), rest) = named(alloc, depth, terminals)?;
+            Ok((Ra::Rename(of, names), rest))
+        }
+        Head::Two(op) => two(alloc, depth, op, terminals),
+    }
 }
 
 /// The tree at the front.
@@ -143,9 +160,6 @@ pub fn ra<'t>(
             let (name, rest) = name(alloc, terminals)?;
             Ok((Ra::Table(name), rest))
         }
-        Some((Head::Select, rest)) => select(alloc, depth - 1, rest),
-        Some((Head::Project, rest)) => project(alloc, depth - 1, rest),
-        Some((Head::Rename, rest)) => rename(alloc, depth - 1, rest),
-        Some((Head::Two(op), rest)) => two(alloc, depth - 1, op, rest),
+        Some((head, rest)) => applied(alloc, depth - 1, head, rest),
     }
 }
