@@ -1,6 +1,10 @@
 -- Sources and chains: each reader keeps to the spelling.
-use Rattle.std.proofs.Common.{◌≡◌, ◌∙◌, ◌≤◌, ◌<◌, ◌+◌, sym, ap, subst, ℕ, zero, suc, List, [], ◌∷◌, ◌++◌, length, refl, Bool, true, false, Option, Some, None, append_assoc, cond, arith, ◌==◌, length-append}
+use Rattle.std.proofs.Common.{◌≡◌, ◌∙◌, ◌≤◌, ◌<◌, ◌+◌, ◌-◌, sym, ap, subst, ℕ, zero, suc, List, [], ◌∷◌, ◌++◌, length, refl, Bool, true, false, Option, Some, None, append_assoc, cond, arith, ◌==◌, length-append}
+use Rattle.std.specs.Borrow.{Bor}
 use Rattle.std.specs.List.{flat_map}
+use Rattle.std.specs.Prelude.{Result}
+use Rattle.rt_grammar.specs.Reads.{Reads}
+use Rattle.rt_grammar.specs.declared.fault.ReadFault.{ReadFault}
 use Rattle.rt_grammar.specs.declared.fixed.Fixed.TheVariants as fixed
 use Rattle.rt_grammar.specs.declared.terminal.Name.{Name}
 use Rattle.rt_grammar.specs.declared.terminal.Terminal.{Terminal}
@@ -443,6 +447,22 @@ level-law (suc n) = record {
   cond = weaker (read_cond (level n)) spelled_cond (n + 2) 22 (suc n) 22 (cond-law (level n) n (level-law n)) (omega arith) (omega arith);
   chain = weaker (read_chain (level n)) spelled_chain (n + 2) 33 (suc n) 33 (chain-law (level n) n (level-law n)) (omega arith) (omega arith);
 }
+
+-- what is read between parentheses is read with one level more
+above : (n : ℕ) → (n ≡ 0 → ⊥) → suc (n - 1) ≡ n
+above n e = omega arith
+
+pub level-chain : (n : ℕ) (ks : Kinds) (r : Result (Chain × Bor Kinds) ReadFault) → (n ≡ 0 → ⊥) → Reads r (read_chain (level (n - 1)) ks) → Reads r ((level n).chain ks)
+unfolding level
+level-chain n ks r e a = subst (λ (m : ℕ). Reads r ((level m).chain ks)) (above n e) a
+
+pub level-cond : (n : ℕ) (ks : Kinds) (r : Result (Cond × Bor Kinds) ReadFault) → (n ≡ 0 → ⊥) → Reads r (read_cond (level (n - 1)) ks) → Reads r ((level n).cond ks)
+unfolding level
+level-cond n ks r e a = subst (λ (m : ℕ). Reads r ((level m).cond ks)) (above n e) a
+
+pub level-none : (n : ℕ) (ks : Kinds) → n ≡ 0 → ((level n).chain ks ≡ None) × ((level n).cond ks ≡ None)
+unfolding level
+level-none n ks e = rw e (refl, refl)
 
 -- ---- all the terminals
 

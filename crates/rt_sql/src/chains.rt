@@ -24,7 +24,7 @@ pub fn chain_in_parens<'t>(
     ensures { Reads result (paren (spec.level depth).chain terminals.now) }
 {
     let rest = expect(terminals, Fixed::Left)?;
-    let (inner, rest) = chain(alloc, depth, rest)?;
+    let (inner, rest) = inner_chain(alloc, depth, rest)?;
     boxed_before(alloc, inner, rest, Fixed::Right)
 }
 
@@ -179,9 +179,28 @@ fn chain_links<'t>(
     Ok((items, rest))
 }
 
-#[tactic(auto, unfolding(crate::specs::Reads::level, crate::specs::Reads::read_chain))]
+#[tactic(auto, unfolding(crate::specs::Reads::read_chain))]
 #[cycle(chain_reader)]
-pub fn chain<'t>(
+fn chain<'t>(
+    alloc: Global,
+    depth: usize,
+    terminals: &'t [Terminal],
+) -> Result<(Chain, &'t [Terminal]), ReadFault>
+    ensures { Reads result (spec.read_chain (spec.level depth) terminals.now) }
+{
+    let (head, rest) = meet(alloc, depth, terminals)?;
+    match chain_links(alloc, depth, rest) {
+        Ok((tail, rest)) => Ok((Chain { head, tail }, rest)),
+        Err(fault) => {
+            drop(head);
+            Err(fault)
+        }
+    }
+}
+
+/// The chain between parentheses, or the whole one.
+#[cycle(chain_reader)]
+pub fn inner_chain<'t>(
     alloc: Global,
     depth: usize,
     terminals: &'t [Terminal],
@@ -191,12 +210,5 @@ pub fn chain<'t>(
     if depth == 0 {
         return Err(ReadFault::Syntax(terminals.len()));
     }
-    let (head, rest) = meet(alloc, depth - 1, terminals)?;
-    match chain_links(alloc, depth - 1, rest) {
-        Ok((tail, rest)) => Ok((Chain { head, tail }, rest)),
-        Err(fault) => {
-            drop(head);
-            Err(fault)
-        }
-    }
+    chain(alloc, depth - 1, terminals)
 }

@@ -52,7 +52,6 @@ fn test<'t>(
 }
 
 // The condition between parentheses.
-#[tactic(auto, unfolding(crate::specs::Reads::level))]
 #[cycle(chain_reader)]
 fn inner_cond<'t>(
     alloc: Global,

@@ -9,7 +9,7 @@ ghost use Rattle.rt_token.specs.declared.token.Token.{Token as Lexed};
 ghost use Rattle.rt_tree.specs.declared.tree.Sql.{Sql as Tree};
 ghost use Rattle.rt_value.specs.Gives.{Gives};
 
-use crate::chains::chain;
+use crate::chains::inner_chain;
 use crate::depth::is_deep;
 use crate::fault::SqlFault;
 use crate::words::unsupported;
@@ -22,7 +22,7 @@ use std::alloc::Global;
 fn query(alloc: Global, terminals: &[Terminal]) -> Result<Sql, ReadFault>
     ensures { Answers result (spec.read_sql terminals.now) }
 {
-    let (chain, rest) = chain(alloc, terminals.len() + 1, terminals)?;
+    let (chain, rest) = inner_chain(alloc, terminals.len() + 1, terminals)?;
     match end(rest) {
         Ok(semi) => Ok(Sql { chain, semi }),
         Err(fault) => {

@@ -4,7 +4,7 @@ use Rattle.rt_grammar.specs.Readers.{starts}
 use Rattle.rt_grammar.specs.declared.fixed.Fixed.TheVariants as fixed
 use Rattle.rt_sql.specs.Reads.{is_join, is_union, level, read_chain_link, read_conj, read_join, read_meet_link, read_neg, read_source}
 use Rattle.rt_sql.proofs.CondLaws.{conj-step-law, neg-step-law}
-use Rattle.rt_sql.proofs.ChainLaws.{chain-step-law, join-step-law, level-law, meet-step-law, source-step-law}
+use Rattle.rt_sql.proofs.ChainLaws.{chain-step-law, join-step-law, level-chain, level-cond, level-law, level-none, meet-step-law, source-step-law}
 use Rattle.rt_sql.proofs.+chain_reader.Goals as goal
 
 pub conditions::more_negs-returns-in_err-item : goal.conditions::more_negs-returns-in_err-item
@@ -90,3 +90,15 @@ chains::chain_links-items-preserved t c = rw c.in_ok-push.ensures.ok
 
 pub chains::chain_links-returns : goal.chains::chain_links-returns
 chains::chain_links-returns t c = when-ends is_union (read_chain_link (level c.args.depth)) c.items.items c.items.rest.now c.args.terminals.now c.items.invariant (sym c.is_union.ensures ∙ c.items-test.false)
+
+pub chains::inner_chain-returns : goal.chains::inner_chain-returns
+chains::inner_chain-returns t c = level-chain c.args.depth c.args.terminals.now c.chain.result c.if-depth-eq0.false c.chain.ensures
+
+pub conditions::inner_cond-returns : goal.conditions::inner_cond-returns
+conditions::inner_cond-returns t c = level-cond c.args.depth c.args.terminals.now c.cond.result c.if-depth-eq0.false c.cond.ensures
+
+pub chains::inner_chain-returns-then-depth-eq0 : goal.chains::inner_chain-returns-then-depth-eq0
+chains::inner_chain-returns-then-depth-eq0 t c = (level-none c.args.depth c.args.terminals.now c.if-depth-eq0.true).0
+
+pub conditions::inner_cond-returns-then-depth-eq0 : goal.conditions::inner_cond-returns-then-depth-eq0
+conditions::inner_cond-returns-then-depth-eq0 t c = (level-none c.args.depth c.args.terminals.now c.if-depth-eq0.true).1

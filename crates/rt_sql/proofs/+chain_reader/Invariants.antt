@@ -3,8 +3,8 @@ use Rattle.rt_grammar.proofs.Loops.{Goes}
 use Rattle.rt_sql.specs.Reads.{chain_step, conj_step, join_step, level, meet_step, neg_step, source_step}
 use Rattle.rt_sql.proofs.+chain_reader.Given as goal
 
-abbrev pub decreases-chains::chain : goal.decreases-chains::chain
-decreases-chains::chain l = 40 * l.depth + 0
+abbrev pub decreases-chains::inner_chain : goal.decreases-chains::inner_chain
+decreases-chains::inner_chain l = 40 * l.depth + 0
 
 abbrev pub decreases-chains::chain_in_parens : goal.decreases-chains::chain_in_parens
 decreases-chains::chain_in_parens l = 40 * l.depth + 1
@@ -86,6 +86,9 @@ decreases-chains::chain_link l = 40 * l.depth + 25
 
 abbrev pub decreases-chains::chain_links : goal.decreases-chains::chain_links
 decreases-chains::chain_links l = 40 * l.depth + 26
+
+abbrev pub decreases-chains::chain : goal.decreases-chains::chain
+decreases-chains::chain l = 40 * l.depth + 28
 
 abbrev pub invariant-conditions::more_negs-items : goal.invariant-conditions::more_negs-items
 invariant-conditions::more_negs-items l = Goes (neg_step (level l.depth)) l.items l.rest l.terminals
