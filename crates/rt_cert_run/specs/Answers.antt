@@ -11,7 +11,7 @@ use Rattle.rt_input.specs.declared.outcome.Outcome.{Outcome}
 use Rattle.rt_input.specs.declared.outcome.Outcome.TheVariants as outcome
 use Rattle.rt_input.specs.declared.outcome.Spent.{Spent}
 use Rattle.rt_input.specs.Accepted.{Accepted}
-use Rattle.rt_input.specs.Reading.{Call, IsRead, Stop, limit_of}
+use Rattle.rt_input.specs.Reading.{Call, IsRead, IsTold, Stop, limit_of}
 use Rattle.rt_top.specs.Answers as top
 use Rattle.rt_input.specs.Judged.{judged}
 use Rattle.rt_top.specs.Smallest.{IsGivenUp}
@@ -154,5 +154,5 @@ IsProvedOrMemory _ = ⊥
 -- a certificate is asked for of this accepted input; no count of a file that the command names rose,
 -- and there is no budget, or one that no search can spend
 abbrev pub OverCalm : Call → Type 0 → Type 0
-OverCalm c P = IfProve (asked_by c.words) (λ args. top.IsTold (with_words c args) → top.NoFileRose (with_words c args)
+OverCalm c P = IfProve (asked_by c.words) (λ args. IsTold (with_words c args) → top.NoFileRose (with_words c args)
     → (input : Accepted) → judged args c.files.held ≡ Ok input → top.HasRoom input → P)

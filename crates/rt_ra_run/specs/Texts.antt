@@ -12,7 +12,7 @@ use Rattle.rt_input.specs.declared.part.Part.{Part}
 use Rattle.rt_input.specs.declared.outcome.Outcome.{Outcome}
 use Rattle.rt_input.specs.declared.outcome.Outcome.TheVariants as outcome
 use Rattle.rt_input.specs.declared.outcome.Spent.{Spent}
-use Rattle.rt_top.specs.Texts as top
+use Rattle.rt_input.specs.Texts as texts
 use Rattle.rt_input.specs.Texts.{lex_text, name_text, part_text, sql_text}
 use Rattle.rt_ra_run.specs.declared.asked.Asked.{Asked}
 use Rattle.rt_ra_run.specs.declared.outcome.RaOutcome.{RaOutcome}
@@ -37,7 +37,7 @@ usage_text = codes "usage: ratest_plus ra SCHEMA DATADIR RA1 RA2 [--conflicts N]
 -- the text of a verdict that is none on the two texts; `most` is the work limit in force
 abbrev pub verdict_text : ℕ → Outcome → List ℕ
 verdict_text most outcome.Usage = usage_text
-verdict_text most o = top.refusal_line most o
+verdict_text most o = texts.refusal_line most o
 
 -- the line of an algebra text that is refused
 abbrev pub refused_line : Part → RaFault → List ℕ
@@ -50,11 +50,11 @@ refusal_text most (Refused part f) = refused_line part f
 
 -- verdicts on the two texts belong to the first sink, all other texts to the second
 abbrev pub place : RaOutcome → Place
-place (Verdict o) = top.place o
+place (Verdict o) = texts.place o
 place (Refused part f) = at.Err
 
 abbrev pub status_of : RaOutcome → ℕ
-status_of (Verdict o) = top.status_of o
+status_of (Verdict o) = texts.status_of o
 status_of (Refused part f) = 3
 
 -- ---- verdicts on the two texts
