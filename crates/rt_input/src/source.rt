@@ -88,7 +88,7 @@ impl Paths {
         let dir = self.dir.as_str();
         let name = name.as_str();
         let path = format!(in alloc; "{dir}/{name}.csv")?;
-        Ok(Txt::from_string(path))
+        Txt::from_string(alloc, path)
     }
 }
 

@@ -5,14 +5,19 @@
 ghost use Rattle.std.specs.Prelude.{◌≡◌, ◌⊎◌};
 
 use rt_io::{RealSink, write_text};
-use rt_value::{List, Txt};
+use rt_value::{List, NoMemory, Txt};
+use std::alloc::Global;
 use std::{env, io};
+
+fn put(words: &mut List<Txt>, alloc: Global, word: String) -> Result<(), NoMemory> {
+    words.push(Txt::from_string(alloc, word)?)
+}
 
 /// The words after the program's name. A word that isn't UTF-8 is an error.
 pub fn words(rt: &HostRuntime) -> io::Result<List<Txt>> {
     let mut words = List::new(rt.alloc());
     for word in env::args(rt)?.skip(1) {
-        if words.push(Txt::from_string(word)).is_err() {
+        if put(&mut words, rt.alloc(), word).is_err() {
             return Err(io::Error::from(io::ErrorKind::OutOfMemory));
         }
     }

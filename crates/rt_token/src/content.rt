@@ -17,7 +17,7 @@ pub fn lower_case(alloc: Global, text: &str, from: usize, to: usize) -> Result<T
     ensures { IfOk result (λ t. t ≡ map to_ascii_lowercase (take (to - from) (drop from text.now))) }
 {
     let folded = text[from..to].to_ascii_lowercase(alloc)?;
-    Ok(Txt::from_string(folded))
+    Txt::from_string(alloc, folded)
 }
 
 /// The content from `from` up to the closing quote, each doubled quote read as one, and the number
@@ -43,7 +43,8 @@ pub fn closing(
         }
         content.push_str(&text[start..end])?;
         if byte_at(bytes, end + 1) != quote {
-            return Ok(Some((Txt::from_string(content), end + 1 - from)));
+            let content = Txt::from_string(alloc, content)?;
+            return Ok(Some((content, end + 1 - from)));
         }
         content.push(char::from(quote))?;
         start = end + 2;

@@ -10,11 +10,13 @@ use crate::no_memory::NoMemory;
 use std::alloc::Global;
 use std::cmp::Ordering;
 use std::marker::Model;
+use std::rc::Rc;
 
-/// An owned UTF-8 text, which contracts see as its bytes. Texts are ordered by their bytes.
+/// A UTF-8 text, which contracts see as its bytes. Texts are ordered by their bytes. The copies of a
+/// text share its bytes.
 #[derive(Debug, Drop)]
 pub struct Txt {
-    text: String,
+    text: Rc<String>,
 }
 
 impl Model for Txt {
@@ -23,39 +25,42 @@ impl Model for Txt {
 
     ghost Value = { List ℕ };
 
-    ghost view = { λ t. string_bytes t.text };
+    ghost view = { λ t. string_bytes t.text.value };
 }
 
 impl Txt {
     pub fn of(alloc: Global, text: &str) -> Result<Txt, NoMemory>
         ensures { IfOk result (λ t. t ≡ text.now) }
     {
-        let text = String::from_str(alloc, text)?;
+        Txt::from_string(alloc, String::from_str(alloc, text)?)
+    }
+
+    pub fn from_string(alloc: Global, text: String) -> Result<Txt, NoMemory>
+        ensures { IfOk result (λ t. t ≡ string_bytes text) }
+    {
+        let text = Rc::new(alloc, text)?;
         Ok(Txt { text })
     }
 
-    pub fn from_string(text: String) -> Txt
-        ensures { result ≡ string_bytes text }
-    {
-        Txt { text }
-    }
-
-    pub fn copy(&self, alloc: Global) -> Result<Txt, NoMemory>
+    /// A text with the same bytes, which both have from then on. The allocator is there as for copies of
+    /// other values.
+    pub fn copy(&self, _alloc: Global) -> Result<Txt, NoMemory>
         ensures { IfOk result (λ t. t ≡ self.now) }
     {
-        Txt::of(alloc, self.as_str())
+        let text = self.text.clone()?;
+        Ok(Txt { text })
     }
 
     pub fn as_str(&self) -> &str
         ensures { result.now ≡ self.now }
     {
-        self.text.as_str()
+        self.text.as_ref().as_str()
     }
 
     pub fn as_bytes(&self) -> &[u8]
         ensures { result.now ≡ self.now }
     {
-        self.text.as_str().as_bytes()
+        self.as_str().as_bytes()
     }
 }
 
@@ -65,7 +70,7 @@ impl PartialEq for Txt {
     ghost laws = { Prim.search (comparing, rules) };
 
     fn eq(&self, other: &Txt) -> bool {
-        self.text.as_str() == other.text.as_str()
+        self.as_str() == other.as_str()
     }
 }
 
@@ -83,7 +88,7 @@ impl Ord for Txt {
     ghost matches_eq = { Prim.search (comparing, rules) };
 
     fn cmp(&self, other: &Txt) -> Ordering {
-        self.text.as_str().cmp(&other.text.as_str())
+        self.as_str().cmp(&other.as_str())
     }
 }
 

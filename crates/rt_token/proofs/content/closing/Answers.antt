@@ -24,7 +24,7 @@ returns-then-byte_at-quote-clause-value c =
     let v = rw (c.rest.ensures, c.as_bytes-bytes.ensures.value) at c.plain_len.ensures.within in
     let l : c.runs.start + c.plain_len.result < length c.args.text.now = omega (arith, length-drop c.runs.start c.args.text.now, v, c.runs.invariant.within, c.if-end-bytes.false, c.as_bytes-bytes.ensures.len) in
     let e = content-end _ _ _ _ _ _ n c.runs.invariant.so_far c.runs.invariant.order c.runs.invariant.within l (λ h. c.if-byte_at-quote.true (w ∙ h)) in
-    rw (c.from_string.ensures, s) e
+    rw (c.in_ok-content.ensures, s) e
 
 pub runs-preserved : goal.runs-preserved
 runs-preserved c =
