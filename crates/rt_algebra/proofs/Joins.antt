@@ -1,5 +1,5 @@
 -- What the parts of a condition choose and join is the selection from the product.
-use Rattle.std.proofs.Common.{◌≡◌, ℕ, ℤ, Bool, true, false, IsTrue, cond, ◌&&◌, List, [], ◌∷◌, ◌++◌, length, map, refl, sym, ap, ap₂, subst, ◌∙◌, arith}
+use Rattle.std.proofs.Common.{◌≡◌, ℕ, ℤ, Bool, true, false, IsTrue, cond, ◌&&◌, ◌||◌, List, [], ◌∷◌, ◌++◌, length, map, refl, sym, ap, ap₂, subst, ◌∙◌, arith}
 use Rattle.std.specs.Prelude.{nat_eq}
 use Rattle.std.specs.List.{filter, list_all}
 use Rattle.std.proofs.lemmas.Bool.Decides.{nat_tests}
@@ -9,7 +9,7 @@ use Rattle.rt_value.specs.declared.value.Value.{Value}
 use Rattle.rt_schema.specs.Given.{Rows, Tables}
 use Rattle.rt_algebra.specs.Expression.{Env}
 use Rattle.rt_algebra.specs.Answer.{join_each, pairs, is_yes, pred_by}
-use Rattle.rt_algebra.specs.Split.{all_yes, all_simple, keys_yes, members_yes, first, later, whole, Splits}
+use Rattle.rt_algebra.specs.Split.{all_simple, keys_yes, members_yes, first, later, whole, Splits}
 use Rattle.rt_algebra.specs.Join.{matched, product_rows, joined_rows, are_wide, AreSimple, EachSimple, Joins, JoinsWhole}
 use Rattle.rt_algebra.specs.declared.query.Pred.{Pred}
 use Rattle.rt_algebra.specs.declared.parts.KeyPair.{KeyPair}
@@ -67,7 +67,7 @@ module _ (fit : ℤ → ℤ) (db : Tables) (env : Env) (test rest : List Value �
   never_product (rows ∷ members) (w ∷ widths) front l n =
       never_product members widths (pairs front rows) (and-right (list_all (λ row. nat_eq (length row) w) rows) _ l) (never_pairs w widths front rows (and-left _ (are_wide widths members) l) n)
 
-  -- a row that begins with these values passes where the members' parts and the rest hold
+  -- a row that begins with these values passes where the members' parts hold and the other test does
   abbrev Parted : List ℕ → List (List Pred) → List (List KeyPair) → List Value → Type 0
   Parted widths own keys x = (ys : Rows) → map length ys ≡ widths → test (whole x ys) ≡ (members_yes fit own keys x ys db env && rest (whole x ys))
 
@@ -173,14 +173,14 @@ module _ (p : Pred) (widths : List ℕ) (s : Split) (law : Splits p widths s) (s
   tested fit db env row = is_yes (pred_by fit p db (row ∷ env))
 
   abbrev left : (ℤ → ℤ) → Tables → Env → List Value → Bool
-  left fit db env row = all_yes fit s.rest db (row ∷ env)
+  left fit db env row = s.is_whole || tested fit db env row
 
   pub joins_law : Joins p widths s
   joins_law fit db env members wide =
       sym (joined fit db env (tested fit db env) (left fit db env) (tested fit db env) (λ own keys front h. refl) members widths s.own s.keys ([] ∷ []) wide simple (law fit db env, tt))
 
   pub joins_whole : JoinsWhole p widths s
-  joins_whole fit db env members wide none =
+  joins_whole fit db env members wide h =
       sym (all_kept (joined_rows fit s.own s.keys ([] ∷ []) members env))
-      ∙ ap (λ (ps : List Pred). filter (λ row. all_yes fit ps db (row ∷ env)) (joined_rows fit s.own s.keys ([] ∷ []) members env)) (sym none)
+      ∙ ap (λ b. filter (λ row. b || tested fit db env row) (joined_rows fit s.own s.keys ([] ∷ []) members env)) (sym h)
       ∙ sym (joined fit db env (tested fit db env) (left fit db env) (left fit db env) (ends_rest fit db env (tested fit db env) (left fit db env)) members widths s.own s.keys ([] ∷ []) wide simple (law fit db env, tt))

@@ -1,7 +1,7 @@
 -- A condition over members side by side is Yes exactly where each of its parts is.
-use Rattle.std.proofs.Common.{◌≡◌, ℕ, ℤ, zero, suc, ◌+◌, ◌-◌, ◌<◌, ◌≤◌, Bool, true, false, not, ◌&&◌, ◌||◌, List, [], ◌∷◌, ◌++◌, map, length, Option, None, Some, cond, refl, sym, subst, ap, ap₂, ◌∙◌, slice_index_or, length-append, arith}
+use Rattle.std.proofs.Common.{◌≡◌, ℕ, ℤ, zero, suc, ◌+◌, ◌-◌, ◌<◌, ◌≤◌, Bool, true, false, not, ◌&&◌, ◌||◌, List, [], ◌∷◌, ◌++◌, map, length, Option, None, Some, refl, sym, subst, ap, ap₂, ◌∙◌, slice_index_or, length-append, arith}
 use Rattle.std.specs.Prelude.{nat_eq, nat_lt, is_some, if◌then◌else◌}
-use Rattle.std.specs.List.{filter, filter_map, cons_option, list_all}
+use Rattle.std.specs.List.{filter_map, cons_option, list_all}
 use Rattle.std.proofs.lemmas.Bool.Decides.{nat_tests}
 use Rattle.std.proofs.lemmas.List.{append-nil, append_assoc, get_or_append_left, get_or-append_right}
 use Rattle.std.specs.declared.cmp.Ordering.{Ordering}
@@ -228,16 +228,16 @@ module _ (fit : ℤ → ℤ) (db : Tables) (env : Env) where
       let more = members_part ps widths (base + width) (before ++ row) rows next others in
       rw (own, keys, more) (all_three _ _ _ _ (λ p. three (is_some (own_of base width p)) (is_some (key_of base width p)) (is_taken (base + width) widths p) (yes (whole (before ++ row) rows) p)) ps)
 
-  rest_part : (taken : Pred → Bool) (y : Pred → Bool) (ps : List Pred) → list_all y ps ≡ (list_all (λ p. implies (taken p) (y p)) ps && list_all y (filter (λ p. not (taken p)) ps))
+  one_more : (t b i s y : Bool) → y ≡ (i && (s || y)) → (b && y) ≡ ((implies t b && i) && ((t && s) || (b && y)))
+  one_more true true i s y h = h
+  one_more true false i s y h = refl
+  one_more false true true s y h = refl
+  one_more false true false s y h = h
+  one_more false false i s y h = sym (and_false i)
+
+  rest_part : (taken : Pred → Bool) (y : Pred → Bool) (ps : List Pred) → list_all y ps ≡ (list_all (λ p. implies (taken p) (y p)) ps && (list_all taken ps || list_all y ps))
   rest_part taken y [] = refl
-  rest_part taken y (p ∷ ps) = go (taken p) (y p) refl (rest_part taken y ps)
-    where
-      go : (t b : Bool) → y p ≡ b → list_all y ps ≡ (list_all (λ p. implies (taken p) (y p)) ps && list_all y (filter (λ p. not (taken p)) ps))
-          → (b && list_all y ps) ≡ ((implies t b && list_all (λ p. implies (taken p) (y p)) ps) && list_all y (cond (not t) (p ∷ filter (λ p. not (taken p)) ps) (filter (λ p. not (taken p)) ps)))
-      go true true e h = h
-      go true false e h = refl
-      go false true e h = rw e h
-      go false false e h = rw e (sym (and_false (list_all (λ p. implies (taken p) (y p)) ps)))
+  rest_part taken y (p ∷ ps) = one_more (taken p) (y p) _ _ _ (rest_part taken y ps)
 
   conjuncts_part : (y : Pred-F Pred Query) (p : Pred) (row : List Value) → pred_by fit p db (row ∷ env) ≡ pred_step fit (map-Pred Pred Query Condition Answer (pred_by fit) (answer_by fit) y) db (row ∷ env)
       → yes row p ≡ list_all (yes row) (conjuncts_from y p)
@@ -252,9 +252,11 @@ module _ (fit : ℤ → ℤ) (db : Tables) (env : Env) where
 
 pub split_law : (p : Pred) (widths : List ℕ) → Splits p widths (split_of p widths)
 split_law p widths fit db env rows w =
-    conjuncts_part fit db env (out-Pred p) p (whole [] rows) (ap (λ f. f db (whole [] rows ∷ env)) (fold_out-Pred Condition Answer (pred_step fit) (query_step fit) p))
-    ∙ rest_part fit db env (is_taken 0 widths) (yes fit db env (whole [] rows)) (conjuncts p)
-    ∙ ap (λ b. b && all_yes fit (filter (λ q. not (is_taken 0 widths q)) (conjuncts p)) db (whole [] rows ∷ env)) (sym (members_part fit db env (conjuncts p) widths 0 [] rows refl w))
+    let row = whole [] rows in
+    let each : yes fit db env row p ≡ list_all (yes fit db env row) (conjuncts p) =
+        conjuncts_part fit db env (out-Pred p) p row (ap (λ f. f db (row ∷ env)) (fold_out-Pred Condition Answer (pred_step fit) (query_step fit) p)) in
+    each ∙ rest_part fit db env (is_taken 0 widths) (yes fit db env row) (conjuncts p)
+    ∙ ap₂ (λ b c. b && (list_all (is_taken 0 widths) (conjuncts p) || c)) (sym (members_part fit db env (conjuncts p) widths 0 [] rows refl w)) (sym each)
 
 pub split_at : (p : Pred) (widths : List ℕ) (s : Split) → s ≡ split_of p widths → Splits p widths s
 split_at p widths s h = let P : Split → Type 0 = Splits p widths in subst P (sym h) (split_law p widths)

@@ -74,7 +74,7 @@ Joins p widths s = (fit : ℤ → ℤ) (db : Tables) (env : Env) (members : List
     → filter (λ row. is_yes (pred_by fit p db (row ∷ env))) (joined_rows fit s.own s.keys ([] ∷ []) members env)
     ≡ filter (λ row. is_yes (pred_by fit p db (row ∷ env))) (product_rows ([] ∷ []) members)
 
--- and it is all of those rows where nothing is left to test
+-- and it is all of those rows where the own conditions and keys are all of the condition
 abbrev pub JoinsWhole : Pred → List ℕ → Split → Type 0
-JoinsWhole p widths s = (fit : ℤ → ℤ) (db : Tables) (env : Env) (members : List Rows) → IsTrue (are_wide widths members) → s.rest ≡ []
+JoinsWhole p widths s = (fit : ℤ → ℤ) (db : Tables) (env : Env) (members : List Rows) → IsTrue (are_wide widths members) → IsTrue s.is_whole
     → joined_rows fit s.own s.keys ([] ∷ []) members env ≡ filter (λ row. is_yes (pred_by fit p db (row ∷ env))) (product_rows ([] ∷ []) members)

@@ -1,8 +1,8 @@
 -- A condition over members side by side, taken apart: what concerns one member alone, the columns
--- of two members that have to be equal, and the rest.
-use Rattle.std.specs.Prelude.{◌≡◌, ℕ, ℤ, ◌+◌, ◌-◌, Bool, true, false, not, ◌&&◌, ◌||◌, nat_eq, nat_le, nat_lt, List, [], ◌∷◌, ◌++◌, map, length, Option, None, Some, is_some, if◌then◌else◌, slice_index_or}
+-- of two members that have to be equal, and whether that is all of it.
+use Rattle.std.specs.Prelude.{◌≡◌, ℕ, ℤ, ◌+◌, ◌-◌, Bool, true, false, ◌&&◌, ◌||◌, nat_eq, nat_le, nat_lt, List, [], ◌∷◌, ◌++◌, map, length, Option, None, Some, is_some, if◌then◌else◌, slice_index_or}
 use Rattle.std.specs.Option.{option_map}
-use Rattle.std.specs.List.{filter, filter_map, list_all, list_any}
+use Rattle.std.specs.List.{filter_map, list_all, list_any}
 use Rattle.rt_value.specs.declared.value.Value.{Value}
 use Rattle.rt_value.specs.declared.value.Value.TheVariants as v
 use Rattle.rt_value.specs.declared.value.Op.{Op}
@@ -199,7 +199,7 @@ abbrev pub apart : List Pred → List ℕ → Split
 apart ps widths = record {
   own = owns 0 widths ps;
   keys = key_lists 0 widths ps;
-  rest = filter (λ p. not (is_taken 0 widths p)) ps;
+  is_whole = list_all (is_taken 0 widths) ps;
 }
 
 abbrev pub split_of : Pred → List ℕ → Split
@@ -262,8 +262,9 @@ members_yes fit own keys before (row ∷ rows) db env =
     all_yes fit (first own) db (row ∷ env) && keys_yes (first keys) before row && members_yes fit (later own) (later keys) (before ++ row) rows db env
 
 -- over rows of these widths the condition is Yes on the concatenated row exactly where each own
--- conjunct is Yes on its member's row, each key pair compares Yes, and each of the rest is Yes
+-- conjunct is Yes on its member's row, each key pair compares Yes and, unless these are all of the
+-- condition, it is Yes itself
 abbrev pub Splits : Pred → List ℕ → Split → Type 0
 Splits p widths s = (fit : ℤ → ℤ) (db : Tables) (env : Env) (rows : Rows) → map length rows ≡ widths
     → is_yes (pred_by fit p db (whole [] rows ∷ env))
-    ≡ (members_yes fit s.own s.keys [] rows db env && all_yes fit s.rest db (whole [] rows ∷ env))
+    ≡ (members_yes fit s.own s.keys [] rows db env && (s.is_whole || is_yes (pred_by fit p db (whole [] rows ∷ env))))

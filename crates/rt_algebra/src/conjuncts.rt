@@ -1,10 +1,9 @@
 //! The conjuncts of a condition over members side by side.
-ghost use Rattle.std.specs.Prelude.{◌≡◌, ◌+◌, not, map, is_some, IfOk};
-ghost use Rattle.std.specs.List.{filter, filter_map};
+ghost use Rattle.std.specs.Prelude.{◌≡◌, ◌+◌, map, is_some, IfOk};
+ghost use Rattle.std.specs.List.{filter_map, list_all};
 ghost use Rattle.rt_algebra.specs.Join.{Joins, JoinsWhole};
 ghost use Rattle.rt_algebra.specs.Split.{Splits, split_of, apart, conjuncts, owns, own_of, key_lists, key_of, pair, place, is_taken};
 
-use crate::copy::copy_pred;
 use crate::expr::Expr;
 use crate::moved::{lies, own_of};
 use crate::parts::{KeyPair, Split};
@@ -27,10 +26,14 @@ pub fn split(alloc: Global, pred: &Pred, widths: &[usize]) -> Result<Split, NoMe
 fn apart(alloc: Global, conjuncts: &[Pred], widths: &[usize]) -> Result<Split, NoMemory>
     ensures { IfOk result (λ s. s ≡ apart conjuncts.now widths.now) }
 {
+    let is_whole = are_taken(alloc, conjuncts, widths)?;
     let own = each_owns(alloc, conjuncts, widths)?;
     let keys = each_keys(alloc, conjuncts, widths)?;
-    let rest = rest(alloc, conjuncts, widths)?;
-    Ok(Split { own, keys, rest })
+    Ok(Split {
+        own,
+        keys,
+        is_whole,
+    })
 }
 
 /// Each member's own conjuncts.
@@ -156,17 +159,16 @@ fn pair(a: Option<usize>, b: Option<usize>, base: usize, width: usize) -> Option
     }
 }
 
-/// The conjuncts that are neither own to a member nor a key.
-fn rest(alloc: Global, conjuncts: &[Pred], widths: &[usize]) -> Result<List<Pred>, NoMemory>
-    ensures { IfOk result (λ out. out ≡ filter (λ p. not (is_taken 0 widths.now p)) conjuncts.now) }
+/// Whether each of the conjuncts is own to a member or a key of one.
+fn are_taken(alloc: Global, conjuncts: &[Pred], widths: &[usize]) -> Result<bool, NoMemory>
+    ensures { IfOk result (λ b. b ≡ list_all (is_taken 0 widths.now) conjuncts.now) }
 {
-    let mut out = List::new(alloc);
     for conjunct in conjuncts {
         if !is_taken(alloc, conjunct, widths)? {
-            out.push(copy_pred(alloc, conjunct)?)?;
+            return Ok(false);
         }
     }
-    Ok(out)
+    Ok(true)
 }
 
 /// Whether the conjunct speaks of the columns of one member alone, the first of which is `base`.

@@ -5,7 +5,6 @@
 #![tactic(auto)]
 
 mod conjuncts;
-mod copy;
 mod cost;
 mod evaluate;
 mod expr;

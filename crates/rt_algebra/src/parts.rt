@@ -13,12 +13,12 @@ pub struct KeyPair {
 }
 
 /// A condition over members side by side, taken apart: for each member the conditions on its row
-/// alone and its keys, and the rest of the conditions.
+/// alone and its keys, and whether these are the whole of it.
 #[derive(Drop)]
 pub struct Split {
     pub own: List<List<Pred>>,
     pub keys: List<List<KeyPair>>,
-    pub rest: List<Pred>,
+    pub is_whole: bool,
 }
 
 impl Split {

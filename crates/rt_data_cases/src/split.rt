@@ -41,7 +41,7 @@ fn is_as_told(parts: &Split) -> bool {
     key && parts.own_of(0).is_empty()
         && parts.keys_of(0).is_empty()
         && is_column_and_number(parts.own_of(1), (Op::Eq, 0, 0, 5))
-        && is_column_and_number(parts.rest.as_slice(), (Op::Gt, 1, 0, 3))
+        && !parts.is_whole
 }
 
 fn splits(rt: &impl Abort, alloc: Global, condition: Pred) -> bool {
@@ -58,8 +58,8 @@ fn conjuncts_of_two_members(rt: HostRuntime) {
     assert!(rt; splits(&rt, rt.alloc(), condition));
 }
 
-/// How many conditions are own to each of two members, how many keys each has, and how many
-/// conditions are left, for members of two columns and of one.
+/// How many conditions are own to each of two members, how many keys each has, and whether a
+/// condition is left (as 1), for members of two columns and of one.
 fn counts(rt: &impl Abort, alloc: Global, condition: Pred) -> [usize; 5] {
     let parts = split(alloc, &condition, &[2, 1]).expect(rt, "memory");
     drop(condition);
@@ -68,7 +68,7 @@ fn counts(rt: &impl Abort, alloc: Global, condition: Pred) -> [usize; 5] {
         parts.own_of(1).len(),
         parts.keys_of(0).len(),
         parts.keys_of(1).len(),
-        parts.rest.len(),
+        usize::from(!parts.is_whole),
     ];
     drop(parts);
     counts

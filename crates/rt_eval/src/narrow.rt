@@ -39,7 +39,7 @@ pub fn narrow(
         }
         Some(parts) => {
             let rows = chosen_rows(alloc, members, &parts, env)?;
-            let are_chosen = parts.rest.is_empty();
+            let are_chosen = parts.is_whole;
             Ok(Narrowed { rows, are_chosen })
         }
     }
@@ -68,7 +68,7 @@ fn parts_of(
     condition: &Pred,
 ) -> Result<Option<Split>, NoMemory>
     ensures enough { IfOk result (λ o. IfSome o (λ s. (env : Env) → AreEnough condition.now members.now env (joined_rows wrapped s.own s.keys ([] ∷ []) members.now env))) }
-    ensures chosen { IfOk result (λ o. IfSome o (λ s. s.rest ≡ [] → (env : Env) → AreChosen condition.now members.now env (joined_rows wrapped s.own s.keys ([] ∷ []) members.now env))) }
+    ensures chosen { IfOk result (λ o. IfSome o (λ s. IsTrue s.is_whole → (env : Env) → AreChosen condition.now members.now env (joined_rows wrapped s.own s.keys ([] ∷ []) members.now env))) }
 {
     let widths = widths(alloc, members)?;
     if !are_wide(widths.as_slice(), members) {
