@@ -2,7 +2,7 @@ use crate::held::{ends, files};
 use rt_io::MemFiles;
 use rt_tools::USAGE;
 use rt_value::NoMemory;
-use std::alloc::Global;
+use std::alloc::{AllocError, Global};
 
 const WORDS: [&str; 5] = ["grade", "s", "d", "a.sql", "list"];
 
@@ -97,22 +97,42 @@ fn spellings_of_a_query(rt: HostRuntime) {
     assert!(rt; ends(alloc, &mut files, &WORDS, 0, out, "").expect(&rt, "memory"));
 }
 
-/// A list with so many lines of one byte.
-fn short_lines(alloc: Global, lines: usize) -> Result<MemFiles, NoMemory> {
-    let mut list = String::new(alloc);
+/// So many lines of one byte.
+fn short_lines(alloc: Global, lines: usize) -> Result<String, AllocError> {
+    let mut text = String::new(alloc);
     for _ in 0..lines {
-        list.push_str("c\n")?;
+        text.push_str("c\n")?;
     }
+    Ok(text)
+}
+
+/// A list of so many such lines.
+fn with_lines(alloc: Global, lines: usize) -> Result<MemFiles, NoMemory> {
+    let list = short_lines(alloc, lines)?;
     with_list(alloc, list.as_str().as_bytes())
 }
 
 #[test]
 fn long_lists(rt: HostRuntime) {
     let alloc = rt.alloc();
-    let mut many = short_lines(alloc, 257).expect(&rt, "memory");
+    let mut many = with_lines(alloc, 257).expect(&rt, "memory");
     let paths = "ratest: limit: more than 256 paths\n";
     assert!(rt; ends(alloc, &mut many, &WORDS, 5, "", paths).expect(&rt, "memory"));
-    let mut long = short_lines(alloc, 2_097_153).expect(&rt, "memory");
+    let mut long = with_lines(alloc, 2_097_153).expect(&rt, "memory");
     let bytes = "ratest: limit: list is longer than 4194304 bytes\n";
     assert!(rt; ends(alloc, &mut long, &WORDS, 5, "", bytes).expect(&rt, "memory"));
+}
+
+// A candidate of more than four MiB is graded so, and the next one as ever.
+#[test]
+fn a_long_candidate(rt: HostRuntime) {
+    let alloc = rt.alloc();
+    let text = short_lines(alloc, 2_097_153).expect(&rt, "memory");
+    let mut files = with_list(alloc, b"long.sql\nb.sql\n").expect(&rt, "memory");
+    files
+        .hold("long.sql", text.as_str().as_bytes())
+        .expect(&rt, "memory");
+    drop(text);
+    let out = "long.sql: too long\nb.sql: witness 2\ngraded: 2\n";
+    assert!(rt; ends(alloc, &mut files, &WORDS, 0, out, "").expect(&rt, "memory"));
 }
