@@ -7,15 +7,9 @@ use std::alloc::{AllocError, Global};
 use std::fmt::Write;
 use std::process::Abort;
 
-mod annotated;
 mod checks;
-mod choices;
-mod compared;
 mod failing;
 mod first;
-mod generated;
-mod names;
-mod nodes;
 mod parts;
 mod refused;
 mod spent;

@@ -3,10 +3,10 @@
 ghost use Rattle.std.specs.Prelude.{◌≡◌, length};
 ghost use Rattle.rt_schema.specs.Given.{places};
 
-use super::annotated::{annotated, holds};
-use super::choices::{choice, input};
-use super::files;
-use super::worked::{ABC, ONE, ONES, REG, SCHOOL, STUDENT};
+use crate::annotated::{annotated, holds};
+use crate::choices::{choice, input};
+use crate::held::files;
+use crate::school::{ABC, ONE, ONES, REG, SCHOOL, STUDENT};
 use rt_annot::{annotate, differ};
 use rt_formula::{Dag, Node};
 use rt_input::Input;

@@ -1,14 +1,14 @@
 //! Choices of rows, and the inputs that they are of.
 ghost use Rattle.std.specs.Prelude.{◌≡◌, IfOk, length};
 
-use super::{FOUR, words};
+use crate::held::{FOUR, words};
 use rt_input::{Input, Outcome, read_input};
 use rt_io::MemFiles;
 use rt_value::{Keep, NoMemory};
 use std::alloc::Global;
 
 /// The choice of a number's binary digits, the lowest for the first place.
-pub(super) fn choice(alloc: Global, places: usize, number: usize) -> Result<Keep, NoMemory>
+pub(crate) fn choice(alloc: Global, places: usize, number: usize) -> Result<Keep, NoMemory>
     ensures { IfOk result (λ keep. length keep ≡ places) }
 {
     let mut keep = Keep::all(alloc, places, false)?;
@@ -21,14 +21,14 @@ pub(super) fn choice(alloc: Global, places: usize, number: usize) -> Result<Keep
 }
 
 /// The input of four files, if it is accepted.
-pub(super) fn input(alloc: Global, files: &mut MemFiles) -> Result<Option<Input>, NoMemory> {
+pub(crate) fn input(alloc: Global, files: &mut MemFiles) -> Result<Option<Input>, NoMemory> {
     let command = words(alloc, &FOUR)?;
     let read = read_input(alloc, command.as_slice(), files);
     Ok(accepted(read))
 }
 
 /// What was read, if it is an input.
-pub(super) fn accepted(read: Result<Input, Outcome>) -> Option<Input> {
+pub(crate) fn accepted(read: Result<Input, Outcome>) -> Option<Input> {
     match read {
         Ok(input) => Some(input),
         Err(outcome) => {

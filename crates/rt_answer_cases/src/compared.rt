@@ -2,8 +2,8 @@
 ghost use Rattle.std.specs.Prelude.{◌≡◌, length};
 ghost use Rattle.rt_schema.specs.Given.{places};
 
-use super::choices::{choice, input};
-use super::files;
+use crate::choices::{choice, input};
+use crate::held::files;
 use rt_eval::answers;
 use rt_input::Input;
 use rt_io::MemFiles;

@@ -2,8 +2,8 @@
 ghost use Rattle.std.specs.Prelude.{◌≡◌, length};
 ghost use Rattle.rt_schema.specs.Given.{places};
 
-use super::choices::{choice, input};
-use super::files;
+use crate::choices::{choice, input};
+use crate::held::files;
 use rt_annot::{Ann, annotate};
 use rt_eval::{Rows, answers};
 use rt_formula::{Dag, Node, Noted};
@@ -59,7 +59,7 @@ fn noted(alloc: Global, ann: &Ann, width: usize) -> Result<List<Noted>, NoMemory
 }
 
 /// Whether a node of the Dag is true at a choice of its rows.
-pub(super) fn holds(dag: &Dag, node: Node, keep: &Keep) -> Result<bool, NoMemory> {
+pub(crate) fn holds(dag: &Dag, node: Node, keep: &Keep) -> Result<bool, NoMemory> {
     Ok(node.number() < dag.len() && keep.len() == dag.rows() && dag.value(node, keep)?)
 }
 
@@ -78,7 +78,7 @@ fn are_answer(dag: &Dag, noted: &[Noted], keep: &Keep, answer: &Rows) -> Result<
 }
 
 /// The answer of the first query on the kept rows.
-pub(super) fn answer(alloc: Global, input: &Input, keep: &Keep) -> Result<Rows, NoMemory>
+pub(crate) fn answer(alloc: Global, input: &Input, keep: &Keep) -> Result<Rows, NoMemory>
     requires { places input.now.given.tables ≡ length keep.now }
 {
     let _schema = input.schema();
@@ -104,7 +104,7 @@ fn agree_everywhere(
 }
 
 /// The rows that may come out of the first query, with their nodes.
-pub(super) fn annotated(alloc: Global, input: &Input, dag: &mut Dag) -> Result<Ann, NoMemory>
+pub(crate) fn annotated(alloc: Global, input: &Input, dag: &mut Dag) -> Result<Ann, NoMemory>
     requires { dag.old.rows ≡ places input.now.given.tables }
 {
     let _schema = input.schema();

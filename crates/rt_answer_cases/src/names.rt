@@ -1,8 +1,8 @@
 //! What names, kinds and set operators mean: the rows of small queries, each row behind a `|`, or
 //! the first fault of a query.
-use super::annotated::answer;
-use super::choices::choice;
-use super::{FOUR, files, words};
+use crate::annotated::answer;
+use crate::choices::choice;
+use crate::held::{FOUR, files, words};
 use rt_input::{Input, Outcome, Part, fault_text, read_input, refusal_line};
 use rt_value::{Row, Value};
 use std::alloc::{AllocError, Global};

@@ -1,7 +1,7 @@
 //! Which rows of the generated inputs can matter: each third student, who has two registrations of
 //! one department, with these.
-use super::choices::accepted;
-use super::words;
+use crate::choices::accepted;
+use crate::held::words;
 use rt_annot::goal;
 use rt_formula::Dag;
 use rt_input::{Input, read_input};
