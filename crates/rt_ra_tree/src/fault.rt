@@ -5,7 +5,7 @@ use rt_token::LexFault;
 use rt_value::{NoMemory, Txt};
 
 /// Why a text is no query of the algebra over a schema. A text is the name as the query has it.
-#[derive(PartialEq, Eq, Debug, Drop)]
+#[derive(Debug, Drop)]
 pub enum RaFault {
     Lex(LexFault),
     /// More than 64 open parentheses, or more than 8 words LEFTJOIN or DIVIDE.

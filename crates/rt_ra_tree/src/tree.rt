@@ -33,7 +33,7 @@ pub struct RaNames {
 }
 
 /// An operator of two operands.
-#[derive(Clone, Copy, PartialEq, Eq, Debug)]
+#[derive(Clone, Copy)]
 pub enum RaOp {
     Cross,
     Join,
