@@ -4,7 +4,7 @@ ghost use Rattle.rt_sql.specs.declared.fault.SqlFault.TheVariants as faults;
 use rt_value::{NoMemory, Txt};
 
 /// Why tokens are no query. The faults are tested in this order, each over all the tokens.
-#[derive(PartialEq, Eq, Debug, Drop)]
+#[derive(Drop)]
 pub enum SqlFault {
     /// The first word that no query may have, or that a call would begin with, and its place.
     Unsupported(Txt, usize),
