@@ -15,9 +15,15 @@ use std::marker::Model;
 
 /// A row, which contracts see as the list of its values. Rows are ordered value by value, and a
 /// prefix comes first.
-#[derive(Debug, Drop)]
+#[derive(Debug)]
 pub struct Row {
     cells: List<Value>,
+}
+
+impl Drop for Row {
+    fn drop(self) {
+        let Row { cells: _ } = self;
+    }
 }
 
 impl Model for Row {

@@ -19,7 +19,8 @@ pub struct Txt {
     text: Rc<String>,
 }
 
-// A drop of its own is one call where a text goes; a derived one is made anew in each crate.
+// A drop of its own is one call wherever a text goes; a derived one is made anew in each crate. So
+// for values and rows.
 impl Drop for Txt {
     fn drop(self) {
         let Txt { text: _ } = self;

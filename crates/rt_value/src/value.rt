@@ -14,11 +14,21 @@ use std::cmp::Ordering;
 
 /// A value of a column. As data NULL equals NULL and comes first, then whole numbers by size,
 /// then texts by bytes; `compare` is the comparison of SQL.
-#[derive(Debug, Drop)]
+#[derive(Debug)]
 pub enum Value {
     Null,
     Int(i128),
     Text(Txt),
+}
+
+impl Drop for Value {
+    fn drop(self) {
+        match self {
+            Value::Null => {}
+            Value::Int(_) => {}
+            Value::Text(_) => {}
+        }
+    }
 }
 
 /// The six comparisons of SQL.
