@@ -254,7 +254,7 @@ pub split_law : (p : Pred) (widths : List ℕ) → Splits p widths (split_of p w
 split_law p widths fit db env rows w =
     let row = whole [] rows in
     let each : yes fit db env row p ≡ list_all (yes fit db env row) (conjuncts p) =
-        conjuncts_part fit db env (out-Pred p) p row (ap (λ f. f db (row ∷ env)) (fold_out-Pred Condition Answer (pred_step fit) (query_step fit) p)) in
+    conjuncts_part fit db env (out-Pred p) p row (ap (λ f. f db (row ∷ env)) (fold_out-Pred Condition Answer (pred_step fit) (query_step fit) p)) in
     each ∙ rest_part fit db env (is_taken 0 widths) (yes fit db env row) (conjuncts p)
     ∙ ap₂ (λ b c. b && (list_all (is_taken 0 widths) (conjuncts p) || c)) (sym (members_part fit db env (conjuncts p) widths 0 [] rows refl w)) (sym each)
 

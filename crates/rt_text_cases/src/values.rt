@@ -32,8 +32,15 @@ fn null_comes_first_and_a_prefix_before_its_row(rt: HostRuntime) {
     assert!(rt; are_one_one_null(again.as_slice()));
 }
 
+fn is_one(cell: &Value) -> bool {
+    matches!(cell, Value::Int(1))
+}
+
 fn are_one_one_null(cells: &[Value]) -> bool {
-    matches!(cells, [Value::Int(1), Value::Int(1), Value::Null])
+    match cells {
+        [first, second, third] => is_one(first) && is_one(second) && matches!(third, Value::Null),
+        _ => false,
+    }
 }
 
 #[test]
