@@ -167,7 +167,11 @@ fn are_in(alloc: Global, tables: &[Table], wanted: &str) -> bool {
 
 fn are_told(alloc: Global, text: &str, wanted: &str) -> bool {
     match read_schema(alloc, text.as_bytes()) {
-        Ok(schema) => are_in(alloc, schema.tables(), wanted),
+        Ok(schema) => {
+            let found = are_in(alloc, schema.tables(), wanted);
+            drop(schema);
+            found
+        }
         Err(_) => false,
     }
 }

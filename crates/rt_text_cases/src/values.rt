@@ -18,17 +18,30 @@ fn comparison_with_null_is_unknown(rt: HostRuntime) {
     }
 }
 
+fn one(rt: &impl Abort, alloc: Global) -> Row {
+    let mut row = Row::new(alloc);
+    row.push(Value::Int(1)).expect(rt, "memory");
+    row
+}
+
+fn one_and_null(rt: &impl Abort, alloc: Global) -> Row {
+    let mut row = one(rt, alloc);
+    row.push(Value::Null).expect(rt, "memory");
+    row
+}
+
 #[test]
 fn null_comes_first_and_a_prefix_before_its_row(rt: HostRuntime) {
     assert!(rt; Value::Null.cmp(&Value::Int(-5)) == Ordering::Less);
-    let mut short = Row::new(rt.alloc());
-    short.push(Value::Int(1)).expect(&rt, "memory");
-    let mut long = short.copy(rt.alloc()).expect(&rt, "memory");
-    long.push(Value::Null).expect(&rt, "memory");
+    let short = one(&rt, rt.alloc());
+    let long = one_and_null(&rt, rt.alloc());
     assert!(rt; short.cmp(&long) == Ordering::Less);
     let joined = short.join(rt.alloc(), &long).expect(&rt, "memory");
+    drop(short);
+    drop(long);
     assert!(rt; are_one_one_null(joined.as_slice()));
     let again = joined.copy(rt.alloc()).expect(&rt, "memory");
+    drop(joined);
     assert!(rt; are_one_one_null(again.as_slice()));
 }
 
