@@ -3,8 +3,8 @@ ghost use Rattle.std.specs.Prelude.{◌≡◌, length};
 ghost use Rattle.rt_schema.specs.Given.{places};
 
 use crate::choices::{choice, input};
-use crate::held::files;
 use rt_annot::{Ann, annotate};
+use rt_cases::files;
 use rt_eval::{Rows, answers};
 use rt_formula::{Dag, Node, Noted};
 use rt_input::Input;

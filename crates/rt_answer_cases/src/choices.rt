@@ -1,7 +1,7 @@
 //! Choices of rows, and the inputs that they are of.
 ghost use Rattle.std.specs.Prelude.{◌≡◌, IfOk, length};
 
-use crate::held::{FOUR, words};
+use rt_cases::{FOUR, words};
 use rt_input::{Input, Outcome, read_input};
 use rt_io::MemFiles;
 use rt_value::{Keep, NoMemory};

@@ -3,7 +3,7 @@ ghost use Rattle.std.specs.Prelude.{◌≡◌, length};
 ghost use Rattle.rt_schema.specs.Given.{places};
 
 use crate::choices::{choice, input};
-use crate::held::files;
+use rt_cases::files;
 use rt_eval::answers;
 use rt_input::Input;
 use rt_io::MemFiles;

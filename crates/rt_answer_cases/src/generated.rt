@@ -1,8 +1,8 @@
 //! Which rows of the generated inputs can matter: each third student, who has two registrations of
 //! one department, with these.
 use crate::choices::accepted;
-use crate::held::words;
 use rt_annot::goal;
+use rt_cases::words;
 use rt_formula::Dag;
 use rt_input::{Input, read_input};
 use rt_io::MemFiles;

@@ -13,10 +13,6 @@ mod compared;
 #[cfg(test)]
 mod generated;
 #[cfg(test)]
-mod held;
-#[cfg(test)]
 mod names;
 #[cfg(test)]
 mod nodes;
-#[cfg(test)]
-mod school;

@@ -2,7 +2,7 @@
 //! the first fault of a query.
 use crate::annotated::answer;
 use crate::choices::choice;
-use crate::held::{FOUR, files, words};
+use rt_cases::{FOUR, files, words};
 use rt_input::{Input, Outcome, Part, fault_text, read_input, refusal_line};
 use rt_value::{Row, Value};
 use std::alloc::{AllocError, Global};

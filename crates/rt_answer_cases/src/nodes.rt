@@ -5,9 +5,8 @@ ghost use Rattle.rt_schema.specs.Given.{places};
 
 use crate::annotated::{annotated, holds};
 use crate::choices::{choice, input};
-use crate::held::files;
-use crate::school::{ABC, ONE, ONES, REG, SCHOOL, STUDENT};
 use rt_annot::{annotate, differ};
+use rt_cases::{ABC, ONE, ONES, REG, SCHOOL, STUDENT, files};
 use rt_formula::{Dag, Node};
 use rt_input::Input;
 use rt_io::MemFiles;

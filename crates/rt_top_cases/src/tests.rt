@@ -1,99 +1,15 @@
 //! What the command says, over files and sinks in memory.
-use rt_input::Outcome;
-use rt_io::{MemFiles, MemSink};
-use rt_top::{USAGE, ratest};
-use rt_value::{List, NoMemory, Txt};
+use rt_cases::{ALL, FOUR, LARGE, SCHEMA, TABLE, ends, files, is_write_fault, words};
+use rt_top::USAGE;
+use rt_value::NoMemory;
 use std::alloc::{AllocError, Global};
 use std::fmt::Write;
 use std::process::Abort;
 
 mod checks;
-mod failing;
 mod first;
-mod parts;
-mod refused;
 mod spent;
 mod worked;
-
-const SCHEMA: &str = "CREATE TABLE t (a INTEGER, b INTEGER);";
-
-const TABLE: (&str, &str) = ("d/t.csv", "a,b\n1,10\n2,20\n3,30\n");
-
-const ALL: &str = "SELECT * FROM t WHERE a > 1";
-
-const LARGE: &str = "SELECT * FROM t WHERE a > 2";
-
-const FOUR: [&str; 4] = ["s", "d", "p", "q"];
-
-fn words(alloc: Global, words: &[&str]) -> Result<List<Txt>, NoMemory> {
-    let mut list = List::new(alloc);
-    for word in words {
-        list.push(Txt::of(alloc, word)?)?;
-    }
-    Ok(list)
-}
-
-fn hold_all(
-    files: &mut MemFiles,
-    schema: &str,
-    tables: &[(&str, &str)],
-    query1: &str,
-    query2: &str,
-) -> Result<(), NoMemory> {
-    files.hold("s", schema.as_bytes())?;
-    for (name, rows) in tables {
-        files.hold(name, rows.as_bytes())?;
-    }
-    files.hold("p", query1.as_bytes())?;
-    files.hold("q", query2.as_bytes())
-}
-
-/// The files of a command: a schema, tables by the names of their files, and two queries.
-fn files(
-    alloc: Global,
-    schema: &str,
-    tables: &[(&str, &str)],
-    query1: &str,
-    query2: &str,
-) -> Result<MemFiles, NoMemory> {
-    let mut files = MemFiles::new(alloc);
-    hold_all(&mut files, schema, tables, query1, query2)?;
-    Ok(files)
-}
-
-/// The status of an outcome, which is let go of here.
-fn status_of(outcome: Outcome) -> u8 {
-    let status = outcome.status();
-    drop(outcome);
-    status
-}
-
-/// Whether the command ends with this status and writes just these texts.
-fn ends(
-    alloc: Global,
-    files: &mut MemFiles,
-    command: &[&str],
-    status: u8,
-    out: &str,
-    err: &str,
-) -> Result<bool, NoMemory> {
-    let command = words(alloc, command)?;
-    Ok(words_end(alloc, files, command.as_slice(), status, out, err))
-}
-
-fn words_end(
-    alloc: Global,
-    files: &mut MemFiles,
-    words: &[Txt],
-    status: u8,
-    out: &str,
-    err: &str,
-) -> bool {
-    let (mut to_out, mut to_err) = (MemSink::new(alloc), MemSink::new(alloc));
-    let outcome = ratest(alloc, words, files, &mut to_out, &mut to_err);
-    let ended = status_of(outcome);
-    ended == status && to_out.bytes() == out.as_bytes() && to_err.bytes() == err.as_bytes()
-}
 
 /// Whether these words end so, over two queries of one table.
 fn command_ends(
@@ -187,16 +103,6 @@ fn is_begin_fault(alloc: Global) -> Result<bool, NoMemory> {
     failing.fail_begin("p")?;
     let line = "ratest: cannot read query 1\n";
     ends(alloc, &mut failing, &FOUR, 6, "", line)
-}
-
-/// Whether the text is cut to this, and the outcome a fault of writing, where its sink takes ten bytes.
-fn is_write_fault(alloc: Global, words: &[Txt], files: &mut MemFiles, held: &[u8]) -> bool {
-    let (mut out, mut err) = (MemSink::new(alloc), MemSink::new(alloc));
-    out.room(10);
-    let outcome = ratest(alloc, words, files, &mut out, &mut err);
-    let is_fault = matches!(outcome, Outcome::WriteFault);
-    drop(outcome);
-    is_fault && out.bytes() == held && err.bytes().is_empty()
 }
 
 fn is_cut(alloc: Global) -> Result<bool, NoMemory> {

@@ -1,6 +1,7 @@
 //! Of several smallest witnesses the first in the order of rows is printed.
-use super::worked::{LOOSE, REG, STUDENT, all_end};
-use super::{ALL, FOUR, SCHEMA, TABLE, ends, files, numbers, words};
+use super::numbers;
+use super::worked::all_end;
+use rt_cases::{ALL, FOUR, LOOSE, REG, SCHEMA, STUDENT, TABLE, ends, files, words};
 use rt_input::Outcome;
 use rt_io::{MemFiles, MemSink};
 use rt_top::ratest;

@@ -1,6 +1,6 @@
 //! Limits of work and budgets of clauses: what is still decided, and the verdict where one is spent.
-use super::worked::{ABC, MARY, MEET, MEETS, ONE, ONES, REG, SCHOOL, SOME, STUDENT, TWOS};
-use super::{ends, files, words};
+use super::worked::{MEET, MEETS};
+use rt_cases::{ABC, MARY, ONE, ONES, REG, SCHOOL, SOME, STUDENT, TWOS, ends, files, words};
 use rt_input::{Input, Outcome, read_input};
 use rt_top::{Best, decide};
 use std::alloc::Global;

@@ -1,47 +1,10 @@
 //! The worked rows of accepted inputs, in memory.
-use super::{ALL, FOUR, LARGE, SCHEMA, TABLE, ends, files};
+use rt_cases::{
+    ABC, ALL, FOUR, LARGE, LOOSE, MARY, ONE, ONES, REG, SCHEMA, SCHOOL, SOME, STUDENT, TABLE, ends,
+    files,
+};
 use rt_value::NoMemory;
 use std::alloc::Global;
-
-pub(super) const SCHOOL: &str = "CREATE TABLE student (name TEXT PRIMARY KEY, major TEXT);\n\
-    CREATE TABLE reg (name TEXT REFERENCES student, course INTEGER, dept TEXT, grade INTEGER, PRIMARY KEY (name, course));";
-
-/// The same without the foreign key.
-pub(super) const LOOSE: &str = "CREATE TABLE student (name TEXT PRIMARY KEY, major TEXT);\n\
-    CREATE TABLE reg (name TEXT, course INTEGER, dept TEXT, grade INTEGER, PRIMARY KEY (name, course));";
-
-pub(super) const STUDENT: (&str, &str) = ("d/student.csv", "name,major\nMary,CS\nJohn,ECON\n");
-
-pub(super) const REG: (&str, &str) = (
-    "d/reg.csv",
-    "name,course,dept,grade\nMary,216,CS,100\nMary,230,CS,75\nJohn,316,CS,90\n",
-);
-
-/// The students with one course of CS.
-pub(super) const ONE: &str =
-    "SELECT s.name FROM student s, reg r WHERE s.name = r.name AND r.dept = 'CS' EXCEPT SELECT s.name FROM student s, reg r1, reg r2 WHERE s.name = r1.name AND s.name = r2.name AND r1.course <> r2.course AND r1.dept = 'CS' AND r2.dept = 'CS'";
-
-/// The students with a course of CS.
-pub(super) const SOME: &str =
-    "SELECT s.name FROM student s, reg r WHERE s.name = r.name AND r.dept = 'CS'";
-
-pub(super) const MARY: &str =
-    "witness: 3\nstudent 1: 'Mary', 'CS'\nreg 1: 'Mary', 216, 'CS', 100\nreg 2: 'Mary', 230, 'CS', 75\nonly query 1: 0\nonly query 2: 1\n  'Mary'\nboth: 0\n";
-
-pub(super) const ABC: &str =
-    "CREATE TABLE a (x INTEGER); CREATE TABLE b (x INTEGER); CREATE TABLE c (x INTEGER)";
-
-pub(super) const ONES: [(&str, &str); 3] = [
-    ("d/a.csv", "x\n1\n"),
-    ("d/b.csv", "x\n1\n"),
-    ("d/c.csv", "x\n1\n"),
-];
-
-pub(super) const TWOS: [(&str, &str); 3] = [
-    ("d/a.csv", "x\n1\n2\n"),
-    ("d/b.csv", "x\n1\n2\n"),
-    ("d/c.csv", "x\n1\n2\n"),
-];
 
 pub(super) const MEET: &str = "SELECT x FROM a INTERSECT (SELECT x FROM b UNION SELECT x FROM c)";
 

@@ -1,7 +1,8 @@
 //! Calls that fail and texts that are cut, over the files of the first worked row: the answer is the
 //! right one, or says what failed, and no byte already written is lost.
-use super::worked::{MARY, ONE, REG, SCHOOL, SOME, STUDENT};
-use super::{FOUR, ends, files, is_write_fault, status_of, words};
+use rt_cases::{
+    FOUR, MARY, ONE, REG, SCHOOL, SOME, STUDENT, ends, files, is_write_fault, status_of, words,
+};
 use rt_io::{MemFiles, MemSink};
 use rt_top::ratest;
 use rt_value::NoMemory;

@@ -4,9 +4,9 @@ use rt_value::{List, NoMemory, Txt};
 use std::alloc::Global;
 
 /// The words that name the files.
-pub(crate) const FOUR: [&str; 4] = ["s", "d", "p", "q"];
+pub const FOUR: [&str; 4] = ["s", "d", "p", "q"];
 
-pub(crate) fn words(alloc: Global, words: &[&str]) -> Result<List<Txt>, NoMemory> {
+pub fn words(alloc: Global, words: &[&str]) -> Result<List<Txt>, NoMemory> {
     let mut list = List::new(alloc);
     for word in words {
         list.push(Txt::of(alloc, word)?)?;
@@ -30,7 +30,7 @@ fn hold_all(
 }
 
 /// The files of a command: a schema, tables by the names of their files, and two queries.
-pub(crate) fn files(
+pub fn files(
     alloc: Global,
     schema: &str,
     tables: &[(&str, &str)],

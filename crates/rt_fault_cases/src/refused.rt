@@ -1,6 +1,5 @@
 //! The refusals, one line each, in memory.
-use super::worked::{ABC, ONES, REG, SCHOOL, STUDENT};
-use super::{ALL, FOUR, SCHEMA, TABLE, ends, files};
+use rt_cases::{ABC, ALL, FOUR, ONES, REG, SCHEMA, SCHOOL, STUDENT, TABLE, ends, files};
 use std::alloc::Global;
 use std::process::Abort;
 

@@ -1,5 +1,5 @@
 //! The parts of a command that other commands stand on, each called by itself.
-use super::{SCHEMA, TABLE, files, words};
+use rt_cases::{SCHEMA, TABLE, files, words};
 use rt_input::{
     Fault, Outcome, Part, Tables, fault_text, read_tables, read_text, read_words, refusal_line,
 };

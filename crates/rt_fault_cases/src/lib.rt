@@ -1,0 +1,12 @@
+//! The tests of what stops a command: refusals, faults of files and sinks, and the parts of a command by
+//! themselves.
+//!
+//! They stand in a crate of their own, since a crate with tests is proved twice.
+#![tactic(auto)]
+
+#[cfg(test)]
+mod failing;
+#[cfg(test)]
+mod parts;
+#[cfg(test)]
+mod refused;
