@@ -1,8 +1,9 @@
 -- The rows of a product on which the members' conditions and keys hold, at every choice.
-use Rattle.std.proofs.Common.{◌≡◌, ◌≢◌, ℕ, zero, suc, ◌+◌, ◌<◌, Bool, true, false, IsTrue, cond, ◌&&◌, List, [], ◌∷◌, ◌++◌, drop, length, map, get_or, Option, None, Some, refl, sym, subst, ap, ap₂, ◌∙◌, add-one, arith}
+use Rattle.std.proofs.Common.{◌≡◌, ◌≢◌, ℕ, zero, suc, ◌+◌, ◌<◌, Bool, true, false, IsTrue, cond, ◌&&◌, ◌||◌, List, [], ◌∷◌, ◌++◌, drop, length, map, get_or, Option, None, Some, refl, sym, subst, ap, ap₂, ◌∙◌, add-one, arith}
+use Rattle.std.proofs.Math.Dec.{eqb-suc-zero}
 use Rattle.std.proofs.Math.Seq.{drop-cons}
 use Rattle.std.specs.Prelude.{nat_eq}
-use Rattle.std.specs.List.{filter, filter_map, cons_option, list_all, slice_get}
+use Rattle.std.specs.List.{filter, filter_map, cons_option, list_all, list_any, slice_get}
 use Rattle.std.proofs.lemmas.List.{append_assoc, map-append}
 use Rattle.std.proofs.lemmas.List.Elements.{All-append}
 use Rattle.rt_value.specs.declared.value.Value.{Value}
@@ -163,6 +164,22 @@ whole_narrowed p env members joints e =
       below = λ d b. whole_below d members b;
       same = λ d s db. ap (filter (λ r. is_yes (pred_by wrapped p db (r ∷ env)))) (whole_exact d s members);
     })
+
+-- a product of which a member has no rows has none
+joined_none : (js : List Joint) → pair_joints js [] ≡ []
+joined_none [] = refl
+joined_none (j ∷ js) = joined_none js
+
+none_after : (members : List (List Noted)) → product_joints [] members ≡ []
+none_after [] = refl
+none_after (ns ∷ members) = none_after members
+
+pub without_rows : (js : List Joint) (members : List (List Noted)) → IsTrue (list_any (λ ns. nat_eq (length ns) 0) members) → product_joints js members ≡ []
+without_rows js [] h = absurd (cc)
+without_rows js ([] ∷ members) h = ap (λ (front : List Joint). product_joints front members) (joined_none js) ∙ none_after members
+without_rows js ((n ∷ ns) ∷ members) h =
+    let Lacks : Bool → Type 0 = λ b. IsTrue (b || list_any (λ ns. nat_eq (length ns) 0) members) in
+    without_rows (pair_joints js (n ∷ ns)) members (subst Lacks (eqb-suc-zero (length ns)) h)
 
 -- one more step of a join
 join_cons : (b : Joint) (o : Option Noted) (ns : List Noted) → join_joint b (cons_option o ns) ≡ join_joint b (cons_option o []) ++ join_joint b ns

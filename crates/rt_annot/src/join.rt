@@ -8,14 +8,15 @@ ghost use Rattle.rt_algebra.specs.Split.{all_simple};
 ghost use Rattle.rt_annot.specs.Joints.{join_joint, unit_joints};
 ghost use Rattle.rt_annot.specs.Narrowed.{IsNarrowed, are_long, joined_joints, matched_joints, own_rows};
 
-use crate::joint::{Joint, joined_one, product, unit};
+use crate::joint::{Joint, joined_one, lacks_rows, product, unit};
 use crate::rows::note;
 use rt_algebra::{KeyPair, Pred, Split, all_true, matches, scope, split};
 use rt_formula::Noted;
 use rt_value::{List, NoMemory, Row};
 use std::alloc::Global;
 
-/// Rows of the product, and among them at every choice each on which the condition is true.
+/// Rows of the product, and among them at every choice each on which the condition is true. A
+/// condition is long beside a product without rows, and stays as it is there.
 pub fn narrowed(
     alloc: Global,
     members: &[List<Noted>],
@@ -24,6 +25,9 @@ pub fn narrowed(
 ) -> Result<List<Joint>, NoMemory>
     ensures { IfOk result (IsNarrowed condition.now (map (λ r. r.now) env.now) members.now) }
 {
+    if lacks_rows(members) {
+        return product(alloc, members);
+    }
     let widths = widths(alloc, members)?;
     if are_long(widths.as_slice(), members) {
         let parts = split(alloc, condition, widths.as_slice())?;

@@ -1,6 +1,6 @@
 //! Products: rows put together from the rows of several queries.
-ghost use Rattle.std.specs.Prelude.{◌≡◌, ◌++◌, ◌∷◌, [], ◌<◌, ◌&&◌, length, IfOk, OnOk};
-ghost use Rattle.std.specs.List.{list_all};
+ghost use Rattle.std.specs.Prelude.{◌≡◌, ◌++◌, ◌∷◌, [], ◌<◌, ◌&&◌, length, nat_eq, IfOk, OnOk};
+ghost use Rattle.std.specs.List.{list_all, list_any};
 ghost use Rattle.rt_formula.specs.Shared.{val, IsGrown};
 ghost use Rattle.rt_annot.specs.Annotated.{AreNodes, IsNode, Reads};
 ghost use Rattle.rt_annot.specs.Joints.{AreJoints, AreMembers, join_joint, pair_joints, product_joints, unit_joints, joint_entries};
@@ -92,11 +92,21 @@ pub fn noted_product(
 pub fn product(alloc: Global, members: &[List<Noted>]) -> Result<List<Joint>, NoMemory>
     ensures { IfOk result (λ out. out ≡ product_joints unit_joints members.now) }
 {
+    if lacks_rows(members) {
+        return Ok(List::new(alloc));
+    }
     let mut out = unit(alloc)?;
     for rows in members {
         out = joined(alloc, out.as_slice(), rows.as_slice())?;
     }
     Ok(out)
+}
+
+/// Whether a member has no rows, and so the product has none.
+pub fn lacks_rows(members: &[List<Noted>]) -> bool
+    ensures { result ≡ list_any (λ rows. nat_eq (length rows) 0) members.now }
+{
+    members.iter().any(|rows| rows.len() == 0)
 }
 
 /// The rows, each with one node.

@@ -1,6 +1,7 @@
 -- One more step of a join.
-use Rattle.std.proofs.Common.{◌≡◌, ◌≢◌, ℕ, ℤ, ◌+◌, ◌<◌, Bool, true, false, not, ◌&&◌, arith, List, [], ◌∷◌, ◌++◌, length, map, drop, get_or, Option, None, Some, refl, sym, ap, ap₂, ◌∙◌, add-one}
-use Rattle.std.specs.List.{filter, filter_map, cons_option, slice_get, list_all}
+use Rattle.std.proofs.Common.{◌≡◌, ◌≢◌, ℕ, ℤ, ◌+◌, ◌<◌, Bool, IsTrue, true, false, not, ◌&&◌, ◌||◌, arith, List, [], ◌∷◌, ◌++◌, length, map, drop, get_or, Option, None, Some, refl, sym, subst, ap, ap₂, ◌∙◌, add-one}
+use Rattle.std.proofs.Math.Dec.{eqb-suc-zero}
+use Rattle.std.specs.List.{filter, filter_map, cons_option, slice_get, list_all, list_any}
 use Rattle.std.specs.Prelude.{nat_eq}
 use Rattle.std.proofs.Math.Seq.{drop-cons}
 use Rattle.std.proofs.lemmas.List.{append_assoc}
@@ -59,6 +60,22 @@ pub at_except : {q : Query} (a b : Query) (db : Tables) (env : Env) → q ≡ v.
     → filter (λ r. not (has_row (answer_by wrapped b db env) r)) (answer_by wrapped a db env) ≡ answer_by wrapped q db env
 at_except a b db env h =
     sym (ap (λ f. f db env) (fold-roll-Query Condition Answer (pred_step wrapped) (query_step wrapped) (Except a b))) ∙ ap (λ x. answer_by wrapped x db env) (v.rolls-Except a b ∙ sym h)
+
+-- a product of which a member has no rows has none
+joined_none : (front : Rows) → pairs front [] ≡ []
+joined_none [] = refl
+joined_none (before ∷ front) = joined_none front
+
+none_after : (members : List Rows) → product_rows [] members ≡ []
+none_after [] = refl
+none_after (rows ∷ members) = none_after members
+
+pub without_rows : (front : Rows) (members : List Rows) → IsTrue (list_any (λ rows. nat_eq (length rows) 0) members) → product_rows front members ≡ []
+without_rows front [] h = absurd (cc)
+without_rows front ([] ∷ members) h = ap (λ (rows : Rows). product_rows rows members) (joined_none front) ∙ none_after members
+without_rows front ((row ∷ rows) ∷ members) h =
+    let Lacks : Bool → Type 0 = λ b. IsTrue (b || list_any (λ rows. nat_eq (length rows) 0) members) in
+    without_rows (pairs front (row ∷ rows)) members (subst Lacks (eqb-suc-zero (length rows)) h)
 
 -- widths
 pub uneven : (widths : List ℕ) (members : List Rows) → length widths ≢ length members → false ≡ are_wide widths members

@@ -1,6 +1,6 @@
 //! Products, and what the parts of a condition choose from them, member by member.
 ghost use Rattle.std.specs.Prelude.{◌≡◌, ◌∷◌, [], length, map, nat_eq, slice_index_or, IfOk};
-ghost use Rattle.std.specs.List.{filter, list_all};
+ghost use Rattle.std.specs.List.{filter, list_all, list_any};
 ghost use Rattle.rt_algebra.specs.Expression.{wrapped};
 ghost use Rattle.rt_algebra.specs.Join.{are_wide, joined_rows, matched, product_rows};
 ghost use Rattle.rt_algebra.specs.Split.{all_simple};
@@ -16,11 +16,21 @@ use std::alloc::Global;
 pub fn product(alloc: Global, members: &[List<Row>]) -> Result<List<Row>, NoMemory>
     ensures { IfOk result (λ out. out ≡ product_rows ([] ∷ []) members.now) }
 {
+    if lacks_rows(members) {
+        return Ok(List::new(alloc));
+    }
     let mut out = unit(alloc)?;
     for rows in members {
         out = joined(alloc, out.as_slice(), rows.as_slice())?;
     }
     Ok(out)
+}
+
+/// Whether a member has no rows, and so the product has none.
+pub fn lacks_rows(members: &[List<Row>]) -> bool
+    ensures { result ≡ list_any (λ rows. nat_eq (length rows) 0) members.now }
+{
+    members.iter().any(|rows| rows.len() == 0)
 }
 
 /// The concatenations on which each member's own conditions and keys hold, the last member not yet

@@ -5,7 +5,7 @@ ghost use Rattle.rt_algebra.specs.Join.{joined_rows};
 ghost use Rattle.rt_eval.specs.Narrow.{AreEnough, AreChosen};
 ghost use Rattle.rt_eval.specs.Pairs.{all_joined};
 
-use crate::join::{are_wide, chosen, chosen_rows, product, widths};
+use crate::join::{are_wide, chosen, chosen_rows, lacks_rows, product, widths};
 use crate::pairs::Pairs;
 use rt_algebra::{Pred, Split, split};
 use rt_value::{List, NoMemory, Row};
@@ -61,7 +61,8 @@ pub fn narrow_pairs(
     }
 }
 
-/// The condition taken apart, where the rows of each member are of one width.
+/// The condition taken apart, where each member has rows and they are of one width. A condition is
+/// long beside a product without rows.
 fn parts_of(
     alloc: Global,
     members: &[List<Row>],
@@ -70,6 +71,9 @@ fn parts_of(
     ensures enough { IfOk result (λ o. IfSome o (λ s. (env : Env) → AreEnough condition.now members.now env (joined_rows wrapped s.own s.keys ([] ∷ []) members.now env))) }
     ensures chosen { IfOk result (λ o. IfSome o (λ s. IsTrue s.is_whole → (env : Env) → AreChosen condition.now members.now env (joined_rows wrapped s.own s.keys ([] ∷ []) members.now env))) }
 {
+    if lacks_rows(members) {
+        return Ok(None);
+    }
     let widths = widths(alloc, members)?;
     if !are_wide(widths.as_slice(), members) {
         return Ok(None);
