@@ -14,11 +14,20 @@ pub struct KeyPair {
 
 /// A condition over members side by side, taken apart: for each member the conditions on its row
 /// alone and its keys, and whether these are the whole of it.
-#[derive(Drop)]
 pub struct Split {
     pub own: List<List<Pred>>,
     pub keys: List<List<KeyPair>>,
     pub is_whole: bool,
+}
+
+impl Drop for Split {
+    fn drop(self) {
+        let Split {
+            own: _,
+            keys: _,
+            is_whole: _,
+        } = self;
+    }
 }
 
 impl Split {

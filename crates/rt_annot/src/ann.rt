@@ -14,9 +14,14 @@ use std::marker::Model;
 
 /// The rows that may come out of a query, each once, with the nodes that say at which choices of
 /// rows they do. A row without a node is in the answer at no choice.
-#[derive(Drop)]
 pub struct Ann {
     pub(crate) nodes: BTreeMap<Row, Node>,
+}
+
+impl Drop for Ann {
+    fn drop(self) {
+        let Ann { nodes: _ } = self;
+    }
 }
 
 impl Model for Ann {

@@ -16,10 +16,15 @@ pub struct Gate {
 }
 
 /// The nodes of several conditions.
-#[derive(Drop)]
 pub struct Gates {
     pub yes: List<Node>,
     pub no: List<Node>,
+}
+
+impl Drop for Gates {
+    fn drop(self) {
+        let Gates { yes: _, no: _ } = self;
+    }
 }
 
 impl Gates {

@@ -13,10 +13,15 @@ use std::alloc::Global;
 
 /// A row of a product: it is there where all of the nodes are true. It has no node of its own yet,
 /// so that one is made only for the rows that stay.
-#[derive(Drop)]
 pub struct Joint {
     pub row: Row,
     pub nodes: List<Node>,
+}
+
+impl Drop for Joint {
+    fn drop(self) {
+        let Joint { row: _, nodes: _ } = self;
+    }
 }
 
 /// The row without values alone, which is there at every choice.

@@ -17,11 +17,20 @@ use std::alloc::Global;
 
 /// What the annotated rows of a query come to: whether there is one, whether the first value of
 /// one is NULL, and the nodes of the rows by their first value.
-#[derive(Drop)]
 pub struct Found {
     pub some: Gate,
     pub null: Node,
     pub groups: Groups,
+}
+
+impl Drop for Found {
+    fn drop(self) {
+        let Found {
+            some: _,
+            null: _,
+            groups: _,
+        } = self;
+    }
 }
 
 fn is_null(value: &Value) -> bool

@@ -15,10 +15,15 @@ use std::alloc::Global;
 
 /// What the goals of one query beside any others have in common: the node of the law, and the
 /// query's rows. It stays that of the query as the Dag grows.
-#[derive(Drop)]
 pub struct Reference {
     pub lawful: Node,
     pub rows: Ann,
+}
+
+impl Drop for Reference {
+    fn drop(self) {
+        let Reference { lawful: _, rows: _ } = self;
+    }
 }
 
 impl Reference {

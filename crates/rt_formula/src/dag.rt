@@ -17,11 +17,20 @@ const MOST_NODES: usize = (1 << 60) - 1;
 ///
 /// Nodes are only added, so a node stays a node and keeps its value; after want of memory nothing
 /// has changed.
-#[derive(Drop)]
 pub struct Dag {
     rows: usize,
     entries: IndexSet<Entry>,
     alloc: Global,
+}
+
+impl Drop for Dag {
+    fn drop(self) {
+        let Dag {
+            rows: _,
+            entries: _,
+            alloc: _,
+        } = self;
+    }
 }
 
 impl Model for Dag {

@@ -12,10 +12,15 @@ use std::marker::Model;
 
 /// For each row the nodes of the noted rows that are the same as it, in the order in which they
 /// were noted. To find them takes time in the logarithm of the number of different rows.
-#[derive(Drop)]
 pub struct Groups {
     nodes: BTreeMap<Row, List<Node>>,
     alloc: Global,
+}
+
+impl Drop for Groups {
+    fn drop(self) {
+        let Groups { nodes: _, alloc: _ } = self;
+    }
 }
 
 impl Model for Groups {

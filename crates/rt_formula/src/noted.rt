@@ -2,8 +2,14 @@ use crate::entry::Node;
 use rt_value::Row;
 
 /// A row that may be there, and the node that says at which choices it is.
-#[derive(Debug, Drop)]
+#[derive(Debug)]
 pub struct Noted {
     pub row: Row,
     pub node: Node,
+}
+
+impl Drop for Noted {
+    fn drop(self) {
+        let Noted { row: _, node: _ } = self;
+    }
 }

@@ -55,8 +55,7 @@ impl Review {
             return Ok(grade);
         }
         let grade = grade_query(alloc, words, first, &mut self.prepared, &right)?;
-        let Typed { query, .. } = right;
-        keep(alloc, &mut self.known, query, &grade)?;
+        keep(alloc, &mut self.known, right.into_query(), &grade)?;
         Ok(grade)
     }
 }

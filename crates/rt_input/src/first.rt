@@ -1,17 +1,20 @@
 //! What a command reads before its second query.
 ghost use Rattle.std.specs.Prelude.{◌≡◌, IfOk, IfErr, Ok};
 ghost use Rattle.rt_io.specs.Edge.{NoneFell};
-ghost use Rattle.rt_input.specs.First.{IsFirst, first_judged};
-ghost use Rattle.rt_input.specs.Judged.{text_of, Reaches};
+ghost use Rattle.rt_algebra.specs.Typed.{IsTypedOf};
+ghost use Rattle.rt_input.specs.Accepted.{IsAccepted};
+ghost use Rattle.rt_input.specs.First.{IsFirst, data_in, first_judged};
+ghost use Rattle.rt_input.specs.Judged.{accepted, text_of, Reaches};
 ghost use Rattle.rt_input.specs.Placed.{Placed};
 ghost use Rattle.rt_input.specs.Source.{IsKnown, IsMade, source_of};
 ghost use Rattle.rt_input.specs.Steps.{over, BeginsOnly, Stops};
 
+use crate::input::Input;
 use crate::outcome::Outcome;
 use crate::part::QueryPart;
 use crate::read::read_query;
 use crate::source::Source;
-use crate::tables::{Tables, tables_of};
+use crate::tables::tables_of;
 use rt_algebra::Typed;
 use rt_io::Files;
 use rt_schema::{Given, Schema};
@@ -19,11 +22,46 @@ use rt_words::Words;
 use std::alloc::Global;
 
 /// A schema, the rows given for it, and a query over it.
-#[derive(Drop)]
 pub struct First {
     pub schema: Schema,
     pub given: Given,
     pub left: Typed,
+}
+
+impl Drop for First {
+    fn drop(self) {
+        let First {
+            schema: _,
+            given: _,
+            left: _,
+        } = self;
+    }
+}
+
+impl First {
+    /// The input with a second query and the numbers of the command.
+    pub(crate) fn input_of(self, words: &Words, right: Typed) -> Input
+        requires sound { IsFirst self }
+        requires right { IsTypedOf self.schema right }
+        requires kinds { right.kinds ≡ self.left.kinds }
+        ensures same { result ≡ accepted words.now (data_in self) self.left right }
+        ensures sound { IsAccepted result }
+    {
+        let First {
+            schema,
+            given,
+            left,
+        } = self;
+        Input {
+            schema,
+            given,
+            left,
+            right,
+            conflicts: words.conflicts,
+            work_limit: words.work_limit,
+            made: words.made,
+        }
+    }
 }
 
 /// The schema, the rows and the first query of a source; its second query isn't read.
@@ -41,8 +79,9 @@ pub(crate) fn first_of<F: Files>(
     ensures held { F.held files.new ≡ F.held files.old }
     ensures rises { NoneFell (F.faults files.old) (F.faults files.new) }
 {
-    let Tables { schema, given } = tables_of(alloc, files, source)?;
-    let left = read_query(alloc, files, source, QueryPart::First, &schema)?;
+    let tables = tables_of(alloc, files, source)?;
+    let left = read_query(alloc, files, source, QueryPart::First, &tables.schema)?;
+    let (schema, given) = tables.into_parts();
     Ok(First {
         schema,
         given,

@@ -8,7 +8,6 @@ use std::marker::Model;
 
 /// An accepted input: a schema, the rows given for it, two queries over it whose columns have the
 /// same kinds, and the numbers of the command.
-#[derive(Drop)]
 pub struct Input {
     pub(crate) schema: Schema,
     pub(crate) given: Given,
@@ -17,6 +16,20 @@ pub struct Input {
     pub(crate) conflicts: Option<u64>,
     pub(crate) work_limit: u64,
     pub(crate) made: Option<u64>,
+}
+
+impl Drop for Input {
+    fn drop(self) {
+        let Input {
+            schema: _,
+            given: _,
+            left: _,
+            right: _,
+            conflicts: _,
+            work_limit: _,
+            made: _,
+        } = self;
+    }
 }
 
 impl Model for Input {
@@ -46,9 +59,10 @@ impl Input {
         requires { IsAccepted (record { schema = tables.schema; given = tables.given; left = left; right = right; conflicts = conflicts; work_limit = work_limit; made = made }) }
         ensures { result ≡ record { schema = tables.schema; given = tables.given; left = left; right = right; conflicts = conflicts; work_limit = work_limit; made = made } }
     {
+        let (schema, given) = tables.into_parts();
         Input {
-            schema: tables.schema,
-            given: tables.given,
+            schema,
+            given,
             left,
             right,
             conflicts,

@@ -13,7 +13,6 @@ use rt_value::{Keep, List, NoMemory, Txt};
 
 /// What is wrong with the contents of a file. Want of memory and limits are outcomes of their own,
 /// and stand in none of these.
-#[derive(Drop)]
 pub enum Fault {
     /// The text of a schema or of a query has no tokens.
     Lex(LexFault),
@@ -27,8 +26,19 @@ pub enum Fault {
     Name(NameFault),
 }
 
+impl Drop for Fault {
+    fn drop(self) {
+        match self {
+            Fault::Lex(_) => {}
+            Fault::Schema(_) => {}
+            Fault::Load(_) => {}
+            Fault::Sql(_) => {}
+            Fault::Name(_) => {}
+        }
+    }
+}
+
 /// A limit that the input passes.
-#[derive(Drop)]
 pub enum Limit {
     /// The file of this part has too many bytes.
     TooLong(Part),
@@ -44,16 +54,40 @@ pub enum Limit {
     Work(u128),
 }
 
+impl Drop for Limit {
+    fn drop(self) {
+        match self {
+            Limit::TooLong(_) => {}
+            Limit::Tables => {}
+            Limit::Columns(_) => {}
+            Limit::Rules(_) => {}
+            Limit::Rows => {}
+            Limit::Work(_) => {}
+        }
+    }
+}
+
 /// What is known where the budget of conflicts is spent: the best choice of places so far, if there
 /// is one, whether no counterexample is known to keep fewer rows, and as many clauses over places as
 /// the budget says. Each is true at every counterexample that keeps fewer rows than the best, or at
 /// most as many where none keeps fewer, or at every one where there is no best.
-#[derive(Debug, Drop)]
+#[derive(Debug)]
 pub struct Spent {
     pub budget: u64,
     pub best: Option<Keep>,
     pub least: bool,
     pub nogoods: List<LitList>,
+}
+
+impl Drop for Spent {
+    fn drop(self) {
+        let Spent {
+            budget: _,
+            best: _,
+            least: _,
+            nogoods: _,
+        } = self;
+    }
 }
 
 /// How a call of `ratest` ends.

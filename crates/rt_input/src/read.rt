@@ -6,15 +6,14 @@ ghost use Rattle.rt_schema.specs.Given.{IsOf};
 ghost use Rattle.rt_algebra.specs.Typed.{IsTypedOf};
 ghost use Rattle.rt_words.specs.Command.{command};
 ghost use Rattle.rt_input.specs.Source.{IsKnown, IsMade, query_part, source_of};
-ghost use Rattle.rt_input.specs.First.{IsFirst, data_in};
-ghost use Rattle.rt_input.specs.Judged.{accepted, text_of, query_judged, right_judged, input_judged, total_work, within_limit, work_between, Reaches};
+ghost use Rattle.rt_input.specs.Judged.{text_of, query_judged, right_judged, input_judged, total_work, within_limit, work_between, Reaches};
 ghost use Rattle.rt_input.specs.Placed.{IsPlaceless, Placed};
 ghost use Rattle.rt_input.specs.Steps.{over, BeginsOnly, Refuses, Stops};
 ghost use Rattle.rt_input.specs.Reading.{call, LastBegun, IsMadeCall, IsRead, Stop, WordsStop};
 ghost use Rattle.rt_input.specs.declared.part.Part.TheVariants as parts;
 ghost use Rattle.rt_input.specs.Accepted.{HasOptions, IsAccepted};
 
-use crate::first::{First, first_of};
+use crate::first::first_of;
 use crate::input::Input;
 use crate::outcome::{Limit, Outcome};
 use crate::part::QueryPart;
@@ -115,25 +114,6 @@ pub fn within_limit(input: Input) -> Result<Input, Outcome>
     }
 }
 
-/// The input of two queries over the rows of the first, with the numbers of the command.
-fn input_of(words: &Words, first: First, right: Typed) -> Input
-    requires sound { IsFirst first }
-    requires right { IsTypedOf first.schema right }
-    requires kinds { right.kinds ≡ first.left.kinds }
-    ensures same { result ≡ accepted words.now (data_in first) first.left right }
-    ensures sound { IsAccepted result }
-{
-    Input {
-        schema: first.schema,
-        given: first.given,
-        left: first.left,
-        right,
-        conflicts: words.conflicts,
-        work_limit: words.work_limit,
-        made: words.made,
-    }
-}
-
 /// What the texts of a source say, with the numbers of the command.
 fn read_source<F: Files>(
     alloc: Global,
@@ -154,7 +134,7 @@ fn read_source<F: Files>(
 {
     let first = first_of(alloc, files, source)?;
     match read_right(alloc, files, source, &first.schema, &first.left) {
-        Ok(right) => within_limit(input_of(words, first, right)),
+        Ok(right) => within_limit(first.input_of(words, right)),
         Err(outcome) => {
             drop(first);
             Err(outcome)

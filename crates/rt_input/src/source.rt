@@ -9,7 +9,6 @@ use rt_words::Words;
 use std::alloc::Global;
 
 /// The paths of a command.
-#[derive(Drop)]
 pub(crate) struct Paths {
     pub(crate) schema: Txt,
     /// The folder of the table files.
@@ -19,11 +18,30 @@ pub(crate) struct Paths {
     pub(crate) query2: Option<Txt>,
 }
 
+impl Drop for Paths {
+    fn drop(self) {
+        let Paths {
+            schema: _,
+            dir: _,
+            query1: _,
+            query2: _,
+        } = self;
+    }
+}
+
 /// The files that a command names, or the texts of a generated input.
-#[derive(Drop)]
 pub(crate) enum Source {
     Files(Paths),
     Made(Made),
+}
+
+impl Drop for Source {
+    fn drop(self) {
+        match self {
+            Source::Files(_) => {}
+            Source::Made(_) => {}
+        }
+    }
 }
 
 impl Source {

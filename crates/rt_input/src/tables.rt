@@ -21,10 +21,29 @@ use rt_value::Txt;
 use std::alloc::Global;
 
 /// A schema, and the rows given for it.
-#[derive(Drop)]
 pub struct Tables {
     pub schema: Schema,
     pub given: Given,
+}
+
+impl Drop for Tables {
+    fn drop(self) {
+        let Tables {
+            schema: _,
+            given: _,
+        } = self;
+    }
+}
+
+impl Tables {
+    /// The schema and the rows, each by itself.
+    pub(crate) fn into_parts(self) -> (Schema, Given)
+        ensures schema { result.0 ≡ self.schema }
+        ensures given { result.1 ≡ self.given }
+    {
+        let Tables { schema, given } = self;
+        (schema, given)
+    }
 }
 
 /// The schema of a text.

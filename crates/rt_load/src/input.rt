@@ -1,7 +1,6 @@
 use rt_value::{Bytes, List};
 
 /// The texts of a generated input.
-#[derive(Drop)]
 pub struct Made {
     /// The definitions of the tables student, reg and room.
     pub schema: Bytes,
@@ -11,4 +10,15 @@ pub struct Made {
     pub query1: Bytes,
     /// The students with just one course of CS.
     pub query2: Bytes,
+}
+
+impl Drop for Made {
+    fn drop(self) {
+        let Made {
+            schema: _,
+            files: _,
+            query1: _,
+            query2: _,
+        } = self;
+    }
 }

@@ -13,10 +13,19 @@ pub const ROW_LIMIT: usize = 2000;
 
 /// The rows given for the tables of a schema, with the kinds of the tables' columns. Each row
 /// suits its table. A place is a row's number from 0, table by table in schema order.
-#[derive(Debug, Drop)]
+#[derive(Debug)]
 pub struct Given {
     kinds: List<List<ColKind>>,
     tables: List<List<Row>>,
+}
+
+impl Drop for Given {
+    fn drop(self) {
+        let Given {
+            kinds: _,
+            tables: _,
+        } = self;
+    }
 }
 
 impl Model for Given {

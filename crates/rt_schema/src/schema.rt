@@ -8,9 +8,14 @@ use std::marker::Model;
 
 /// A list of tables whose rules name only columns and tables that are there and compare values of
 /// one kind. Contracts see the list of the tables.
-#[derive(Drop)]
 pub struct Schema {
     tables: List<Table>,
+}
+
+impl Drop for Schema {
+    fn drop(self) {
+        let Schema { tables: _ } = self;
+    }
 }
 
 impl Model for Schema {

@@ -15,10 +15,18 @@ pub enum Op {
 }
 
 /// `[ AS ] name`
-#[derive(Drop)]
 pub struct Alias {
     pub as_word: bool,
     pub name: Name,
+}
+
+impl Drop for Alias {
+    fn drop(self) {
+        let Alias {
+            as_word: _,
+            name: _,
+        } = self;
+    }
 }
 
 /// `mul { ( "+" | "-" ) mul }`
@@ -65,17 +73,33 @@ pub enum Leaf {
 }
 
 /// `name "." "*" | sum [ alias ]`
-#[derive(Drop)]
 pub enum Item {
     All(Name),
     One(Sum, Option<Alias>),
 }
 
+impl Drop for Item {
+    fn drop(self) {
+        match self {
+            Item::All(_) => {}
+            Item::One(_, _) => {}
+        }
+    }
+}
+
 /// `"*" | item { "," item }`
-#[derive(Drop)]
 pub enum Items {
     Star,
     Some(Item, List<Item>),
+}
+
+impl Drop for Items {
+    fn drop(self) {
+        match self {
+            Items::Star => {}
+            Items::Some(_, _) => {}
+        }
+    }
 }
 
 /// `meet { ( UNION | EXCEPT ) [ DISTINCT ] meet }`
@@ -196,8 +220,13 @@ pub enum Atom {
 }
 
 /// `chain [ ";" ]`
-#[derive(Drop)]
 pub struct Sql {
     pub chain: Chain,
     pub semi: bool,
+}
+
+impl Drop for Sql {
+    fn drop(self) {
+        let Sql { chain: _, semi: _ } = self;
+    }
 }

@@ -3,7 +3,7 @@ use std::marker::Model;
 
 /// What the words of the command line ask for: two queries over the files of the four paths, or
 /// over a generated input. Contracts see a command whose numbers are in their ranges.
-#[derive(Debug, Drop)]
+#[derive(Debug)]
 pub struct Words {
     /// The schema's file, the folder of the tables' files, and the files of query 1 and of query
     /// 2; none where the input is generated.
@@ -14,6 +14,17 @@ pub struct Words {
     pub work_limit: u64,
     /// The number of students of the generated input: from 1 to 400.
     pub made: Option<u64>,
+}
+
+impl Drop for Words {
+    fn drop(self) {
+        let Words {
+            paths: _,
+            conflicts: _,
+            work_limit: _,
+            made: _,
+        } = self;
+    }
 }
 
 impl Model for Words {
