@@ -8,8 +8,9 @@
 use rt_annot::goal;
 use rt_eval::answers;
 use rt_formula::Dag;
-use rt_input::{Input, Outcome, read_input};
+use rt_input::{Input, read_input};
 use rt_io::{RealFiles, RealSink, Sink, SinkFail, write_text};
+use rt_outcome::Outcome;
 use rt_program::{refuse, words};
 use rt_rules::cone;
 use rt_search::smallest_counted;

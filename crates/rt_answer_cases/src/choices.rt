@@ -2,8 +2,9 @@
 ghost use Rattle.std.specs.Prelude.{◌≡◌, IfOk, length};
 
 use rt_cases::{FOUR, words};
-use rt_input::{Input, Outcome, read_input};
+use rt_input::{Input, read_input};
 use rt_io::MemFiles;
+use rt_outcome::Outcome;
 use rt_value::{Keep, NoMemory};
 use std::alloc::Global;
 

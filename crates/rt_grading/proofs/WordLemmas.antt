@@ -4,7 +4,7 @@ use Rattle.std.specs.Prelude.{Option, None, Some, codes, option_and_then, if◌t
 use Rattle.std.specs.Str.{bytes_eq}
 use Rattle.rt_words.specs.Command.{command}
 use Rattle.rt_words.specs.Ranges.{Command}
-use Rattle.rt_input.specs.Source.{IsKnown, Text, source_from, source_of}
+use Rattle.rt_outcome.specs.Source.{IsKnown, Text, source_from, source_of}
 use Rattle.rt_grading.specs.declared.words.GradeWords.{GradeWords}
 use Rattle.rt_grading.specs.Words.{alone, grade_words, of_command, of_form, of_paths}
 

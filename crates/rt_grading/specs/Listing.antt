@@ -4,12 +4,12 @@ use Rattle.rt_io.specs.Edge.{Rose}
 use Rattle.rt_paths.specs.Listed.{paths_read}
 use Rattle.rt_paths.specs.declared.fault.PathsFault.{PathsFault}
 use Rattle.rt_paths.specs.declared.fault.PathsFault.TheVariants as paths
-use Rattle.rt_input.specs.declared.outcome.Outcome.{Outcome}
-use Rattle.rt_input.specs.declared.outcome.Outcome.TheVariants as outcome
-use Rattle.rt_input.specs.declared.part.Part.TheVariants.{Query2}
-use Rattle.rt_input.specs.Judged.{text_read}
-use Rattle.rt_input.specs.Source.{Text}
-use Rattle.rt_input.specs.Steps.{IsLong, Seen}
+use Rattle.rt_outcome.specs.declared.outcome.Outcome.{Outcome}
+use Rattle.rt_outcome.specs.declared.outcome.Outcome.TheVariants as outcome
+use Rattle.rt_outcome.specs.declared.part.Part.TheVariants.{Query2}
+use Rattle.rt_outcome.specs.Held.{text_read}
+use Rattle.rt_outcome.specs.Source.{Text}
+use Rattle.rt_outcome.specs.Steps.{IsLong, Seen}
 use Rattle.rt_grading.specs.declared.fault.GradeFault.{GradeFault}
 use Rattle.rt_grading.specs.declared.fault.GradeFault.TheVariants.{BadList, TooManyPaths, ListLong, FileRead, Verdict}
 

@@ -2,14 +2,15 @@ ghost use Rattle.std.specs.Prelude.{◌≡◌, IfOk, IfErr};
 ghost use Rattle.std.specs.List.{AllZip};
 ghost use Rattle.rt_io.specs.Edge.{NoneFell, OnlyRises};
 ghost use Rattle.rt_input.specs.First.{IsFirst};
-ghost use Rattle.rt_input.specs.Steps.{over};
+ghost use Rattle.rt_outcome.specs.Steps.{over};
 ghost use Rattle.rt_grade.specs.Review.{IsReviewOf};
 ghost use Rattle.rt_grading.specs.Candidates.{CandidateStops, CandidatesStop, IsGradeOf};
 
 use crate::fault::GradeFault;
 use rt_grade::{Grade, Review, grade_text};
-use rt_input::{First, Outcome, Part, read_text};
+use rt_input::First;
 use rt_io::Files;
+use rt_outcome::{Outcome, Part, read_text};
 use rt_value::{List, Txt};
 use rt_words::Words;
 use std::alloc::Global;

@@ -1,11 +1,11 @@
 ghost use Rattle.std.specs.Prelude.{◌≡◌, IsTrue, IfOk, IfErr, Ok};
 ghost use Rattle.rt_io.specs.Edge.{OnlyRises};
-ghost use Rattle.rt_input.specs.Steps.{over};
+ghost use Rattle.rt_outcome.specs.Steps.{over};
 ghost use Rattle.rt_grading.specs.Listing.{ListStops, PathsStop, list_judged, paths_judged};
 
 use crate::fault::GradeFault;
-use rt_input::{Outcome, Part, read_text};
 use rt_io::Files;
+use rt_outcome::{Outcome, Part, read_text};
 use rt_paths::{PathsFault, read_paths};
 use rt_value::{List, Txt};
 use std::alloc::Global;

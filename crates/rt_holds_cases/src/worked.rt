@@ -1,6 +1,7 @@
 use rt_holds::smallest_row;
-use rt_input::{Input, Outcome, read_input};
+use rt_input::{Input, read_input};
 use rt_io::MemFiles;
+use rt_outcome::Outcome;
 use rt_row::read_row;
 use rt_search::Best;
 use rt_value::{List, Row, Txt};

@@ -1,7 +1,7 @@
 -- The input of a command, or the first refusal in the order of its parts: the words, the schema, the
 -- tables in schema order, query 1, query 2, the two queries beside each other, the work; and of each
 -- file first its length and then its contents.
-use Rattle.std.specs.Prelude.{◌≡◌, ℕ, ◌+◌, ◌==◌, ◌&&◌, nat_le, nat_lt, List, [], ◌∷◌, length, take, replicate, Option, None, Some, Result, Ok, Err, IsOk, IsOkAnd, slice_get, slice_set, if◌then◌else◌}
+use Rattle.std.specs.Prelude.{◌≡◌, ℕ, ◌+◌, ◌==◌, nat_le, List, [], ◌∷◌, length, take, replicate, Option, None, Some, Result, Ok, Err, IsOk, IsOkAnd, slice_get, slice_set, if◌then◌else◌}
 use Rattle.std.specs.Option.{option_map}
 use lib.Pointwise.{pointwise}
 use Rattle.rt_schema.specs.declared.table.Table.{Table as TableOf}
@@ -22,49 +22,22 @@ use Rattle.rt_token.specs.declared.token.Token.{Token}
 use Rattle.rt_tree.specs.declared.tree.Sql.{Sql}
 use Rattle.rt_words.specs.Command.{command}
 use Rattle.rt_words.specs.Ranges.{Command}
-use Rattle.rt_input.specs.declared.part.Part.{Part}
-use Rattle.rt_input.specs.declared.part.Part.TheVariants.{Schema, Table, Query1, Query2, Queries}
-use Rattle.rt_input.specs.declared.outcome.Fault.TheVariants.{Name}
-use Rattle.rt_input.specs.declared.outcome.Limit.TheVariants as limit
-use Rattle.rt_input.specs.declared.outcome.Outcome.{Outcome}
-use Rattle.rt_input.specs.declared.outcome.Outcome.TheVariants as outcome
-use Rattle.rt_input.specs.declared.source.Source.{Source}
-use Rattle.rt_input.specs.declared.source.Source.TheVariants.{Files, Made}
+use Rattle.rt_outcome.specs.declared.part.Part.{Part}
+use Rattle.rt_outcome.specs.declared.part.Part.TheVariants.{Schema, Table, Query1, Query2, Queries}
+use Rattle.rt_outcome.specs.declared.outcome.Fault.TheVariants.{Name}
+use Rattle.rt_outcome.specs.declared.outcome.Limit.TheVariants as limit
+use Rattle.rt_outcome.specs.declared.outcome.Outcome.{Outcome}
+use Rattle.rt_outcome.specs.declared.outcome.Outcome.TheVariants as outcome
+use Rattle.rt_outcome.specs.declared.source.Source.{Source}
 use Rattle.rt_input.specs.Accepted.{Accepted}
-use Rattle.rt_input.specs.Faults.{lex_outcome, load_outcome, name_outcome, or_outcome, schema_outcome, sql_outcome}
-use Rattle.rt_input.specs.Source.{Text, file_name, made_part, source_of}
-
--- what is held of each name
-abbrev pub Holding : Type 0
-Holding = Text → Text
+use Rattle.rt_outcome.specs.Faults.{lex_outcome, load_outcome, name_outcome, or_outcome, schema_outcome, sql_outcome}
+use Rattle.rt_outcome.specs.Held.{Holding, text_of}
+use Rattle.rt_outcome.specs.Source.{Text, source_of}
 
 -- goes on with the value
 abbrev pub then_read : {T U E : Type 0} → Result T E → (T → Result U E) → Result U E
 then_read (Ok x) f = f x
 then_read (Err e) f = Err e
-
--- ---- one text
-
--- the bytes without a byte order mark at their start
-abbrev pub without_mark : Text → Text
-without_mark (a ∷ b ∷ c ∷ rest) = if a == 239 && b == 187 && c == 191 then rest else a ∷ b ∷ c ∷ rest
-without_mark bytes = bytes
-
-abbrev pub most_bytes : ℕ
-most_bytes = 4194304
-
--- the text of the file of a part, unless it is too long
-abbrev pub text_read : Part → Text → Result Text Outcome
-text_read part bytes = if nat_lt most_bytes (length bytes) then Err (outcome.Limit (limit.TooLong part)) else Ok (without_mark bytes)
-
-abbrev pub file_text : Part → Holding → Option Text → Result Text Outcome
-file_text part held None = Ok []
-file_text part held (Some file) = text_read part (held file)
-
--- the text of a part: that of its file, or the generated one
-abbrev pub text_of : Source → Holding → Part → Result Text Outcome
-text_of (Files paths) held part = file_text part held (file_name paths part)
-text_of (Made texts) held part = Ok (made_part texts part)
 
 -- ---- the schema and the tables
 

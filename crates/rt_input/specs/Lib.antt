@@ -1,9 +1,4 @@
 pub mod Accepted
-pub mod Faults
 pub mod First
 pub mod Judged
-pub mod Placed
 pub mod Reading
-pub mod Source
-pub mod Steps
-pub mod Texts

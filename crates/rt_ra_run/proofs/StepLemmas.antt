@@ -5,21 +5,22 @@ use Rattle.rt_io.specs.Edge.{NoneFell, Rose}
 use Rattle.rt_schema.specs.Given.{Rows, Tables}
 use Rattle.rt_schema.specs.declared.table.Table.{Table}
 use Rattle.rt_algebra.specs.declared.typed.Typed.{Typed}
-use Rattle.rt_input.specs.declared.outcome.Fault.{Fault}
-use Rattle.rt_input.specs.declared.outcome.Limit.{Limit}
-use Rattle.rt_input.specs.declared.outcome.Limit.TheVariants as limit
-use Rattle.rt_input.specs.declared.outcome.Outcome.{Outcome}
-use Rattle.rt_input.specs.declared.outcome.Outcome.TheVariants as outcome
-use Rattle.rt_input.specs.declared.part.Part.{Part}
-use Rattle.rt_input.specs.declared.part.Part.TheVariants as parts
+use Rattle.rt_outcome.specs.declared.outcome.Fault.{Fault}
+use Rattle.rt_outcome.specs.declared.outcome.Limit.{Limit}
+use Rattle.rt_outcome.specs.declared.outcome.Limit.TheVariants as limit
+use Rattle.rt_outcome.specs.declared.outcome.Outcome.{Outcome}
+use Rattle.rt_outcome.specs.declared.outcome.Outcome.TheVariants as outcome
+use Rattle.rt_outcome.specs.declared.part.Part.{Part}
+use Rattle.rt_outcome.specs.declared.part.Part.TheVariants as parts
 use Rattle.rt_input.specs.Accepted.{Accepted}
 use Rattle.rt_input.specs.Judged as top
-use Rattle.rt_input.specs.Judged.{Data, Holding, like_left, then_read, within_limit}
-use Rattle.rt_input.specs.declared.part.QueryPart.{QueryPart}
-use Rattle.rt_input.specs.declared.part.QueryPart.TheVariants.{First, Second}
-use Rattle.rt_input.specs.Source.{file_of, query_part, tables_in}
-use Rattle.rt_input.specs.Steps as steps
-use Rattle.rt_input.specs.Steps.{Failed, IsLong as IsLongName, IsLongFor, Seen, seen, of_contents}
+use Rattle.rt_input.specs.Judged.{Data, like_left, then_read, within_limit}
+use Rattle.rt_outcome.specs.Held.{Holding, text_read}
+use Rattle.rt_outcome.specs.declared.part.QueryPart.{QueryPart}
+use Rattle.rt_outcome.specs.declared.part.QueryPart.TheVariants.{First, Second}
+use Rattle.rt_outcome.specs.Source.{file_of, query_part, tables_in}
+use Rattle.rt_outcome.specs.Steps as steps
+use Rattle.rt_outcome.specs.Steps.{Failed, IsLong as IsLongName, IsLongFor, Seen, seen, of_contents}
 use Rattle.rt_ra_run.specs.declared.asked.Asked.{Asked}
 use Rattle.rt_ra_run.specs.declared.command.RaCommand.{RaCommand}
 use Rattle.rt_ra_run.specs.declared.outcome.RaOutcome.{RaOutcome}
@@ -115,7 +116,7 @@ stops_data s k outcome.WriteFault stop = stop
 stops_data s k outcome.NoMemory stop = tt
 
 -- one file
-pub stops_text : (s : Seen) (k : RaCommand) (p : Part) (name : List ℕ) (o : Outcome) → file_at k p ≡ Some name → texts_of k s.held p ≡ top.text_read p (s.held name)
+pub stops_text : (s : Seen) (k : RaCommand) (p : Part) (name : List ℕ) (o : Outcome) → file_at k p ≡ Some name → texts_of k s.held p ≡ text_read p (s.held name)
     → steps.TextStops s name p o → Stops s k (or_outcome Verdict (texts_of k s.held p)) (λ q. q ≡ p) (Verdict o)
 stops_text s k p name outcome.Agree is same stop = stop
 stops_text s k p name (outcome.Witness keep) is same stop = stop
@@ -132,7 +133,7 @@ stops_text s k p name outcome.WriteFault is same stop = stop
 stops_text s k p name outcome.NoMemory is same stop = tt
 
 -- the text of a query
-path-text : (k : RaCommand) (held : Holding) (q : QueryPart) → texts_of k held (query_part q) ≡ top.text_read (query_part q) (held (query_path k q))
+path-text : (k : RaCommand) (held : Holding) (q : QueryPart) → texts_of k held (query_part q) ≡ text_read (query_part q) (held (query_path k q))
 path-text k held First = refl
 path-text k held Second = refl
 
@@ -141,9 +142,9 @@ path-file k First = refl
 path-file k Second = refl
 
 pub text_given : (k : RaCommand) (held : Holding) (q : QueryPart) (p : Part) (name text : List ℕ) → p ≡ query_part q → name ≡ query_path k q
-    → top.text_read p (held name) ≡ Ok text → text_judged k held (query_part q) ≡ Ok text
+    → text_read p (held name) ≡ Ok text → text_judged k held (query_part q) ≡ Ok text
 text_given k held q p name text part path is =
-    ap (or_outcome Verdict) (path-text k held q ∙ ap (λ (n : List ℕ). top.text_read (query_part q) (held n)) (sym path) ∙ ap (λ (x : Part). top.text_read x (held name)) (sym part) ∙ is)
+    ap (or_outcome Verdict) (path-text k held q ∙ ap (λ (n : List ℕ). text_read (query_part q) (held n)) (sym path) ∙ ap (λ (x : Part). text_read x (held name)) (sym part) ∙ is)
 
 pub stops_query_text : (s : Seen) (k : RaCommand) (q : QueryPart) (p : Part) (name : List ℕ) (o : Outcome) → p ≡ query_part q → name ≡ query_path k q
     → steps.TextStops s name p o → Stops s k (text_judged k s.held (query_part q)) (λ x. x ≡ query_part q) (Verdict o)

@@ -1,4 +1,4 @@
-use rt_input::Spent;
+use rt_outcome::Spent;
 use rt_row::RowFault;
 use rt_value::{Bytes, Keep};
 

@@ -7,7 +7,8 @@ ghost use Rattle.rt_top.specs.Texts.{rows_text};
 ghost use Rattle.rt_row_run.specs.Said.{fault_line, fault_text};
 
 use rt_eval::answers;
-use rt_input::{Fault, Input, Spent};
+use rt_input::Input;
+use rt_outcome::{Fault, Spent};
 use rt_print::witness_text;
 use rt_row::RowFault;
 use rt_value::{Bytes, Keep, List, NoMemory};
@@ -49,7 +50,7 @@ fn fault_text(alloc: Global, fault: &RowFault) -> Result<Bytes, NoMemory>
     ensures { IfOk result (λ text. text ≡ fault_text fault.now) }
 {
     match fault {
-        RowFault::Lex(fault) => rt_input::fault_text(alloc, &Fault::Lex(*fault)),
+        RowFault::Lex(fault) => rt_outcome::fault_text(alloc, &Fault::Lex(*fault)),
         RowFault::RowSyntax => List::from_slice(alloc, b"syntax fault"),
         RowFault::RowWidth => List::from_slice(alloc, b"numbers of columns differ"),
         RowFault::RowKind => List::from_slice(alloc, b"types do not match"),

@@ -1,3 +1,5 @@
+//! CHECKs, each type with a drop of its own as in `table`.
+
 use rt_value::{List, Op, Value};
 
 /// A side of a comparison in a CHECK: the cell of a column, by the column's number, or a constant.

@@ -1,3 +1,6 @@
+//! Tables and their rules, each type with a drop of its own: one call wherever a value goes, where a
+//! derived one is made anew in each crate.
+
 use crate::check::Check;
 use rt_value::{List, Txt};
 

@@ -3,8 +3,8 @@ ghost use Rattle.rt_tools.specs.Texts.{place, status_of};
 
 use rt_grade::Grade;
 use rt_grading::GradeFault;
-use rt_input::{Outcome, Spent};
 use rt_io::Place;
+use rt_outcome::{Outcome, Spent};
 use rt_row::RowFault;
 use rt_row_run::RowVerdict;
 use rt_value::{Keep, List, Txt};

@@ -1,4 +1,7 @@
 //! The tree of a query, one type a line of the grammar (ISO/IEC 9075-2, query expression).
+//!
+//! A type that is in no cycle has a drop of its own: one call wherever a value goes, where a derived
+//! one is made anew in each crate.
 
 use rt_grammar::Name;
 use rt_value::{Boxed, List, Txt};

@@ -2,8 +2,8 @@
 use super::numbers;
 use super::worked::all_end;
 use rt_cases::{ALL, FOUR, LOOSE, REG, SCHEMA, STUDENT, TABLE, ends, files, words};
-use rt_input::Outcome;
 use rt_io::{MemFiles, MemSink};
+use rt_outcome::Outcome;
 use rt_top::ratest;
 use rt_value::{List, NoMemory, Txt};
 use std::alloc::Global;

@@ -1,7 +1,8 @@
 //! Limits of work and budgets of clauses: what is still decided, and the verdict where one is spent.
 use super::worked::{MEET, MEETS};
 use rt_cases::{ABC, MARY, ONE, ONES, REG, SCHOOL, SOME, STUDENT, TWOS, ends, files, words};
-use rt_input::{Input, Outcome, read_input};
+use rt_input::{Input, read_input};
+use rt_outcome::Outcome;
 use rt_top::{Best, decide};
 use std::alloc::Global;
 use std::process::Abort;

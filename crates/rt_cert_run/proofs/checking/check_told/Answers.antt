@@ -1,4 +1,4 @@
-use Rattle.rt_input.specs.Steps.{over}
+use Rattle.rt_outcome.specs.Steps.{over}
 use Rattle.rt_cert_run.proofs.SayLemmas.{check_says}
 use Rattle.rt_cert_run.proofs.checking.check_told.Goals as goal
 

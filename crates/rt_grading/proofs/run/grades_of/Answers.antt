@@ -1,4 +1,4 @@
-use Rattle.rt_input.specs.Steps.{over}
+use Rattle.rt_outcome.specs.Steps.{over}
 use Rattle.rt_grading.proofs.FaultLemmas.{beside_fault, beside_result, first_stops}
 use Rattle.rt_grading.proofs.run.grades_of.Goals as goal
 

@@ -1,3 +1,6 @@
+use Rattle.std.proofs.Common.{subst, sym}
+use Rattle.rt_algebra.specs.declared.query.Query.{Query}
+use Rattle.rt_grade.specs.Known.{IsQueryGrade}
 use Rattle.rt_grade.proofs.KnownLemmas.{of_known, query_grade}
 use Rattle.rt_grade.proofs.review.Review.grade.Goals as goal
 
@@ -10,16 +13,18 @@ pub returns-in_err-keep-clause-review : goal.returns-in_err-keep-clause-review
 returns-in_err-keep-clause-review c =
     let words = c.args.words.now in
     let first = c.args.first.now in
+    let Graded : Query → Type 0 = λ q. IsQueryGrade words first q c.in_ok-grade-2.grade in
     record {
       prepared = c.in_ok-grade-2.ensures.prepared;
-      known = c.keep.ensures words first c.requires.review.known (query_grade words first c.args.right c.in_ok-grade-2.grade c.in_ok-grade-2.ensures.grade);
+      known = c.keep.ensures words first c.requires.review.known (subst Graded (sym c.into_query.ensures) (query_grade words first c.args.right c.in_ok-grade-2.grade c.in_ok-grade-2.ensures.grade));
     }
 
 pub returns-clause-review : goal.returns-clause-review
 returns-clause-review c =
     let words = c.args.words.now in
     let first = c.args.first.now in
+    let Graded : Query → Type 0 = λ q. IsQueryGrade words first q c.in_ok-grade-2.grade in
     record {
       prepared = c.in_ok-grade-2.ensures.prepared;
-      known = c.keep.ensures words first c.requires.review.known (query_grade words first c.args.right c.in_ok-grade-2.grade c.in_ok-grade-2.ensures.grade);
+      known = c.keep.ensures words first c.requires.review.known (subst Graded (sym c.into_query.ensures) (query_grade words first c.args.right c.in_ok-grade-2.grade c.in_ok-grade-2.ensures.grade));
     }

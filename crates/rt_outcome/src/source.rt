@@ -1,6 +1,6 @@
 //! Where the texts of a command stand.
 ghost use Rattle.std.specs.Prelude.{◌≡◌, IfOk};
-ghost use Rattle.rt_input.specs.Source.{file_name, made_part, paths_in, source_of, table_file, table_paths};
+ghost use Rattle.rt_outcome.specs.Source.{file_name, made_part, paths_in, source_of, table_file, table_paths};
 
 use crate::part::Part;
 use rt_load::{Made, made};
@@ -9,13 +9,13 @@ use rt_words::Words;
 use std::alloc::Global;
 
 /// The paths of a command.
-pub(crate) struct Paths {
-    pub(crate) schema: Txt,
+pub struct Paths {
+    pub schema: Txt,
     /// The folder of the table files.
-    pub(crate) dir: Txt,
+    pub dir: Txt,
     /// The queries' files; none where the command reads no query.
-    pub(crate) query1: Option<Txt>,
-    pub(crate) query2: Option<Txt>,
+    pub query1: Option<Txt>,
+    pub query2: Option<Txt>,
 }
 
 impl Drop for Paths {
@@ -30,7 +30,7 @@ impl Drop for Paths {
 }
 
 /// The files that a command names, or the texts of a generated input.
-pub(crate) enum Source {
+pub enum Source {
     Files(Paths),
     Made(Made),
 }
@@ -45,7 +45,7 @@ impl Drop for Source {
 }
 
 impl Source {
-    pub(crate) fn of(alloc: Global, words: &Words) -> Result<Source, NoMemory>
+    pub fn of(alloc: Global, words: &Words) -> Result<Source, NoMemory>
         ensures { IfOk result (λ source. source ≡ source_of words.now) }
     {
         match words.made {
@@ -76,7 +76,7 @@ impl Paths {
     }
 
     /// The paths of a command that reads no query.
-    pub(crate) fn of_tables(alloc: Global, schema: &Txt, dir: &Txt) -> Result<Paths, NoMemory>
+    pub fn of_tables(alloc: Global, schema: &Txt, dir: &Txt) -> Result<Paths, NoMemory>
         ensures { IfOk result (λ paths. paths ≡ table_paths schema.now dir.now) }
     {
         Ok(Paths {
@@ -88,7 +88,7 @@ impl Paths {
     }
 
     /// The name of the file of a part. The comparison of the two queries has none.
-    pub(crate) fn file(&self, alloc: Global, part: &Part) -> Result<Option<Txt>, NoMemory>
+    pub fn file(&self, alloc: Global, part: &Part) -> Result<Option<Txt>, NoMemory>
         ensures { IfOk result (λ name. name ≡ file_name self.now part.now) }
     {
         match part {

@@ -1,12 +1,12 @@
 //! The texts of refusals and faults.
 ghost use Rattle.std.specs.Prelude.{◌≡◌, ◌++◌, IfOk, codes, decimal, string_bytes};
-ghost use Rattle.rt_input.specs.Texts.{part_text, fault_text, lex_text, limit_text, load_text, name_text, refusal_line, schema_text, sql_text, syntax_text};
+ghost use Rattle.rt_outcome.specs.Texts.{part_text, fault_text, lex_text, limit_text, load_text, name_text, refusal_line, schema_text, sql_text, syntax_text};
 
 use crate::outcome::{Fault, Limit, Outcome};
 use crate::part::Part;
 use rt_ddl::SchemaFault;
 use rt_load::LoadFault;
-use rt_resolve::NameFault;
+use rt_scope::NameFault;
 use rt_sql::SqlFault;
 use rt_token::LexFault;
 use rt_value::{Bytes, List, NoMemory};

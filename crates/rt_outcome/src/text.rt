@@ -1,11 +1,11 @@
 //! The texts of a command, from its files or generated.
 ghost use Rattle.std.specs.Prelude.{◌≡◌, IsTrue, IfOk, IfErr, IfSome, Ok};
 ghost use Rattle.rt_io.specs.Edge.{NoneFell, OnlyRises};
-ghost use Rattle.rt_input.specs.Source.{IsKnown, IsMade, file_name};
-ghost use Rattle.rt_input.specs.Judged.{text_read, file_text, text_of, without_mark};
-ghost use Rattle.rt_input.specs.Placed.{IsPlaceless};
-ghost use Rattle.rt_input.specs.Steps.{over, BeginsOnly, Stops, TextStops};
-ghost use Rattle.rt_input.specs.declared.source.Source.TheVariants as sources;
+ghost use Rattle.rt_outcome.specs.Source.{IsKnown, IsMade, file_name};
+ghost use Rattle.rt_outcome.specs.Held.{text_read, file_text, text_of, without_mark};
+ghost use Rattle.rt_outcome.specs.Placed.{IsPlaceless};
+ghost use Rattle.rt_outcome.specs.Steps.{over, BeginsOnly, Stops, TextStops};
+ghost use Rattle.rt_outcome.specs.declared.source.Source.TheVariants as sources;
 
 use crate::outcome::{Limit, Outcome};
 use crate::part::Part;
@@ -67,7 +67,7 @@ fn file_text<F: Files>(
 }
 
 /// The text of a part: that of its file, or the generated one.
-pub(crate) fn source_text<F: Files>(
+pub fn source_text<F: Files>(
     alloc: Global,
     files: &mut F,
     source: &Source,

@@ -1,17 +1,17 @@
 //! The faults of each text as outcomes.
 ghost use Rattle.std.specs.Prelude.{◌≡◌};
-ghost use Rattle.rt_input.specs.Faults.{excess_limit, lex_outcome, load_outcome, name_outcome, schema_outcome, sql_outcome};
+ghost use Rattle.rt_outcome.specs.Faults.{excess_limit, lex_outcome, load_outcome, name_outcome, schema_outcome, sql_outcome};
 
 use crate::outcome::{Fault, Limit, Outcome};
 use crate::part::Part;
 use rt_ddl::{Excess, SchemaFault};
 use rt_load::LoadFault;
-use rt_resolve::NameFault;
+use rt_scope::NameFault;
 use rt_sql::SqlFault;
 use rt_token::LexFault;
 
 /// The outcome of a text that has no tokens.
-pub(crate) fn lex_outcome(part: Part, fault: LexFault) -> Outcome
+pub fn lex_outcome(part: Part, fault: LexFault) -> Outcome
     ensures { result ≡ lex_outcome part fault }
 {
     match fault {
@@ -31,7 +31,7 @@ fn excess_limit(excess: Excess) -> Limit
 }
 
 /// The outcome of a schema that is refused.
-pub(crate) fn schema_outcome(fault: SchemaFault) -> Outcome
+pub fn schema_outcome(fault: SchemaFault) -> Outcome
     ensures { result ≡ schema_outcome fault }
 {
     match fault {
@@ -43,7 +43,7 @@ pub(crate) fn schema_outcome(fault: SchemaFault) -> Outcome
 }
 
 /// The outcome of a table file that is refused.
-pub(crate) fn load_outcome(part: Part, fault: LoadFault) -> Outcome
+pub fn load_outcome(part: Part, fault: LoadFault) -> Outcome
     ensures { result ≡ load_outcome part fault }
 {
     match fault {
@@ -54,7 +54,7 @@ pub(crate) fn load_outcome(part: Part, fault: LoadFault) -> Outcome
 }
 
 /// The outcome of tokens that are no query.
-pub(crate) fn sql_outcome(part: Part, fault: SqlFault) -> Outcome
+pub fn sql_outcome(part: Part, fault: SqlFault) -> Outcome
     ensures { result ≡ sql_outcome part fault }
 {
     match fault {
@@ -64,7 +64,7 @@ pub(crate) fn sql_outcome(part: Part, fault: SqlFault) -> Outcome
 }
 
 /// The outcome of a query that has no meaning over the schema.
-pub(crate) fn name_outcome(part: Part, fault: NameFault) -> Outcome
+pub fn name_outcome(part: Part, fault: NameFault) -> Outcome
     ensures { result ≡ name_outcome part fault }
 {
     match fault {
