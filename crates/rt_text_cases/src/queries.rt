@@ -186,6 +186,7 @@ fn tells_faults(rt: HostRuntime) {
         ("SELECT a FROM t WHERE a = 1 2", "syntax 28"),
         ("SELECT count(*) FROM reg", "no count 7"),
         ("SELECT a FROM t UNION ALL SELECT f(a) FROM t", "no all 22"),
+        ("WITH t AS (SELECT a FROM t) SELECT a FROM t", "no with 0"),
         ("SELECT \"f\"(a) FROM t", "syntax 10"),
     ] {
         assert!(rt; is_told(rt.alloc(), text, wanted), "{text}");

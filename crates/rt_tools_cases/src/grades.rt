@@ -40,7 +40,8 @@ fn lists_of_candidates(rt: HostRuntime) {
 fn words_of_a_list(rt: HostRuntime) {
     let alloc = rt.alloc();
     let work = "b.sql: work 54\na.sql: work 45\nc.sql: refused: unknown column: foo\ngraded: 3\n";
-    let table: [(&[&str], u8, &str, &str); 7] = [
+    let limit = "b.sql: work 54\na.sql: agree\nc.sql: refused: unknown column: foo\ngraded: 3\n";
+    let table: [(&[&str], u8, &str, &str); 8] = [
         (&["grade"], 2, "", USAGE),
         (&["grade", "s", "d", "a.sql"], 2, "", USAGE),
         (&["grade", "made", "3"], 2, "", USAGE),
@@ -61,6 +62,12 @@ fn words_of_a_list(rt: HostRuntime) {
             &["grade", "--work=1", "s", "d", "a.sql", "list"],
             0,
             work,
+            "",
+        ),
+        (
+            &["grade", "--work=45", "s", "d", "a.sql", "list"],
+            0,
+            limit,
             "",
         ),
     ];
