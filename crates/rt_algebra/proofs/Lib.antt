@@ -3,9 +3,4 @@ pub mod Bounds
 pub mod Exact
 pub mod Instances
 pub mod Rows
-pub mod Moving
-pub mod Splitting
-pub mod Keys
-pub mod Joins
-pub mod Places
 pub mod Steps

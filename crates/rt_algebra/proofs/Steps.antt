@@ -1,7 +1,7 @@
 -- One more element in a walk along a list.
-use Rattle.std.proofs.Common.{◌≡◌, ℕ, ◌+◌, List, [], ◌∷◌, ◌++◌, map, drop, Option, Some, sym, ap, ◌∙◌}
+use Rattle.std.proofs.Common.{◌≡◌, ℕ, suc, ◌+◌, ◌<◌, List, ◌∷◌, length, map, drop, get_or, Option, Some, sym, ap, ◌∙◌, add-one}
+use Rattle.std.proofs.Math.Seq.{drop-cons}
 use Rattle.rt_schema.specs.Capped.{capped}
-use Rattle.rt_algebra.specs.Split.{all_from}
 use Rattle.rt_algebra.specs.Work.{sum_from, product_from, after}
 use Rattle.rt_algebra.specs.declared.cost.Cost.{Cost}
 
@@ -15,7 +15,5 @@ pub product_step : {X : Type 0} (f : X → Cost) (xs : List X) (i : ℕ) (x : X)
 product_step f xs i x front next q total d e c h =
     ap (λ (k : Cost). product_from (Some k) (map f (drop (i + 1) xs))) (c ∙ ap (after front) e) ∙ sym (ap (λ ys. product_from front (map f ys)) d) ∙ h
 
-pub all_step : {X : Type 0} (f : X → Option X) (xs : List X) (i : ℕ) (x : X) (out next : List X) (o : Option X) (y : X) (total : Option (List X)) → drop i xs ≡ x ∷ drop (i + 1) xs → o ≡ f x → o ≡ Some y → next ≡ out ++ y ∷ []
-    → all_from out (map f (drop i xs)) ≡ total → all_from next (map f (drop (i + 1) xs)) ≡ total
-all_step f xs i x out next o y total d e s c h =
-    ap (λ zs. all_from zs (map f (drop (i + 1) xs))) c ∙ sym (ap (λ p. all_from out (p ∷ map f (drop (i + 1) xs))) (sym e ∙ s)) ∙ sym (ap (λ ys. all_from out (map f ys)) d) ∙ h
+pub drop_more : {X : Type 0} (xs : List X) (i : ℕ) (x : X) → i < length xs → x ≡ get_or xs i x → drop i xs ≡ x ∷ drop (i + 1) xs
+drop_more xs i x l e = rw add-one (drop-cons xs i x l ∙ ap (λ y. y ∷ drop (suc i) xs) (sym e))

@@ -2,9 +2,6 @@ pub mod Answer
 pub mod Columns
 pub mod Expression
 pub mod Typed
-pub mod Index
-pub mod Join
 pub mod Sites
-pub mod Split
 pub mod Within
 pub mod Work

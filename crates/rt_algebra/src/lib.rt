@@ -4,28 +4,18 @@
 //! Meaning follows SQL under set semantics (ISO/IEC 9075-2, query expression); `specs/` has it.
 #![tactic(auto)]
 
-mod conjuncts;
 mod cost;
 mod evaluate;
 mod expr;
-mod index;
 mod laws;
-mod matching;
-mod moved;
-mod parts;
 mod predicate;
 mod query;
-mod simple;
 mod typed;
 
-pub use conjuncts::split;
 pub use cost::work;
 pub use evaluate::{row, scope, value};
 pub use expr::{Expr, Term};
 pub use laws::{stays_bounded, wrapped_is_exact};
-pub use matching::matches;
-pub use parts::{KeyPair, Split};
 pub use predicate::{cell_truth, one_of_truth};
 pub use query::{Pred, Query};
-pub use simple::all_true;
 pub use typed::Typed;

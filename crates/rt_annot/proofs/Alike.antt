@@ -7,7 +7,7 @@ use Rattle.rt_value.specs.declared.value.Value.{Value}
 use Rattle.rt_value.specs.Row.{row_eq}
 use Rattle.rt_schema.specs.Given.{Rows}
 use Rattle.rt_algebra.specs.Answer.{is_yes, some_truth, has_row, cell_truth, member_truth, join_each, pairs}
-use Rattle.rt_algebra.specs.Join.{product_rows}
+use Rattle.rt_split.specs.Join.{product_rows}
 use Rattle.rt_annot.specs.Entries.{is_no}
 use Rattle.rt_annot.specs.Annotated.{SameRows}
 use Rattle.rt_annot.proofs.Exact.{yes_or, no_or}

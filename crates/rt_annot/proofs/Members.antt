@@ -9,7 +9,7 @@ use Rattle.rt_schema.specs.Given.{Rows, Tables}
 use Rattle.rt_schema.specs.Kept.{kept}
 use Rattle.rt_algebra.specs.Answer.{has_row, is_yes, pred_by, join_each, pairs, product_after, answer_by}
 use Rattle.rt_algebra.specs.Expression.{Env, wrapped}
-use Rattle.rt_algebra.specs.Join.{product_rows}
+use Rattle.rt_split.specs.Join.{product_rows}
 use Rattle.rt_algebra.specs.declared.query.Pred.{Pred}
 use Rattle.rt_algebra.specs.declared.query.Query.{Query}
 use Rattle.rt_algebra.specs.declared.query.Query.TheVariants as v

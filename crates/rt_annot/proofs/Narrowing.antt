@@ -10,12 +10,13 @@ use Rattle.rt_value.specs.declared.value.Value.{Value}
 use Rattle.rt_schema.specs.Given.{Rows}
 use Rattle.rt_algebra.specs.Answer.{is_yes, join_each, pred_by}
 use Rattle.rt_algebra.specs.Expression.{Env, wrapped}
-use Rattle.rt_algebra.specs.Join.{are_wide, joined_rows, matched, matches, places_where, product_rows, Joins}
-use Rattle.rt_algebra.specs.Split.{all_simple, keys_yes, first, later}
-use Rattle.rt_algebra.specs.declared.parts.KeyPair.{KeyPair}
-use Rattle.rt_algebra.specs.declared.parts.Split.{Split}
+use Rattle.rt_split.specs.Join.{are_wide, joined_rows, matched, matches, places_where, product_rows, Joins}
+use Rattle.rt_split.specs.Split.{all_simple, keys_yes, first, later}
+use Rattle.rt_split.specs.declared.parts.KeyPair.{KeyPair}
+use Rattle.rt_split.specs.declared.parts.Split.{Split}
 use Rattle.rt_algebra.specs.declared.query.Pred.{Pred}
-use Rattle.rt_algebra.proofs.Places.{picked, later_drop, drop_more}
+use Rattle.rt_algebra.proofs.Steps.{drop_more}
+use Rattle.rt_split.proofs.Places.{picked, later_drop}
 use Rattle.rt_algebra.proofs.Rows.{and-left, and-right}
 use Rattle.rt_formula.specs.Shared.{Shared, val}
 use Rattle.rt_formula.specs.declared.noted.Noted.{Noted}

@@ -3,7 +3,7 @@ use Rattle.std.specs.Prelude.{◌≡◌, Bool, List, [], ◌∷◌, ◌++◌, ma
 use Rattle.std.specs.List.{All as Each, list_all}
 use Rattle.rt_schema.specs.Given.{Rows}
 use Rattle.rt_algebra.specs.Answer.{has_row}
-use Rattle.rt_algebra.specs.Join.{product_rows}
+use Rattle.rt_split.specs.Join.{product_rows}
 use Rattle.rt_formula.specs.Shared.{Shared, val}
 use Rattle.rt_formula.specs.declared.noted.Noted.{Noted}
 use Rattle.rt_annot.specs.declared.joint.Joint.{Joint}

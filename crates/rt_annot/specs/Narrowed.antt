@@ -4,10 +4,10 @@ use Rattle.std.specs.List.{filter, list_all}
 use Rattle.rt_schema.specs.Given.{Rows, Tables}
 use Rattle.rt_algebra.specs.Answer.{is_yes, pred_by}
 use Rattle.rt_algebra.specs.Expression.{Env, wrapped}
-use Rattle.rt_algebra.specs.Join.{product_rows}
-use Rattle.rt_algebra.specs.Split.{all_simple, keys_yes, first, later}
+use Rattle.rt_split.specs.Join.{product_rows}
+use Rattle.rt_split.specs.Split.{all_simple, keys_yes, first, later}
 use Rattle.rt_algebra.specs.declared.query.Pred.{Pred}
-use Rattle.rt_algebra.specs.declared.parts.KeyPair.{KeyPair}
+use Rattle.rt_split.specs.declared.parts.KeyPair.{KeyPair}
 use Rattle.rt_formula.specs.Shared.{Shared}
 use Rattle.rt_formula.specs.declared.noted.Noted.{Noted}
 use Rattle.rt_annot.specs.declared.joint.Joint.{Joint}

@@ -3,15 +3,16 @@
 ghost use Rattle.std.specs.Prelude.{◌≡◌, ◌++◌, ◌∷◌, [], length, map, nat_eq, slice_get, IfOk, OnOk};
 ghost use Rattle.std.specs.List.{cons_option, filter_map, list_all};
 ghost use Rattle.rt_algebra.specs.Expression.{wrapped};
-ghost use Rattle.rt_algebra.specs.Join.{matches};
-ghost use Rattle.rt_algebra.specs.Split.{all_simple};
+ghost use Rattle.rt_split.specs.Join.{matches};
+ghost use Rattle.rt_split.specs.Split.{all_simple};
 ghost use Rattle.rt_annot.specs.Joints.{join_joint, unit_joints};
 ghost use Rattle.rt_annot.specs.Narrowed.{IsNarrowed, are_long, joined_joints, matched_joints, own_rows};
 
 use crate::joint::{Joint, joined_one, lacks_rows, product, unit};
 use crate::rows::note;
-use rt_algebra::{KeyPair, Pred, Split, all_true, matches, scope, split};
+use rt_algebra::{Pred, scope};
 use rt_formula::Noted;
+use rt_split::{KeyPair, Split, all_true, matches, split};
 use rt_value::{List, NoMemory, Row};
 use std::alloc::Global;
 

@@ -1,5 +1,6 @@
 //! Conditions taken apart, and rows matched by keys.
-use rt_algebra::{Expr, KeyPair, Pred, Query, Split, matches, split};
+use rt_algebra::{Expr, Pred, Query};
+use rt_split::{KeyPair, Split, matches, split};
 use rt_value::{Boxed, List, Op, Row, Value};
 use std::alloc::Global;
 use std::process::Abort;

@@ -4,7 +4,7 @@ use Rattle.std.specs.Prelude.{is_ok}
 use Rattle.std.proofs.Math.Dec.{ltb}
 use lib.Pointwise.{pointwise}
 use Rattle.rt_algebra.proofs.Rows.{and-left, and-right}
-use Rattle.rt_algebra.proofs.Keys.{row_exact, equal_of}
+use Rattle.rt_split.proofs.Keys.{row_exact, equal_of}
 use Rattle.std.proofs.lemmas.Bool.{cases_Bool, ltb-true, ltb-false}
 use Rattle.std.proofs.lemmas.List.Folds.{list_any_at, list_any_none}
 use Rattle.std.proofs.lemmas.List.Filters.{dedup_is}

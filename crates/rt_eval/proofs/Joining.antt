@@ -9,15 +9,16 @@ use Rattle.rt_value.specs.declared.value.Value.{Value}
 use Rattle.rt_schema.specs.Given.{Rows, Tables}
 use Rattle.rt_algebra.specs.Answer.{Condition, Answer, has_row, join_each, pairs, is_yes, pred_by, answer_by, pred_step, query_step, product_after}
 use Rattle.rt_algebra.specs.Expression.{Env, wrapped}
-use Rattle.rt_algebra.specs.Join.{matched, joined_rows, product_rows, are_wide}
-use Rattle.rt_algebra.specs.Split.{all_simple, first, later}
+use Rattle.rt_split.specs.Join.{matched, joined_rows, product_rows, are_wide}
+use Rattle.rt_split.specs.Split.{all_simple, first, later}
 use Rattle.rt_algebra.specs.declared.query.Pred.{Pred}
 use Rattle.rt_algebra.specs.declared.query.Query.{Query}
 use Rattle.rt_algebra.specs.declared.query.Query.TheVariants as v
 use Rattle.rt_algebra.specs.declared.query.Pred.TheOpen.{Select, Product, Except}
 use Rattle.rt_algebra.specs.declared.query.Pred.TheFolds.{fold-roll-Query}
-use Rattle.rt_algebra.specs.declared.parts.KeyPair.{KeyPair}
-use Rattle.rt_algebra.proofs.Places.{later_drop, drop_more}
+use Rattle.rt_split.specs.declared.parts.KeyPair.{KeyPair}
+use Rattle.rt_algebra.proofs.Steps.{drop_more}
+use Rattle.rt_split.proofs.Places.{later_drop}
 
 join_cons : (b : List Value) (o : Option (List Value)) (ys : Rows) → join_each b (cons_option o ys) ≡ join_each b (cons_option o []) ++ join_each b ys
 join_cons b None ys = refl

@@ -8,12 +8,12 @@ use Rattle.rt_value.specs.declared.value.Value.{Value}
 use Rattle.rt_schema.specs.Given.{Rows, Tables}
 use Rattle.rt_algebra.specs.Answer.{join_each, is_yes, pred_by}
 use Rattle.rt_algebra.specs.Expression.{Env, wrapped, row_by}
-use Rattle.rt_algebra.specs.Join.{matched, matches, places_where}
-use Rattle.rt_algebra.specs.Split.{keys_yes}
+use Rattle.rt_split.specs.Join.{matched, matches, places_where}
+use Rattle.rt_split.specs.Split.{keys_yes}
 use Rattle.rt_algebra.specs.declared.expr.Expr.{Expr}
-use Rattle.rt_algebra.specs.declared.parts.KeyPair.{KeyPair}
+use Rattle.rt_split.specs.declared.parts.KeyPair.{KeyPair}
 use Rattle.rt_algebra.specs.declared.query.Pred.{Pred}
-use Rattle.rt_algebra.proofs.Places.{later_drop, picked}
+use Rattle.rt_split.proofs.Places.{later_drop, picked}
 use Rattle.rt_eval.specs.Items.{items_where}
 use Rattle.rt_eval.specs.Pairs.{all_joined, first_joined}
 

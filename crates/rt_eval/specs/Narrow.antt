@@ -4,7 +4,7 @@ use Rattle.std.specs.List.{filter}
 use Rattle.rt_schema.specs.Given.{Rows, Tables}
 use Rattle.rt_algebra.specs.Answer.{is_yes, pred_by}
 use Rattle.rt_algebra.specs.Expression.{Env, wrapped}
-use Rattle.rt_algebra.specs.Join.{product_rows}
+use Rattle.rt_split.specs.Join.{product_rows}
 use Rattle.rt_algebra.specs.declared.query.Pred.{Pred}
 
 -- the rows on which the condition is true

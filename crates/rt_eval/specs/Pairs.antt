@@ -3,7 +3,7 @@ use Rattle.std.specs.Prelude.{ℕ, List, [], ◌∷◌, ◌++◌, slice_get}
 use Rattle.std.specs.List.{filter_map}
 use Rattle.rt_schema.specs.Given.{Rows}
 use Rattle.rt_algebra.specs.Answer.{join_each}
-use Rattle.rt_algebra.specs.Split.{first, later}
+use Rattle.rt_split.specs.Split.{first, later}
 
 -- the first of the rows joined with each of those that follow it, and all of the rows joined so
 abbrev pub first_joined : Rows → Rows → List (List ℕ) → Rows

@@ -2,7 +2,7 @@
 ghost use Rattle.std.specs.Prelude.{◌≡◌, ◌∷◌, ◌++◌, [], map, IfOk};
 ghost use Rattle.rt_algebra.specs.Answer.{answer_by};
 ghost use Rattle.rt_algebra.specs.Expression.{wrapped, row_by};
-ghost use Rattle.rt_algebra.specs.Join.{product_rows};
+ghost use Rattle.rt_split.specs.Join.{product_rows};
 ghost use Rattle.rt_eval.specs.Items.{items_where};
 ghost use Rattle.rt_eval.specs.Pairs.{all_joined};
 

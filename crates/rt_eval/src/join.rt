@@ -2,13 +2,14 @@
 ghost use Rattle.std.specs.Prelude.{◌≡◌, ◌∷◌, [], length, map, nat_eq, slice_index_or, IfOk};
 ghost use Rattle.std.specs.List.{filter, list_all, list_any};
 ghost use Rattle.rt_algebra.specs.Expression.{wrapped};
-ghost use Rattle.rt_algebra.specs.Join.{are_wide, joined_rows, matched, product_rows};
-ghost use Rattle.rt_algebra.specs.Split.{all_simple};
+ghost use Rattle.rt_split.specs.Join.{are_wide, joined_rows, matched, product_rows};
+ghost use Rattle.rt_split.specs.Split.{all_simple};
 ghost use Rattle.rt_eval.specs.Pairs.{all_joined};
 
 use crate::lists::joined;
 use crate::pairs::Pairs;
-use rt_algebra::{KeyPair, Pred, Split, all_true, scope};
+use rt_algebra::{Pred, scope};
+use rt_split::{KeyPair, Split, all_true};
 use rt_value::{List, NoMemory, Row};
 use std::alloc::Global;
 

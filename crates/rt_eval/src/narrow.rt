@@ -1,13 +1,14 @@
 //! Selections from products, as far as the parts of the condition bring them.
 ghost use Rattle.std.specs.Prelude.{◌≡◌, ◌∷◌, [], map, IfOk, IfSome, IsTrue};
 ghost use Rattle.rt_algebra.specs.Expression.{Env, wrapped};
-ghost use Rattle.rt_algebra.specs.Join.{joined_rows};
+ghost use Rattle.rt_split.specs.Join.{joined_rows};
 ghost use Rattle.rt_eval.specs.Narrow.{AreEnough, AreChosen};
 ghost use Rattle.rt_eval.specs.Pairs.{all_joined};
 
 use crate::join::{are_wide, chosen, chosen_rows, lacks_rows, product, widths};
 use crate::pairs::Pairs;
-use rt_algebra::{Pred, Split, split};
+use rt_algebra::Pred;
+use rt_split::{Split, split};
 use rt_value::{List, NoMemory, Row};
 use std::alloc::Global;
 

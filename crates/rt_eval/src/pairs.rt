@@ -2,11 +2,11 @@
 ghost use Rattle.std.specs.Prelude.{◌≡◌, ◌++◌, [], drop, length, map, slice_get, IfOk};
 ghost use Rattle.std.specs.List.{cons_option, filter_map};
 ghost use Rattle.rt_algebra.specs.Answer.{join_each};
-ghost use Rattle.rt_algebra.specs.Join.{matched, matches};
-ghost use Rattle.rt_algebra.specs.Split.{first};
+ghost use Rattle.rt_split.specs.Join.{matched, matches};
+ghost use Rattle.rt_split.specs.Split.{first};
 ghost use Rattle.rt_eval.specs.Pairs.{first_joined, all_joined};
 
-use rt_algebra::{KeyPair, matches};
+use rt_split::{KeyPair, matches};
 use rt_value::{List, NoMemory, Row, Value};
 use std::alloc::Global;
 

@@ -2,7 +2,7 @@ ghost use Rattle.std.specs.Prelude.{◌≡◌, ◌∷◌, [], map, IfOk};
 ghost use Rattle.std.specs.List.{filter};
 ghost use Rattle.rt_algebra.specs.Expression.{wrapped};
 ghost use Rattle.rt_algebra.specs.Answer.{pred_by, answer_by, is_yes};
-ghost use Rattle.rt_algebra.specs.Join.{product_rows};
+ghost use Rattle.rt_split.specs.Join.{product_rows};
 
 use crate::condition::{is_yes, pred};
 use crate::items::projection;

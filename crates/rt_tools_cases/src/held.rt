@@ -36,7 +36,8 @@ pub(crate) fn files(alloc: Global) -> Result<MemFiles, NoMemory> {
     Ok(files)
 }
 
-fn list_of(alloc: Global, words: &[&str]) -> Result<List<Txt>, NoMemory> {
+/// The words as a list.
+pub(crate) fn list_of(alloc: Global, words: &[&str]) -> Result<List<Txt>, NoMemory> {
     let mut list = List::new(alloc);
     for word in words {
         list.push(Txt::of(alloc, word)?)?;

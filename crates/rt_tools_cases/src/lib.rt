@@ -8,4 +8,6 @@ mod grades;
 #[cfg(test)]
 mod held;
 #[cfg(test)]
+mod least;
+#[cfg(test)]
 mod rows;

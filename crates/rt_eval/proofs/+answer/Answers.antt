@@ -4,7 +4,7 @@ use Rattle.std.specs.List.{filter}
 use Rattle.rt_schema.specs.Given.{Rows}
 use Rattle.rt_algebra.specs.Answer.{answer_by, has_row, is_yes, pred_by}
 use Rattle.rt_algebra.specs.Expression.{wrapped, row_by}
-use Rattle.rt_algebra.specs.Join.{product_rows}
+use Rattle.rt_split.specs.Join.{product_rows}
 use Rattle.rt_algebra.specs.declared.query.Query.{Query}
 use Rattle.rt_eval.specs.Items.{items_where}
 use Rattle.rt_eval.specs.Narrow.{AreEnough, rows_where}

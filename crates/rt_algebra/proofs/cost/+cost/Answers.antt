@@ -1,6 +1,5 @@
 use Rattle.rt_algebra.specs.Work.{pred_work, query_cost}
-use Rattle.rt_algebra.proofs.Places.{drop_more}
-use Rattle.rt_algebra.proofs.Steps.{sum_step, product_step}
+use Rattle.rt_algebra.proofs.Steps.{drop_more, sum_step, product_step}
 use Rattle.rt_algebra.proofs.cost.+cost.Goals as goal
 
 pub preds_work-loop-member-preserved : goal.preds_work-loop-member-preserved

@@ -1,7 +1,7 @@
 use Rattle.std.proofs.Common.{◌∙◌, ap, ap₂, map, drop, List}
-use Rattle.rt_algebra.specs.Split.{first}
+use Rattle.rt_split.specs.Split.{first}
 use Rattle.rt_algebra.specs.declared.query.Pred.{Pred}
-use Rattle.rt_algebra.specs.declared.parts.KeyPair.{KeyPair}
+use Rattle.rt_split.specs.declared.parts.KeyPair.{KeyPair}
 use Rattle.rt_formula.specs.declared.noted.Noted.{Noted}
 use Rattle.rt_annot.specs.declared.joint.Joint.{Joint}
 use Rattle.rt_annot.specs.Narrowed.{matched_joints, own_rows}

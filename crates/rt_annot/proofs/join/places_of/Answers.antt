@@ -1,7 +1,7 @@
 use Rattle.std.proofs.Common.{◌∙◌, ap, ap₂, map}
 use Rattle.std.proofs.lemmas.Result.{IfOk-weaker}
 use Rattle.rt_schema.specs.Given.{Rows}
-use Rattle.rt_algebra.specs.Join.{matches}
+use Rattle.rt_split.specs.Join.{matches}
 use Rattle.rt_annot.proofs.join.places_of.Goals as goal
 
 pub returns : goal.returns

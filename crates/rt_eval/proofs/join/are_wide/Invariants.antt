@@ -1,5 +1,5 @@
 use Rattle.std.proofs.Common.{◌≡◌, drop}
-use Rattle.rt_algebra.specs.Join.{are_wide}
+use Rattle.rt_split.specs.Join.{are_wide}
 use Rattle.rt_eval.proofs.join.are_wide.Given as goal
 
 abbrev pub invariant-loop-at : goal.invariant-loop-at

@@ -2,10 +2,10 @@ use Rattle.std.proofs.Common.{◌∙◌, ◌∷◌, ap, ap₂, map, List}
 use Rattle.std.specs.List.{filter}
 use Rattle.rt_schema.specs.Given.{Rows}
 use Rattle.rt_algebra.specs.Expression.{wrapped}
-use Rattle.rt_algebra.specs.Join.{matched}
-use Rattle.rt_algebra.specs.Split.{all_simple}
+use Rattle.rt_split.specs.Join.{matched}
+use Rattle.rt_split.specs.Split.{all_simple}
 use Rattle.rt_algebra.specs.declared.query.Pred.{Pred}
-use Rattle.rt_algebra.specs.declared.parts.KeyPair.{KeyPair}
+use Rattle.rt_split.specs.declared.parts.KeyPair.{KeyPair}
 use Rattle.rt_eval.specs.Pairs.{all_joined}
 use Rattle.rt_eval.proofs.Joining.{chosen_step}
 use Rattle.rt_eval.proofs.join.chosen.Goals as goal

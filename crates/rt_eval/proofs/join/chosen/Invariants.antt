@@ -1,6 +1,6 @@
 use Rattle.std.proofs.Common.{◌≡◌, ◌∷◌, [], map, drop}
 use Rattle.rt_algebra.specs.Expression.{wrapped}
-use Rattle.rt_algebra.specs.Join.{joined_rows}
+use Rattle.rt_split.specs.Join.{joined_rows}
 use Rattle.rt_eval.specs.Pairs.{all_joined}
 use Rattle.rt_eval.proofs.join.chosen.Given as goal
 

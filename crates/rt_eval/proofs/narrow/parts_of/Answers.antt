@@ -1,6 +1,6 @@
 use Rattle.std.proofs.Common.{◌∙◌, ap, sym, List, ℕ}
 use Rattle.rt_algebra.specs.Expression.{wrapped}
-use Rattle.rt_algebra.specs.Join.{are_wide}
+use Rattle.rt_split.specs.Join.{are_wide}
 use Rattle.rt_eval.proofs.narrow.parts_of.Goals as goal
 
 pub returns-clause-enough : goal.returns-clause-enough

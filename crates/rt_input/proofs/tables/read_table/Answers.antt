@@ -9,6 +9,9 @@ use Rattle.rt_input.proofs.StepLemmas.{stops_loaded}
 use Rattle.rt_input.proofs.TableLemmas.{columns_at-get, few_after, get-within, table_read}
 use Rattle.rt_input.proofs.tables.read_table.Goals as goal
 
+pub load-requires-clause-in_range : goal.load-requires-clause-in_range
+load-requires-clause-in_range g c = get-within c.args.schema.now c.args.at c.args.table.now c.requires.is_table
+
 pub returns-in-Ok-clause-ok : goal.returns-in-Ok-clause-ok
 returns-in-Ok-clause-ok g c = λ t.
     table_read c.args.source.now (g.F.Files.held c.args.files.now) c.args.at c.args.table.now c.in_ok-copy.field-0 c.as_slice.result.now

@@ -1,6 +1,6 @@
 use Rattle.std.proofs.Common.{◌∙◌, ap, ap₂, List, ℕ}
 use Rattle.rt_schema.specs.Given.{Rows}
-use Rattle.rt_algebra.specs.Join.{matches}
+use Rattle.rt_split.specs.Join.{matches}
 use Rattle.rt_eval.specs.Pairs.{all_joined}
 use Rattle.rt_eval.proofs.Pairing.{matched_pairs}
 use Rattle.rt_eval.proofs.pairs.Pairs.matched.Goals as goal

@@ -1,6 +1,0 @@
-use Rattle.std.proofs.Common.{◌≡◌, drop}
-use Rattle.rt_algebra.specs.Split.{is_taken}
-use Rattle.rt_algebra.proofs.conjuncts.is_taken.Given as goal
-
-abbrev pub invariant-loop-width : goal.invariant-loop-width
-invariant-loop-width l = is_taken l.base (drop l.width-index l.widths) l.conjunct ≡ is_taken 0 l.widths l.conjunct

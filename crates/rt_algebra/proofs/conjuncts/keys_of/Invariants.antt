@@ -1,8 +1,0 @@
-use Rattle.std.proofs.Common.{◌≡◌, ◌++◌, drop}
-use Rattle.std.specs.List.{filter_map}
-use Rattle.rt_algebra.specs.Split.{key_of}
-use Rattle.rt_algebra.proofs.conjuncts.keys_of.Given as goal
-
-abbrev pub invariant-loop-conjunct : goal.invariant-loop-conjunct
-invariant-loop-conjunct l =
-    l.out ++ filter_map (key_of l.base l.width) (drop l.conjunct-index l.conjuncts) ≡ filter_map (key_of l.base l.width) l.conjuncts

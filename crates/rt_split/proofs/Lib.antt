@@ -1,0 +1,6 @@
+pub mod Moving
+pub mod Splitting
+pub mod Keys
+pub mod Joins
+pub mod Places
+pub mod Steps

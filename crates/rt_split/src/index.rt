@@ -1,0 +1,57 @@
+ghost use Rattle.std.specs.Prelude.{◌≡◌, ◌++◌, ◌∷◌, [], List, cond, OnOk};
+ghost use Rattle.rt_value.specs.Row.{row_eq};
+ghost use Rattle.rt_value.specs.declared.value.Value.{Value};
+ghost use Rattle.rt_split.specs.Index.{places_at};
+
+use rt_value::{List, NoMemory, Row};
+use std::alloc::Global;
+use std::collections::BTreeMap;
+use std::marker::Model;
+
+/// For each key the places of the rows that have it, in the order in which they were put. To find
+/// them takes time in the logarithm of the number of different keys.
+#[derive(Drop)]
+pub struct Index {
+    places: BTreeMap<Row, List<usize>>,
+    alloc: Global,
+}
+
+impl Model for Index {
+    ghost use Rattle.rt_split.specs.Index.{Placed};
+
+    ghost Value = { Placed };
+
+    ghost view = { λ i. i.places.entries };
+}
+
+impl Index {
+    /// No rows, which takes no memory.
+    pub fn new(alloc: Global) -> Index
+        ensures { (key : List Value) → places_at result key ≡ [] }
+    {
+        Index {
+            places: BTreeMap::new(alloc),
+            alloc,
+        }
+    }
+
+    /// Puts the place of one more row. After an error the rows with the same key may be lost.
+    pub fn put(&mut self, key: Row, place: usize) -> Result<(), NoMemory>
+        ensures { OnOk result ((other : List Value) → places_at self.new other ≡ places_at self.old other ++ cond (row_eq other key) (place ∷ []) []) }
+    {
+        let mut places = self.places.remove(&key).unwrap_or(List::new(self.alloc));
+        places.push(place)?;
+        self.places.insert(key, places)?;
+        Ok(())
+    }
+
+    /// The places of the rows with the key.
+    pub fn get(&self, key: &Row) -> &[usize]
+        ensures { result.now ≡ places_at self.now key.now }
+    {
+        match self.places.get(key) {
+            Some(places) => places.as_slice(),
+            None => &[],
+        }
+    }
+}
