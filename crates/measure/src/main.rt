@@ -5,14 +5,21 @@
 //! `ratest`, and so is the status where an input is refused.
 #![tactic(auto)]
 
+ghost use Rattle.std.specs.Prelude.{◌≡◌, ◌<◌, ◌≤◌, IfSome, length};
+ghost use Rattle.rt_algebra.specs.Typed.{IsTyped};
+ghost use Rattle.rt_schema.specs.Given.{places};
+ghost use Rattle.rt_search.specs.Least.{IsEnough};
+
+use rt_algebra::Typed;
 use rt_annot::goal;
 use rt_eval::answers;
-use rt_formula::Dag;
+use rt_formula::{Dag, Node};
 use rt_input::{Input, read_input};
 use rt_io::{RealFiles, RealSink, Sink, SinkFail, write_text};
 use rt_outcome::Outcome;
 use rt_program::{refuse, words};
 use rt_rules::cone;
+use rt_schema::Given;
 use rt_search::smallest_counted;
 use rt_top::USAGE;
 use rt_value::{Keep, Txt};
@@ -30,23 +37,69 @@ fn say<S: Sink>(alloc: Global, out: &mut S, name: &str, number: u64) -> Result<(
     }
 }
 
-/// Searches as the program does, and says how large each part is.
-fn measure<S: Sink>(alloc: Global, input: &Input, out: &mut S) -> Result<(), Outcome> {
-    let schema = input.schema();
+/// How many rows a query answers with.
+fn rows_of(alloc: Global, query: &Typed, given: &Given, all: &Keep) -> Result<u64, Outcome>
+    requires typed { IsTyped given.now.kinds query.now }
+    requires places { places given.now.tables ≡ length all.now }
+{
+    let rows = answers(alloc, query, given, all)?;
+    let number = rows.as_slice().len() as u64;
+    drop(rows);
+    Ok(number)
+}
+
+/// Says with how many rows each query answers.
+fn measure_answers<S: Sink>(alloc: Global, input: &Input, out: &mut S) -> Result<(), Outcome> {
+    // An accepted input has typed queries: the contract of `schema` says so.
+    let _schema = input.schema();
     let given = input.given();
     let all = Keep::all(alloc, given.total(), true)?;
-    let left = answers(alloc, input.left(), given, &all)?;
-    say(alloc, out, "left", left.as_slice().len() as u64)?;
-    let right = answers(alloc, input.right(), given, &all)?;
-    say(alloc, out, "right", right.as_slice().len() as u64)?;
+    let left = rows_of(alloc, input.left(), given, &all)?;
+    say(alloc, out, "left", left)?;
+    let right = rows_of(alloc, input.right(), given, &all)?;
+    drop(all);
+    say(alloc, out, "right", right)
+}
+
+/// Searches within the cone, and says into how many clauses and after how many conflicts.
+fn search_within<S: Sink>(
+    alloc: Global,
+    dag: &Dag,
+    goal: Node,
+    cone: &Keep,
+    budget: Option<u64>,
+    out: &mut S,
+) -> Result<(), Outcome>
+    requires goal { goal < length dag.now.entries }
+    requires long { length cone.now ≡ dag.now.rows }
+    requires cone { IsEnough dag.now goal cone.now }
+    requires budget { IfSome budget (λ b. 1 ≤ b) }
+{
+    let search = smallest_counted(alloc, dag, goal, cone, budget)?;
+    let (clauses, conflicts) = (search.clauses, search.conflicts);
+    drop(search);
+    say(alloc, out, "clauses", clauses)?;
+    say(alloc, out, "conflicts", conflicts)
+}
+
+/// Searches as the program does, and says how large each part is.
+fn measure_search<S: Sink>(alloc: Global, input: &Input, out: &mut S) -> Result<(), Outcome> {
+    let schema = input.schema();
+    let given = input.given();
     let mut dag = Dag::new(alloc, given.total())?;
     let aim = goal(alloc, &mut dag, schema, given, input.left(), input.right())?;
     say(alloc, out, "nodes", dag.len() as u64)?;
     let cone = cone(alloc, &dag, aim.differs, schema, given)?;
     say(alloc, out, "rows", cone.size() as u64)?;
-    let search = smallest_counted(alloc, &dag, aim.goal, &cone, input.conflicts())?;
-    say(alloc, out, "clauses", search.clauses)?;
-    say(alloc, out, "conflicts", search.conflicts)
+    let said = search_within(alloc, &dag, aim.goal, &cone, input.conflicts(), out);
+    drop(cone);
+    drop(dag);
+    said
+}
+
+fn measure<S: Sink>(alloc: Global, input: &Input, out: &mut S) -> Result<(), Outcome> {
+    measure_answers(alloc, input, out)?;
+    measure_search(alloc, input, out)
 }
 
 fn read_and_measure<S: Sink>(
@@ -56,7 +109,9 @@ fn read_and_measure<S: Sink>(
     out: &mut S,
 ) -> Result<(), Outcome> {
     let input = read_input(alloc, words, files)?;
-    measure(alloc, &input, out)
+    let said = measure(alloc, &input, out);
+    drop(input);
+    said
 }
 
 fn main(rt: HostRuntime) -> ExitCode {

@@ -5,12 +5,12 @@ use Rattle.std.specs.List.{All, find}
 use Rattle.std.specs.Option.{ForSome, option_map}
 use Rattle.std.proofs.lemmas.List.{drop_more, drop_all}
 use Rattle.rt_value.specs.declared.no_memory.NoMemory.{NoMemory}
-use Rattle.rt_cert_text.specs.Certificate.{ArePlaces}
-use Rattle.rt_cert_text.specs.declared.cert.Cert.{Cert}
+use Rattle.rt_recorder.specs.Certificate.{ArePlaces}
+use Rattle.rt_recorder.specs.declared.cert.Cert.{Cert}
 use Rattle.rt_recorder.specs.Checking.{IsChecked}
 use Rattle.rt_recorder.specs.declared.check.Checked.TheVariants as checked
 use Rattle.rt_recorder.specs.declared.encoded.Encoded.{Encoded}
-use Rattle.rt_encode.specs.Encoding.{IsEncoding}
+use Rattle.rt_cert.specs.Encoding.{IsEncoding}
 use Rattle.rt_input.specs.Accepted.{Accepted}
 use Rattle.rt_top.specs.Smallest.{IsCounter, counters, differ_at, lawful_at}
 use Rattle.rt_cert.specs.Certified.{IsJudged, IsToBeRefuted, IsTried, IsWrong, choice_fault, claim_fault, places_fault, rows_of}

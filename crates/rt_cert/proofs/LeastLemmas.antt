@@ -11,8 +11,8 @@ use Rattle.rt_clause.specs.Models.{lit_true, IsModel}
 use Rattle.rt_clause.specs.Gates.{AgreeBelow}
 use Rattle.rt_clause.proofs.Bools.{bool-cases}
 use Rattle.rt_recorder.specs.Checking.{HasNoModel}
-use Rattle.rt_encode.specs.Encodes.{Encodes, IsAsked, KeepsFewer}
-use Rattle.rt_encode.specs.Encoding.{IsEncoding}
+use Rattle.rt_cert.specs.Encodes.{Encodes, IsAsked, KeepsFewer}
+use Rattle.rt_cert.specs.Encoding.{IsEncoding}
 use Rattle.rt_input.specs.Accepted.{Accepted}
 use Rattle.rt_top.specs.Smallest.{IsCounter, counters}
 use Rattle.rt_cert.specs.Least.{IsLeastOrNone, IsSmallestOrNone}

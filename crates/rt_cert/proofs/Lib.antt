@@ -2,3 +2,5 @@ mod ClaimLemmas
 mod LeastLemmas
 mod PlaceLemmas
 mod Refutations
+mod Encoded
+mod InputLemmas

@@ -9,7 +9,7 @@ use Rattle.std.proofs.lemmas.List.Folds.{list_any-append}
 use Rattle.std.proofs.lemmas.List.FromFn.{fill_by_all, get_or-range_with_len, length-map-range_with_len, length-range_with_len}
 use Rattle.std.proofs.lemmas.List.Kept.{IsStrictlyIncreasing-filter}
 use Rattle.std.proofs.lemmas.Map.Views.{any-filter_same}
-use Rattle.rt_cert_text.specs.Certificate.{ArePlaces, IsNumber}
+use Rattle.rt_recorder.specs.Certificate.{ArePlaces, IsNumber}
 use Rattle.rt_cert.specs.Places.{has_place, keep_of, places_of}
 
 -- ---- a row more

@@ -7,8 +7,8 @@ use Rattle.rt_clause.specs.Literal.{Literal}
 use Rattle.rt_clause.specs.Models.{IsModel}
 use Rattle.rt_clause.specs.Refuting.{IsRefuted}
 use Rattle.rt_clause.proofs.Extending.{model-older}
-use Rattle.rt_cert_text.specs.Certificate.{IsStep}
-use Rattle.rt_cert_text.specs.declared.cert.Step.{Step}
+use Rattle.rt_recorder.specs.Certificate.{IsStep}
+use Rattle.rt_recorder.specs.declared.cert.Step.{Step}
 use Rattle.rt_recorder.specs.Checking.{AreAccepted, HasNoModel, clauses}
 use Rattle.rt_recorder.specs.Recording.{AreSteps, AreStepsBehind}
 use Rattle.rt_solver.specs.Answers.{IsFound, IsModelled}

@@ -5,12 +5,12 @@ use Rattle.std.specs.Option.{option_map}
 use Rattle.rt_value.specs.Keep.{size}
 use Rattle.rt_schema.specs.Given.{places}
 use Rattle.rt_clause.specs.Refuting.{IsRefuted}
-use Rattle.rt_cert_text.specs.Certificate.{IsCert}
-use Rattle.rt_cert_text.specs.declared.cert.Cert.{Cert}
+use Rattle.rt_recorder.specs.Certificate.{IsCert}
+use Rattle.rt_recorder.specs.declared.cert.Cert.{Cert}
 use Rattle.rt_recorder.specs.Checking.{AreAccepted, IsChecked, clauses}
 use Rattle.rt_recorder.specs.declared.check.Checked.TheVariants as checked
 use Rattle.rt_recorder.specs.declared.encoded.Encoded.{Encoded}
-use Rattle.rt_encode.specs.Encoding.{IsEncoding}
+use Rattle.rt_cert.specs.Encoding.{IsEncoding}
 use Rattle.rt_input.specs.Accepted.{Accepted}
 use Rattle.rt_top.specs.Smallest.{differ_at, lawful_at}
 use Rattle.rt_cert.specs.Least.{IsLeastOrNone, IsSmallestOrNone}

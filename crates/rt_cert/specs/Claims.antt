@@ -1,7 +1,7 @@
 -- The parts of a check: what is claimed, and what the steps show of it.
 use Rattle.std.specs.Prelude.{◌≡◌, ◌≢◌, ℕ, Bool, List, length, Option, None, Some}
 use Rattle.std.specs.Option.{ForSome, option_map}
-use Rattle.rt_cert_text.specs.declared.cert.Cert.{Cert}
+use Rattle.rt_recorder.specs.declared.cert.Cert.{Cert}
 use Rattle.rt_recorder.specs.Checking.{HasNoModel, IsChecked}
 use Rattle.rt_recorder.specs.declared.check.Checked.TheVariants as checked
 use Rattle.rt_recorder.specs.declared.encoded.Encoded.{Encoded}

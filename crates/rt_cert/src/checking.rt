@@ -8,10 +8,9 @@ use crate::claim::{Claim, claim_of};
 use crate::encoding::encoding;
 use crate::judgement::{Judgement, Why};
 use crate::lines::put_lines;
-use rt_cert_text::Cert;
 use rt_derive::Checker;
 use rt_input::Input;
-use rt_recorder::{Checked, Encoded, check_steps};
+use rt_recorder::{Cert, Checked, Encoded, check_steps};
 use rt_value::{Keep, NoMemory};
 use std::alloc::Global;
 

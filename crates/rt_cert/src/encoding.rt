@@ -1,9 +1,9 @@
 ghost use Rattle.std.specs.Prelude.{◌≡◌, length, IfOk};
 ghost use Rattle.std.specs.Option.{ForSome};
 ghost use Rattle.rt_schema.specs.Given.{places};
-ghost use Rattle.rt_encode.specs.Encoding.{IsEncoding};
+ghost use Rattle.rt_cert.specs.Encoding.{IsEncoding};
 
-use rt_encode::encode;
+use crate::encode;
 use rt_input::Input;
 use rt_recorder::Encoded;
 use rt_value::{Keep, NoMemory};

@@ -3,11 +3,17 @@
 //!
 //! One is written by a search, and checked without any: the checker encodes the input anew and goes
 //! along the steps. What it accepts holds whoever wrote the certificate.
+//!
+//! The clauses are those of the formula of the counterexamples and, for a choice of rows to be beaten,
+//! of a counter of the kept rows up to that choice's number. Nothing of them comes from a search, so
+//! that whoever writes a certificate and whoever checks it have the same lines.
 #![tactic(auto)]
 
 mod checking;
 mod claim;
 mod encoding;
+mod goal;
+mod input;
 mod judgement;
 mod lines;
 mod places;
@@ -15,5 +21,6 @@ mod proving;
 mod refutation;
 
 pub use checking::check;
+pub use input::encode;
 pub use judgement::{Judgement, Why};
 pub use proving::{Proof, prove};

@@ -1,13 +1,12 @@
 ghost use Rattle.std.specs.Prelude.{◌≡◌, ◌++◌, IfOk};
 ghost use Rattle.std.specs.List.{AllByRecursion as Each};
 ghost use Rattle.rt_clause.specs.Refuting.{IsRefuted};
-ghost use Rattle.rt_cert_text.specs.Certificate.{IsStep};
+ghost use Rattle.rt_recorder.specs.Certificate.{IsStep};
 ghost use Rattle.rt_recorder.specs.Checking.{AreAccepted, HasNoModel, clauses};
 
 use crate::lines::put_lines;
-use rt_cert_text::Step;
 use rt_clause::{Clauses, Lit};
-use rt_recorder::{Encoded, Recorder};
+use rt_recorder::{Encoded, Recorder, Step};
 use rt_solver::{Found, Order, Solver};
 use rt_value::{List, NoMemory};
 use std::alloc::Global;

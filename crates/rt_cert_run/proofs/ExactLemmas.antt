@@ -9,9 +9,9 @@ use Rattle.rt_schema.specs.Given.{places}
 use Rattle.rt_schema.specs.declared.table.Table.{Table}
 use Rattle.rt_words.specs.Command.{command}
 use Rattle.rt_words.specs.Ranges.{Command}
-use Rattle.rt_cert_text.specs.declared.cert.Cert.{Cert}
-use Rattle.rt_cert_text.specs.declared.fault.CertFault.TheVariants as reading
-use Rattle.rt_cert_text.proofs.BadLemmas.{of-bad, of-cert}
+use Rattle.rt_recorder.specs.declared.cert.Cert.{Cert}
+use Rattle.rt_recorder.specs.declared.fault.CertFault.TheVariants as reading
+use Rattle.rt_recorder.proofs.BadLemmas.{of-bad, of-cert}
 use Rattle.rt_outcome.specs.declared.outcome.Outcome.{Outcome}
 use Rattle.rt_outcome.specs.declared.outcome.Outcome.TheVariants as outcome
 use Rattle.rt_outcome.specs.declared.outcome.Spent.{Spent}

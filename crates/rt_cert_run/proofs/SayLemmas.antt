@@ -7,8 +7,8 @@ use Rattle.std.specs.Str.{bytes_eq}
 use Rattle.rt_io.specs.Edge.{NoneFell, Rose}
 use Rattle.rt_value.specs.declared.no_memory.NoMemory.{NoMemory}
 use Rattle.rt_words.specs.Command.{command}
-use Rattle.rt_cert_text.specs.declared.cert.Cert.{Cert}
-use Rattle.rt_cert_text.specs.declared.fault.CertFault.TheVariants as reading
+use Rattle.rt_recorder.specs.declared.cert.Cert.{Cert}
+use Rattle.rt_recorder.specs.declared.fault.CertFault.TheVariants as reading
 use Rattle.rt_outcome.specs.declared.outcome.Outcome.{Outcome}
 use Rattle.rt_outcome.specs.declared.outcome.Outcome.TheVariants as outcome
 use Rattle.rt_input.specs.Accepted.{Accepted}

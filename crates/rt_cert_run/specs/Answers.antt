@@ -3,10 +3,10 @@ use Rattle.std.specs.Prelude.{◌≡◌, IsTrue, List, Some, Ok, ⊤}
 use Rattle.rt_io.specs.Edge.{Rose}
 use Rattle.rt_io.specs.Logs.{Broke, Grew, GrewPartly, IsKept, Log, at_place, other_place}
 use Rattle.rt_words.specs.Command.{command}
-use Rattle.rt_cert_text.specs.Certificate.{cert_text}
-use Rattle.rt_cert_text.specs.declared.cert.Cert.{Cert}
-use Rattle.rt_cert_text.specs.declared.fault.CertFault.{CertFault}
-use Rattle.rt_cert_text.specs.declared.fault.CertFault.TheVariants as faults
+use Rattle.rt_recorder.specs.Certificate.{cert_text}
+use Rattle.rt_recorder.specs.declared.cert.Cert.{Cert}
+use Rattle.rt_recorder.specs.declared.fault.CertFault.{CertFault}
+use Rattle.rt_recorder.specs.declared.fault.CertFault.TheVariants as faults
 use Rattle.rt_outcome.specs.declared.outcome.Outcome.{Outcome}
 use Rattle.rt_outcome.specs.declared.outcome.Outcome.TheVariants as outcome
 use Rattle.rt_outcome.specs.declared.outcome.Spent.{Spent}

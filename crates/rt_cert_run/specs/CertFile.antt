@@ -1,9 +1,9 @@
 -- The certificate in a file.
 use Rattle.std.specs.Prelude.{◌≡◌, ℕ, ◌+◌, ◌≤◌, ◌<◌, IsTrue, Some, length, ⊤}
 use Rattle.rt_io.specs.Edge.{Rose}
-use Rattle.rt_cert_text.specs.Certificate.{IsCert, cert_text}
-use Rattle.rt_cert_text.specs.Lines.{IsFirstBad}
-use Rattle.rt_cert_text.specs.declared.cert.Cert.{Cert}
+use Rattle.rt_recorder.specs.Certificate.{IsCert, cert_text}
+use Rattle.rt_recorder.specs.Lines.{IsFirstBad}
+use Rattle.rt_recorder.specs.declared.cert.Cert.{Cert}
 use Rattle.rt_outcome.specs.Held.{without_mark}
 use Rattle.rt_outcome.specs.Source.{Text}
 use Rattle.rt_outcome.specs.Steps.{Seen}

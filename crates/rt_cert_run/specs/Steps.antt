@@ -2,8 +2,8 @@
 use Rattle.std.specs.Prelude.{◌≡◌, ◌≢◌, ◌⊎◌, IsTrue, List}
 use Rattle.rt_io.specs.Logs.{Broke, Grew, GrewPartly, Log}
 use Rattle.rt_words.specs.Command.{command}
-use Rattle.rt_cert_text.specs.Certificate.{cert_text}
-use Rattle.rt_cert_text.specs.declared.cert.Cert.{Cert}
+use Rattle.rt_recorder.specs.Certificate.{cert_text}
+use Rattle.rt_recorder.specs.declared.cert.Cert.{Cert}
 use Rattle.rt_outcome.specs.declared.outcome.Outcome.{Outcome}
 use Rattle.rt_outcome.specs.declared.outcome.Outcome.TheVariants as outcome
 use Rattle.rt_input.specs.Accepted.{Accepted}

@@ -3,8 +3,8 @@ use Rattle.std.specs.Prelude.{ℕ, Bool, List, [], ◌++◌, length, Option, Non
 use Rattle.rt_value.specs.Keep.{size}
 use Rattle.rt_io.specs.declared.place.Place.{Place}
 use Rattle.rt_io.specs.declared.place.Place.TheVariants as at
-use Rattle.rt_cert_text.specs.declared.fault.CertFault.{CertFault}
-use Rattle.rt_cert_text.specs.declared.fault.CertFault.TheVariants as faults
+use Rattle.rt_recorder.specs.declared.fault.CertFault.{CertFault}
+use Rattle.rt_recorder.specs.declared.fault.CertFault.TheVariants as faults
 use Rattle.rt_outcome.specs.declared.outcome.Outcome.{Outcome}
 use Rattle.rt_outcome.specs.declared.outcome.Outcome.TheVariants as outcome
 use Rattle.rt_outcome.specs.Source.{Text}

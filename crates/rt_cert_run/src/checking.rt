@@ -10,9 +10,9 @@ use crate::outcome::CertOutcome;
 use crate::say::{fault_text, judgement_text};
 use crate::told::{Told, stopped};
 use rt_cert::check;
-use rt_cert_text::{Cert, CertFault};
 use rt_input::{Input, read_input};
 use rt_io::Files;
+use rt_recorder::{Cert, CertFault};
 use rt_value::{NoMemory, Txt};
 use std::alloc::Global;
 

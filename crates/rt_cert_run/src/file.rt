@@ -1,13 +1,13 @@
 //! The certificate in a file.
 ghost use Rattle.std.specs.Prelude.{◌≡◌, IsTrue, IfOk, IfErr};
 ghost use Rattle.rt_io.specs.Edge.{OnlyRises};
-ghost use Rattle.rt_cert_text.specs.Certificate.{IsCert, cert_text};
+ghost use Rattle.rt_recorder.specs.Certificate.{IsCert, cert_text};
 ghost use Rattle.rt_outcome.specs.Held.{without_mark};
 ghost use Rattle.rt_outcome.specs.Steps.{over};
 ghost use Rattle.rt_cert_run.specs.CertFile.{FileStops, IsFileOf, IsTextOf, TextStops};
 
-use rt_cert_text::{Cert, CertFault, read_cert};
 use rt_io::{Files, ReadFail, read_file};
+use rt_recorder::{Cert, CertFault, read_cert};
 use rt_value::{Bytes, List, NoMemory, Txt};
 use std::alloc::Global;
 

@@ -2,10 +2,9 @@ ghost use Rattle.std.specs.Prelude.{◌≡◌};
 ghost use Rattle.rt_cert_run.specs.Texts.{of_judgement, place, status_of};
 
 use rt_cert::{Judgement, Why};
-use rt_cert_text::{Cert, CertFault};
 use rt_io::Place;
 use rt_outcome::Outcome;
-use rt_recorder::Encoded;
+use rt_recorder::{Cert, CertFault, Encoded};
 use rt_value::Keep;
 
 /// How a call of `cert_run` ends.

@@ -13,7 +13,7 @@ use Rattle.rt_input.specs.First.{first_judged, first_of}
 use Rattle.rt_input.specs.Judged.{Data, accepted, data_judged, data_of, input_judged, like_left, no_rows, query_judged, query_of, right_judged, schema_judged, table_judged, tables_judged, then_read, within_limit}
 use Rattle.rt_outcome.specs.Held.{Holding, text_read}
 use Rattle.rt_outcome.specs.Source.{Text, source_of}
-use Rattle.rt_grade.specs.Grades.{beside, candidate_judged}
+use Rattle.rt_grading.specs.Grades.{beside, candidate_judged}
 use Rattle.rt_grading.proofs.WordLemmas.{four}
 
 -- ---- the reference is the same whatever the second query is

@@ -19,9 +19,9 @@ use Rattle.rt_input.specs.Judged.{command_judged, input_judged, judged, then_rea
 use Rattle.rt_outcome.specs.Held.{text_of, text_read}
 use Rattle.rt_outcome.specs.Source.{IsKnown, Text, source_of}
 use Rattle.rt_outcome.specs.Steps.{Seen}
-use Rattle.rt_grade.specs.Grades.{DecidesOn, IsPlacedIn, beside, candidate_judged, right_of}
-use Rattle.rt_grade.specs.declared.grade.Grade.{Grade}
-use Rattle.rt_grade.specs.declared.grade.Grade.TheVariants.{Agree, Witness, Undecided, Refused, Work, TooLong}
+use Rattle.rt_grading.specs.Grades.{DecidesOn, IsPlacedIn, beside, candidate_judged, right_of}
+use Rattle.rt_grading.specs.declared.grade.Grade.{Grade}
+use Rattle.rt_grading.specs.declared.grade.Grade.TheVariants.{Agree, Witness, Undecided, Refused, Work, TooLong}
 use Rattle.rt_grading.specs.declared.words.GradeWords.{GradeWords}
 use Rattle.rt_grading.specs.Answers.{IsAnswer, IsAnswerAlone}
 use Rattle.rt_grading.specs.Candidates.{IsGradeOf}

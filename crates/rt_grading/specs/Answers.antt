@@ -18,8 +18,8 @@ use Rattle.rt_outcome.specs.Placed.{Placed}
 use Rattle.rt_outcome.specs.Source.{IsKnown, Text, source_of}
 use Rattle.rt_outcome.specs.Steps.{IsLong, Seen, Stops as StopsReading}
 use Rattle.rt_input.specs.declared.first.First.{First}
-use Rattle.rt_grade.specs.declared.grade.Grade.{Grade}
-use Rattle.rt_grade.specs.declared.grade.Grade.TheVariants.{Agree, Witness, Undecided, Refused, Work, TooLong}
+use Rattle.rt_grading.specs.declared.grade.Grade.{Grade}
+use Rattle.rt_grading.specs.declared.grade.Grade.TheVariants.{Agree, Witness, Undecided, Refused, Work, TooLong}
 use Rattle.rt_grading.specs.declared.fault.GradeFault.{GradeFault}
 use Rattle.rt_grading.specs.declared.fault.GradeFault.TheVariants.{BadList, TooManyPaths, ListLong, FileRead, Verdict}
 use Rattle.rt_grading.specs.declared.run.Graded.{Graded}

@@ -9,9 +9,9 @@ use Rattle.rt_outcome.specs.declared.part.Part.TheVariants.{Query2}
 use Rattle.rt_outcome.specs.Held.{Holding, text_read}
 use Rattle.rt_outcome.specs.Source.{Text}
 use Rattle.rt_outcome.specs.Steps.{Seen}
-use Rattle.rt_grade.specs.Grades.{IsGrade, IsPlacedIn, candidate_judged, outcome_of}
-use Rattle.rt_grade.specs.declared.grade.Grade.{Grade}
-use Rattle.rt_grade.specs.declared.grade.Grade.TheVariants.{Agree, Witness, Undecided, Refused, Work, TooLong}
+use Rattle.rt_grading.specs.Grades.{IsGrade, IsPlacedIn, candidate_judged, outcome_of}
+use Rattle.rt_grading.specs.declared.grade.Grade.{Grade}
+use Rattle.rt_grading.specs.declared.grade.Grade.TheVariants.{Agree, Witness, Undecided, Refused, Work, TooLong}
 use Rattle.rt_grading.specs.declared.fault.GradeFault.{GradeFault}
 use Rattle.rt_grading.specs.declared.fault.GradeFault.TheVariants.{BadList, TooManyPaths, ListLong, FileRead, Verdict}
 

@@ -2,3 +2,8 @@ pub mod Answers
 pub mod Candidates
 pub mod Listing
 pub mod Words
+pub mod Grades
+pub mod Known
+pub mod Prepared
+pub mod Review
+pub mod Listed

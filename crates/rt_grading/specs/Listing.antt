@@ -1,9 +1,9 @@
 -- The list of paths in a file.
 use Rattle.std.specs.Prelude.{◌≡◌, List, Some, Result, Ok, Err, IsTrue}
 use Rattle.rt_io.specs.Edge.{Rose}
-use Rattle.rt_paths.specs.Listed.{paths_read}
-use Rattle.rt_paths.specs.declared.fault.PathsFault.{PathsFault}
-use Rattle.rt_paths.specs.declared.fault.PathsFault.TheVariants as paths
+use Rattle.rt_grading.specs.Listed.{paths_read}
+use Rattle.rt_grading.specs.declared.paths_fault.PathsFault.{PathsFault}
+use Rattle.rt_grading.specs.declared.paths_fault.PathsFault.TheVariants as paths
 use Rattle.rt_outcome.specs.declared.outcome.Outcome.{Outcome}
 use Rattle.rt_outcome.specs.declared.outcome.Outcome.TheVariants as outcome
 use Rattle.rt_outcome.specs.declared.part.Part.TheVariants.{Query2}

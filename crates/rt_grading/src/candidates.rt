@@ -3,11 +3,11 @@ ghost use Rattle.std.specs.List.{AllZip};
 ghost use Rattle.rt_io.specs.Edge.{NoneFell, OnlyRises};
 ghost use Rattle.rt_input.specs.First.{IsFirst};
 ghost use Rattle.rt_outcome.specs.Steps.{over};
-ghost use Rattle.rt_grade.specs.Review.{IsReviewOf};
+ghost use Rattle.rt_grading.specs.Review.{IsReviewOf};
 ghost use Rattle.rt_grading.specs.Candidates.{CandidateStops, CandidatesStop, IsGradeOf};
 
 use crate::fault::GradeFault;
-use rt_grade::{Grade, Review, grade_text};
+use crate::{Grade, Review, grade_text};
 use rt_input::First;
 use rt_io::Files;
 use rt_outcome::{Outcome, Part, read_text};

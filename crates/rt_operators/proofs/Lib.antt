@@ -1,1 +1,11 @@
 pub mod More
+pub mod Dividing
+pub mod ConditionLaws
+pub mod Divided
+pub mod Joined
+pub mod Layers
+pub mod Meant
+pub mod Relations
+pub mod Typing
+pub mod Typings
+pub mod Widths

@@ -6,3 +6,4 @@ pub mod Meaning
 pub mod Numbers
 pub mod Operators
 pub mod Tests
+pub mod Divisor

@@ -4,8 +4,8 @@ use Rattle.std.proofs.Common.{◌≡◌, List, [], ◌∷◌, Bool, Result, Ok, 
 use Rattle.std.specs.Prelude.{IfOk}
 use Rattle.rt_algebra.specs.Answer.{plain}
 use Rattle.rt_algebra.specs.declared.typed.Typed.{Typed}
-use Rattle.rt_operator_laws.proofs.Conditions.{then-ok}
-use Rattle.rt_operator_laws.proofs.Meant.{project-keeps, rename-keeps, select-keeps, table-ok, two-ok}
+use Rattle.rt_operators.proofs.ConditionLaws.{then-ok}
+use Rattle.rt_operators.proofs.Meant.{project-keeps, rename-keeps, select-keeps, table-ok, two-ok}
 use Rattle.rt_operators.specs.Answers as answers
 use Rattle.rt_operators.specs.Columns.{texts}
 use Rattle.rt_operators.specs.Fault.{◌>>=◌}

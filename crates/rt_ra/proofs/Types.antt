@@ -11,8 +11,8 @@ use Rattle.rt_grammar.specs.Terminals.{Kinds, flag}
 use Rattle.rt_grammar.specs.Words.{all_formed}
 use Rattle.rt_grammar.specs.declared.fixed.Fixed.TheVariants as fixed
 use Rattle.rt_grammar.specs.declared.terminal.Terminal.TheVariants as terminal
-use Rattle.rt_operator_laws.proofs.Conditions.{then-ok}
-use Rattle.rt_operator_laws.proofs.Typings.{project-ok, rename-ok, select-ok, table-ok, two-ok}
+use Rattle.rt_operators.proofs.ConditionLaws.{then-ok}
+use Rattle.rt_operators.proofs.Typings.{project-ok, rename-ok, select-ok, table-ok, two-ok}
 use Rattle.rt_columns.proofs.Fitting.{all-fit, table-as}
 use Rattle.rt_operators.specs.Columns.{called, texts}
 use Rattle.rt_operators.specs.Fault.{◌>>=◌}

@@ -8,12 +8,12 @@ ghost use Rattle.rt_ra_tree.specs.declared.tree.RaOp.TheVariants as op;
 ghost use Rattle.rt_value.specs.Gives.{Gives};
 
 use rt_algebra::Query;
-use rt_joins::{Doubled, anti_join, join, left_join, semi_join};
-use rt_operators::{Relation, texts};
+use rt_operators::{
+    Dividend, Doubled, Relation, anti_join, cross, divide, except, intersect, join, left_join,
+    project, rename, select, semi_join, table_named, texts, union,
+};
 use rt_ra_tree::{Ra, RaFault, RaNames, RaOp, RaTests};
 use rt_schema::Table;
-use rt_set_operators::{Dividend, cross, divide, except, intersect, union};
-use rt_unary::{project, rename, select, table_named};
 use rt_value::{Boxed, NoMemory};
 use std::alloc::Global;
 

@@ -10,7 +10,6 @@ use rt_words::Words;
 use std::alloc::Global;
 
 /// What the words ask for: two algebra texts over the tables of a folder.
-#[derive(Drop)]
 pub(crate) struct RaCommand {
     pub(crate) schema: Txt,
     /// The folder of the table files.
@@ -19,6 +18,19 @@ pub(crate) struct RaCommand {
     pub(crate) query2: Txt,
     pub(crate) conflicts: Option<u64>,
     pub(crate) work_limit: u64,
+}
+
+impl Drop for RaCommand {
+    fn drop(self) {
+        let RaCommand {
+            schema: _,
+            dir: _,
+            query1: _,
+            query2: _,
+            conflicts: _,
+            work_limit: _,
+        } = self;
+    }
 }
 
 impl RaCommand {

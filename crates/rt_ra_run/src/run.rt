@@ -39,7 +39,11 @@ fn answer<F: Files>(alloc: Global, command: &RaCommand, files: &mut F) -> Result
     ensures rises { NoneFell (F.faults files.old) (F.faults files.new) }
 {
     match read_asked(alloc, command, files) {
-        Ok(asked) => judge(alloc, &asked),
+        Ok(asked) => {
+            let said = judge(alloc, &asked);
+            drop(asked);
+            said
+        }
         Err(RaOutcome::Verdict(Outcome::NoMemory)) => Err(NoMemory),
         Err(outcome) => refuse(alloc, command.work_limit, outcome),
     }
@@ -53,7 +57,11 @@ fn prepare<F: Files>(alloc: Global, words: &[Txt], files: &mut F) -> Result<RaAn
     ensures rises { NoneFell (F.faults files.old) (F.faults files.new) }
 {
     match read_command(alloc, words) {
-        Ok(command) => answer(alloc, &command, files),
+        Ok(command) => {
+            let said = answer(alloc, &command, files);
+            drop(command);
+            said
+        }
         Err(Outcome::NoMemory) => Err(NoMemory),
         Err(outcome) => refuse(alloc, 0, RaOutcome::Verdict(outcome)),
     }

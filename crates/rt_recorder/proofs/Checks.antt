@@ -9,7 +9,7 @@ use Rattle.rt_clause.specs.Models.{IsModel, clause_true, lit_true}
 use Rattle.rt_clause.specs.Refuting.{IsRefuted, Refutes}
 use Rattle.rt_clause.proofs.Following.{follows-true, lit_true-negated}
 use Rattle.rt_clause.proofs.EachLine.{each-append, each-cons, each-none}
-use Rattle.rt_cert_text.specs.declared.cert.Step.{Step}
+use Rattle.rt_recorder.specs.declared.cert.Step.{Step}
 use Rattle.rt_recorder.specs.Recording.{IsAccepted}
 use Rattle.rt_recorder.specs.Checking.{AreAccepted, IsChecked, IsFirstWrong, IsSound, HasNoModel, clauses}
 use Rattle.rt_recorder.specs.declared.check.Checked.{Checked}

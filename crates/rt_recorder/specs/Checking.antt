@@ -4,7 +4,7 @@ use Rattle.std.specs.Option.{IfSome}
 use Rattle.rt_clause.specs.Literal.{Literal}
 use Rattle.rt_clause.specs.Models.{IsModel, lit_true}
 use Rattle.rt_clause.specs.Refuting.{IsRefuted}
-use Rattle.rt_cert_text.specs.declared.cert.Step.{Step}
+use Rattle.rt_recorder.specs.declared.cert.Step.{Step}
 use Rattle.rt_recorder.specs.Recording.{IsAccepted}
 use Rattle.rt_recorder.specs.declared.check.Checked.{Checked}
 use Rattle.rt_recorder.specs.declared.check.Checked.TheVariants.{Yes, Line, NoRefutation}

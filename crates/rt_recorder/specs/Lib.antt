@@ -1,2 +1,5 @@
 pub mod Recording
 pub mod Checking
+pub mod Certificate
+pub mod Lines
+pub mod Reading

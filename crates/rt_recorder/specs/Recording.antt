@@ -3,8 +3,8 @@ use Rattle.std.specs.Prelude.{◌≡◌, ◌<◌, Bool, true, false, List, [], �
 use Rattle.std.specs.List.{All as Each}
 use Rattle.rt_clause.specs.Literal.{Literal}
 use Rattle.rt_clause.specs.Lists.{follows}
-use Rattle.rt_cert_text.specs.Certificate.{IsStep}
-use Rattle.rt_cert_text.specs.declared.cert.Step.{Step}
+use Rattle.rt_recorder.specs.Certificate.{IsStep}
+use Rattle.rt_recorder.specs.declared.cert.Step.{Step}
 
 pub record Recording : Type 0 where
   pub lines : List (List Literal)

@@ -1,9 +1,9 @@
 ghost use Rattle.std.specs.Prelude.{◌≡◌, ◌<◌, ◌^◌, [], IfOk};
 ghost use Rattle.std.specs.List.{AllByRecursion as Each};
-ghost use Rattle.rt_cert_text.specs.Certificate.{IsNumber, IsStep};
+ghost use Rattle.rt_recorder.specs.Certificate.{IsNumber, IsStep};
 ghost use Rattle.rt_recorder.specs.Recording.{AreSteps};
 
-use rt_cert_text::Step;
+use crate::Step;
 use rt_clause::{Adds, Lines, Lit, LitList};
 use rt_derive::Checker;
 use rt_value::{List, NoMemory};

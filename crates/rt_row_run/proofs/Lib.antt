@@ -1,1 +1,4 @@
 mod RowLemmas
+mod Nodes
+mod Transfer
+mod VerdictLemmas

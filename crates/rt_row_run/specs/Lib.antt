@@ -1,2 +1,3 @@
 pub mod RowVerdicts
 pub mod Said
+pub mod Holds

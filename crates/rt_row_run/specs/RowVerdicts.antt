@@ -4,7 +4,7 @@ use Rattle.rt_value.specs.declared.value.Value.{Value}
 use Rattle.rt_schema.specs.Given.{places}
 use Rattle.rt_search.specs.Least.{IsLeast, IsSpentBest}
 use Rattle.rt_row.specs.Rows.{is_memory, row_read}
-use Rattle.rt_holds.specs.Holds.{Holds, holds_at}
+use Rattle.rt_row_run.specs.Holds.{Holds, holds_at}
 use Rattle.rt_input.specs.Accepted.{Accepted}
 use Rattle.rt_input.specs.Reading.{Call, IsRead}
 use Rattle.rt_row_run.specs.declared.answer.RowAnswer.{RowAnswer}

@@ -1,6 +1,6 @@
 ghost use Rattle.std.specs.Prelude.{◌≡◌, IfOk, IfErr, Ok, Some};
 ghost use Rattle.rt_io.specs.Edge.{NoneFell};
-ghost use Rattle.rt_holds.specs.Holds.{IsRowVerdict};
+ghost use Rattle.rt_row_run.specs.Holds.{IsRowVerdict};
 ghost use Rattle.rt_schema.specs.Given.{places};
 ghost use Rattle.rt_search.specs.Least.{IsSpentBest};
 ghost use Rattle.rt_input.specs.Reading.{call, Stop};
@@ -9,7 +9,7 @@ ghost use Rattle.rt_row_run.specs.Said.{fault_line, row_text};
 
 use crate::answer::{RowAnswer, RowVerdict};
 use crate::say::{fault_line, rows_text, spent_text};
-use rt_holds::smallest_row;
+use crate::smallest_row;
 use rt_input::{Input, read_input};
 use rt_io::Files;
 use rt_outcome::{Outcome, Spent};

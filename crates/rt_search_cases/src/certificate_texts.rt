@@ -1,4 +1,4 @@
-use rt_cert_text::{CertFault, cert_text, read_cert};
+use rt_recorder::{CertFault, cert_text, read_cert};
 use std::alloc::Global;
 
 fn written_back(alloc: Global, text: &str) -> Result<bool, CertFault> {

@@ -1,7 +1,6 @@
-use rt_cert_text::{Cert, Step};
 use rt_clause::{Adds, Lines, Lit};
 use rt_derive::Checker;
-use rt_recorder::{Checked, Encoded, Recorder, check_steps};
+use rt_recorder::{Cert, Checked, Encoded, Recorder, Step, check_steps};
 use rt_value::{List, NoMemory};
 use std::alloc::Global;
 use std::process::Abort;

@@ -26,7 +26,7 @@ use Rattle.rt_outcome.specs.Steps.{Failed, Seen}
 use Rattle.rt_row_run.specs.RowVerdicts.{IsRowAnswer, Judges}
 use Rattle.rt_row_run.specs.declared.answer.RowVerdict.{RowVerdict}
 use Rattle.rt_row_run.specs.declared.answer.RowVerdict.TheVariants as rows
-use Rattle.rt_grade.specs.declared.grade.Grade.{Grade}
+use Rattle.rt_grading.specs.declared.grade.Grade.{Grade}
 use Rattle.rt_grading.specs.Answers.{AreGradedBy, FailsToRead, RefusesList, Stops, StopsFirst, StopsOf}
 use Rattle.rt_grading.specs.Words.{grade_words}
 use Rattle.rt_grading.specs.declared.fault.GradeFault.{GradeFault}

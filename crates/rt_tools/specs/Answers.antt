@@ -9,7 +9,7 @@ use Rattle.rt_outcome.specs.Source.{Text}
 use Rattle.rt_row_run.specs.RowVerdicts.{IsRowAnswer}
 use Rattle.rt_row_run.specs.declared.answer.RowVerdict.{RowVerdict}
 use Rattle.rt_row_run.specs.declared.answer.RowVerdict.TheVariants as rows
-use Rattle.rt_grade.specs.declared.grade.Grade.{Grade}
+use Rattle.rt_grading.specs.declared.grade.Grade.{Grade}
 use Rattle.rt_grading.specs.Answers.{AreGraded, Stops}
 use Rattle.rt_grading.specs.declared.fault.GradeFault.{GradeFault}
 use Rattle.rt_grading.specs.declared.fault.GradeFault.TheVariants as faults

@@ -7,8 +7,8 @@ use Rattle.rt_outcome.specs.declared.outcome.Outcome.{Outcome}
 use Rattle.rt_outcome.specs.declared.outcome.Outcome.TheVariants as outcome
 use Rattle.rt_outcome.specs.Source.{Text}
 use Rattle.rt_outcome.specs.Texts.{fault_text, stopped_text, status_of as status_of_outcome}
-use Rattle.rt_grade.specs.declared.grade.Grade.{Grade}
-use Rattle.rt_grade.specs.declared.grade.Grade.TheVariants as grade
+use Rattle.rt_grading.specs.declared.grade.Grade.{Grade}
+use Rattle.rt_grading.specs.declared.grade.Grade.TheVariants as grade
 use Rattle.rt_grading.specs.declared.fault.GradeFault.{GradeFault}
 use Rattle.rt_grading.specs.declared.fault.GradeFault.TheVariants as fault
 use Rattle.rt_tools.specs.declared.outcome.ToolOutcome.{ToolOutcome}

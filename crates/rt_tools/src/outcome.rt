@@ -1,8 +1,7 @@
 ghost use Rattle.std.specs.Prelude.{◌≡◌};
 ghost use Rattle.rt_tools.specs.Texts.{place, status_of};
 
-use rt_grade::Grade;
-use rt_grading::GradeFault;
+use rt_grading::{Grade, GradeFault};
 use rt_io::Place;
 use rt_outcome::{Outcome, Spent};
 use rt_row::RowFault;

@@ -2,8 +2,7 @@
 ghost use Rattle.std.specs.Prelude.{◌≡◌, ◌++◌, IfOk, OnOk};
 ghost use Rattle.rt_tools.specs.Texts as spec;
 
-use rt_grade::Grade;
-use rt_grading::GradeFault;
+use rt_grading::{Grade, GradeFault};
 use rt_outcome::fault_text;
 use rt_value::{Bytes, List, NoMemory, Txt};
 use std::alloc::Global;

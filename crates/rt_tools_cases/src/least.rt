@@ -1,9 +1,9 @@
 //! The least choice of rows with a row in the first answer alone.
 use crate::held::{files, list_of};
-use rt_holds::smallest_row;
 use rt_input::{Input, read_input};
 use rt_outcome::Outcome;
 use rt_row::read_row;
+use rt_row_run::smallest_row;
 use rt_search::Best;
 use rt_value::Row;
 use std::alloc::Global;

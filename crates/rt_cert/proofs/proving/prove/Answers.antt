@@ -1,8 +1,8 @@
 use Rattle.std.proofs.Common.{◌∙◌, ℕ, Bool, List, arith, ap, subst, sym}
 use Rattle.std.specs.Prelude.{Option, IfSome}
 use Rattle.std.specs.Option.{option_map}
-use Rattle.rt_cert_text.specs.Certificate.{ArePlaces}
-use Rattle.rt_encode.specs.Encoding.{IsEncoding}
+use Rattle.rt_recorder.specs.Certificate.{ArePlaces}
+use Rattle.rt_cert.specs.Encoding.{IsEncoding}
 use Rattle.rt_cert.specs.Certified.{IsToBeRefuted, rows_of}
 use Rattle.rt_cert.specs.Least.{IsSmallestOrNone}
 use Rattle.rt_cert.specs.Places.{keep_of}

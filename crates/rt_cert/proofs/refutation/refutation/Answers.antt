@@ -2,8 +2,8 @@ use Rattle.std.proofs.Common.{◌≡◌, ◌∙◌, ◌++◌, List, None, map, a
 use Rattle.std.specs.List.{AllByRecursion as Each}
 use Rattle.rt_clause.specs.Literal.{Literal}
 use Rattle.rt_clause.specs.Refuting.{IsRefuted}
-use Rattle.rt_cert_text.specs.Certificate.{IsStep}
-use Rattle.rt_cert_text.specs.declared.cert.Step.{Step}
+use Rattle.rt_recorder.specs.Certificate.{IsStep}
+use Rattle.rt_recorder.specs.declared.cert.Step.{Step}
 use Rattle.rt_recorder.specs.Checking.{AreAccepted, clauses}
 use Rattle.rt_recorder.specs.Recording.{AreSteps, Recording}
 use Rattle.rt_solver.specs.Search.{line_of}

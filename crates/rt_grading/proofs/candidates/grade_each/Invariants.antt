@@ -1,6 +1,6 @@
 use Rattle.std.proofs.Common.{◌≡◌, take}
 use Rattle.rt_io.specs.Edge.{NoneFell}
-use Rattle.rt_grade.specs.Review.{IsReviewOf}
+use Rattle.rt_grading.specs.Review.{IsReviewOf}
 use Rattle.rt_grading.specs.Candidates.{IsGradeOf}
 use Rattle.rt_grading.proofs.candidates.grade_each.Given as goal
 use Rattle.std.specs.List.{AllZip}

@@ -1,6 +1,6 @@
 use Rattle.std.proofs.Common.{subst}
 use Rattle.rt_outcome.specs.Source.{Text}
-use Rattle.rt_grade.specs.Grades.{IsGrade, IsPlacedIn, candidate_judged, outcome_of}
+use Rattle.rt_grading.specs.Grades.{IsGrade, IsPlacedIn, candidate_judged, outcome_of}
 use Rattle.rt_grading.proofs.FaultLemmas.{of_text}
 use Rattle.rt_grading.proofs.candidates.grade_file.Goals as goal
 

@@ -11,14 +11,14 @@ pub returns-in-Ok-clause-row : goal.returns-in-Ok-clause-row
 returns-in-Ok-clause-row g c =
     let start = c.args.files.now in
     let end = c.read_asked.new.files in
-    if_ok (λ (a : RaAnswer). Judged c.in-Ok.asked a.outcome a.text) (λ a. (words : List (List ℕ)) → ra_command words ≡ Some c.args.command.now → Row (call g.F.Files words start end) a.outcome) c.judge.result
+    if_ok (λ (a : RaAnswer). Judged c.in-Ok.asked a.outcome a.text) (λ a. (words : List (List ℕ)) → ra_command words ≡ Some c.args.command.now → Row (call g.F.Files words start end) a.outcome) c.judge-said.result
     (λ a judged words e. judged_row (call g.F.Files words start end) c.in-Ok.asked a.outcome a.text
-    (read_row (call g.F.Files words start end) c.args.command.now c.in-Ok.asked e c.in-Ok.ensures.sound c.in-Ok.ensures.numbers c.in-Ok.ensures.ok) judged) c.judge.ensures
+    (read_row (call g.F.Files words start end) c.args.command.now c.in-Ok.asked e c.in-Ok.ensures.sound c.in-Ok.ensures.numbers c.in-Ok.ensures.ok) judged) c.judge-said.ensures
 
 pub returns-in-Ok-clause-says : goal.returns-in-Ok-clause-says
 returns-in-Ok-clause-says g c =
     let start = c.args.files.now in
     let end = c.read_asked.new.files in
-    if_ok (λ (a : RaAnswer). Judged c.in-Ok.asked a.outcome a.text) (λ a. (words : List (List ℕ)) → ra_command words ≡ Some c.args.command.now → IsTextOf (call g.F.Files words start end) a.outcome a.text) c.judge.result
+    if_ok (λ (a : RaAnswer). Judged c.in-Ok.asked a.outcome a.text) (λ a. (words : List (List ℕ)) → ra_command words ≡ Some c.args.command.now → IsTextOf (call g.F.Files words start end) a.outcome a.text) c.judge-said.result
     (λ a judged words e. judged_says (call g.F.Files words start end) c.in-Ok.asked a.outcome a.text
-    (read_row (call g.F.Files words start end) c.args.command.now c.in-Ok.asked e c.in-Ok.ensures.sound c.in-Ok.ensures.numbers c.in-Ok.ensures.ok) judged) c.judge.ensures
+    (read_row (call g.F.Files words start end) c.args.command.now c.in-Ok.asked e c.in-Ok.ensures.sound c.in-Ok.ensures.numbers c.in-Ok.ensures.ok) judged) c.judge-said.ensures

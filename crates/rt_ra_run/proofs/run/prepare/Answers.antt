@@ -10,13 +10,13 @@ use Rattle.rt_ra_run.proofs.run.prepare.Goals as goal
 pub returns-in-Ok-clause-row : goal.returns-in-Ok-clause-row
 returns-in-Ok-clause-row g c =
     let start = c.args.files.now in
-    let end = c.answer.new.files in
-    if_ok (λ (a : RaAnswer). (words : List (List ℕ)) → ra_command words ≡ Some c.in-Ok.command → Row (call g.F.Files words start end) a.outcome) (λ a. Row (call g.F.Files c.args.words.now start end) a.outcome) c.answer.result
-    (λ a h. h c.args.words.now c.in-Ok.ensures.ok) c.answer.ensures.row
+    let end = c.answer-said.new.files in
+    if_ok (λ (a : RaAnswer). (words : List (List ℕ)) → ra_command words ≡ Some c.in-Ok.command → Row (call g.F.Files words start end) a.outcome) (λ a. Row (call g.F.Files c.args.words.now start end) a.outcome) c.answer-said.result
+    (λ a h. h c.args.words.now c.in-Ok.ensures.ok) c.answer-said.ensures.row
 
 pub returns-in-Ok-clause-says : goal.returns-in-Ok-clause-says
 returns-in-Ok-clause-says g c =
     let start = c.args.files.now in
-    let end = c.answer.new.files in
-    if_ok (λ (a : RaAnswer). (words : List (List ℕ)) → ra_command words ≡ Some c.in-Ok.command → IsTextOf (call g.F.Files words start end) a.outcome a.text) (λ a. IsTextOf (call g.F.Files c.args.words.now start end) a.outcome a.text) c.answer.result
-    (λ a h. h c.args.words.now c.in-Ok.ensures.ok) c.answer.ensures.says
+    let end = c.answer-said.new.files in
+    if_ok (λ (a : RaAnswer). (words : List (List ℕ)) → ra_command words ≡ Some c.in-Ok.command → IsTextOf (call g.F.Files words start end) a.outcome a.text) (λ a. IsTextOf (call g.F.Files c.args.words.now start end) a.outcome a.text) c.answer-said.result
+    (λ a h. h c.args.words.now c.in-Ok.ensures.ok) c.answer-said.ensures.says

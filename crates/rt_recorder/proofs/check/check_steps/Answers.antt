@@ -1,6 +1,6 @@
 use Rattle.std.proofs.Common.{List, subst}
 use Rattle.std.specs.Prelude.{IfOk}
-use Rattle.rt_cert_text.specs.declared.cert.Step.{Step}
+use Rattle.rt_recorder.specs.declared.cert.Step.{Step}
 use Rattle.rt_recorder.specs.Checking.{IsChecked}
 use Rattle.rt_recorder.proofs.Checks.{only-answer, sound-answer}
 use Rattle.rt_recorder.proofs.check.check_steps.Goals as goal

@@ -1,6 +1,6 @@
 use Rattle.std.proofs.Common.{◌≡◌, take}
 use Rattle.std.specs.List.{All}
-use Rattle.rt_cert_text.specs.Certificate.{IsNumber}
+use Rattle.rt_recorder.specs.Certificate.{IsNumber}
 use Rattle.rt_recorder.proofs.recorder.hints_of.Given as goal
 
 abbrev pub invariant-loop-hint : goal.invariant-loop-hint

@@ -1,6 +1,6 @@
 use Rattle.std.proofs.Common.{◌≡◌, ◌<◌, ◌++◌, ◌∷◌, [], length, Bool, true, List, ap, sym, subst, ◌∙◌}
 use Rattle.std.specs.Prelude.{if◌then◌else◌}
-use Rattle.rt_cert_text.specs.declared.cert.Step.{Step}
+use Rattle.rt_recorder.specs.declared.cert.Step.{Step}
 use Rattle.rt_clause.specs.Literal.{Literal}
 use Rattle.std.specs.List.{All}
 use Rattle.rt_recorder.specs.Recording.{AreSteps, Recording}

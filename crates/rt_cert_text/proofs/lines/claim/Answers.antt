@@ -1,8 +1,0 @@
-use Rattle.std.proofs.Common.{◌≡◌, ◌≢◌, subst}
-use Rattle.std.specs.Prelude.{MatchBool}
-use Rattle.rt_cert_text.specs.Certificate.{agree}
-use Rattle.rt_cert_text.proofs.LineLemmas.{claim-none}
-use Rattle.rt_cert_text.proofs.lines.claim.Goals as goal
-
-pub returns-in_default : goal.returns-in_default
-returns-in_default c = claim-none c.args.line.now (subst (λ b. MatchBool b (c.args.line.now ≡ agree) (c.args.line.now ≢ agree)) c.if-is.false c.is.ensures) (c.in_default.ensures {u = tt})

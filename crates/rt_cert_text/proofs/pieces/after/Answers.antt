@@ -1,5 +1,0 @@
-use Rattle.rt_cert_text.proofs.Cuts.{after-cases}
-use Rattle.rt_cert_text.proofs.pieces.after.Goals as goal
-
-pub returns : goal.returns
-returns c = after-cases (λ r. r.now) c.args.text.now c.args.front.now c.strip_prefix.result c.strip_prefix.ensures.cases

@@ -1,7 +1,0 @@
-use Rattle.std.proofs.Common.{◌≡◌, ◌++◌, drop}
-use Rattle.std.specs.Fmt.{decimal}
-use Rattle.rt_cert_text.specs.Certificate.{spaced}
-use Rattle.rt_cert_text.proofs.writer.put_numbers.Given as goal
-
-abbrev pub invariant-loop-n : goal.invariant-loop-n
-invariant-loop-n l = l.text ++ spaced decimal (drop l.n-index l.numbers) ≡ l.fn.text ++ spaced decimal l.numbers

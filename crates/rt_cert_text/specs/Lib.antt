@@ -1,3 +1,0 @@
-pub mod Certificate
-pub mod Lines
-pub mod Reading

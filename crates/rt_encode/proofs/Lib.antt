@@ -1,2 +1,0 @@
-mod Encoded
-mod InputLemmas

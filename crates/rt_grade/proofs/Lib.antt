@@ -1,2 +1,0 @@
-mod JudgeLemmas
-mod KnownLemmas

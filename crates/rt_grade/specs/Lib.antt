@@ -1,4 +1,0 @@
-pub mod Grades
-pub mod Known
-pub mod Prepared
-pub mod Review

@@ -1,3 +1,0 @@
-mod Nodes
-mod Transfer
-mod VerdictLemmas

@@ -1,9 +1,0 @@
-pub mod Conditions
-pub mod Divided
-pub mod Joined
-pub mod Layers
-pub mod Meant
-pub mod Relations
-pub mod Typing
-pub mod Typings
-pub mod Widths
