@@ -15,9 +15,8 @@ use rt_annot::goal;
 use rt_eval::answers;
 use rt_formula::{Dag, Node};
 use rt_input::{Input, read_input};
-use rt_io::{RealFiles, RealSink, Sink, SinkFail, write_text};
+use rt_io::{RealFiles, RealSink, Sink, SinkFail, given_words, refuse, write_text};
 use rt_outcome::Outcome;
-use rt_program::{refuse, words};
 use rt_rules::cone;
 use rt_schema::Given;
 use rt_search::smallest_counted;
@@ -117,7 +116,7 @@ fn read_and_measure<S: Sink>(
 fn main(rt: HostRuntime) -> ExitCode {
     let mut out = RealSink::new(rt.stdout());
     let mut err = RealSink::new(rt.stderr());
-    let words = match words(&rt) {
+    let words = match given_words(&rt) {
         Ok(words) => words,
         Err(error) => return ExitCode::from(refuse(&mut err, &error, USAGE)),
     };

@@ -1,15 +1,14 @@
 //! Explains why two queries differ by the smallest counterexample, on the files of the system.
 #![tactic(auto)]
 
-use rt_io::{RealFiles, RealSink};
-use rt_program::{refuse, words};
+use rt_io::{RealFiles, RealSink, given_words, refuse};
 use rt_top::{USAGE, ratest};
 use std::process::ExitCode;
 
 fn main(rt: HostRuntime) -> ExitCode {
     let mut out = RealSink::new(rt.stdout());
     let mut err = RealSink::new(rt.stderr());
-    let words = match words(&rt) {
+    let words = match given_words(&rt) {
         Ok(words) => words,
         Err(error) => return ExitCode::from(refuse(&mut err, &error, USAGE)),
     };

@@ -1,9 +1,8 @@
 //! Commands beside `ratest`, on the files of the system; the first word says which.
 #![tactic(auto)]
 
-use rt_cert_run::cert_run;
-use rt_io::{Files, RealFiles, RealSink, Sink};
-use rt_program::{refuse, words};
+use rt_cert::cert_run;
+use rt_io::{Files, RealFiles, RealSink, Sink, given_words, refuse};
 use rt_ra_run::{RA_USAGE, ra_run};
 use rt_tools::tool_run;
 use rt_value::Txt;
@@ -81,7 +80,7 @@ fn run<F: Files, O: Sink, E: Sink>(
 fn main(rt: HostRuntime) -> ExitCode {
     let mut out = RealSink::new(rt.stdout());
     let mut err = RealSink::new(rt.stderr());
-    let words = match words(&rt) {
+    let words = match given_words(&rt) {
         Ok(words) => words,
         Err(error) => return ExitCode::from(refuse(&mut err, &error, RA_USAGE)),
     };

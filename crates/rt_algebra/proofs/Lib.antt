@@ -4,3 +4,7 @@ pub mod Exact
 pub mod Instances
 pub mod Rows
 pub mod Steps
+pub mod Columned
+pub mod Fitting
+pub mod Equations
+pub mod Staying

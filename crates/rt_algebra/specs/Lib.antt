@@ -5,3 +5,5 @@ pub mod Typed
 pub mod Sites
 pub mod Within
 pub mod Work
+pub mod TextColumns
+pub mod Stays

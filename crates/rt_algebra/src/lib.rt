@@ -2,20 +2,36 @@
 //! schema, and how much work a query is counted as.
 //!
 //! Meaning follows SQL under set semantics (ISO/IEC 9075-2, query expression); `specs/` has it.
+//!
+//! Besides, what is asked of queries wherever they come from: whether two are the same, part for
+//! part, whether one names a row outside of it, and what the columns of a text's query, in SQL or in
+//! relational algebra, are in the algebra.
 #![tactic(auto)]
 
+mod closed;
+mod column;
+mod column_types;
 mod cost;
 mod evaluate;
 mod expr;
 mod laws;
 mod predicate;
 mod query;
+mod same;
+mod table;
 mod typed;
+mod united;
 
+pub use closed::query_is_closed;
+pub use column::Column;
+pub use column_types::typed_of;
 pub use cost::work;
 pub use evaluate::{row, scope, value};
 pub use expr::{Expr, Term};
 pub use laws::{stays_bounded, wrapped_is_exact};
 pub use predicate::{cell_truth, one_of_truth};
 pub use query::{Pred, Query};
+pub use same::same_query;
+pub use table::table_columns;
 pub use typed::Typed;
+pub use united::{same_kinds, widened};

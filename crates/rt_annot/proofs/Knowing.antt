@@ -14,7 +14,7 @@ use Rattle.rt_formula.specs.Shared.{Shared, IsGrown}
 use Rattle.rt_formula.specs.Groups.{group_at}
 use Rattle.rt_annot.specs.declared.known.Found.{Found}
 use Rattle.rt_annot.specs.declared.subquery.Subquery.{Subquery}
-use Rattle.rt_shape.specs.Stays.{StaysQuery}
+use Rattle.rt_algebra.specs.Stays.{StaysQuery}
 use Rattle.rt_annot.specs.Annotated.{SameRows}
 use Rattle.rt_annot.specs.Known.{IsOver, Tells, TellsOf, AreKnown, exists_test, first_of, has_first}
 use Rattle.rt_annot.proofs.Alike.{same_some_no, same_some_yes}

@@ -27,7 +27,7 @@ use Rattle.rt_annot.specs.declared.sets.Side.{Side}
 use Rattle.rt_annot.specs.declared.sets.Side.TheVariants.{Standing, Missing}
 use Rattle.rt_annot.specs.Annotated.{formula, entry_of, entries_of, AreMerged, AreNodes, IsNode, IsGate, Mean, Reads, Gives, Choosing, yes_of, no_of, yes_when, no_when, test_joined, gates_joined, deciding, set_rows, side_test, side_node, projected_rows}
 use Rattle.rt_annot.specs.Known.{exists_test, among_test}
-use Rattle.rt_shape.proofs.Equations.{at_and, at_or, at_exists, at_member}
+use Rattle.rt_algebra.proofs.Equations.{at_and, at_or, at_exists, at_member}
 use Rattle.rt_annot.proofs.Alike.{same_append, same_except, same_intersect, same_map, same_member_no, same_member_yes, same_some_yes}
 use Rattle.rt_annot.proofs.Growing.{grown_trans, node_as, noted_stay, entries_stay}
 use Rattle.rt_annot.proofs.Walking.{noted_push, entry_is, projected_same, projected_below}

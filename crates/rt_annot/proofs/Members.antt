@@ -23,7 +23,7 @@ use Rattle.rt_annot.specs.Narrowed.{IsNarrowed, IsSelected}
 use Rattle.rt_annot.proofs.Alike.{same_filter, same_product}
 use Rattle.rt_annot.proofs.Exact.{select_exact}
 use Rattle.rt_annot.proofs.Growing.{noted_stay, entries_stay}
-use Rattle.rt_shape.proofs.Equations.{at_product}
+use Rattle.rt_algebra.proofs.Equations.{at_product}
 use Rattle.rt_annot.proofs.Narrowing.{whole_exact, whole_below}
 
 -- the rows that a condition may leave

@@ -16,9 +16,8 @@ use crate::gate::{Gate, Gates, Junction, constant, is_always};
 use crate::known::Found;
 use crate::member::among;
 use crate::subquery::{Subquery, place_of};
-use rt_algebra::{Expr, Pred, Query, one_of_truth, scope, value};
+use rt_algebra::{Expr, Pred, Query, one_of_truth, query_is_closed, scope, value};
 use rt_formula::Dag;
-use rt_shape::query_is_closed;
 use rt_value::{List, NoMemory, Op, Row, Value, compare, null_truth};
 use std::alloc::Global;
 

@@ -2,8 +2,7 @@ ghost use Rattle.std.specs.Prelude.{◌≡◌, ◌<◌, length, slice_index_or, 
 ghost use Rattle.rt_annot.specs.declared.subquery.Subquery.{Subquery};
 
 use crate::known::Found;
-use rt_algebra::Query;
-use rt_shape::same_query;
+use rt_algebra::{Query, same_query};
 
 /// A subquery that names no row outside of it, and what its rows come to.
 #[derive(Drop)]

@@ -259,8 +259,27 @@ fn kinds_and_bounds(rt: HostRuntime) {
     assert_each(&rt, rt.alloc(), table);
 }
 
+/// Whether the query has two columns, the first under this name and the second without one.
+fn has_one_name(rt: &impl Abort, alloc: Global, query: &str, name: &str) -> bool {
+    match read(rt, alloc, query) {
+        Ok(input) => {
+            let found = match input.left().names.as_slice() {
+                [Some(first), None] => first.as_str() == name,
+                _ => false,
+            };
+            drop(input);
+            found
+        }
+        Err(outcome) => {
+            drop(outcome);
+            false
+        }
+    }
+}
+
 #[test]
 fn names_of_what_comes_out(rt: HostRuntime) {
+    assert!(rt; has_one_name(&rt, rt.alloc(), "SELECT a AS n, b + 1 FROM t", "n"));
     let table = &[
         (
             "SELECT d.a FROM (SELECT a FROM t UNION SELECT b FROM u) AS d",

@@ -4,3 +4,7 @@ mod PlaceLemmas
 mod Refutations
 mod Encoded
 mod InputLemmas
+mod ExactLemmas
+mod FileLemmas
+mod SayLemmas
+mod WriteLemmas

@@ -4,3 +4,8 @@ pub mod Certified
 pub mod Claims
 pub mod Encodes
 pub mod Encoding
+pub mod Answers
+pub mod CertFile
+pub mod Steps
+pub mod Texts
+pub mod Words

@@ -3,7 +3,7 @@ ghost use Rattle.std.specs.Option.{ForSome};
 ghost use Rattle.rt_schema.specs.Given.{places};
 ghost use Rattle.rt_cert.specs.Encoding.{IsEncoding};
 
-use crate::encode;
+use crate::input::encode;
 use rt_input::Input;
 use rt_recorder::Encoded;
 use rt_value::{Keep, NoMemory};

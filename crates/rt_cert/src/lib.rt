@@ -7,20 +7,32 @@
 //! The clauses are those of the formula of the counterexamples and, for a choice of rows to be beaten,
 //! of a counter of the kept rows up to that choice's number. Nothing of them comes from a search, so
 //! that whoever writes a certificate and whoever checks it have the same lines.
+//!
+//! The command of certificates does both: it writes one of an input, or checks one.
 #![tactic(auto)]
 
+mod check_told;
 mod checking;
 mod claim;
 mod encoding;
+mod file;
 mod goal;
 mod input;
 mod judgement;
 mod lines;
+mod outcome;
 mod places;
+mod prove_told;
 mod proving;
 mod refutation;
+mod run;
+mod say;
+mod told;
 
 pub use checking::check;
 pub use input::encode;
 pub use judgement::{Judgement, Why};
+pub use outcome::CertOutcome;
 pub use proving::{Proof, prove};
+pub use run::cert_run;
+pub use say::CERT_USAGE;

@@ -12,8 +12,6 @@ mod law;
 #[cfg(test)]
 mod printed;
 #[cfg(test)]
-mod rows;
-#[cfg(test)]
 mod split;
 #[cfg(test)]
 mod table_files;

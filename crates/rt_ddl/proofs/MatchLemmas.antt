@@ -3,7 +3,7 @@ use Rattle.std.proofs.Common.{◌≡◌, ◌∙◌, sym, ap, ap₂, ℕ, suc, Li
 use Rattle.std.proofs.lemmas.List.Folds.{list_all-append}
 use Rattle.std.specs.List.{flat_map, list_all}
 use Rattle.std.specs.Prelude.{◌&&◌, bytes_eq, option_map, slice_get}
-use Rattle.rt_grammar.specs.Terminals.{Word}
+use Rattle.rt_token.specs.Terminals.{Word}
 use Rattle.rt_schema.specs.Schema.{foreign_sound}
 use Rattle.rt_schema.specs.declared.table.Column.{Column}
 use Rattle.rt_schema.specs.declared.table.Rule.TheVariants as made

@@ -10,7 +10,7 @@ use Rattle.std.specs.declared.cmp.Ordering.{Ordering}
 use Rattle.std.specs.declared.cmp.Ordering.TheVariants.{Less, Equal, Greater}
 use Rattle.std.specs.Prelude.{bytes_eq, is_some, option_map, slice_get, ◌||◌}
 use Rattle.std.specs.Option.{option_and_then, unwrap_or}
-use Rattle.rt_grammar.specs.Terminals.{Word}
+use Rattle.rt_token.specs.Terminals.{Word}
 use Rattle.rt_schema.specs.declared.table.Column.{Column}
 use Rattle.rt_ddl.specs.Meaning.{column_at, columns_of, given, has_column, has_name, has_table, or_else, table_at, table_named}
 use Rattle.rt_ddl.specs.Places.{ArePlacesOf, Placed, column_names, place_of, placed_at, table_names}

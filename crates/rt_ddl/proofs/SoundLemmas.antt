@@ -3,7 +3,7 @@ use Rattle.std.proofs.Common.{◌≡◌, ◌<◌, sym, subst, ℕ, suc, List, []
 use Rattle.std.specs.Prelude.{◌&&◌, ◌||◌, bytes_eq, nat_lt, IsTrue}
 use Rattle.std.specs.List.{flat_map, list_all}
 use Rattle.std.proofs.lemmas.Bool.Decides.{nat_tests}
-use Rattle.rt_grammar.specs.Terminals.{Word}
+use Rattle.rt_token.specs.Terminals.{Word}
 use Rattle.rt_schema.specs.Schema.{check_there, check_typed, is_sound, leaf_there, part_there, rule_sound, side_there, table_sound}
 use Rattle.rt_schema.specs.declared.table.Rule.{Rule}
 use Rattle.rt_schema.specs.declared.table.Rule.TheVariants as made

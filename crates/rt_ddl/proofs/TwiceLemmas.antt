@@ -1,7 +1,7 @@
 -- A name that stands twice is among the names so far.
 use Rattle.std.proofs.Common.{◌≡◌, ◌∙◌, ◌+◌, ◌<◌, sym, ap, ℕ, List, [], ◌∷◌, ◌++◌, length, get_or, take, drop, Bool, false, Option, Some, None}
 use Rattle.std.proofs.lemmas.List.{drop_more, map-append, take_more}
-use Rattle.rt_grammar.specs.Terminals.{Word}
+use Rattle.rt_token.specs.Terminals.{Word}
 use Rattle.rt_schema.specs.declared.table.Column.{Column}
 use Rattle.rt_ddl.specs.Meaning.{given, has_name, or_else, part_twice, parts_twice, table_twice, tables_twice}
 use Rattle.rt_ddl.specs.Places.{column_names, table_names}

@@ -1,7 +1,7 @@
 -- The tree that is read is the one that the tokens have, and so the answer is what the text makes.
 use Rattle.std.proofs.Common.{◌≡◌, ◌∙◌, ap, subst, ℕ, List, refl, Option, Some, None, Ok, Err}
-use Rattle.rt_grammar.specs.declared.fault.ReadFault.{ReadFault}
-use Rattle.rt_grammar.specs.declared.fault.ReadFault.TheVariants.{Syntax}
+use Rattle.rt_token.specs.declared.read_fault.ReadFault.{ReadFault}
+use Rattle.rt_token.specs.declared.read_fault.ReadFault.TheVariants.{Syntax}
 use Rattle.rt_token.specs.Lexed.{Text, lexed}
 use Rattle.rt_token.specs.declared.token.Token.{Token}
 use Rattle.rt_value.specs.Gives.{Gives}

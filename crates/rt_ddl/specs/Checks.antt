@@ -4,7 +4,7 @@
 -- NOT before a comparison and the NOT inside it: where both stand, there is none.
 use Rattle.std.specs.Prelude.{ℕ, Bool, true, false, not, ◌∷◌, map}
 use Rattle.std.specs.Int.{int_wrapping_neg, w128}
-use Rattle.rt_grammar.specs.Terminals.{Word}
+use Rattle.rt_token.specs.Terminals.{Word}
 use Rattle.rt_value.specs.declared.value.Value.TheVariants as value
 use Rattle.rt_schema.specs.declared.check.Check.{Check}
 use Rattle.rt_schema.specs.declared.check.CheckAtom.{CheckAtom}

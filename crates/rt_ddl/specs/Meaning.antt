@@ -5,7 +5,7 @@
 -- compares a whole number with a text. In a class the first place in text order decides.
 use Rattle.std.specs.Prelude.{ℕ, suc, Bool, true, false, if◌then◌else◌, List, [], ◌∷◌, ◌++◌, count_by, length, map, Option, Some, None, Result, Ok, Err, bytes_eq, nat_lt, slice_get}
 use Rattle.std.specs.List.{flat_map, list_all, list_any}
-use Rattle.rt_grammar.specs.Terminals.{Word}
+use Rattle.rt_token.specs.Terminals.{Word}
 use Rattle.rt_schema.specs.Schema.{check_typed, foreign_sound}
 use Rattle.rt_schema.specs.declared.table.Column.{Column}
 use Rattle.rt_schema.specs.declared.table.Rule.{Rule}

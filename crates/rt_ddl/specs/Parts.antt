@@ -6,8 +6,8 @@
 -- every column of its table.
 use Rattle.std.specs.Prelude.{true, false, List, [], ◌∷◌, ◌++◌, map, Option, Some, None, option_map}
 use Rattle.std.specs.List.{flat_map}
-use Rattle.rt_grammar.specs.Terminals.{Word}
-use Rattle.rt_grammar.specs.declared.terminal.Name.{Name}
+use Rattle.rt_token.specs.Terminals.{Word}
+use Rattle.rt_token.specs.declared.terminal.Name.{Name}
 use Rattle.rt_schema.specs.declared.table.ColKind.{ColKind}
 use Rattle.rt_schema.specs.declared.table.ColKind.TheVariants as of_kind
 use Rattle.rt_ddl.specs.declared.parts.Part.{Part}

@@ -4,7 +4,7 @@ use Rattle.std.specs.BTreeMap.{is_at}
 use Rattle.std.specs.Cmp.Lexicographic.{slice_cmp}
 use Rattle.std.specs.Map.{lookup}
 use Rattle.std.specs.Ordering.{nat_cmp}
-use Rattle.rt_grammar.specs.Terminals.{Word}
+use Rattle.rt_token.specs.Terminals.{Word}
 use Rattle.rt_schema.specs.declared.table.Column.{Column}
 use Rattle.rt_ddl.specs.Meaning.{columns_of, has_primary, primary_of}
 use Rattle.rt_ddl.specs.declared.parts.Part.{Part}

@@ -1,6 +1,6 @@
 -- What reading a schema answers.
 use Rattle.std.specs.Prelude.{◌≡◌, ℕ, List, Result, Ok, Err}
-use Rattle.rt_grammar.specs.Places.{IsPlace}
+use Rattle.rt_token.specs.Places.{IsPlace}
 use Rattle.rt_schema.specs.declared.table.Table.{Table}
 use Rattle.rt_token.specs.Lexed.{Text, lexed}
 use Rattle.rt_token.specs.declared.token.Token.{Token}

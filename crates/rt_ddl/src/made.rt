@@ -2,7 +2,7 @@
 
 ghost use Rattle.std.specs.Prelude.{◌≡◌, ◌∷◌, ℕ, IfOk, map};
 ghost use Rattle.rt_ddl.specs.Meaning.{column_at, columns_of};
-ghost use Rattle.rt_grammar.specs.Terminals.{Word};
+ghost use Rattle.rt_token.specs.Terminals.{Word};
 
 use crate::known::KnownTable;
 use rt_value::{List, NoMemory};

@@ -1,5 +1,5 @@
 ghost use Rattle.std.specs.Prelude.{◌≡◌, ◌++◌, ◌∷◌, [], IfOk, OnOk, bytes_eq, length};
-ghost use Rattle.rt_grammar.specs.Terminals.{Word};
+ghost use Rattle.rt_token.specs.Terminals.{Word};
 ghost use Rattle.rt_ddl.specs.Meaning.{given, has_name, or_else};
 ghost use Rattle.rt_ddl.specs.Places.{place_of, placed_at};
 

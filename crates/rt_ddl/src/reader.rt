@@ -14,9 +14,8 @@ use crate::twice::tables_twice;
 use crate::typed::untyped;
 use crate::unknown::tables_unknown;
 use rt_ddl_tree::{SchemaText, read_tree};
-use rt_grammar::{ReadFault, syntax_place};
 use rt_schema::Schema;
-use rt_token::tokens;
+use rt_token::{ReadFault, syntax_place, tokens};
 use std::alloc::Global;
 
 // The schema that the texts make, or their first fault.

@@ -11,8 +11,8 @@ use crate::parts::{Part, RuleText, TableText};
 use rt_ddl_tree::{
     Column, ColumnConstraint, ColumnRule, Create, Item, KindWord, Names, SchemaText, TableRule,
 };
-use rt_grammar::Name;
 use rt_schema::ColKind;
+use rt_token::Name;
 use rt_value::{List, NoMemory, Txt};
 use std::alloc::Global;
 

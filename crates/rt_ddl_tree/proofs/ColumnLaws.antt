@@ -2,15 +2,15 @@
 use Rattle.std.proofs.Common.{◌≡◌, ◌≤◌, ◌<◌, ap, ℕ, ℤ, List, [], ◌∷◌, ◌++◌, length, refl, true, false, Option, Some, None, arith}
 use Rattle.std.specs.Prelude.{codes}
 use Rattle.std.specs.List.{flat_map}
-use Rattle.rt_grammar.specs.Readers.{both, done, lead, lead_word, list_of, made, no_other, optional, paren, read_name, starts}
-use Rattle.rt_grammar.specs.Terminals.{Kinds, code, front, in_paren, maybe}
-use Rattle.rt_grammar.specs.declared.fixed.Fixed.TheVariants as fixed
-use Rattle.rt_grammar.specs.declared.terminal.Name.{Name}
-use Rattle.rt_grammar.specs.declared.terminal.Terminal.TheVariants as terminal
-use Rattle.rt_grammar.proofs.FrontLemmas.{other-nat}
-use Rattle.rt_grammar.proofs.Laws.{Sound, alternative-sound, both-law, done-law, lead-law, lead-word-sound, loose, made-after, made-law, no-other-sound, optional-law, shorter, word-alternative-sound}
-use Rattle.rt_grammar.proofs.ListLaws.{StepLaw, after-law, follows, list-law, when-law}
-use Rattle.rt_grammar.proofs.ManyLemmas.{some-is}
+use Rattle.rt_token.specs.Readers.{both, done, lead, lead_word, list_of, made, no_other, optional, paren, read_name, starts}
+use Rattle.rt_token.specs.Terminals.{Kinds, code, front, in_paren, maybe}
+use Rattle.rt_token.specs.declared.fixed.Fixed.TheVariants as fixed
+use Rattle.rt_token.specs.declared.terminal.Name.{Name}
+use Rattle.rt_token.specs.declared.terminal.Terminal.TheVariants as terminal
+use Rattle.rt_token.proofs.FrontLemmas.{other-nat}
+use Rattle.rt_token.proofs.Laws.{Sound, alternative-sound, both-law, done-law, lead-law, lead-word-sound, loose, made-after, made-law, no-other-sound, optional-law, shorter, word-alternative-sound}
+use Rattle.rt_token.proofs.ListLaws.{StepLaw, after-law, follows, list-law, when-law}
+use Rattle.rt_token.proofs.ManyLemmas.{some-is}
 use Rattle.rt_ddl_tree.specs.Reads.{column_constraint_of, column_constraint_step, column_of, is_column_rule, name_step, names_of, read_column, read_column_constraint, read_column_rule, read_constraint, read_kind, read_maybe_names, read_names, read_number, read_references, read_size, read_sized_kind, references_of}
 use Rattle.rt_ddl_tree.specs.Spelled.{more, spelled_column, spelled_column_constraint, spelled_column_rule, spelled_constraint, spelled_kind, spelled_name, spelled_names, spelled_size}
 use Rattle.rt_ddl_tree.specs.TestReads.{read_condition}

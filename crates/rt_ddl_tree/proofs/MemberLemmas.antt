@@ -1,10 +1,10 @@
 -- A list of members: each leaves fewer terminals.
 use Rattle.std.proofs.Common.{◌≡◌, ◌≤◌, ◌<◌, sym, ap, List, [], ◌∷◌, ◌++◌, length, Option, Some, arith}
-use Rattle.rt_grammar.specs.Readers.{Parser, step_after}
-use Rattle.rt_grammar.specs.Terminals.{Kinds, after}
-use Rattle.rt_grammar.specs.declared.fixed.Fixed.{Fixed}
-use Rattle.rt_grammar.proofs.FrontLemmas.{after-sound}
-use Rattle.rt_grammar.proofs.Loops.{Goes, goes-more}
+use Rattle.rt_token.specs.Readers.{Parser, step_after}
+use Rattle.rt_token.specs.Terminals.{Kinds, after}
+use Rattle.rt_token.specs.declared.fixed.Fixed.{Fixed}
+use Rattle.rt_token.proofs.FrontLemmas.{after-sound}
+use Rattle.rt_token.proofs.Loops.{Goes, goes-more}
 
 pub behind-shorter : (f : Fixed) (rest next more : Kinds) → Some next ≡ after f rest → length more ≤ length next → length more < length rest
 behind-shorter f rest next more a l = omega (arith, ap length (after-sound f rest next (sym a)))

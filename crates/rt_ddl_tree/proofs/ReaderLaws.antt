@@ -1,10 +1,10 @@
 -- What the laws of all readers of the schema grammar share.
 use Rattle.std.proofs.Common.{◌≡◌, ◌≤◌, ◌+◌, ℕ, false, arith}
-use Rattle.rt_grammar.specs.Readers.{Parser, paren, read_name, starts}
-use Rattle.rt_grammar.specs.Terminals.{Kinds, code, front, in_paren}
-use Rattle.rt_grammar.specs.declared.fixed.Fixed.TheVariants as fixed
-use Rattle.rt_grammar.proofs.FrontLemmas.{other-nat}
-use Rattle.rt_grammar.proofs.Laws.{Lawful, name-law, paren-law, weaker}
+use Rattle.rt_token.specs.Readers.{Parser, paren, read_name, starts}
+use Rattle.rt_token.specs.Terminals.{Kinds, code, front, in_paren}
+use Rattle.rt_token.specs.declared.fixed.Fixed.TheVariants as fixed
+use Rattle.rt_token.proofs.FrontLemmas.{other-nat}
+use Rattle.rt_token.proofs.Laws.{Lawful, name-law, paren-law, weaker}
 use Rattle.rt_ddl_tree.specs.Spelled.{spelled_name}
 
 -- a reader of the schema grammar, whose names may stand before a parenthesis

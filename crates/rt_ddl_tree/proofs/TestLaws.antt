@@ -4,15 +4,15 @@ use Rattle.std.specs.Prelude.{is_some}
 use Rattle.std.specs.List.{flat_map}
 use Rattle.rt_value.specs.declared.value.Op.{Op}
 use Rattle.rt_value.specs.declared.value.Op.TheVariants as op
-use Rattle.rt_grammar.specs.Comparisons.{op_at, op_sign, read_op}
-use Rattle.rt_grammar.specs.Readers.{Parser, both, done, flag_at, flagged, lead, list_of, made, starts}
-use Rattle.rt_grammar.specs.Terminals.{Kinds, code, flag, front, in_paren}
-use Rattle.rt_grammar.specs.declared.fixed.Fixed.TheVariants as fixed
-use Rattle.rt_grammar.specs.declared.terminal.Terminal.TheVariants as terminal
-use Rattle.rt_grammar.proofs.ComparisonLaws.{op-law, op_kinds}
-use Rattle.rt_grammar.proofs.Laws.{Sound, SoundAfter, alternative-sound, both-law, done-law, either-sound, flagged-law, lead-law, loose, made-after, made-law, made-sound, shorter}
-use Rattle.rt_grammar.proofs.ListLaws.{StepLaw, after-law, follows, list-law}
-use Rattle.rt_grammar.proofs.ManyLemmas.{some-is}
+use Rattle.rt_token.specs.Comparisons.{op_at, op_sign, read_op}
+use Rattle.rt_token.specs.Readers.{Parser, both, done, flag_at, flagged, lead, list_of, made, starts}
+use Rattle.rt_token.specs.Terminals.{Kinds, code, flag, front, in_paren}
+use Rattle.rt_token.specs.declared.fixed.Fixed.TheVariants as fixed
+use Rattle.rt_token.specs.declared.terminal.Terminal.TheVariants as terminal
+use Rattle.rt_token.proofs.ComparisonLaws.{op-law, op_kinds}
+use Rattle.rt_token.proofs.Laws.{Sound, SoundAfter, alternative-sound, both-law, done-law, either-sound, flagged-law, lead-law, loose, made-after, made-law, made-sound, shorter}
+use Rattle.rt_token.proofs.ListLaws.{StepLaw, after-law, follows, list-law}
+use Rattle.rt_token.proofs.ManyLemmas.{some-is}
 use Rattle.rt_ddl_tree.specs.TestReads.{between, compared, is_compared, is_null_test, is_one_of, leaf_of, leaf_step, null_of, one_of, part_of, part_step, past_side, read_between, read_bounds, read_compared, read_condition, read_form, read_is_null, read_leaf, read_negative, read_one_of, read_part, read_plain_side, read_side, read_sides, read_test, side_step, test_of}
 use Rattle.rt_ddl_tree.specs.TestSpelled.{and_leaf, comma_side, or_part, spelled_form, spelled_leaf, spelled_part, spelled_side, spelled_test}
 use Rattle.rt_ddl_tree.specs.declared.test_tree.Test.{Test}

@@ -2,16 +2,16 @@
 use Rattle.std.proofs.Common.{◌≡◌, ◌∙◌, ◌≤◌, ◌<◌, ◌+◌, sym, ap, subst, ℕ, List, [], ◌∷◌, ◌++◌, length, refl, Bool, true, false, Option, Some, None, arith, length-append}
 use Rattle.std.specs.Prelude.{codes}
 use Rattle.std.specs.List.{flat_map}
-use Rattle.rt_grammar.specs.Readers.{Parser, both, either, lead, lead_word, list_of, made, no_other, read_end, read_name}
-use Rattle.rt_grammar.specs.Terminals.{Kinds, code, flag, front, in_paren, maybe}
-use Rattle.rt_grammar.specs.declared.fixed.Fixed.TheVariants as fixed
-use Rattle.rt_grammar.specs.declared.terminal.Name.{Name}
-use Rattle.rt_grammar.specs.declared.terminal.Terminal.TheVariants as terminal
-use Rattle.rt_grammar.proofs.EndLaws.{end-reads, end-sound}
-use Rattle.rt_grammar.proofs.FrontLemmas.{other-nat}
-use Rattle.rt_grammar.proofs.Laws.{Sound, alternative-sound, both-law, either-sound, lead-law, lead-word-sound, loose, made-after, made-sound, no-other-sound, word-alternative-sound, shorter}
-use Rattle.rt_grammar.proofs.ListLaws.{StepLaw, after-law, follows, list-law, list-reads, when-law}
-use Rattle.rt_grammar.proofs.ManyLemmas.{bind-some, some-is}
+use Rattle.rt_token.specs.Readers.{Parser, both, either, lead, lead_word, list_of, made, no_other, read_end, read_name}
+use Rattle.rt_token.specs.Terminals.{Kinds, code, flag, front, in_paren, maybe}
+use Rattle.rt_token.specs.declared.fixed.Fixed.TheVariants as fixed
+use Rattle.rt_token.specs.declared.terminal.Name.{Name}
+use Rattle.rt_token.specs.declared.terminal.Terminal.TheVariants as terminal
+use Rattle.rt_token.proofs.EndLaws.{end-reads, end-sound}
+use Rattle.rt_token.proofs.FrontLemmas.{other-nat}
+use Rattle.rt_token.proofs.Laws.{Sound, alternative-sound, both-law, either-sound, lead-law, lead-word-sound, loose, made-after, made-sound, no-other-sound, word-alternative-sound, shorter}
+use Rattle.rt_token.proofs.ListLaws.{StepLaw, after-law, follows, list-law, list-reads, when-law}
+use Rattle.rt_token.proofs.ManyLemmas.{bind-some, some-is}
 use Rattle.rt_ddl_tree.specs.Reads.{create_of, create_step, depend_of, foreign_of, is_if, is_table_rule, item_step, read_column, read_constraint, read_create, read_creates, read_depend, read_foreign, read_item, read_items, read_made, read_maybe_names, read_names, read_table_rule, read_text, rule_of, starts_more}
 use Rattle.rt_ddl_tree.specs.Spelled.{if_not_exists, more, plain_word, spelled, spelled_column, spelled_column_constraint, spelled_constraint, spelled_create, spelled_item, spelled_kind, spelled_name, spelled_names, spelled_table_rule}
 use Rattle.rt_ddl_tree.specs.TestReads.{read_condition}

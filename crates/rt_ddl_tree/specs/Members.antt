@@ -1,7 +1,7 @@
 -- Readers of what stands in lists.
 use Rattle.std.specs.Prelude.{◌≡◌, ◌≤◌, length, Some}
-use Rattle.rt_grammar.specs.Readers.{Parser}
-use Rattle.rt_grammar.specs.Terminals.{Kinds}
+use Rattle.rt_token.specs.Readers.{Parser}
+use Rattle.rt_token.specs.Terminals.{Kinds}
 
 -- it leaves no more than it was given
 abbrev pub IsShort : {A : Type 0} → Parser A → Type 0

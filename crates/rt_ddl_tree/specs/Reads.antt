@@ -3,11 +3,11 @@
 -- What the reading of a schema answers is defined by them; by the law `read_is_tree` it is the tree that
 -- the tokens spell (`Spelled`).
 use Rattle.std.specs.Prelude.{◌&&◌, ◌||◌, ℤ, Bool, true, false, List, [], ◌∷◌, Option, Some, None, codes, is_some}
-use Rattle.rt_grammar.specs.Readers.{Parser, Step, ◌>>=◌, after_word, alternative, both, done, either, lead, lead_word, list_of, made, no_other, optional, paren, read_end, read_name, starts, step_after, step_when, word_alternative}
-use Rattle.rt_grammar.specs.Terminals.{Kinds, tail_of}
-use Rattle.rt_grammar.specs.declared.fixed.Fixed.TheVariants as fixed
-use Rattle.rt_grammar.specs.declared.terminal.Name.{Name}
-use Rattle.rt_grammar.specs.declared.terminal.Terminal.TheVariants as terminal
+use Rattle.rt_token.specs.Readers.{Parser, Step, ◌>>=◌, after_word, alternative, both, done, either, lead, lead_word, list_of, made, no_other, optional, paren, read_end, read_name, starts, step_after, step_when, word_alternative}
+use Rattle.rt_token.specs.Terminals.{Kinds, tail_of}
+use Rattle.rt_token.specs.declared.fixed.Fixed.TheVariants as fixed
+use Rattle.rt_token.specs.declared.terminal.Name.{Name}
+use Rattle.rt_token.specs.declared.terminal.Terminal.TheVariants as terminal
 use Rattle.rt_ddl_tree.specs.TestReads.{read_condition}
 use Rattle.rt_ddl_tree.specs.declared.tree.Column.{Column}
 use Rattle.rt_ddl_tree.specs.declared.tree.ColumnConstraint.{ColumnConstraint}

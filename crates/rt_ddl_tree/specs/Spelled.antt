@@ -2,13 +2,13 @@
 -- types of the tree).
 use Rattle.std.specs.Prelude.{◌≡◌, ℤ, Bool, true, false, List, [], ◌∷◌, ◌++◌, map, codes}
 use Rattle.std.specs.List.{flat_map}
-use Rattle.rt_grammar.specs.Terminals.{Kinds, Word, flag, in_paren, maybe}
-use Rattle.rt_grammar.specs.Words.{all_formed, kind_of, kinds}
-use Rattle.rt_grammar.specs.declared.fixed.Fixed.{Fixed}
-use Rattle.rt_grammar.specs.declared.fixed.Fixed.TheVariants as fixed
-use Rattle.rt_grammar.specs.declared.terminal.Name.{Name}
-use Rattle.rt_grammar.specs.declared.terminal.Terminal.{Terminal}
-use Rattle.rt_grammar.specs.declared.terminal.Terminal.TheVariants as terminal
+use Rattle.rt_token.specs.Terminals.{Kinds, Word, flag, in_paren, maybe}
+use Rattle.rt_token.specs.Words.{all_formed, kind_of, kinds}
+use Rattle.rt_token.specs.declared.fixed.Fixed.{Fixed}
+use Rattle.rt_token.specs.declared.fixed.Fixed.TheVariants as fixed
+use Rattle.rt_token.specs.declared.terminal.Name.{Name}
+use Rattle.rt_token.specs.declared.terminal.Terminal.{Terminal}
+use Rattle.rt_token.specs.declared.terminal.Terminal.TheVariants as terminal
 use Rattle.rt_token.specs.declared.token.Token.{Token}
 use Rattle.rt_token.specs.declared.token.TokenKind.{TokenKind}
 use Rattle.rt_ddl_tree.specs.TestSpelled.{spelled_test}

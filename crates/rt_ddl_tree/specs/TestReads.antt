@@ -4,11 +4,11 @@
 -- the tokens spell (`TestSpelled`).
 use Rattle.std.specs.Prelude.{Bool, true, false, List, [], ◌∷◌, if◌then◌else◌, Some, None, is_some}
 use Rattle.rt_value.specs.declared.value.Op.{Op}
-use Rattle.rt_grammar.specs.Comparisons.{op_at, read_op}
-use Rattle.rt_grammar.specs.Readers.{Parser, Step, alternative, both, done, either, flag_at, flagged, lead, list_of, made, paren, starts, step_after}
-use Rattle.rt_grammar.specs.Terminals.{Kinds, front, tail_of}
-use Rattle.rt_grammar.specs.declared.fixed.Fixed.TheVariants as fixed
-use Rattle.rt_grammar.specs.declared.terminal.Terminal.TheVariants as terminal
+use Rattle.rt_token.specs.Comparisons.{op_at, read_op}
+use Rattle.rt_token.specs.Readers.{Parser, Step, alternative, both, done, either, flag_at, flagged, lead, list_of, made, paren, starts, step_after}
+use Rattle.rt_token.specs.Terminals.{Kinds, front, tail_of}
+use Rattle.rt_token.specs.declared.fixed.Fixed.TheVariants as fixed
+use Rattle.rt_token.specs.declared.terminal.Terminal.TheVariants as terminal
 use Rattle.rt_ddl_tree.specs.declared.test_tree.Test.{Test}
 use Rattle.rt_ddl_tree.specs.declared.test_tree.TestForm.{TestForm}
 use Rattle.rt_ddl_tree.specs.declared.test_tree.TestForm.TheVariants as form

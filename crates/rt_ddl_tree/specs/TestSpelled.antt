@@ -2,10 +2,10 @@
 -- predicate, between predicate, in predicate; the grammar stands at the types of the tree).
 use Rattle.std.specs.Prelude.{[], ◌∷◌, ◌++◌}
 use Rattle.std.specs.List.{flat_map}
-use Rattle.rt_grammar.specs.Comparisons.{op_sign}
-use Rattle.rt_grammar.specs.Terminals.{Kinds, flag, in_paren}
-use Rattle.rt_grammar.specs.declared.fixed.Fixed.TheVariants as fixed
-use Rattle.rt_grammar.specs.declared.terminal.Terminal.TheVariants as terminal
+use Rattle.rt_token.specs.Comparisons.{op_sign}
+use Rattle.rt_token.specs.Terminals.{Kinds, flag, in_paren}
+use Rattle.rt_token.specs.declared.fixed.Fixed.TheVariants as fixed
+use Rattle.rt_token.specs.declared.terminal.Terminal.TheVariants as terminal
 use Rattle.rt_ddl_tree.specs.declared.test_tree.Test.{Test}
 use Rattle.rt_ddl_tree.specs.declared.test_tree.TestForm.{TestForm}
 use Rattle.rt_ddl_tree.specs.declared.test_tree.TestForm.TheVariants as form

@@ -1,9 +1,9 @@
 -- What reading the tree of tokens answers, and the tree that is read.
 use Rattle.std.specs.Prelude.{List, Option, Result, Ok, Err}
 use Rattle.std.specs.Option.{option_and_then}
-use Rattle.rt_grammar.specs.Words.{kinds, marks}
-use Rattle.rt_grammar.specs.declared.fault.ReadFault.{ReadFault}
-use Rattle.rt_grammar.specs.declared.fault.ReadFault.TheVariants.{Syntax, NoMemory}
+use Rattle.rt_token.specs.Words.{kinds, marks}
+use Rattle.rt_token.specs.declared.read_fault.ReadFault.{ReadFault}
+use Rattle.rt_token.specs.declared.read_fault.ReadFault.TheVariants.{Syntax, NoMemory}
 use Rattle.rt_token.specs.declared.token.Token.{Token}
 use Rattle.rt_ddl_tree.specs.Reads.{read_text}
 use Rattle.rt_ddl_tree.specs.Spelled.{IsTreeOf}

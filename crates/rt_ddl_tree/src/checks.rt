@@ -2,14 +2,14 @@
 
 ghost use Rattle.std.specs.Prelude.{◌≡◌};
 ghost use Rattle.rt_ddl_tree.specs.TestReads as spec;
-ghost use Rattle.rt_grammar.specs.Readers.{lead};
-ghost use Rattle.rt_grammar.specs.Reads.{Reads};
-ghost use Rattle.rt_grammar.specs.declared.fixed.Fixed.TheVariants as fixed;
+ghost use Rattle.rt_token.specs.Readers.{lead};
+ghost use Rattle.rt_token.specs.Reads.{Reads};
+ghost use Rattle.rt_token.specs.declared.fixed.Fixed.TheVariants as fixed;
 
 use crate::member::{Member, in_parentheses, list};
 use crate::shared::Shared;
 use crate::test_tree::{Test, TestForm, TestLeaf, TestPart, TestSide};
-use rt_grammar::{
+use rt_token::{
     Fixed, ReadFault, Terminal, after, expect, flag, front, name_of, op_at, starts, tail,
 };
 use rt_value::List;

@@ -2,14 +2,14 @@
 
 ghost use Rattle.std.specs.Prelude.{◌≡◌};
 ghost use Rattle.rt_ddl_tree.specs.Reads as spec;
-ghost use Rattle.rt_grammar.specs.Readers.{list_of, optional, paren, read_name, starts as starts_spec};
-ghost use Rattle.rt_grammar.specs.Reads.{Reads};
-ghost use Rattle.rt_grammar.specs.declared.fixed.Fixed.TheVariants as fixed;
+ghost use Rattle.rt_token.specs.Readers.{list_of, optional, paren, read_name, starts as starts_spec};
+ghost use Rattle.rt_token.specs.Reads.{Reads};
+ghost use Rattle.rt_token.specs.declared.fixed.Fixed.TheVariants as fixed;
 
 use crate::checks::condition;
 use crate::member::{Member, in_parentheses};
 use crate::tree::{Column, ColumnConstraint, ColumnRule, KindWord, Names};
-use rt_grammar::{
+use rt_token::{
     Fixed, Name, ReadFault, Terminal, after, after_word, expect, expect_word, name, starts,
 };
 use rt_value::List;

@@ -1,11 +1,11 @@
 //! Reading lists.
 
 ghost use Rattle.rt_ddl_tree.specs.Members.{IsShort};
-ghost use Rattle.rt_grammar.specs.Readers.{Parser, both, list_of, paren, step_after};
-ghost use Rattle.rt_grammar.specs.Reads.{Reads};
-ghost use Rattle.rt_grammar.specs.declared.fixed.Fixed.TheVariants as fixed;
+ghost use Rattle.rt_token.specs.Readers.{Parser, both, list_of, paren, step_after};
+ghost use Rattle.rt_token.specs.Reads.{Reads};
+ghost use Rattle.rt_token.specs.declared.fixed.Fixed.TheVariants as fixed;
 
-use rt_grammar::{Fixed, ReadFault, Terminal, after, expect};
+use rt_token::{Fixed, ReadFault, Terminal, after, expect};
 use rt_value::List;
 use std::alloc::Global;
 

@@ -6,8 +6,7 @@ ghost use Rattle.rt_token.specs.declared.token.Token.{Token as Lexed};
 
 use crate::tables::text;
 use crate::tree::SchemaText;
-use rt_grammar::{ReadFault, terminals};
-use rt_token::Token;
+use rt_token::{ReadFault, Token, terminals};
 use std::alloc::Global;
 
 /// The tree of the tokens. A fault tells how many tokens were left where it was seen.

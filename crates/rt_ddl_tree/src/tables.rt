@@ -2,15 +2,15 @@
 
 ghost use Rattle.std.specs.Prelude.{◌≡◌, codes};
 ghost use Rattle.rt_ddl_tree.specs.Reads as spec;
-ghost use Rattle.rt_grammar.specs.Readers.{both, lead, lead_word, list_of, made as made_spec, read_name};
-ghost use Rattle.rt_grammar.specs.Reads.{Answers, Reads};
-ghost use Rattle.rt_grammar.specs.declared.fixed.Fixed.TheVariants as fixed;
+ghost use Rattle.rt_token.specs.Readers.{both, lead, lead_word, list_of, made as made_spec, read_name};
+ghost use Rattle.rt_token.specs.Reads.{Answers, Reads};
+ghost use Rattle.rt_token.specs.declared.fixed.Fixed.TheVariants as fixed;
 
 use crate::checks::condition;
 use crate::columns::{column, constraint, maybe_names, names};
 use crate::member::{Member, in_parentheses};
 use crate::tree::{Create, Item, Names, SchemaText, TableRule};
-use rt_grammar::{
+use rt_token::{
     Fixed, Name, ReadFault, Terminal, after, after_word, end, expect, expect_word, name, starts,
     tail,
 };

@@ -1,6 +1,6 @@
 //! The tree of a CHECK's condition, one type a line of the grammar, dropped as those of `tree` are.
 
-use rt_grammar::Name;
+use rt_token::Name;
 use rt_value::{List, Op, Txt};
 
 /// `part { OR part }`

@@ -5,7 +5,7 @@
 
 use crate::shared::Shared;
 use crate::test_tree::Test;
-use rt_grammar::Name;
+use rt_token::Name;
 use rt_value::List;
 
 /// `[ create { ";" create } [ ";" ] ]`

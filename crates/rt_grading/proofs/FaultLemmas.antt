@@ -15,7 +15,7 @@ use Rattle.rt_outcome.specs.Held.{Holding, text_of, text_read}
 use Rattle.rt_outcome.specs.Placed.{Placed}
 use Rattle.rt_outcome.specs.Source.{IsKnown, Text, source_of}
 use Rattle.rt_outcome.specs.Steps.{Seen, Stops as StopsReading, TextStops, seen}
-use Rattle.rt_words.specs.Ranges.{Command}
+use Rattle.rt_io.specs.Ranges.{Command}
 use Rattle.rt_grading.specs.Grades.{IsGrade, IsPlacedIn, candidate_judged, outcome_of}
 use Rattle.rt_grading.specs.declared.grade.Grade.{Grade}
 use Rattle.rt_grading.specs.declared.grade.Grade.TheVariants.{Agree, Witness, Undecided, Refused, Work, TooLong}

@@ -8,7 +8,7 @@ use Rattle.rt_algebra.specs.Typed.{IsTypedOf}
 use Rattle.rt_search.specs.declared.best.Best.{Best}
 use Rattle.rt_search.specs.declared.best.Best.TheVariants as best
 use Rattle.rt_search.specs.declared.best.SpentBest.{SpentBest}
-use Rattle.rt_words.specs.Ranges.{Command, IsInRange}
+use Rattle.rt_io.specs.Ranges.{Command, IsInRange}
 use Rattle.rt_input.specs.declared.first.First.{First}
 use Rattle.rt_outcome.specs.declared.outcome.Limit.TheVariants as limit
 use Rattle.rt_outcome.specs.declared.outcome.Outcome.{Outcome}

@@ -2,8 +2,8 @@
 use Rattle.std.proofs.Common.{◌≡◌, ℕ, Bool, true, false, List, [], ◌∷◌, refl, subst, IsTrue}
 use Rattle.std.specs.Prelude.{Option, None, Some, codes, option_and_then, if◌then◌else◌}
 use Rattle.std.specs.Str.{bytes_eq}
-use Rattle.rt_words.specs.Command.{command}
-use Rattle.rt_words.specs.Ranges.{Command}
+use Rattle.rt_io.specs.Command.{command}
+use Rattle.rt_io.specs.Ranges.{Command}
 use Rattle.rt_outcome.specs.Source.{IsKnown, Text, source_from, source_of}
 use Rattle.rt_grading.specs.declared.words.GradeWords.{GradeWords}
 use Rattle.rt_grading.specs.Words.{alone, grade_words, of_command, of_form, of_paths}

@@ -3,8 +3,8 @@
 use Rattle.std.specs.Prelude.{◌≡◌, ◌⊎◌, List, None, Some, Ok, Err, IsTrue, IsOk, IsOkAnd, IsSomeAnd}
 use Rattle.std.specs.List.{AllZip}
 use Rattle.rt_io.specs.Edge.{Rose}
-use Rattle.rt_words.specs.Command.{command}
-use Rattle.rt_words.specs.Ranges.{Command}
+use Rattle.rt_io.specs.Command.{command}
+use Rattle.rt_io.specs.Ranges.{Command}
 use Rattle.rt_outcome.specs.declared.outcome.Limit.TheVariants as limit
 use Rattle.rt_outcome.specs.declared.outcome.Outcome.{Outcome}
 use Rattle.rt_outcome.specs.declared.outcome.Outcome.TheVariants as outcome

@@ -1,7 +1,7 @@
 -- The grades of candidates in files.
 use Rattle.std.specs.Prelude.{◌≡◌, ℕ, Bool, List, Some, Ok, Err, IsTrue, slice_get}
 use Rattle.rt_io.specs.Edge.{Rose}
-use Rattle.rt_words.specs.Ranges.{Command}
+use Rattle.rt_io.specs.Ranges.{Command}
 use Rattle.rt_input.specs.declared.first.First.{First}
 use Rattle.rt_outcome.specs.declared.outcome.Limit.TheVariants as limit
 use Rattle.rt_outcome.specs.declared.outcome.Outcome.TheVariants as outcome

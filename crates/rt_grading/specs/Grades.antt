@@ -1,7 +1,7 @@
 -- The grade of a candidate: what is judged of its query as the second beside the reference.
 use Rattle.std.specs.Prelude.{◌≡◌, Some, Result, Ok, Err, IsTrue}
 use Rattle.rt_algebra.specs.declared.typed.Typed.{Typed}
-use Rattle.rt_words.specs.Ranges.{Command}
+use Rattle.rt_io.specs.Ranges.{Command}
 use Rattle.rt_input.specs.declared.first.First.{First}
 use Rattle.rt_outcome.specs.declared.outcome.Limit.TheVariants as limit
 use Rattle.rt_outcome.specs.declared.outcome.Outcome.{Outcome}

@@ -4,7 +4,7 @@ use Rattle.std.specs.List.{All as Each}
 use Rattle.rt_algebra.specs.declared.query.Query.{Query}
 use Rattle.rt_algebra.specs.declared.typed.Typed.{Typed}
 use Rattle.rt_algebra.specs.Typed.{IsTypedOf}
-use Rattle.rt_words.specs.Ranges.{Command}
+use Rattle.rt_io.specs.Ranges.{Command}
 use Rattle.rt_input.specs.declared.first.First.{First}
 use Rattle.rt_input.specs.Judged.{within_limit}
 use Rattle.rt_grading.specs.Grades.{IsGrade, beside}

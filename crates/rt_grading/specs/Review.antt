@@ -1,6 +1,6 @@
 -- What is known of a reference for the candidates to come.
 use Rattle.std.specs.Prelude.{IfSome}
-use Rattle.rt_words.specs.Ranges.{Command}
+use Rattle.rt_io.specs.Ranges.{Command}
 use Rattle.rt_input.specs.declared.first.First.{First}
 use Rattle.rt_grading.specs.declared.review.Review.{Review}
 use Rattle.rt_grading.specs.Known.{AreKnown}

@@ -1,8 +1,8 @@
 -- The words of a call that grades: SCHEMA DATADIR REFERENCE LIST, with the options of a command.
 use Rattle.std.specs.Prelude.{◌≡◌, ℕ, List, [], ◌∷◌, Option, None, Some, codes, option_and_then, if◌then◌else◌}
 use Rattle.std.specs.Str.{bytes_eq}
-use Rattle.rt_words.specs.Command.{command}
-use Rattle.rt_words.specs.Ranges.{Command}
+use Rattle.rt_io.specs.Command.{command}
+use Rattle.rt_io.specs.Ranges.{Command}
 use Rattle.rt_outcome.specs.declared.outcome.Outcome.{Outcome}
 use Rattle.rt_outcome.specs.declared.outcome.Outcome.TheVariants as outcome
 use Rattle.rt_outcome.specs.Source.{Text}

@@ -7,12 +7,12 @@ ghost use Rattle.rt_grading.specs.Review.{IsReviewOf};
 ghost use Rattle.rt_grading.specs.Candidates.{CandidateStops, CandidatesStop, IsGradeOf};
 
 use crate::fault::GradeFault;
-use crate::{Grade, Review, grade_text};
+use crate::grade::Grade;
+use crate::review::{Review, grade_text};
 use rt_input::First;
-use rt_io::Files;
+use rt_io::{Files, Words};
 use rt_outcome::{Outcome, Part, read_text};
 use rt_value::{List, Txt};
-use rt_words::Words;
 use std::alloc::Global;
 
 /// The grade of the candidate in the file of that name.

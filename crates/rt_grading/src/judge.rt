@@ -10,10 +10,10 @@ use crate::grade::Grade;
 use crate::prepared::{Prepared, decide_prepared};
 use rt_algebra::Typed;
 use rt_input::{First, like_left, query_of, work_between};
+use rt_io::Words;
 use rt_outcome::{Outcome, Part, Spent};
 use rt_search::Best;
 use rt_value::NoMemory;
-use rt_words::Words;
 use std::alloc::Global;
 
 /// The query of a candidate, whose columns are as the reference's.

@@ -1,14 +1,13 @@
 //! The queries of candidates that were graded before.
 
 ghost use Rattle.std.specs.Prelude.{IfOk, IfSome};
-ghost use Rattle.rt_words.specs.Ranges.{Command};
+ghost use Rattle.rt_io.specs.Ranges.{Command};
 ghost use Rattle.rt_input.specs.declared.first.First.{First as Before};
 ghost use Rattle.rt_grading.specs.Known.{AreKnown, IsQueryGrade};
 
 use crate::grade::Grade;
 use crate::small::is_small;
-use rt_algebra::Query;
-use rt_shape::same_query;
+use rt_algebra::{Query, same_query};
 use rt_value::{Boxed, List, NoMemory};
 use std::alloc::Global;
 

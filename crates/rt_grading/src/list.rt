@@ -4,7 +4,8 @@ ghost use Rattle.rt_outcome.specs.Steps.{over};
 ghost use Rattle.rt_grading.specs.Listing.{ListStops, PathsStop, list_judged, paths_judged};
 
 use crate::fault::GradeFault;
-use crate::{PathsFault, read_paths};
+use crate::paths_fault::PathsFault;
+use crate::read::read_paths;
 use rt_io::Files;
 use rt_outcome::{Outcome, Part, read_text};
 use rt_value::{List, Txt};

@@ -1,6 +1,6 @@
 ghost use Rattle.std.specs.Prelude.{◌≡◌, IfOk};
 ghost use Rattle.rt_algebra.specs.Typed.{IsTypedOf};
-ghost use Rattle.rt_words.specs.Ranges.{Command};
+ghost use Rattle.rt_io.specs.Ranges.{Command};
 ghost use Rattle.rt_input.specs.declared.first.First.{First as Before};
 ghost use Rattle.rt_input.specs.First.{IsFirst};
 ghost use Rattle.rt_input.specs.Judged.{within_limit};
@@ -13,9 +13,9 @@ use crate::known::{Known, keep, known_grade};
 use crate::prepared::Prepared;
 use rt_algebra::Typed;
 use rt_input::First;
+use rt_io::Words;
 use rt_outcome::Outcome;
 use rt_value::{List, NoMemory};
-use rt_words::Words;
 use std::alloc::Global;
 
 /// What is known of a reference for the candidates to come: the reference itself, once it is

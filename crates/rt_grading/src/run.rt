@@ -6,9 +6,9 @@ ghost use Rattle.rt_outcome.specs.Steps.{over};
 ghost use Rattle.rt_grading.specs.Words.{IsSpelled};
 ghost use Rattle.rt_grading.specs.Answers.{AreGraded, AreGradedBeside, AreGradedBy, Stops, StopsBeside, StopsOf};
 
-use crate::Grade;
 use crate::candidates::grade_files;
 use crate::fault::GradeFault;
+use crate::grade::Grade;
 use crate::list::read_list;
 use crate::words::{GradeWords, grade_words};
 use rt_input::{First, read_first};

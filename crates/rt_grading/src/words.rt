@@ -2,9 +2,9 @@ ghost use Rattle.std.specs.Prelude.{◌≡◌, IfOk, IfErr, Some};
 ghost use Rattle.rt_grading.specs.Words.{WordsStop, grade_words, of_command};
 
 use rt_input::read_words;
+use rt_io::Words;
 use rt_outcome::Outcome;
 use rt_value::{NoMemory, Txt};
-use rt_words::Words;
 use std::alloc::Global;
 
 /// The words SCHEMA, DATADIR, REFERENCE and LIST with their options: a command whose second query is

@@ -8,7 +8,7 @@ use Rattle.rt_input.specs.Judged.{Data, Reaches, data_judged, query_judged}
 use Rattle.rt_outcome.specs.Held.{Holding}
 use Rattle.rt_outcome.specs.declared.source.Source.{Source}
 use Rattle.rt_io.specs.declared.files.Files.{Ghosts}
-use Rattle.rt_words.specs.Ranges.{Command}
+use Rattle.rt_io.specs.Ranges.{Command}
 use Rattle.rt_input.specs.Reading.{LastBegun}
 use Rattle.rt_input.specs.declared.first.First.{First}
 use Rattle.rt_input.specs.First.{first_judged}

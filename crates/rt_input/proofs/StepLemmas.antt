@@ -32,7 +32,7 @@ use Rattle.rt_tree.specs.declared.tree.Sql.{Sql}
 use Rattle.rt_outcome.specs.declared.part.Part.{Part}
 use Rattle.rt_outcome.specs.declared.part.Part.TheVariants as part
 use Rattle.rt_outcome.specs.declared.part.Part.TheVariants.{Query1, Query2}
-use Rattle.rt_words.specs.Ranges.{Command}
+use Rattle.rt_io.specs.Ranges.{Command}
 use Rattle.rt_outcome.specs.declared.outcome.Limit.{Limit}
 use Rattle.rt_outcome.specs.declared.outcome.Limit.TheVariants as limit
 use Rattle.rt_outcome.specs.declared.outcome.Outcome.{Outcome}

@@ -6,7 +6,7 @@ use Rattle.rt_schema.specs.declared.table.Table.{Table}
 use Rattle.rt_schema.specs.Given.{Instance, IsOf, places, row_limit}
 use Rattle.rt_algebra.specs.declared.typed.Typed.{Typed}
 use Rattle.rt_algebra.specs.Typed.{IsTypedOf}
-use Rattle.rt_words.specs.Ranges.{Command, IsWithin, most_conflicts, most_made, most_work}
+use Rattle.rt_io.specs.Ranges.{Command, IsWithin, most_conflicts, most_made, most_work}
 
 pub record Accepted : Type 0 where
   pub schema : List Table

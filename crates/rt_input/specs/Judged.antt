@@ -20,8 +20,8 @@ use Rattle.rt_sql.specs.Whole.{sql_read}
 use Rattle.rt_token.specs.Lexed.{lexed}
 use Rattle.rt_token.specs.declared.token.Token.{Token}
 use Rattle.rt_tree.specs.declared.tree.Sql.{Sql}
-use Rattle.rt_words.specs.Command.{command}
-use Rattle.rt_words.specs.Ranges.{Command}
+use Rattle.rt_io.specs.Command.{command}
+use Rattle.rt_io.specs.Ranges.{Command}
 use Rattle.rt_outcome.specs.declared.part.Part.{Part}
 use Rattle.rt_outcome.specs.declared.part.Part.TheVariants.{Schema, Table, Query1, Query2, Queries}
 use Rattle.rt_outcome.specs.declared.outcome.Fault.TheVariants.{Name}

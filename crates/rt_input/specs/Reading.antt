@@ -2,8 +2,8 @@
 use Rattle.std.specs.Option.{ForSome}
 use Rattle.std.specs.Prelude.{◌≡◌, ℕ, IsTrue, List, Option, None, Some, Ok, Err, IsSome, IsSomeAnd, ⊤}
 use Rattle.rt_io.specs.declared.files.Files.{Ghosts as Files}
-use Rattle.rt_words.specs.Command.{command}
-use Rattle.rt_words.specs.Ranges.{Command}
+use Rattle.rt_io.specs.Command.{command}
+use Rattle.rt_io.specs.Ranges.{Command}
 use Rattle.rt_outcome.specs.declared.part.Part.{Part}
 use Rattle.rt_outcome.specs.declared.outcome.Fault.{Fault}
 use Rattle.rt_outcome.specs.declared.outcome.Limit.{Limit}

@@ -14,10 +14,9 @@ use crate::input::Input;
 use crate::read::read_query;
 use crate::tables::tables_of;
 use rt_algebra::Typed;
-use rt_io::Files;
+use rt_io::{Files, Words};
 use rt_outcome::{Outcome, QueryPart, Source};
 use rt_schema::{Given, Schema};
-use rt_words::Words;
 use std::alloc::Global;
 
 /// A schema, the rows given for it, and a query over it.

@@ -4,7 +4,7 @@ ghost use Rattle.std.specs.Option.{ForSome};
 ghost use Rattle.rt_io.specs.Edge.{NoneFell};
 ghost use Rattle.rt_schema.specs.Given.{IsOf};
 ghost use Rattle.rt_algebra.specs.Typed.{IsTypedOf};
-ghost use Rattle.rt_words.specs.Command.{command};
+ghost use Rattle.rt_io.specs.Command.{command};
 ghost use Rattle.rt_outcome.specs.Source.{IsKnown, IsMade, query_part, source_of};
 ghost use Rattle.rt_input.specs.Judged.{query_judged, right_judged, input_judged, total_work, within_limit, work_between, Reaches};
 ghost use Rattle.rt_outcome.specs.Held.{text_of};
@@ -18,11 +18,10 @@ use crate::first::first_of;
 use crate::input::Input;
 use crate::query::{like_left, query_of};
 use rt_algebra::{Typed, work};
-use rt_io::Files;
+use rt_io::{Files, WordFault, Words};
 use rt_outcome::{Limit, Outcome, QueryPart, Source, source_text};
 use rt_schema::{Given, Schema, capped_add, law_work};
 use rt_value::Txt;
-use rt_words::{WordFault, Words};
 use std::alloc::Global;
 
 /// The command that the words spell.
@@ -30,7 +29,7 @@ pub fn read_words(alloc: Global, words: &[Txt]) -> Result<Words, Outcome>
     ensures ok { IfOk result (λ k. command words.now ≡ Some k) }
     ensures err { IfErr result (WordsStop (command words.now)) }
 {
-    match rt_words::read_words(alloc, words) {
+    match rt_io::read_words(alloc, words) {
         Ok(command) => Ok(command),
         Err(WordFault::Usage) => Err(Outcome::Usage),
         Err(WordFault::NoMemory) => Err(Outcome::NoMemory),

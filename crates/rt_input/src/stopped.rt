@@ -1,12 +1,12 @@
 //! What is said where there is no verdict.
 ghost use Rattle.std.specs.Prelude.{◌≡◌, IfOk};
-ghost use Rattle.rt_words.specs.Command.{command};
+ghost use Rattle.rt_io.specs.Command.{command};
 ghost use Rattle.rt_input.specs.Reading.{limit_of};
 ghost use Rattle.rt_outcome.specs.Texts.{stopped_text};
 
+use rt_io::{WordFault, read_words};
 use rt_outcome::{Outcome, refusal_line};
 use rt_value::{Bytes, List, NoMemory, Txt};
-use rt_words::{WordFault, read_words};
 use std::alloc::Global;
 
 /// The work limit of the command that the words are.

@@ -3,28 +3,41 @@
 //! A call of the outside may fail at any time. So each object keeps a count of its faults, and a
 //! contract says of a fault that this count rose. Files in memory and sinks in memory also tell
 //! their contents; the files of the system and its writers tell none.
+//!
+//! Besides, the words of the command line, read with the crate `clap` (what they say is a definition
+//! that names nothing of `clap`), and what the programs answer to words that can't be read.
 #![tactic(auto)]
 
 mod counts;
 mod files;
 mod held;
+mod limits;
+mod matches;
 mod mem_files;
 mod mem_sink;
 mod place;
+mod program;
 mod real_files;
 mod real_sink;
 mod sink;
 mod sinks;
 mod sure_files;
 mod sure_sink;
+mod word_fault;
+mod words;
+mod words_read;
 
 pub use files::{BeginFail, Failed, Files, ReadFail, read_file};
 pub use mem_files::MemFiles;
 pub use mem_sink::MemSink;
 pub use place::Place;
+pub use program::{given_words, refuse};
 pub use real_files::RealFiles;
 pub use real_sink::RealSink;
 pub use sink::{Sink, SinkFail, write_text};
 pub use sinks::write_at;
 pub use sure_files::SureFiles;
 pub use sure_sink::SureSink;
+pub use word_fault::WordFault;
+pub use words::Words;
+pub use words_read::read_words;

@@ -4,8 +4,8 @@ ghost use Rattle.rt_io.specs.Edge.{Rose, OnlyRises, NoneFell};
 ghost use Rattle.rt_io.specs.Failing.{is_named, is_failing};
 
 use crate::counts::{Entry, enter, name_at, raise};
+use crate::files::{BeginFail, Failed, Files};
 use crate::held::{Held, find, give, put};
-use crate::{BeginFail, Failed, Files};
 use rt_value::{Bytes, List, NoMemory, Txt};
 use std::alloc::Global;
 

@@ -1,7 +1,7 @@
 ghost use Rattle.std.specs.Prelude.{◌≡◌, ◌<◌, ◌≤◌, ◌-◌, ◌^◌, ◌++◌, [], true, min, length, take, Some, None, IfOk, OnOk, OnErr, IsErrOf, IsTrue};
 ghost use Rattle.rt_io.specs.Edge.{Rose};
 
-use crate::{Sink, SinkFail};
+use crate::sink::{Sink, SinkFail};
 use std::alloc::Global;
 
 /// A sink in memory, which can be made to fail.

@@ -3,7 +3,7 @@ ghost use Rattle.std.specs.Option.{option_map, option_map_or, ForSome};
 ghost use Rattle.rt_io.specs.Counts.{count_in, name_at};
 
 use crate::counts::{Entry, enter, raise};
-use crate::{BeginFail, Failed, Files};
+use crate::files::{BeginFail, Failed, Files};
 use std::alloc::Global;
 use std::fs::{self, File};
 use std::io::Read;

@@ -2,8 +2,8 @@ ghost use Rattle.std.specs.Prelude.{◌≡◌, ◌≢◌, ◌<◌, ◌≤◌, �
 ghost use Rattle.std.specs.Option.{option_map, option_map_or, ForSome};
 ghost use Rattle.rt_io.specs.Held.{held_in};
 
+use crate::files::{BeginFail, Failed, Files};
 use crate::held::{Held, find, give, put};
-use crate::{BeginFail, Failed, Files};
 use rt_value::{Bytes, List, NoMemory, Txt};
 use std::alloc::Global;
 

@@ -1,7 +1,7 @@
 -- Where a syntax fault may stand: at the start of a token of its text, at the end of the last one, or
 -- at 0 where the text has no token. Which of these it is stays open.
 use Rattle.std.specs.Prelude.{◌≡◌, ℕ, Result, IfOk, IsOkAnd, ⊤}
-use Rattle.rt_grammar.specs.Places.{IsPlace}
+use Rattle.rt_token.specs.Places.{IsPlace}
 use Rattle.rt_token.specs.Lexed.{lexed}
 use Rattle.rt_ddl.specs.declared.fault.SchemaFault.{SchemaFault}
 use Rattle.rt_ddl.specs.declared.fault.SchemaFault.TheVariants as schema

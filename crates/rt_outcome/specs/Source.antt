@@ -2,7 +2,7 @@
 use Rattle.std.specs.Prelude.{ℕ, Bool, IsTrue, ⊤, List, [], ◌∷◌, ◌++◌, Option, None, Some, codes, slice_index_or}
 use Rattle.rt_load.specs.Made.{made}
 use Rattle.rt_load.specs.declared.input.Made.{Made as Texts}
-use Rattle.rt_words.specs.Ranges.{Command}
+use Rattle.rt_io.specs.Ranges.{Command}
 use Rattle.rt_outcome.specs.declared.part.QueryPart.{QueryPart}
 use Rattle.rt_outcome.specs.declared.part.QueryPart.TheVariants.{First, Second}
 use Rattle.rt_outcome.specs.declared.part.Part.{Part}

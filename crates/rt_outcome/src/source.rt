@@ -3,9 +3,9 @@ ghost use Rattle.std.specs.Prelude.{◌≡◌, IfOk};
 ghost use Rattle.rt_outcome.specs.Source.{file_name, made_part, paths_in, source_of, table_file, table_paths};
 
 use crate::part::Part;
+use rt_io::Words;
 use rt_load::{Made, made};
 use rt_value::{Bytes, List, NoMemory, Txt};
-use rt_words::Words;
 use std::alloc::Global;
 
 /// The paths of a command.

@@ -7,13 +7,13 @@ use Rattle.rt_algebra.specs.declared.query.Pred.TheVariants as p
 use Rattle.rt_algebra.specs.declared.query.Query.{Query}
 use Rattle.rt_algebra.specs.declared.query.Query.TheVariants as query
 use Rattle.rt_algebra.specs.declared.typed.Typed.{Typed}
-use Rattle.rt_operators.specs.Columns.{Text, column_at, common_fit, further_columns, if_fit, known, lacked, names, picked, place, renamed, same_kinds, shared, texts, twice, united_columns, unless_twice, widened}
-use Rattle.rt_operators.specs.Fault.{◌>>=◌}
-use Rattle.rt_operators.specs.Operators.{Answer, anti, filled, if_further, joined, placed, product, project, quotient, rename, select, semi, table_columns, table_named, two, typed_of, united, unless_lacked}
-use Rattle.rt_operators.specs.Tests.{column_scalar, compared, negated, selected, side, test, tests}
-use Rattle.rt_operators.specs.declared.column.Column.{Column}
-use Rattle.rt_operators.specs.declared.relation.Relation.{Relation}
-use Rattle.rt_operators.specs.declared.scalar.Scalar.{Scalar}
+use Rattle.rt_ra.specs.Columns.{Text, column_at, common_fit, further_columns, if_fit, known, lacked, names, picked, place, renamed, same_kinds, shared, texts, twice, united_columns, unless_twice, widened}
+use Rattle.rt_ra.specs.Fault.{◌>>=◌}
+use Rattle.rt_ra.specs.Operators.{Answer, anti, filled, if_further, joined, placed, product, project, quotient, rename, select, semi, table_columns, table_named, two, typed_of, united, unless_lacked}
+use Rattle.rt_ra.specs.Tests.{column_scalar, compared, negated, selected, side, test, tests}
+use Rattle.rt_ra.specs.declared.column.Column.{Column}
+use Rattle.rt_ra.specs.declared.relation.Relation.{Relation}
+use Rattle.rt_ra.specs.declared.scalar.Scalar.{Scalar}
 use Rattle.rt_ra.specs.Faults.{IsWalkFault}
 use Rattle.rt_ra.specs.Lowered.{Lowering, ra_lowered, relation}
 use Rattle.rt_ra.specs.Lowered as lowered

@@ -8,7 +8,7 @@ use Rattle.rt_schema.specs.declared.table.ColKind.{ColKind}
 use Rattle.rt_schema.specs.declared.table.Column.{Column}
 use Rattle.rt_schema.specs.declared.table.Table.{Table}
 use Rattle.rt_value.specs.declared.value.Value.{Value}
-use Rattle.rt_operators.specs.Meaning.{Fit, Wide}
+use Rattle.rt_ra.specs.OperatorMeaning.{Fit, Wide}
 
 left : (a b : Bool) → (a && b) ≡ true → a ≡ true
 left true b h = refl

@@ -3,3 +3,14 @@ pub mod Kept
 pub mod Means
 pub mod Sizes
 pub mod Types
+pub mod More
+pub mod Dividing
+pub mod ConditionLaws
+pub mod Divided
+pub mod Joined
+pub mod Layers
+pub mod Meant
+pub mod Relations
+pub mod Typing
+pub mod Typings
+pub mod Widths

@@ -4,14 +4,14 @@ use Rattle.std.proofs.Common.{◌≡◌, List, [], ◌∷◌, Bool, Result, Ok, 
 use Rattle.std.specs.Prelude.{IfOk}
 use Rattle.rt_algebra.specs.Answer.{plain}
 use Rattle.rt_algebra.specs.declared.typed.Typed.{Typed}
-use Rattle.rt_operators.proofs.ConditionLaws.{then-ok}
-use Rattle.rt_operators.proofs.Meant.{project-keeps, rename-keeps, select-keeps, table-ok, two-ok}
-use Rattle.rt_operators.specs.Answers as answers
-use Rattle.rt_operators.specs.Columns.{texts}
-use Rattle.rt_operators.specs.Fault.{◌>>=◌}
-use Rattle.rt_operators.specs.Meaning.{Fit, Means}
-use Rattle.rt_operators.specs.Operators.{Answer, project, rename, select, two, typed_of}
-use Rattle.rt_operators.specs.declared.relation.Relation.{Relation}
+use Rattle.rt_ra.proofs.ConditionLaws.{then-ok}
+use Rattle.rt_ra.proofs.Meant.{project-keeps, rename-keeps, select-keeps, table-ok, two-ok}
+use Rattle.rt_ra.specs.OperatorAnswers as answers
+use Rattle.rt_ra.specs.Columns.{texts}
+use Rattle.rt_ra.specs.Fault.{◌>>=◌}
+use Rattle.rt_ra.specs.OperatorMeaning.{Fit, Means}
+use Rattle.rt_ra.specs.Operators.{Answer, project, rename, select, two, typed_of}
+use Rattle.rt_ra.specs.declared.relation.Relation.{Relation}
 use Rattle.rt_ra.proofs.Kept.{kept-fit}
 use Rattle.rt_ra.specs.Answer.{Meaning, named}
 use Rattle.rt_ra.specs.Answer as answer

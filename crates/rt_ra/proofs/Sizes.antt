@@ -2,14 +2,14 @@
 use Rattle.std.proofs.Common.{◌≡◌, ℤ, negsuc, true, List, [], ◌∷◌, ◌++◌, refl}
 use Rattle.std.specs.Prelude.{◌^◌, ◌-◌, int_le, nat_le, pos, unsigned_abs}
 use Rattle.std.specs.List.{flat_map}
-use Rattle.rt_grammar.specs.Terminals.{Kinds, flag}
-use Rattle.rt_grammar.specs.Words.{all_formed, is_formed}
-use Rattle.rt_grammar.specs.declared.fixed.Fixed.TheVariants as fixed
-use Rattle.rt_grammar.specs.declared.terminal.Terminal.{Terminal}
-use Rattle.rt_grammar.specs.declared.terminal.Terminal.TheVariants as terminal
-use Rattle.rt_columns.proofs.Fitting.{and-left, and-right, and-true}
-use Rattle.rt_operators.specs.Numbers.{side_fits, test_fits, tests_fit}
-use Rattle.rt_grammar.specs.Comparisons.{op_sign}
+use Rattle.rt_token.specs.Terminals.{Kinds, flag}
+use Rattle.rt_token.specs.Words.{all_formed, is_formed}
+use Rattle.rt_token.specs.declared.fixed.Fixed.TheVariants as fixed
+use Rattle.rt_token.specs.declared.terminal.Terminal.{Terminal}
+use Rattle.rt_token.specs.declared.terminal.Terminal.TheVariants as terminal
+use Rattle.rt_algebra.proofs.Fitting.{and-left, and-right, and-true}
+use Rattle.rt_ra.specs.Numbers.{side_fits, test_fits, tests_fit}
+use Rattle.rt_token.specs.Comparisons.{op_sign}
 use Rattle.rt_ra_tree.specs.Spelled.{applied, spelled_side, spelled_test, spelled_tests}
 use Rattle.rt_ra_tree.specs.declared.tree.RaSide.{RaSide}
 use Rattle.rt_ra_tree.specs.declared.tree.RaSide.TheVariants as side_

@@ -6,20 +6,20 @@ use Rattle.std.proofs.lemmas.List.{length-map}
 use Rattle.rt_algebra.specs.Columns as algebra
 use Rattle.rt_algebra.specs.Typed.{IsTypedOf}
 use Rattle.rt_algebra.specs.declared.typed.Typed.{Typed}
-use Rattle.rt_grammar.specs.Readers.{plain_word}
-use Rattle.rt_grammar.specs.Terminals.{Kinds, flag}
-use Rattle.rt_grammar.specs.Words.{all_formed}
-use Rattle.rt_grammar.specs.declared.fixed.Fixed.TheVariants as fixed
-use Rattle.rt_grammar.specs.declared.terminal.Terminal.TheVariants as terminal
-use Rattle.rt_operators.proofs.ConditionLaws.{then-ok}
-use Rattle.rt_operators.proofs.Typings.{project-ok, rename-ok, select-ok, table-ok, two-ok}
-use Rattle.rt_columns.proofs.Fitting.{all-fit, table-as}
-use Rattle.rt_operators.specs.Columns.{called, texts}
-use Rattle.rt_operators.specs.Fault.{◌>>=◌}
-use Rattle.rt_operators.specs.Meaning.{AreTables, HasColumns}
-use Rattle.rt_operators.specs.Operators.{project, rename, select, table_columns, two, typed_of}
-use Rattle.rt_operators.specs.declared.column.Column.{Column}
-use Rattle.rt_operators.specs.declared.relation.Relation.{Relation}
+use Rattle.rt_token.specs.Readers.{plain_word}
+use Rattle.rt_token.specs.Terminals.{Kinds, flag}
+use Rattle.rt_token.specs.Words.{all_formed}
+use Rattle.rt_token.specs.declared.fixed.Fixed.TheVariants as fixed
+use Rattle.rt_token.specs.declared.terminal.Terminal.TheVariants as terminal
+use Rattle.rt_ra.proofs.ConditionLaws.{then-ok}
+use Rattle.rt_ra.proofs.Typings.{project-ok, rename-ok, select-ok, table-ok, two-ok}
+use Rattle.rt_algebra.proofs.Fitting.{all-fit, table-as}
+use Rattle.rt_ra.specs.Columns.{called, texts}
+use Rattle.rt_ra.specs.Fault.{◌>>=◌}
+use Rattle.rt_ra.specs.OperatorMeaning.{AreTables, HasColumns}
+use Rattle.rt_ra.specs.Operators.{project, rename, select, table_columns, two, typed_of}
+use Rattle.rt_ra.specs.declared.column.Column.{Column}
+use Rattle.rt_ra.specs.declared.relation.Relation.{Relation}
 use Rattle.rt_ra.proofs.Sizes.{formed-front, formed-operands, tests-fit}
 use Rattle.rt_ra.specs.Lowered.{Lowering, ra_lowered, relation}
 use Rattle.rt_ra.specs.Lowered as lowered

@@ -2,3 +2,12 @@ pub mod Answer
 pub mod Faults
 pub mod Lowered
 pub mod Meaning
+pub mod Alone
+pub mod OperatorAnswers
+pub mod Columns
+pub mod Fault
+pub mod OperatorMeaning
+pub mod Numbers
+pub mod Operators
+pub mod Tests
+pub mod Divisor

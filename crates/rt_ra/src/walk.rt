@@ -1,17 +1,25 @@
 //! The walk over a tree: the operands from the left, then the operator.
 
 ghost use Rattle.std.specs.Prelude.{◌≡◌, IfOk, Ok};
-ghost use Rattle.rt_operators.specs.Operators as operators;
+ghost use Rattle.rt_ra.specs.Operators as operators;
 ghost use Rattle.rt_ra.specs.Lowered as spec;
 ghost use Rattle.rt_ra_tree.specs.Refusals.{is_memory};
 ghost use Rattle.rt_ra_tree.specs.declared.tree.RaOp.TheVariants as op;
 ghost use Rattle.rt_value.specs.Gives.{Gives};
 
+use crate::crosses::cross;
+use crate::division::{Dividend, divide};
+use crate::joins::join;
+use crate::left_joins::{Doubled, left_join};
+use crate::names::texts;
+use crate::projections::project;
+use crate::relation::Relation;
+use crate::renaming::rename;
+use crate::selections::select;
+use crate::semijoins::{anti_join, semi_join};
+use crate::set_operators::{except, intersect, union};
+use crate::table::table_named;
 use rt_algebra::Query;
-use rt_operators::{
-    Dividend, Doubled, Relation, anti_join, cross, divide, except, intersect, join, left_join,
-    project, rename, select, semi_join, table_named, texts, union,
-};
 use rt_ra_tree::{Ra, RaFault, RaNames, RaOp, RaTests};
 use rt_schema::Table;
 use rt_value::{Boxed, NoMemory};

@@ -3,7 +3,7 @@ use Rattle.std.proofs.Common.{◌≡◌, ◌≤◌, ℕ, IsTrue, List, refl, sym
 use Rattle.std.specs.Prelude.{Option, None, Some}
 use Rattle.std.specs.Option.{ForSome}
 use Rattle.rt_schema.specs.Given.{IsOf, is_instance, places, row_limit}
-use Rattle.rt_words.specs.Ranges.{IsWithin, most_made}
+use Rattle.rt_io.specs.Ranges.{IsWithin, most_made}
 use Rattle.rt_input.specs.declared.tables.Tables.{Tables}
 use Rattle.rt_input.specs.Accepted.{Accepted, IsAccepted}
 use Rattle.rt_ra_run.specs.declared.asked.Asked.{Asked}

@@ -1,12 +1,12 @@
 //! The words of the command.
 ghost use Rattle.std.specs.Prelude.{◌≡◌, IfOk, IfErr, Some, option_and_then};
-ghost use Rattle.rt_words.specs.Command.{command};
+ghost use Rattle.rt_io.specs.Command.{command};
 ghost use Rattle.rt_ra_run.specs.Words.{IsInRange, WordsStop, over_files, query_path, ra_command};
 
 use rt_input::read_words;
+use rt_io::Words;
 use rt_outcome::{Outcome, QueryPart};
 use rt_value::Txt;
-use rt_words::Words;
 use std::alloc::Global;
 
 /// What the words ask for: two algebra texts over the tables of a folder.

@@ -2,15 +2,15 @@
 use Rattle.std.proofs.Common.{◌≡◌, ◌∙◌, ◌≤◌, ap, subst, List, [], ◌∷◌, refl, Bool, true, false, Option, Some, None, cond, arith, ◌==◌}
 use Rattle.std.specs.Prelude.{bytes_eq}
 use Rattle.std.proofs.lemmas.Slice.Eq.{bytes_eq-Decides}
-use Rattle.rt_grammar.specs.declared.fixed.Fixed.{Fixed}
-use Rattle.rt_grammar.specs.declared.fixed.Fixed.TheVariants as fixed
-use Rattle.rt_grammar.specs.declared.terminal.Name.{Name}
-use Rattle.rt_grammar.specs.declared.terminal.Terminal.{Terminal}
-use Rattle.rt_grammar.specs.declared.terminal.Terminal.TheVariants as terminal
-use Rattle.rt_grammar.specs.Readers.{plain_word, starts}
-use Rattle.rt_grammar.specs.Terminals.{Kinds, Word, code, front}
-use Rattle.rt_grammar.proofs.FrontLemmas.{is-fixed, other-nat}
-use Rattle.rt_grammar.proofs.ManyLemmas.{Each, some-is}
+use Rattle.rt_token.specs.declared.fixed.Fixed.{Fixed}
+use Rattle.rt_token.specs.declared.fixed.Fixed.TheVariants as fixed
+use Rattle.rt_token.specs.declared.terminal.Name.{Name}
+use Rattle.rt_token.specs.declared.terminal.Terminal.{Terminal}
+use Rattle.rt_token.specs.declared.terminal.Terminal.TheVariants as terminal
+use Rattle.rt_token.specs.Readers.{plain_word, starts}
+use Rattle.rt_token.specs.Terminals.{Kinds, Word, code, front}
+use Rattle.rt_token.proofs.FrontLemmas.{is-fixed, other-nat}
+use Rattle.rt_token.proofs.ManyLemmas.{Each, some-is}
 use Rattle.rt_ra_tree.specs.Heads.{before, by_code, by_word, fixed_heads, head_at, head_of, head_terminal, word_heads}
 use Rattle.rt_ra_tree.specs.declared.heads.Head.{Head}
 use Rattle.rt_ra_tree.specs.declared.heads.Head.TheVariants as head

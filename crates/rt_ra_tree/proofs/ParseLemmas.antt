@@ -1,6 +1,6 @@
 -- The answers of parsing.
 use Rattle.std.proofs.Common.{◌≡◌, ◌∙◌, sym, ap, subst, List, true, false, Ok}
-use Rattle.rt_grammar.specs.Words.{kinds}
+use Rattle.rt_token.specs.Words.{kinds}
 use Rattle.rt_token.specs.declared.token.Token.{Token}
 use Rattle.rt_token.specs.declared.token.TokenKind.{TokenKind}
 use Rattle.rt_value.specs.Gives.{Gives}

@@ -1,16 +1,16 @@
 -- Trees and texts: each reader keeps to the spelling.
 use Rattle.std.proofs.Common.{◌≡◌, ◌∙◌, ◌≤◌, ◌<◌, ◌+◌, ◌-◌, Bor, sym, ap, subst, ℕ, zero, suc, [], ◌∷◌, ◌++◌, length, refl, Bool, false, Option, Some, None, arith, length-append}
 use Rattle.std.specs.Prelude.{Result, codes}
-use Rattle.rt_grammar.specs.declared.fixed.Fixed.TheVariants as fixed
-use Rattle.rt_grammar.specs.declared.fault.ReadFault.{ReadFault}
-use Rattle.rt_grammar.specs.declared.terminal.Name.{Name}
-use Rattle.rt_grammar.specs.declared.terminal.Terminal.TheVariants as terminal
-use Rattle.rt_grammar.specs.Reads.{Reads}
-use Rattle.rt_grammar.specs.Terminals.{Kinds, after, flag, front, in_paren}
-use Rattle.rt_grammar.specs.Readers.{Parser, both, lead, paren, plain_word, read_end, read_name, ◌>>=◌}
-use Rattle.rt_grammar.proofs.EndLaws.{end-front, end-reads, end-sound}
-use Rattle.rt_grammar.proofs.Laws.{Lawful, both-law, lead-law, loose, made-after, made-sound, paren-law, weaker}
-use Rattle.rt_grammar.proofs.ManyLemmas.{bind-some, some-is}
+use Rattle.rt_token.specs.declared.fixed.Fixed.TheVariants as fixed
+use Rattle.rt_token.specs.declared.read_fault.ReadFault.{ReadFault}
+use Rattle.rt_token.specs.declared.terminal.Name.{Name}
+use Rattle.rt_token.specs.declared.terminal.Terminal.TheVariants as terminal
+use Rattle.rt_token.specs.Reads.{Reads}
+use Rattle.rt_token.specs.Terminals.{Kinds, after, flag, front, in_paren}
+use Rattle.rt_token.specs.Readers.{Parser, both, lead, paren, plain_word, read_end, read_name, ◌>>=◌}
+use Rattle.rt_token.proofs.EndLaws.{end-front, end-reads, end-sound}
+use Rattle.rt_token.proofs.Laws.{Lawful, both-law, lead-law, loose, made-after, made-sound, paren-law, weaker}
+use Rattle.rt_token.proofs.ManyLemmas.{bind-some, some-is}
 use Rattle.rt_ra_tree.specs.Heads.{head_at, head_terminal}
 use Rattle.rt_ra_tree.specs.Operands.{last_operand}
 use Rattle.rt_ra_tree.specs.Reads.{operands, project_of, read_from, read_names, read_ra, read_tests, read_text, read_with, rename_of, select_of, text_of, two_of}

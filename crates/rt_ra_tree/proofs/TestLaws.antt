@@ -1,16 +1,16 @@
 -- Tests and names: each reader keeps to the spelling.
 use Rattle.std.proofs.Common.{◌≡◌, ◌<◌, ◌+◌, ap, ℕ, ℤ, List, [], ◌∷◌, ◌++◌, length, refl, Bool, true, false, Some, append_assoc, arith}
 use Rattle.std.specs.List.{flat_map}
-use Rattle.rt_grammar.specs.declared.fixed.Fixed.TheVariants as fixed
-use Rattle.rt_grammar.specs.declared.terminal.Name.{Name}
-use Rattle.rt_grammar.specs.declared.terminal.Terminal.TheVariants as terminal
-use Rattle.rt_grammar.specs.Comparisons.{op_sign, read_op}
-use Rattle.rt_grammar.specs.Terminals.{Kinds, flag, in_paren}
-use Rattle.rt_grammar.specs.Readers.{Parser, both, done, flagged, lead, list_of, made, paren, read_name, starts}
-use Rattle.rt_grammar.proofs.ComparisonLaws.{op-law, op_kinds}
-use Rattle.rt_grammar.proofs.Laws.{Lawful, both-law, done-law, either-sound, flagged-law, lead-law, loose, made-law, made-sound, name-law, paren-law}
-use Rattle.rt_grammar.proofs.ListLaws.{StepLaw, after-law, list-law}
-use Rattle.rt_grammar.proofs.ManyLemmas.{some-is}
+use Rattle.rt_token.specs.declared.fixed.Fixed.TheVariants as fixed
+use Rattle.rt_token.specs.declared.terminal.Name.{Name}
+use Rattle.rt_token.specs.declared.terminal.Terminal.TheVariants as terminal
+use Rattle.rt_token.specs.Comparisons.{op_sign, read_op}
+use Rattle.rt_token.specs.Terminals.{Kinds, flag, in_paren}
+use Rattle.rt_token.specs.Readers.{Parser, both, done, flagged, lead, list_of, made, paren, read_name, starts}
+use Rattle.rt_token.proofs.ComparisonLaws.{op-law, op_kinds}
+use Rattle.rt_token.proofs.Laws.{Lawful, both-law, done-law, either-sound, flagged-law, lead-law, loose, made-law, made-sound, name-law, paren-law}
+use Rattle.rt_token.proofs.ListLaws.{StepLaw, after-law, list-law}
+use Rattle.rt_token.proofs.ManyLemmas.{some-is}
 use Rattle.rt_value.specs.declared.value.Op.{Op}
 use Rattle.rt_value.specs.declared.value.Op.TheVariants as op
 use Rattle.rt_ra_tree.specs.Reads.{compared, is_null_test, name_step, names_of, negative, null_of, read_names, read_null, read_number, read_plain_side, read_side, read_test, read_tests, test_step, tests_of}

@@ -1,10 +1,10 @@
 -- The tree that is read is the one that the tokens have, and so the answer is what they say.
 use Rattle.std.proofs.Common.{◌≡◌, ◌∙◌, ap, subst, ℕ, List, refl, Bool, true, false, Option, Some, None, Ok, Err}
 use Rattle.std.specs.Option.{option_and_then}
-use Rattle.rt_grammar.specs.Terminals.{Kinds}
-use Rattle.rt_grammar.specs.Words.{kinds, marks}
-use Rattle.rt_grammar.specs.declared.fault.ReadFault.{ReadFault}
-use Rattle.rt_grammar.specs.declared.fault.ReadFault.TheVariants.{Syntax}
+use Rattle.rt_token.specs.Terminals.{Kinds}
+use Rattle.rt_token.specs.Words.{kinds, marks}
+use Rattle.rt_token.specs.declared.read_fault.ReadFault.{ReadFault}
+use Rattle.rt_token.specs.declared.read_fault.ReadFault.TheVariants.{Syntax}
 use Rattle.rt_token.specs.declared.token.Token.{Token}
 use Rattle.rt_ra_tree.specs.Depth.{is_deep}
 use Rattle.rt_ra_tree.specs.Formed.{IsTreeOf}

@@ -1,6 +1,6 @@
 -- Which trees are formed, and the tokens of a tree.
 use Rattle.std.specs.Prelude.{◌≡◌, false, true, List, map}
-use Rattle.rt_grammar.specs.Words.{all_formed, kind_of, kinds}
+use Rattle.rt_token.specs.Words.{all_formed, kind_of, kinds}
 use Rattle.rt_ra_tree.specs.Depth.{is_deep}
 use Rattle.rt_ra_tree.specs.Spelled.{spelled_text}
 use Rattle.rt_ra_tree.specs.declared.tree.RaText.{RaText}

@@ -3,12 +3,12 @@
 -- What the reading of a text answers is defined by it; by the law `read_is_tree` it is the tree that the
 -- tokens spell.
 use Rattle.std.specs.Prelude.{ℕ, ◌==◌, if◌then◌else◌, List, [], ◌∷◌, Option, Some, None, codes, bytes_eq}
-use Rattle.rt_grammar.specs.declared.fixed.Fixed.{Fixed}
-use Rattle.rt_grammar.specs.declared.fixed.Fixed.TheVariants as fixed
-use Rattle.rt_grammar.specs.declared.terminal.Terminal.{Terminal}
-use Rattle.rt_grammar.specs.declared.terminal.Terminal.TheVariants as terminal
-use Rattle.rt_grammar.specs.Readers.{plain_word, starts}
-use Rattle.rt_grammar.specs.Terminals.{Kinds, Word, code}
+use Rattle.rt_token.specs.declared.fixed.Fixed.{Fixed}
+use Rattle.rt_token.specs.declared.fixed.Fixed.TheVariants as fixed
+use Rattle.rt_token.specs.declared.terminal.Terminal.{Terminal}
+use Rattle.rt_token.specs.declared.terminal.Terminal.TheVariants as terminal
+use Rattle.rt_token.specs.Readers.{plain_word, starts}
+use Rattle.rt_token.specs.Terminals.{Kinds, Word, code}
 use Rattle.rt_ra_tree.specs.Spelled.{word_of_two}
 use Rattle.rt_ra_tree.specs.declared.heads.Head.{Head}
 use Rattle.rt_ra_tree.specs.declared.heads.Head.TheVariants as head

@@ -1,8 +1,8 @@
 -- The two operands of an operator, each with what stands beside it.
 use Rattle.std.specs.Prelude.{Some}
-use Rattle.rt_grammar.specs.Readers.{Parser, ◌>>=◌}
-use Rattle.rt_grammar.specs.Terminals.{after}
-use Rattle.rt_grammar.specs.declared.fixed.Fixed.TheVariants as fixed
+use Rattle.rt_token.specs.Readers.{Parser, ◌>>=◌}
+use Rattle.rt_token.specs.Terminals.{after}
+use Rattle.rt_token.specs.declared.fixed.Fixed.TheVariants as fixed
 
 -- between the parenthesis and the comma
 abbrev pub first_operand : {A : Type 0} → Parser A → Parser A

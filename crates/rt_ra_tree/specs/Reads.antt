@@ -3,12 +3,12 @@
 -- What the reading of a text answers is defined by them; by the law `read_is_tree` it is the tree that
 -- the tokens spell.
 use Rattle.std.specs.Prelude.{ℕ, ℤ, zero, suc, ◌+◌, ◌&&◌, Bool, true, false, List, [], ◌∷◌, length, Option, Some, None}
-use Rattle.rt_grammar.specs.Comparisons.{read_op}
-use Rattle.rt_grammar.specs.Readers.{Parser, Step, both, done, either, flagged, lead, list_of, made, paren, read_end, read_name, starts, starts_name, step_after, ◌>>=◌}
-use Rattle.rt_grammar.specs.Terminals.{Kinds, tail_of}
-use Rattle.rt_grammar.specs.declared.fixed.Fixed.TheVariants as fixed
-use Rattle.rt_grammar.specs.declared.terminal.Name.{Name}
-use Rattle.rt_grammar.specs.declared.terminal.Terminal.TheVariants as terminal
+use Rattle.rt_token.specs.Comparisons.{read_op}
+use Rattle.rt_token.specs.Readers.{Parser, Step, both, done, either, flagged, lead, list_of, made, paren, read_end, read_name, starts, starts_name, step_after, ◌>>=◌}
+use Rattle.rt_token.specs.Terminals.{Kinds, tail_of}
+use Rattle.rt_token.specs.declared.fixed.Fixed.TheVariants as fixed
+use Rattle.rt_token.specs.declared.terminal.Name.{Name}
+use Rattle.rt_token.specs.declared.terminal.Terminal.TheVariants as terminal
 use Rattle.rt_value.specs.declared.value.Op.{Op}
 use Rattle.rt_ra_tree.specs.Heads.{head_at}
 use Rattle.rt_ra_tree.specs.Operands.{first_operand, last_operand}

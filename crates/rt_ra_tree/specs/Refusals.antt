@@ -1,7 +1,7 @@
 -- What parsing answers, and its first refusal.
 use Rattle.std.specs.Prelude.{◌≡◌, Bool, true, false, List, Option, Some, None, Result, Ok, Err}
-use Rattle.rt_grammar.specs.Places.{IsPlace}
-use Rattle.rt_grammar.specs.Words.{kinds}
+use Rattle.rt_token.specs.Places.{IsPlace}
+use Rattle.rt_token.specs.Words.{kinds}
 use Rattle.rt_ra_tree.specs.Depth.{is_deep}
 use Rattle.rt_ra_tree.specs.Formed.{IsTreeOf}
 use Rattle.rt_ra_tree.specs.declared.fault.RaFault.{RaFault}

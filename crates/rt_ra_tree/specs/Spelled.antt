@@ -4,12 +4,12 @@
 -- and folded over the tree.
 use Rattle.std.specs.Prelude.{[], ◌∷◌, ◌++◌, codes}
 use Rattle.std.specs.List.{flat_map}
-use Rattle.rt_grammar.specs.Comparisons.{op_sign}
-use Rattle.rt_grammar.specs.declared.fixed.Fixed.TheVariants as fixed
-use Rattle.rt_grammar.specs.declared.terminal.Terminal.{Terminal}
-use Rattle.rt_grammar.specs.declared.terminal.Terminal.TheVariants as terminal
-use Rattle.rt_grammar.specs.Readers.{plain_word}
-use Rattle.rt_grammar.specs.Terminals.{Kinds, flag, in_paren}
+use Rattle.rt_token.specs.Comparisons.{op_sign}
+use Rattle.rt_token.specs.declared.fixed.Fixed.TheVariants as fixed
+use Rattle.rt_token.specs.declared.terminal.Terminal.{Terminal}
+use Rattle.rt_token.specs.declared.terminal.Terminal.TheVariants as terminal
+use Rattle.rt_token.specs.Readers.{plain_word}
+use Rattle.rt_token.specs.Terminals.{Kinds, flag, in_paren}
 use Rattle.rt_ra_tree.specs.declared.tree.Ra.{Ra}
 use Rattle.rt_ra_tree.specs.declared.tree.Ra.TheFolds.{fold-Ra}
 use Rattle.rt_ra_tree.specs.declared.tree.Ra.TheOpen as open_

@@ -2,7 +2,7 @@
 -- the one formed tree that the tokens have.
 use Rattle.std.specs.Prelude.{Bool, true, false, List, Option, Some, None, Result, Ok, Err}
 use Rattle.std.specs.Option.{option_and_then}
-use Rattle.rt_grammar.specs.Words.{kinds, marks}
+use Rattle.rt_token.specs.Words.{kinds, marks}
 use Rattle.rt_ra_tree.specs.Depth.{is_deep}
 use Rattle.rt_ra_tree.specs.Reads.{read_text}
 use Rattle.rt_ra_tree.specs.Refusals.{refusal}

@@ -1,12 +1,12 @@
 //! Tests, and lists of tests and of names.
 
 ghost use Rattle.std.specs.Prelude.{◌≡◌};
-ghost use Rattle.rt_grammar.specs.Readers.{both, list_of, made, read_name};
-ghost use Rattle.rt_grammar.specs.Reads.{Reads};
+ghost use Rattle.rt_token.specs.Readers.{both, list_of, made, read_name};
+ghost use Rattle.rt_token.specs.Reads.{Reads};
 ghost use Rattle.rt_ra_tree.specs.Reads as spec;
 
 use crate::tree::{RaNames, RaSide, RaTest, RaTests};
-use rt_grammar::{
+use rt_token::{
     Fixed, Name, ReadFault, Terminal, after, expect, flag, front, name, name_of, op_at, starts,
     starts_name, tail,
 };

@@ -1,7 +1,7 @@
 //! Tokens that are nested too deep.
 
 ghost use Rattle.std.specs.Prelude.{◌≡◌};
-ghost use Rattle.rt_grammar.specs.Words.{kinds};
+ghost use Rattle.rt_token.specs.Words.{kinds};
 ghost use Rattle.rt_ra_tree.specs.Depth as spec;
 
 use rt_token::{Token, TokenKind};

@@ -4,7 +4,7 @@ ghost use Rattle.std.specs.Prelude.{◌≡◌, bytes_eq, option_map};
 ghost use Rattle.rt_ra_tree.specs.Heads as spec;
 
 use crate::tree::RaOp;
-use rt_grammar::{Fixed, Terminal, code, starts};
+use rt_token::{Fixed, Terminal, code, starts};
 
 /// What stands before the parenthesis of an operator.
 #[derive(Clone, Copy)]

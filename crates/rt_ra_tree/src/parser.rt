@@ -1,5 +1,5 @@
 ghost use Rattle.std.specs.Prelude.{◌≡◌, IfSome, List, Some, Ok, Err};
-ghost use Rattle.rt_grammar.specs.Reads.{Answers};
+ghost use Rattle.rt_token.specs.Reads.{Answers};
 ghost use Rattle.rt_ra_tree.specs.Formed.{IsTreeOf};
 ghost use Rattle.rt_ra_tree.specs.Reads as spec;
 ghost use Rattle.rt_ra_tree.specs.Refusals.{IsAnswer, is_memory, refusal};
@@ -13,8 +13,7 @@ use crate::depth::is_deep;
 use crate::fault::RaFault;
 use crate::reader::ra;
 use crate::tree::RaText;
-use rt_grammar::{ReadFault, Terminal, end, syntax_place, terminals};
-use rt_token::Token;
+use rt_token::{ReadFault, Terminal, Token, end, syntax_place, terminals};
 use std::alloc::Global;
 
 #[tactic(auto, unfolding(crate::specs::Reads::read_text))]

@@ -1,14 +1,14 @@
 //! Operators and their operands, with at most `depth` of them in one another.
 
 ghost use Rattle.std.specs.Prelude.{◌≡◌};
-ghost use Rattle.rt_grammar.specs.Reads.{Reads};
+ghost use Rattle.rt_token.specs.Reads.{Reads};
 ghost use Rattle.rt_ra_tree.specs.Operands.{first_operand, last_operand};
 ghost use Rattle.rt_ra_tree.specs.Reads as spec;
 
 use crate::conditions::{names, tests};
 use crate::heads::{Head, head_at};
 use crate::tree::{Ra, RaNames, RaOp, RaTests};
-use rt_grammar::{Fixed, ReadFault, Terminal, expect, name};
+use rt_token::{Fixed, ReadFault, Terminal, expect, name};
 use rt_tree::{before, boxed_before};
 use rt_value::Boxed;
 use std::alloc::Global;

@@ -1,6 +1,6 @@
 //! The tree of an algebra text, one type a line of the grammar.
 
-use rt_grammar::Name;
+use rt_token::Name;
 use rt_value::{Boxed, List, Op, Txt};
 
 /// `name | [ "-" ] number | text`. The Bool tells whether the minus stands there.

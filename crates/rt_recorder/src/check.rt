@@ -4,7 +4,7 @@ ghost use Rattle.rt_recorder.specs.Recording.{IsAccepted};
 ghost use Rattle.rt_recorder.specs.Checking.{IsChecked, IsSound};
 ghost use Rattle.rt_recorder.specs.declared.check.Checked.{Checked};
 
-use crate::{Cert, Step};
+use crate::cert::{Cert, Step};
 use rt_clause::{Adds, Lines, Lit};
 use rt_derive::Checker;
 use rt_value::{List, NoMemory};

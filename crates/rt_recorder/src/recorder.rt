@@ -3,7 +3,7 @@ ghost use Rattle.std.specs.List.{AllByRecursion as Each};
 ghost use Rattle.rt_recorder.specs.Certificate.{IsNumber, IsStep};
 ghost use Rattle.rt_recorder.specs.Recording.{AreSteps};
 
-use crate::Step;
+use crate::cert::Step;
 use rt_clause::{Adds, Lines, Lit, LitList};
 use rt_derive::Checker;
 use rt_value::{List, NoMemory};

@@ -5,16 +5,16 @@ use Rattle.std.proofs.lemmas.List.{append-nil}
 use Rattle.rt_algebra.specs.Columns as algebra
 use Rattle.rt_algebra.specs.declared.query.Pred.{Pred}
 use Rattle.rt_algebra.specs.declared.query.Pred.TheVariants as pred
-use Rattle.rt_relation.specs.Sources.{no_sources, select_of, with_base, with_cond}
+use Rattle.rt_scope.specs.Sources.{no_sources, select_of, with_base, with_cond}
 use Rattle.rt_resolve.specs.Chains.{BaseOf, Condition, JoinOf, LinkOf, Meaning, SourceOf, atom, atom_step, base, base_step, based, chain, chain_link, chain_link_step, chain_step, cond, cond_step, conj, conj_step, gathered, join, join_step, joined_all, linked_all, meet, meet_link, meet_link_step, meet_step, member_test, neg, neg_step, pick, pick_step, primary, primary_step, source_of, source_step, sources_all, where_on, with_on}
-use Rattle.rt_relation.specs.Conditions.{all_of, any_of, member, one_more, only}
-use Rattle.rt_relation.specs.Relations.{Tables, alias_or, intersected, united}
-use Rattle.rt_relation.specs.declared.condition.Members.{Members}
-use Rattle.rt_relation.specs.declared.from.FromClause.{FromClause}
-use Rattle.rt_relation.specs.declared.relation.Relation.{Relation}
-use Rattle.rt_relation.proofs.Sets.{IsTypedRelation, intersected-typed, united-typed}
-use Rattle.rt_relation.proofs.Sources.{IsTypedFrom, IsTypedTable, drop-stands, no-sources-typed, select-of-typed, table-named-typed, tables-from-first, tables_of, with-base-typed, with-cond-typed}
-use Rattle.rt_relation.proofs.Tested.{AreTyped, all-of-typed, any-of-typed, between-test-typed, comparison-typed, exists-typed, list-test-typed, member-typed, null-test-typed, only-typed, put-typed}
+use Rattle.rt_scope.specs.Conditions.{all_of, any_of, member, one_more, only}
+use Rattle.rt_scope.specs.Relations.{Tables, alias_or, intersected, united}
+use Rattle.rt_scope.specs.declared.condition.Members.{Members}
+use Rattle.rt_scope.specs.declared.from.FromClause.{FromClause}
+use Rattle.rt_scope.specs.declared.relation.Relation.{Relation}
+use Rattle.rt_scope.proofs.Sets.{IsTypedRelation, intersected-typed, united-typed}
+use Rattle.rt_scope.proofs.FromLaws.{IsTypedFrom, IsTypedTable, drop-stands, no-sources-typed, select-of-typed, table-named-typed, tables-from-first, tables_of, with-base-typed, with-cond-typed}
+use Rattle.rt_scope.proofs.Tested.{AreTyped, all-of-typed, any-of-typed, between-test-typed, comparison-typed, exists-typed, list-test-typed, member-typed, null-test-typed, only-typed, put-typed}
 use Rattle.rt_scope.specs.Compare.{negated}
 use Rattle.rt_scope.specs.Fault.{◌>>=◌}
 use Rattle.rt_scope.specs.Lookup.{Scopes}

@@ -3,12 +3,12 @@ use Rattle.std.proofs.Common.{◌≡◌, ◌∙◌, ℕ, ◌+◌, ◌<◌, Bool,
 use Rattle.std.proofs.Math.Seq.{drop-cons}
 use Rattle.std.proofs.lemmas.Result.{err_from_is_err_and}
 use Rattle.std.specs.Prelude.{IsErrAnd, MatchBool}
-use Rattle.rt_relation.specs.Conditions.{all_of, any_of, one_more, only}
-use Rattle.rt_relation.specs.Relations.{Tables, intersected, united}
-use Rattle.rt_relation.specs.Sources.{no_sources, select_of}
-use Rattle.rt_relation.specs.declared.condition.Members.{Members}
-use Rattle.rt_relation.specs.declared.from.FromClause.{FromClause}
-use Rattle.rt_relation.specs.declared.relation.Relation.{Relation}
+use Rattle.rt_scope.specs.Conditions.{all_of, any_of, one_more, only}
+use Rattle.rt_scope.specs.Relations.{Tables, intersected, united}
+use Rattle.rt_scope.specs.Sources.{no_sources, select_of}
+use Rattle.rt_scope.specs.declared.condition.Members.{Members}
+use Rattle.rt_scope.specs.declared.from.FromClause.{FromClause}
+use Rattle.rt_scope.specs.declared.relation.Relation.{Relation}
 use Rattle.rt_algebra.specs.declared.query.Pred.{Pred}
 use Rattle.rt_scope.specs.Fault.{◌>>=◌, is_memory}
 use Rattle.rt_scope.specs.Compare.{negated}

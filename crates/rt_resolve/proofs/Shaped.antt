@@ -1,6 +1,6 @@
 -- Kinds that are the same.
 use Rattle.std.proofs.Common.{◌≡◌, true, List, [], ◌∷◌, refl}
-use Rattle.rt_columns.proofs.Fitting.{and-left, and-right, kind-self}
+use Rattle.rt_algebra.proofs.Fitting.{and-left, and-right, kind-self}
 use Rattle.rt_resolve.specs.Shapes.{same_kinds}
 use Rattle.rt_schema.specs.Schema.{kind_eq}
 use Rattle.rt_schema.specs.declared.table.ColKind.{ColKind}

@@ -4,13 +4,13 @@ use Rattle.std.specs.Prelude.{IfOk}
 use Rattle.std.proofs.lemmas.List.{length-map}
 use Rattle.rt_algebra.specs.Typed.{IsTypedOf}
 use Rattle.rt_algebra.specs.declared.typed.Typed.{Typed}
-use Rattle.rt_columns.proofs.Fitting.{all-fit}
+use Rattle.rt_algebra.proofs.Fitting.{all-fit}
 use Rattle.rt_resolve.specs.Chains.{chain, lowered}
-use Rattle.rt_relation.specs.Relations.{Tables, typed_of}
-use Rattle.rt_relation.specs.declared.relation.Relation.{Relation}
+use Rattle.rt_scope.specs.Relations.{Tables, typed_of}
+use Rattle.rt_scope.specs.declared.relation.Relation.{Relation}
 use Rattle.rt_resolve.proofs.Inductive.{chain-typed}
-use Rattle.rt_relation.proofs.Sets.{IsTypedRelation}
-use Rattle.rt_relation.proofs.Sources.{tables_of}
+use Rattle.rt_scope.proofs.Sets.{IsTypedRelation}
+use Rattle.rt_scope.proofs.FromLaws.{tables_of}
 use Rattle.rt_scope.specs.Fault.{is_memory}
 use Rattle.rt_scope.specs.declared.column.Column.{Column}
 use Rattle.rt_scope.specs.declared.fault.NameFault.{NameFault}

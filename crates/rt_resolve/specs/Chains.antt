@@ -7,13 +7,13 @@ use Rattle.std.specs.Prelude.{ℕ, Bool, length, drop, List, [], ◌∷◌, Opti
 use Rattle.rt_algebra.specs.declared.query.Pred.{Pred}
 use Rattle.rt_algebra.specs.declared.query.Pred.TheVariants as p
 use Rattle.rt_algebra.specs.declared.typed.Typed.{Typed}
-use Rattle.rt_relation.specs.Conditions.{all_of, any_of, between_test, comparison, list_test, member, null_test, one_more, only}
-use Rattle.rt_relation.specs.Relations.{Tables, alias_or, intersected, table_named, typed_of, united}
-use Rattle.rt_relation.specs.Sources.{no_sources, select_of, with_base, with_cond}
-use Rattle.rt_relation.specs.declared.condition.Members.{Members}
-use Rattle.rt_relation.specs.declared.from.FromClause.{FromClause}
-use Rattle.rt_relation.specs.declared.relation.Relation.{Relation}
-use Rattle.rt_relation.specs.declared.relation.TableRef.{TableRef}
+use Rattle.rt_scope.specs.Conditions.{all_of, any_of, between_test, comparison, list_test, member, null_test, one_more, only}
+use Rattle.rt_scope.specs.Relations.{Tables, alias_or, intersected, table_named, typed_of, united}
+use Rattle.rt_scope.specs.Sources.{no_sources, select_of, with_base, with_cond}
+use Rattle.rt_scope.specs.declared.condition.Members.{Members}
+use Rattle.rt_scope.specs.declared.from.FromClause.{FromClause}
+use Rattle.rt_scope.specs.declared.relation.Relation.{Relation}
+use Rattle.rt_scope.specs.declared.relation.TableRef.{TableRef}
 use Rattle.rt_scope.specs.Compare.{negated}
 use Rattle.rt_scope.specs.Fault.{◌>>=◌}
 use Rattle.rt_scope.specs.Lookup.{Scopes}

@@ -6,9 +6,8 @@ ghost use Rattle.rt_value.specs.Gives.{Gives};
 
 use crate::chains::chain;
 use rt_algebra::Typed;
-use rt_relation::typed_of;
 use rt_schema::{Schema, Table};
-use rt_scope::{NameFault, Source};
+use rt_scope::{NameFault, Source, typed_of};
 use rt_tree::Sql;
 use std::alloc::Global;
 

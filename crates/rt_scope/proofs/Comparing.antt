@@ -7,8 +7,8 @@ use Rattle.rt_algebra.specs.Columns.{all_comparable, comparable, column_of, pred
 use Rattle.rt_algebra.specs.declared.expr.Expr.{Expr}
 use Rattle.rt_algebra.specs.declared.query.Pred.{Pred}
 use Rattle.rt_algebra.specs.declared.query.Pred.TheVariants as pred
-use Rattle.rt_columns.proofs.Columned.{typed-Cmp, typed-Not}
-use Rattle.rt_columns.proofs.Fitting.{and-left, and-right, and-true}
+use Rattle.rt_algebra.proofs.Columned.{typed-Cmp, typed-Not}
+use Rattle.rt_algebra.proofs.Fitting.{and-left, and-right, and-true}
 use Rattle.rt_schema.specs.declared.table.ColKind.{ColKind}
 use Rattle.rt_scope.specs.Compare.{compared, listed, listed_one, negated}
 use Rattle.rt_scope.specs.Fault.{◌>>=◌}

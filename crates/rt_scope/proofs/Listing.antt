@@ -7,7 +7,7 @@ use Rattle.rt_algebra.specs.Columns as algebra
 use Rattle.rt_algebra.specs.Columns.{column_of, item_columns, with_column as with_algebra}
 use Rattle.rt_algebra.specs.declared.expr.Expr.{Expr}
 use Rattle.rt_algebra.specs.declared.expr.Expr.TheVariants as expr
-use Rattle.rt_columns.proofs.Columned.{column-Col}
+use Rattle.rt_algebra.proofs.Columned.{column-Col}
 use Rattle.rt_schema.specs.declared.table.ColKind.{ColKind}
 use Rattle.rt_scope.specs.Lookup.{Scopes, Text, source_named}
 use Rattle.rt_scope.specs.Select.{item_name, no_items, select_list, with_column, with_columns, with_item, with_items, with_source, with_sources, with_value}

@@ -3,7 +3,7 @@ use Rattle.std.proofs.Common.{◌≡◌, ◌∙◌, ℕ, suc, ◌+◌, Bool, tru
 use Rattle.std.specs.Prelude.{IfOk, if◌then◌else◌}
 use Rattle.std.specs.Str.{bytes_eq}
 use Rattle.rt_algebra.specs.Columns as algebra
-use Rattle.rt_columns.proofs.Columned.{column-Col}
+use Rattle.rt_algebra.proofs.Columned.{column-Col}
 use Rattle.rt_schema.specs.declared.table.ColKind.{ColKind}
 use Rattle.rt_scope.specs.Lookup.{Text, Scopes, is_named, found, see, seen_columns, seen_sources, meant, find_column, source_named, of_source, find_qualified}
 use Rattle.rt_scope.specs.declared.column.Column.{Column}

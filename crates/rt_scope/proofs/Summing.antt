@@ -5,8 +5,8 @@ use Rattle.std.specs.Option.{option_and_then}
 use Rattle.std.proofs.lemmas.List.{map-append}
 use Rattle.rt_algebra.specs.Columns as algebra
 use Rattle.rt_algebra.specs.Columns.{term_column, sum_bound, mul_bound, member_bound, step_bound, whole_column, kind_bound}
-use Rattle.rt_columns.proofs.Columned.{column-Int, column-Mul, column-Null, column-Sum, column-Text, column-term}
-use Rattle.rt_grammar.specs.declared.terminal.Name.{Name}
+use Rattle.rt_algebra.proofs.Columned.{column-Int, column-Mul, column-Null, column-Sum, column-Text, column-term}
+use Rattle.rt_token.specs.declared.terminal.Name.{Name}
 use Rattle.rt_schema.specs.declared.table.ColKind.{ColKind}
 use Rattle.rt_schema.specs.declared.table.ColKind.TheVariants.{Whole, Text as Texts}
 use Rattle.rt_scope.specs.Fault.{◌>>=◌}

@@ -5,3 +5,7 @@ pub mod Lookup
 pub mod Names
 pub mod Select
 pub mod Sums
+pub mod Alone
+pub mod Conditions
+pub mod Relations
+pub mod Sources

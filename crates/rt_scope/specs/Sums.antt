@@ -7,7 +7,7 @@ use Rattle.rt_algebra.specs.Columns.{kind_bound, step_bound}
 use Rattle.rt_algebra.specs.declared.expr.Expr.{Expr}
 use Rattle.rt_algebra.specs.declared.expr.Expr.TheVariants as e
 use Rattle.rt_algebra.specs.declared.expr.Term.{Term, roll-Term}
-use Rattle.rt_grammar.specs.declared.terminal.Name.{Name}
+use Rattle.rt_token.specs.declared.terminal.Name.{Name}
 use Rattle.rt_schema.specs.declared.table.ColKind.TheVariants as kind
 use Rattle.rt_scope.specs.Fault.{◌>>=◌}
 use Rattle.rt_scope.specs.Lookup.{Scopes, find_column, find_qualified}

@@ -1,7 +1,7 @@
 ghost use Rattle.std.specs.Prelude.{◌≡◌, IfOk};
 ghost use Rattle.rt_scope.specs.Lookup.{is_named};
 
-use rt_columns::Column as AnyColumn;
+use rt_algebra::Column as AnyColumn;
 use rt_schema::ColKind;
 use rt_value::{NoMemory, Txt};
 use std::alloc::Global;

@@ -1,25 +1,44 @@
-//! Names in scope, and what expressions, comparisons and select items mean in the algebra.
+//! Names in scope, and what stands between them means in the algebra: expressions, comparisons,
+//! select items, tables, set operators, the sources of a SELECT, and conditions without a subquery
+//! (ISO/IEC 9075-2, column reference, table reference, query expression, from clause, search
+//! condition).
 //!
-//! Names are those of SQL (ISO/IEC 9075-2, column reference); `specs/` says which column a name
-//! means and which expression a tree becomes.
+//! `specs/` says which column a name means, and what each of these becomes where its parts are
+//! known, or which fault it has.
 #![tactic(auto)]
 
+mod alone;
+mod block;
 mod column;
 mod compare;
+mod condition;
 mod fault;
+mod from;
 mod lookup;
+mod relation;
 mod scalar;
 mod select;
+mod set;
 mod source;
 mod sources;
 mod sums;
+mod table;
 
+pub use block::select_of;
 pub use column::Column;
 pub use compare::{compared, list_items, negated};
+pub use condition::{
+    Members, all_of, any_of, between_test, boxed_sum, comparison, list_test, member, null_test,
+    one_more, only,
+};
 pub use fault::NameFault;
+pub use from::{FromClause, inner, no_sources, visible, with_base, with_cond};
 pub use lookup::{Found, Seen, after, find_column, find_qualified};
+pub use relation::{Relation, TableRef, typed_of};
 pub use scalar::Scalar;
 pub use select::{SelectList, select_list};
+pub use set::{intersected, united};
 pub use source::{Source, source_named};
 pub use sources::Sources;
 pub use sums::{Factors, Terms, sum};
+pub use table::{alias_or, table_named};

@@ -12,7 +12,7 @@ use crate::scalar::Scalar;
 use crate::source::{Source, source_named};
 use crate::sums::{has_more, sum};
 use rt_algebra::Expr;
-use rt_grammar::Name;
+use rt_token::Name;
 use rt_tree::{Alias, Factor, Item, Items, Leaf, Mul, Sum};
 use rt_value::{List, NoMemory, Txt};
 use std::alloc::Global;

@@ -3,18 +3,18 @@ use Rattle.std.proofs.Common.{◌≡◌, ◌∙◌, ◌≤◌, ◌<◌, ◌+◌,
 use Rattle.std.specs.Borrow.{Bor}
 use Rattle.std.specs.List.{flat_map}
 use Rattle.std.specs.Prelude.{Result}
-use Rattle.rt_grammar.specs.Reads.{Reads}
-use Rattle.rt_grammar.specs.declared.fault.ReadFault.{ReadFault}
-use Rattle.rt_grammar.specs.declared.fixed.Fixed.TheVariants as fixed
-use Rattle.rt_grammar.specs.declared.terminal.Name.{Name}
-use Rattle.rt_grammar.specs.declared.terminal.Terminal.{Terminal}
-use Rattle.rt_grammar.specs.declared.terminal.Terminal.TheVariants as terminal
-use Rattle.rt_grammar.specs.Terminals.{Kinds, code_of, flag, front, in_paren, maybe}
-use Rattle.rt_grammar.specs.Readers.{Parser, both, done, either, flagged, lead, list_of, made, optional, paren, read_end, read_name, starts, starts_name}
-use Rattle.rt_grammar.proofs.ManyLemmas.{bind-some, some-is}
-use Rattle.rt_grammar.proofs.FrontLemmas.{Passed, other-nat}
-use Rattle.rt_grammar.proofs.Laws.{Lawful, both-law, done-law, either-sound, flagged-law, lead-law, made-law, made-sound, optional-law, paren-law, weaker}
-use Rattle.rt_grammar.proofs.ListLaws.{StepLaw, after-law, follows, list-law, when-law}
+use Rattle.rt_token.specs.Reads.{Reads}
+use Rattle.rt_token.specs.declared.read_fault.ReadFault.{ReadFault}
+use Rattle.rt_token.specs.declared.fixed.Fixed.TheVariants as fixed
+use Rattle.rt_token.specs.declared.terminal.Name.{Name}
+use Rattle.rt_token.specs.declared.terminal.Terminal.{Terminal}
+use Rattle.rt_token.specs.declared.terminal.Terminal.TheVariants as terminal
+use Rattle.rt_token.specs.Terminals.{Kinds, code_of, flag, front, in_paren, maybe}
+use Rattle.rt_token.specs.Readers.{Parser, both, done, either, flagged, lead, list_of, made, optional, paren, read_end, read_name, starts, starts_name}
+use Rattle.rt_token.proofs.ManyLemmas.{bind-some, some-is}
+use Rattle.rt_token.proofs.FrontLemmas.{Passed, other-nat}
+use Rattle.rt_token.proofs.Laws.{Lawful, both-law, done-law, either-sound, flagged-law, lead-law, made-law, made-sound, optional-law, paren-law, weaker}
+use Rattle.rt_token.proofs.ListLaws.{StepLaw, after-law, follows, list-law, when-law}
 use Rattle.rt_tree.specs.declared.tree.Alias.{Alias}
 use Rattle.rt_tree.specs.declared.tree.Items.{Items}
 use Rattle.rt_tree.specs.declared.tree.Sql.{Sql}
@@ -35,7 +35,7 @@ use Rattle.rt_tree.specs.declared.tree.Base.TheVariants as base
 use Rattle.rt_tree.specs.declared.tree.Join.TheVariants as join
 use Rattle.rt_tree.specs.declared.tree.Primary.TheVariants as primary
 use Rattle.rt_tree.specs.declared.tree.Atom.TheOpen as open_
-use Rattle.rt_grammar.proofs.FrontLemmas.{is-fixed}
+use Rattle.rt_token.proofs.FrontLemmas.{is-fixed}
 use Rattle.rt_tree.specs.Spelled.{spelled_alias, spelled_base, spelled_chain, spelled_chain_link, spelled_cond, spelled_items, spelled_join, spelled_meet, spelled_meet_link, spelled_name, spelled_pick, spelled_primary, spelled_source, spelled_sql, spelled_where, union_word}
 use Rattle.rt_tree.proofs.SpelledLemmas.{spelled-Chain, spelled-ChainLink, spelled-ChainParen, spelled-Cross, spelled-Inner, spelled-Meet, spelled-MeetLink, spelled-Named, spelled-One, spelled-Pick, spelled-Plain, spelled-Source, spelled-Sub}
 use Rattle.rt_tree.specs.Reads.{is_alias, read_alias, read_items}
@@ -44,8 +44,8 @@ use Rattle.rt_tree.proofs.SumLaws.{a-name, alias-law, maybe-alias-front, maybe-a
 use Rattle.rt_tree.proofs.ItemLaws.{items-front, items-law}
 use Rattle.rt_sql.proofs.StartLemmas.{primary-cases}
 use Rattle.rt_sql.proofs.CondLaws.{InnerLaw, cond-law}
-use Rattle.rt_grammar.proofs.CalmLemmas.{IsCalm, calm-name}
-use Rattle.rt_grammar.proofs.EndLaws.{end-front, end-reads, end-sound}
+use Rattle.rt_token.proofs.CalmLemmas.{IsCalm, calm-name}
+use Rattle.rt_token.proofs.EndLaws.{end-front, end-reads, end-sound}
 
 -- ---- bases
 

@@ -3,15 +3,15 @@ use Rattle.std.proofs.Common.{◌≡◌, ◌≤◌, ◌<◌, ◌+◌, sym, ap, s
 use Rattle.std.proofs.lemmas.Bool.Decides.{nat_tests}
 use Rattle.std.specs.Prelude.{replicate, option_map}
 use Rattle.std.specs.List.{flat_map}
-use Rattle.rt_grammar.specs.declared.fixed.Fixed.TheVariants as fixed
-use Rattle.rt_grammar.specs.declared.terminal.Terminal.{Terminal}
-use Rattle.rt_grammar.specs.declared.terminal.Terminal.TheVariants as terminal
-use Rattle.rt_grammar.specs.Terminals.{Kinds, after, code, code_of, flag, front, in_paren}
-use Rattle.rt_grammar.specs.Readers.{Parser, both, done, either, flagged, lead, list_of, made, paren, read_name, repeated, starts, starts_name}
-use Rattle.rt_grammar.proofs.ManyLemmas.{bind-some, some-is}
-use Rattle.rt_grammar.proofs.FrontLemmas.{Passed, after-sound, other-nat, passed-cons, passed-nil}
-use Rattle.rt_grammar.proofs.Laws.{Lawful, both-law, done-law, either-sound, flagged-law, lead-law, made-law, made-sound, paren-law, repeated-law}
-use Rattle.rt_grammar.proofs.ListLaws.{StepLaw, after-law, follows, list-law}
+use Rattle.rt_token.specs.declared.fixed.Fixed.TheVariants as fixed
+use Rattle.rt_token.specs.declared.terminal.Terminal.{Terminal}
+use Rattle.rt_token.specs.declared.terminal.Terminal.TheVariants as terminal
+use Rattle.rt_token.specs.Terminals.{Kinds, after, code, code_of, flag, front, in_paren}
+use Rattle.rt_token.specs.Readers.{Parser, both, done, either, flagged, lead, list_of, made, paren, read_name, repeated, starts, starts_name}
+use Rattle.rt_token.proofs.ManyLemmas.{bind-some, some-is}
+use Rattle.rt_token.proofs.FrontLemmas.{Passed, after-sound, other-nat, passed-cons, passed-nil}
+use Rattle.rt_token.proofs.Laws.{Lawful, both-law, done-law, either-sound, flagged-law, lead-law, made-law, made-sound, paren-law, repeated-law}
+use Rattle.rt_token.proofs.ListLaws.{StepLaw, after-law, follows, list-law}
 use Rattle.rt_tree.specs.declared.tree.Op.{Op}
 use Rattle.rt_tree.specs.declared.tree.Op.TheVariants as op
 use Rattle.rt_tree.specs.declared.tree.Sum.{Sum}
@@ -30,7 +30,7 @@ use Rattle.rt_tree.specs.declared.tree.Pick.{Pick}
 use Rattle.rt_tree.specs.declared.tree.Source.{Source}
 use Rattle.rt_tree.specs.declared.tree.Atom.TheVariants as atom
 use Rattle.rt_tree.specs.declared.tree.Atom.TheOpen as open_
-use Rattle.rt_grammar.proofs.FrontLemmas.{is-fixed}
+use Rattle.rt_token.proofs.FrontLemmas.{is-fixed}
 use Rattle.rt_tree.specs.Spelled.{op_sign, spelled_atom, spelled_chain, spelled_cond, spelled_conj, spelled_neg, spelled_sum, spelled_sums}
 use Rattle.rt_tree.proofs.SpelledLemmas.{spelled-Between, spelled-Cmp, spelled-Cond, spelled-CondParen, spelled-Conj, spelled-Exists, spelled-InChain, spelled-InList, spelled-IsNull, spelled-Neg}
 use Rattle.rt_sql.specs.declared.tested.Range.{Range}
@@ -41,7 +41,7 @@ use Rattle.rt_tree.specs.Reads.{sum_at}
 use Rattle.rt_sql.specs.Reads.{Inner, atom_of, begins_chain, bounds, comma_sum_step, compared, cond_of, conj_of, conj_step, is_group, is_in_chain, is_op, list_range, neg_of, neg_step, null_of, op_at, ranged, ranged_of, read_atom, read_cond, read_conj, read_neg, read_null, read_op, read_range, read_sums, read_test, tested}
 use Rattle.rt_tree.proofs.SumLaws.{not-front, starts_sum, sum-at-law, sum-front}
 use Rattle.rt_sql.proofs.StartLemmas.{chain-begins, cond-group, sum-begins-not, sum-no-group}
-use Rattle.rt_grammar.proofs.CalmLemmas.{IsCalm, calm-name}
+use Rattle.rt_token.proofs.CalmLemmas.{IsCalm, calm-name}
 
 -- readers of what stands in parentheses, for trees of fewer than n terminals
 pub record InnerLaw (inner : Inner) (n : ℕ) : Type 0 where

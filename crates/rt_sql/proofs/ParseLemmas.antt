@@ -1,14 +1,14 @@
 -- The answers of parsing.
 use Rattle.std.proofs.Common.{◌≡◌, ◌∙◌, sym, ap, subst, ℕ, List, [], ◌∷◌, ◌++◌, ◌+◌, length, refl, Bool, true, false, Option, Some, None, Result, Ok, Err, map, arith, length-append}
 use Rattle.std.specs.Prelude.{IfSome}
-use Rattle.rt_grammar.specs.Places.{IsPlace}
-use Rattle.rt_grammar.specs.Terminals.{Kinds, Word, flag}
-use Rattle.rt_grammar.specs.Words.{kind_of, kinds}
-use Rattle.rt_grammar.specs.declared.fault.ReadFault.{ReadFault}
-use Rattle.rt_grammar.specs.declared.fault.ReadFault.TheVariants.{Syntax, NoMemory}
-use Rattle.rt_grammar.specs.declared.fixed.Fixed.TheVariants as fixed
-use Rattle.rt_grammar.proofs.CalmLemmas.{IsCalm}
-use Rattle.rt_grammar.proofs.EndLaws.{end-front}
+use Rattle.rt_token.specs.Places.{IsPlace}
+use Rattle.rt_token.specs.Terminals.{Kinds, Word, flag}
+use Rattle.rt_token.specs.Words.{kind_of, kinds}
+use Rattle.rt_token.specs.declared.read_fault.ReadFault.{ReadFault}
+use Rattle.rt_token.specs.declared.read_fault.ReadFault.TheVariants.{Syntax, NoMemory}
+use Rattle.rt_token.specs.declared.fixed.Fixed.TheVariants as fixed
+use Rattle.rt_token.proofs.CalmLemmas.{IsCalm}
+use Rattle.rt_token.proofs.EndLaws.{end-front}
 use Rattle.rt_token.specs.declared.token.Token.{Token}
 use Rattle.rt_token.specs.declared.token.TokenKind.{TokenKind}
 use Rattle.rt_tree.specs.Spelled.{spelled_chain, spelled_sql}

@@ -2,14 +2,14 @@
 use Rattle.std.proofs.Common.{◌≡◌, ◌∙◌, sym, ap, subst, ℕ, List, [], ◌∷◌, refl, Bool, true, false, Option, Some, None, cond, map, ◌==◌}
 use Rattle.std.specs.Prelude.{◌&&◌, ◌||◌, bytes_eq, codes, not}
 use Rattle.std.proofs.lemmas.Slice.Eq.{bytes_eq-Decides}
-use Rattle.rt_grammar.specs.Terminals.{Kinds, Word, code, code_of, front}
-use Rattle.rt_grammar.specs.Words.{all_formed, fixed_kind, is_formed, kind_of, kinds, name_kind}
-use Rattle.rt_grammar.specs.declared.fixed.Fixed.{Fixed}
-use Rattle.rt_grammar.specs.declared.fixed.Fixed.TheVariants as fixed
-use Rattle.rt_grammar.specs.declared.terminal.Name.{Name}
-use Rattle.rt_grammar.specs.declared.terminal.Terminal.{Terminal}
-use Rattle.rt_grammar.specs.declared.terminal.Terminal.TheVariants as terminal
-use Rattle.rt_grammar.proofs.CalmLemmas.{IsCalm, calm, is_call}
+use Rattle.rt_token.specs.Terminals.{Kinds, Word, code, code_of, front}
+use Rattle.rt_token.specs.Words.{all_formed, fixed_kind, is_formed, kind_of, kinds, name_kind}
+use Rattle.rt_token.specs.declared.fixed.Fixed.{Fixed}
+use Rattle.rt_token.specs.declared.fixed.Fixed.TheVariants as fixed
+use Rattle.rt_token.specs.declared.terminal.Name.{Name}
+use Rattle.rt_token.specs.declared.terminal.Terminal.{Terminal}
+use Rattle.rt_token.specs.declared.terminal.Terminal.TheVariants as terminal
+use Rattle.rt_token.proofs.CalmLemmas.{IsCalm, calm, is_call}
 use Rattle.rt_token.specs.Reserved.{is_reserved}
 use Rattle.rt_token.specs.declared.token.Token.{Token}
 use Rattle.rt_token.specs.declared.token.TokenKind.{TokenKind}

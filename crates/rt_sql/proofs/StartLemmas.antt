@@ -3,11 +3,11 @@ use Rattle.std.proofs.Common.{◌≡◌, ◌∙◌, ◌≤◌, ◌<◌, ◌+◌,
 use Rattle.std.proofs.lemmas.Bool.Decides.{nat_tests}
 use Rattle.std.specs.Prelude.{nat_le}
 use Rattle.std.specs.List.{flat_map}
-use Rattle.rt_grammar.specs.declared.fixed.Fixed.TheVariants as fixed
-use Rattle.rt_grammar.specs.declared.terminal.Name.{Name}
-use Rattle.rt_grammar.specs.declared.terminal.Terminal.TheVariants as terminal
-use Rattle.rt_grammar.specs.Terminals.{Kinds, front, in_paren}
-use Rattle.rt_grammar.proofs.FrontLemmas.{Passed}
+use Rattle.rt_token.specs.declared.fixed.Fixed.TheVariants as fixed
+use Rattle.rt_token.specs.declared.terminal.Name.{Name}
+use Rattle.rt_token.specs.declared.terminal.Terminal.TheVariants as terminal
+use Rattle.rt_token.specs.Terminals.{Kinds, front, in_paren}
+use Rattle.rt_token.proofs.FrontLemmas.{Passed}
 use Rattle.rt_tree.specs.declared.tree.Leaf.{Leaf}
 use Rattle.rt_tree.specs.declared.tree.Sum.{Sum}
 use Rattle.rt_tree.specs.declared.tree.Atom.{Atom}
@@ -29,7 +29,7 @@ use Rattle.rt_tree.specs.Spelled.{sign, spelled_chain, spelled_chain_link, spell
 use Rattle.rt_tree.proofs.SpelledLemmas.{spelled-Chain, spelled-ChainParen, spelled-Col, spelled-Meet, spelled-Null, spelled-Number, spelled-One, spelled-Pick, spelled-Str, spelled-SumParen}
 use Rattle.rt_sql.specs.Reads.{begins_chain, is_group}
 use Rattle.rt_tree.proofs.SumLaws.{leaf-cases, sum-passed, sum-start}
-use Rattle.rt_grammar.proofs.CalmLemmas.{IsCalm, calm-name}
+use Rattle.rt_token.proofs.CalmLemmas.{IsCalm, calm-name}
 
 pub primary-cases : (P : Primary → Type 0) → ((p : Pick) → P (primary.One p)) → ((c : Chain) → P (primary.Paren c)) → (x : Primary) → P x
 primary-cases P f g x = subst P (roll-out-Primary x) (go (out-Primary x))

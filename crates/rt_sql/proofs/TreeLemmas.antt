@@ -1,12 +1,12 @@
 -- From terminals to tokens: the tree that they spell, and that there is no other.
 use Rattle.std.proofs.Common.{◌≡◌, ◌∙◌, sym, ap, subst, true, refl, List, Some, None, Option, Result, Ok, Err, map}
-use Rattle.rt_grammar.specs.Reads.{Answers}
-use Rattle.rt_grammar.specs.Terminals.{Kinds}
-use Rattle.rt_grammar.specs.Words.{all_formed, kind_of, kinds, marks}
-use Rattle.rt_grammar.specs.declared.fault.ReadFault.{ReadFault}
-use Rattle.rt_grammar.specs.declared.fault.ReadFault.TheVariants.{Syntax, NoMemory}
-use Rattle.rt_grammar.proofs.ManyLemmas.{some-is}
-use Rattle.rt_grammar.proofs.MarkLemmas.{marks-reads, marks-sound}
+use Rattle.rt_token.specs.Reads.{Answers}
+use Rattle.rt_token.specs.Terminals.{Kinds}
+use Rattle.rt_token.specs.Words.{all_formed, kind_of, kinds, marks}
+use Rattle.rt_token.specs.declared.read_fault.ReadFault.{ReadFault}
+use Rattle.rt_token.specs.declared.read_fault.ReadFault.TheVariants.{Syntax, NoMemory}
+use Rattle.rt_token.proofs.ManyLemmas.{some-is}
+use Rattle.rt_token.proofs.MarkLemmas.{marks-reads, marks-sound}
 use Rattle.rt_token.specs.declared.token.Token.{Token}
 use Rattle.rt_token.specs.declared.token.TokenKind.{TokenKind}
 use Rattle.rt_tree.specs.Spelled.{spelled_sql}

@@ -1,10 +1,10 @@
 -- The tree that is read is the one that the tokens have, and so the answer is what they say.
 use Rattle.std.proofs.Common.{◌≡◌, ◌∙◌, sym, ap, subst, ℕ, List, refl, Bool, true, false, Option, Some, None, Result, Ok, Err}
 use Rattle.std.specs.Option.{option_and_then}
-use Rattle.rt_grammar.specs.Terminals.{Kinds, Word}
-use Rattle.rt_grammar.specs.Words.{kinds, marks}
-use Rattle.rt_grammar.specs.declared.fault.ReadFault.{ReadFault}
-use Rattle.rt_grammar.specs.declared.fault.ReadFault.TheVariants.{Syntax}
+use Rattle.rt_token.specs.Terminals.{Kinds, Word}
+use Rattle.rt_token.specs.Words.{kinds, marks}
+use Rattle.rt_token.specs.declared.read_fault.ReadFault.{ReadFault}
+use Rattle.rt_token.specs.declared.read_fault.ReadFault.TheVariants.{Syntax}
 use Rattle.rt_token.specs.declared.token.Token.{Token}
 use Rattle.rt_token.specs.declared.token.TokenKind.{TokenKind}
 use Rattle.rt_tree.specs.declared.tree.Sql.{Sql}

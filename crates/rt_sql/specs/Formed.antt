@@ -1,6 +1,6 @@
 -- Which trees are formed, and the tokens of a tree.
 use Rattle.std.specs.Prelude.{◌≡◌, false, true, List, map}
-use Rattle.rt_grammar.specs.Words.{all_formed, kind_of, kinds}
+use Rattle.rt_token.specs.Words.{all_formed, kind_of, kinds}
 use Rattle.rt_sql.specs.Depth.{is_deep}
 use Rattle.rt_token.specs.declared.token.Token.{Token}
 use Rattle.rt_token.specs.declared.token.TokenKind.{TokenKind}

@@ -3,10 +3,10 @@
 -- What the reading of a query answers is defined by them; by the law `read_is_tree` it is the tree that
 -- the tokens spell.
 use Rattle.std.specs.Prelude.{ℕ, zero, suc, ◌+◌, ◌==◌, nat_le, ◌&&◌, ◌||◌, Bool, true, false, if◌then◌else◌, List, [], ◌∷◌, length, Option, Some, None, option_map}
-use Rattle.rt_grammar.specs.Readers.{Parser, Step, both, done, either, flagged, lead, list_of, made, optional, paren, read_end, read_name, repeated, starts, starts_name, step_after, step_when, ◌>>=◌}
-use Rattle.rt_grammar.specs.Terminals.{Kinds, after, code, code_of, front, skip, tail_of}
-use Rattle.rt_grammar.specs.declared.fixed.Fixed.TheVariants as fixed
-use Rattle.rt_grammar.specs.declared.terminal.Name.{Name}
+use Rattle.rt_token.specs.Readers.{Parser, Step, both, done, either, flagged, lead, list_of, made, optional, paren, read_end, read_name, repeated, starts, starts_name, step_after, step_when, ◌>>=◌}
+use Rattle.rt_token.specs.Terminals.{Kinds, after, code, code_of, front, skip, tail_of}
+use Rattle.rt_token.specs.declared.fixed.Fixed.TheVariants as fixed
+use Rattle.rt_token.specs.declared.terminal.Name.{Name}
 use Rattle.rt_tree.specs.Reads.{is_alias, read_alias, read_items, sum_at}
 use Rattle.rt_tree.specs.declared.tree.Alias.{Alias}
 use Rattle.rt_sql.specs.declared.tested.Range.{Range}

@@ -1,8 +1,8 @@
 -- What is refused before the grammar is looked at, and what parsing answers.
 use Rattle.std.specs.Prelude.{◌≡◌, ℕ, Bool, true, false, not, ◌&&◌, ◌||◌, if◌then◌else◌, List, [], ◌∷◌, Option, Some, None, Result, Ok, Err, codes, bytes_eq}
-use Rattle.rt_grammar.specs.Places.{IsPlace}
-use Rattle.rt_grammar.specs.Terminals.{Word}
-use Rattle.rt_grammar.specs.Words.{kinds}
+use Rattle.rt_token.specs.Places.{IsPlace}
+use Rattle.rt_token.specs.Terminals.{Word}
+use Rattle.rt_token.specs.Words.{kinds}
 use Rattle.rt_sql.specs.Depth.{is_deep}
 use Rattle.rt_tree.specs.Nesting.{is_left}
 use Rattle.rt_sql.specs.Formed.{IsTreeOf}

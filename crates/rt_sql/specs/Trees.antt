@@ -1,8 +1,8 @@
 -- What reading the tree of tokens answers.
 use Rattle.std.specs.Prelude.{◌≡◌, true, List, Result, Ok, Err}
-use Rattle.rt_grammar.specs.Words.{all_formed, kinds}
-use Rattle.rt_grammar.specs.declared.fault.ReadFault.{ReadFault}
-use Rattle.rt_grammar.specs.declared.fault.ReadFault.TheVariants.{Syntax, NoMemory}
+use Rattle.rt_token.specs.Words.{all_formed, kinds}
+use Rattle.rt_token.specs.declared.read_fault.ReadFault.{ReadFault}
+use Rattle.rt_token.specs.declared.read_fault.ReadFault.TheVariants.{Syntax, NoMemory}
 use Rattle.rt_sql.specs.Formed.{IsTreeOf, spelled_kinds}
 use Rattle.rt_token.specs.declared.token.Token.{Token}
 use Rattle.rt_tree.specs.Spelled.{spelled_sql}

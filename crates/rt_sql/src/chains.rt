@@ -1,13 +1,13 @@
 //! SELECT and the set operators, with at most `depth` parentheses in one another.
 
 ghost use Rattle.std.specs.Prelude.{◌≡◌};
-ghost use Rattle.rt_grammar.specs.Readers.{list_of, paren};
-ghost use Rattle.rt_grammar.specs.Reads.{Reads};
+ghost use Rattle.rt_token.specs.Readers.{list_of, paren};
+ghost use Rattle.rt_token.specs.Reads.{Reads};
 ghost use Rattle.rt_sql.specs.Reads as spec;
 
 use crate::looks::is_union;
 use crate::sources::sources_where;
-use rt_grammar::{Fixed, ReadFault, Terminal, expect, flag, starts};
+use rt_token::{Fixed, ReadFault, Terminal, expect, flag, starts};
 use rt_tree::{
     Chain, ChainLink, Items, Meet, MeetLink, Pick, Primary, before, boxed_before, read_items,
 };

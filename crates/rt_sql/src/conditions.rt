@@ -1,15 +1,15 @@
 //! Conditions, with at most `depth` parentheses in one another.
 
 ghost use Rattle.std.specs.Prelude.{◌≡◌};
-ghost use Rattle.rt_grammar.specs.Readers.{list_of, paren};
-ghost use Rattle.rt_grammar.specs.Reads.{Reads};
+ghost use Rattle.rt_token.specs.Readers.{list_of, paren};
+ghost use Rattle.rt_token.specs.Reads.{Reads};
 ghost use Rattle.rt_sql.specs.Reads as spec;
 
 use crate::chains::chain_in_parens;
 use crate::looks::{is_group, is_in_chain, is_op};
 use crate::ranges::{compared, is_null, plain_range};
 use crate::tested::{Range, Test, atom_of};
-use rt_grammar::{Fixed, ReadFault, Terminal, after, counted, expect, flag, starts};
+use rt_token::{Fixed, ReadFault, Terminal, after, counted, expect, flag, starts};
 use rt_tree::{Atom, Cond, Conj, Neg, boxed_before, sum_at};
 use rt_value::{Boxed, List};
 use std::alloc::Global;

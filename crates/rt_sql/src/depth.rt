@@ -1,7 +1,7 @@
 //! Tokens that are nested too deep.
 
 ghost use Rattle.std.specs.Prelude.{◌≡◌, codes};
-ghost use Rattle.rt_grammar.specs.Words.{kinds};
+ghost use Rattle.rt_token.specs.Words.{kinds};
 ghost use Rattle.rt_sql.specs.Depth as spec;
 
 use rt_token::{Sym, Token, TokenKind};

@@ -1,10 +1,10 @@
 //! Looks at the terminals at the front.
 
 ghost use Rattle.std.specs.Prelude.{◌≡◌};
-ghost use Rattle.rt_grammar.specs.Terminals as terminal_spec;
+ghost use Rattle.rt_token.specs.Terminals as terminal_spec;
 ghost use Rattle.rt_sql.specs.Reads as spec;
 
-use rt_grammar::{Fixed, Terminal, after, code, code_of, front, starts, tail};
+use rt_token::{Fixed, Terminal, after, code, code_of, front, starts, tail};
 
 pub fn is_op(terminals: &[Terminal]) -> bool
     ensures { result ≡ spec.is_op terminals.now }

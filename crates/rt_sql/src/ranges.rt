@@ -1,12 +1,12 @@
 //! Lists of sums, and the tests that hold no chain.
 
 ghost use Rattle.std.specs.Prelude.{◌≡◌};
-ghost use Rattle.rt_grammar.specs.Readers.{list_of};
-ghost use Rattle.rt_grammar.specs.Reads.{Reads};
+ghost use Rattle.rt_token.specs.Readers.{list_of};
+ghost use Rattle.rt_token.specs.Reads.{Reads};
 ghost use Rattle.rt_sql.specs.Reads as spec;
 
 use crate::tested::{Range, Test};
-use rt_grammar::{Fixed, ReadFault, Terminal, after, code, expect, flag, front, starts, tail};
+use rt_token::{Fixed, ReadFault, Terminal, after, code, expect, flag, front, starts, tail};
 use rt_tree::{Op, Sum, before, boxed_before, sum_at};
 use rt_value::List;
 use std::alloc::Global;

@@ -1,14 +1,14 @@
 //! Tables, joins and WHERE, with at most `depth` parentheses in one another.
 
 ghost use Rattle.std.specs.Prelude.{◌≡◌};
-ghost use Rattle.rt_grammar.specs.Readers.{both, list_of};
-ghost use Rattle.rt_grammar.specs.Reads.{Reads};
+ghost use Rattle.rt_token.specs.Readers.{both, list_of};
+ghost use Rattle.rt_token.specs.Reads.{Reads};
 ghost use Rattle.rt_sql.specs.Reads as spec;
 
 use crate::chains::chain_in_parens;
 use crate::conditions::cond;
 use crate::looks::is_join;
-use rt_grammar::{Fixed, ReadFault, Terminal, after, expect, flag, name, starts, starts_name};
+use rt_token::{Fixed, ReadFault, Terminal, after, expect, flag, name, starts, starts_name};
 use rt_tree::{Base, Cond, Join, Source, alias, boxed_before, maybe_alias};
 use rt_value::List;
 use std::alloc::Global;

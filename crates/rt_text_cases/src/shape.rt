@@ -1,7 +1,7 @@
 //! A tree as a short text, for tests: `<` and `>` round a chain, `{` and `}` round a condition.
 
 use crate::told::Told;
-use rt_grammar::Name;
+use rt_token::Name;
 use rt_tree::{
     Alias, Atom, Base, Chain, ChainLink, Cond, Conj, Factor, Item, Items, Join, Leaf, Meet,
     MeetLink, Mul, Neg, Op, Pick, Primary, Source, Sql, Sum, SumLink,

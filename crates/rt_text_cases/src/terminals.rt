@@ -1,5 +1,4 @@
-use rt_grammar::{Fixed, ReadFault, Terminal, name, syntax_place, terminals};
-use rt_token::{Token, tokens};
+use rt_token::{Fixed, ReadFault, Terminal, Token, name, syntax_place, terminals, tokens};
 use rt_value::List;
 use std::alloc::Global;
 

@@ -18,6 +18,10 @@ fn faults_are_the_leftmost(rt: HostRuntime) {
             "SELECT 170141183460469231731687303715884105728",
             LexFault::BigNumber(7),
         ),
+        (
+            "170141183460469231731687303715884105728x",
+            LexFault::BigNumber(0),
+        ),
         ("'a''", LexFault::OpenText(0)),
         ("\"\"\"", LexFault::OpenText(0)),
         ("\"\" ", LexFault::BadByte(0)),

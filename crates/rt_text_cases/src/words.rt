@@ -1,5 +1,5 @@
+use rt_io::{WordFault, Words, read_words};
 use rt_value::{List, Txt};
-use rt_words::{WordFault, Words, read_words};
 use std::alloc::Global;
 use std::process::Abort;
 

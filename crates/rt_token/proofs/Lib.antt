@@ -3,3 +3,13 @@ pub mod GoesLemmas
 pub mod LexLemmas
 pub mod Readings
 pub mod Utf8Lemmas
+pub mod CalmLemmas
+pub mod ComparisonLaws
+pub mod EndLaws
+pub mod FrontLemmas
+pub mod Laws
+pub mod ListLaws
+pub mod Loops
+pub mod ManyLemmas
+pub mod MarkLemmas
+pub mod PlaceLemmas

@@ -2,3 +2,9 @@ pub mod Layout
 pub mod Lexed
 pub mod Reserved
 pub mod Spelled
+pub mod Comparisons
+pub mod Places
+pub mod Readers
+pub mod Reads
+pub mod Terminals
+pub mod Words

@@ -4,7 +4,7 @@ use Rattle.std.proofs.lemmas.List.{take_all}
 use Rattle.std.proofs.lemmas.Slice.Eq.{bytes_eq-Decides}
 use Rattle.std.specs.Prelude.{IfOk, codes}
 use Rattle.std.specs.Str.{bytes_eq}
-use Rattle.rt_words.specs.Command.{command}
+use Rattle.rt_io.specs.Command.{command}
 use Rattle.rt_outcome.specs.declared.outcome.Outcome.{Outcome}
 use Rattle.rt_outcome.specs.declared.outcome.Outcome.TheVariants as outcome
 use Rattle.rt_input.specs.Reading.{Call, Stop, limit_of}
@@ -12,9 +12,9 @@ use Rattle.rt_outcome.specs.Source.{Text}
 use Rattle.rt_outcome.specs.Steps.{Seen}
 use Rattle.rt_value.specs.declared.no_memory.NoMemory.{NoMemory}
 use Rattle.rt_tools.specs.declared.run.ToolAnswer.{ToolAnswer}
-use Rattle.rt_row_run.specs.RowVerdicts.{IsRowAnswer}
-use Rattle.rt_row_run.specs.declared.answer.RowVerdict.{RowVerdict}
-use Rattle.rt_row_run.specs.declared.answer.RowVerdict.TheVariants as rows
+use Rattle.rt_tools.specs.RowVerdicts.{IsRowAnswer}
+use Rattle.rt_tools.specs.declared.row_outcome.RowVerdict.{RowVerdict}
+use Rattle.rt_tools.specs.declared.row_outcome.RowVerdict.TheVariants as rows
 use Rattle.rt_grading.specs.Answers.{Stops}
 use Rattle.rt_grading.specs.declared.fault.GradeFault.{GradeFault}
 use Rattle.rt_grading.specs.declared.fault.GradeFault.TheVariants as faults

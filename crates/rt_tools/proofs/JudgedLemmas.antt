@@ -7,9 +7,9 @@ use Rattle.rt_io.specs.Logs.{Broke, Log, NoSinkRose, at_place}
 use Rattle.rt_io.specs.declared.place.Place.{Place}
 use Rattle.rt_io.specs.declared.place.Place.TheVariants as at
 use Rattle.rt_schema.specs.Given.{places}
-use Rattle.rt_words.specs.Command.{command}
-use Rattle.rt_words.specs.Ranges.{Command}
-use Rattle.rt_row.specs.Rows.{row_read}
+use Rattle.rt_io.specs.Command.{command}
+use Rattle.rt_io.specs.Ranges.{Command}
+use Rattle.rt_tools.specs.Rows.{row_read}
 use Rattle.rt_input.specs.declared.first.First.{First}
 use Rattle.rt_outcome.specs.declared.outcome.Fault.{Fault}
 use Rattle.rt_outcome.specs.declared.outcome.Limit.{Limit}
@@ -23,9 +23,9 @@ use Rattle.rt_outcome.specs.Faults.{placeless}
 use Rattle.rt_input.specs.Judged.{command_judged, judged}
 use Rattle.rt_outcome.specs.Source.{IsKnown, Text, file_of, source_from, source_of}
 use Rattle.rt_outcome.specs.Steps.{Failed, Seen}
-use Rattle.rt_row_run.specs.RowVerdicts.{IsRowAnswer, Judges}
-use Rattle.rt_row_run.specs.declared.answer.RowVerdict.{RowVerdict}
-use Rattle.rt_row_run.specs.declared.answer.RowVerdict.TheVariants as rows
+use Rattle.rt_tools.specs.RowVerdicts.{IsRowAnswer, Judges}
+use Rattle.rt_tools.specs.declared.row_outcome.RowVerdict.{RowVerdict}
+use Rattle.rt_tools.specs.declared.row_outcome.RowVerdict.TheVariants as rows
 use Rattle.rt_grading.specs.declared.grade.Grade.{Grade}
 use Rattle.rt_grading.specs.Answers.{AreGradedBy, FailsToRead, RefusesList, Stops, StopsFirst, StopsOf}
 use Rattle.rt_grading.specs.Words.{grade_words}

@@ -2,3 +2,8 @@ mod EndLemmas
 mod JudgedLemmas
 mod LineLemmas
 mod WriteLemmas
+mod ReaderLemmas
+mod RowLemmas
+mod Nodes
+mod Transfer
+mod VerdictLemmas

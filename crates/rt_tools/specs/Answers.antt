@@ -1,14 +1,14 @@
 -- When each outcome of a tool comes, and what the call writes.
 use Rattle.std.specs.Prelude.{◌≡◌, ◌≢◌, ◌⊎◌, List, ⊤}
 use Rattle.rt_io.specs.Logs.{Broke, Grew, GrewPartly, IsKept, Log, at_place, other_place}
-use Rattle.rt_words.specs.Command.{command}
+use Rattle.rt_io.specs.Command.{command}
 use Rattle.rt_outcome.specs.declared.outcome.Outcome.{Outcome}
 use Rattle.rt_outcome.specs.declared.outcome.Outcome.TheVariants as outcome
 use Rattle.rt_input.specs.Reading.{Call, Stop, limit_of}
 use Rattle.rt_outcome.specs.Source.{Text}
-use Rattle.rt_row_run.specs.RowVerdicts.{IsRowAnswer}
-use Rattle.rt_row_run.specs.declared.answer.RowVerdict.{RowVerdict}
-use Rattle.rt_row_run.specs.declared.answer.RowVerdict.TheVariants as rows
+use Rattle.rt_tools.specs.RowVerdicts.{IsRowAnswer}
+use Rattle.rt_tools.specs.declared.row_outcome.RowVerdict.{RowVerdict}
+use Rattle.rt_tools.specs.declared.row_outcome.RowVerdict.TheVariants as rows
 use Rattle.rt_grading.specs.declared.grade.Grade.{Grade}
 use Rattle.rt_grading.specs.Answers.{AreGraded, Stops}
 use Rattle.rt_grading.specs.declared.fault.GradeFault.{GradeFault}

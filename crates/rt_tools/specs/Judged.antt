@@ -2,8 +2,8 @@
 use Rattle.std.specs.Prelude.{◌≡◌, IsTrue, List, Option, None, Some, Result, Ok, Err, ⊤}
 use Rattle.rt_value.specs.declared.value.Value.{Value}
 use Rattle.rt_io.specs.Edge.{Rose}
-use Rattle.rt_row.specs.Rows.{row_read}
-use Rattle.rt_row.specs.declared.fault.RowFault.{RowFault}
+use Rattle.rt_tools.specs.Rows.{row_read}
+use Rattle.rt_tools.specs.declared.row_fault.RowFault.{RowFault}
 use Rattle.rt_input.specs.declared.first.First.{First}
 use Rattle.rt_outcome.specs.declared.outcome.Outcome.{Outcome}
 use Rattle.rt_outcome.specs.declared.outcome.Outcome.TheVariants as outcome

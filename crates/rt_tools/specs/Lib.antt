@@ -3,3 +3,7 @@ pub mod Judged
 pub mod Outcomes
 pub mod Texts
 pub mod Words
+pub mod Rows
+pub mod RowVerdicts
+pub mod Said
+pub mod Holds

@@ -1,6 +1,6 @@
 -- The verdicts on a row, and what stops a call that grades, as outcomes of a tool.
-use Rattle.rt_row_run.specs.declared.answer.RowVerdict.{RowVerdict}
-use Rattle.rt_row_run.specs.declared.answer.RowVerdict.TheVariants as row
+use Rattle.rt_tools.specs.declared.row_outcome.RowVerdict.{RowVerdict}
+use Rattle.rt_tools.specs.declared.row_outcome.RowVerdict.TheVariants as row
 use Rattle.rt_grading.specs.declared.fault.GradeFault.{GradeFault}
 use Rattle.rt_grading.specs.declared.fault.GradeFault.TheVariants as grade
 use Rattle.rt_tools.specs.declared.outcome.ToolOutcome.{ToolOutcome}

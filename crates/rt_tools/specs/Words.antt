@@ -1,7 +1,7 @@
 -- The words of a tool: `row ROW ARGS`, or `grade` and the words of a call that grades.
 use Rattle.std.specs.Prelude.{◌≡◌, List, [], ◌∷◌, None, codes, if◌then◌else◌}
 use Rattle.std.specs.Str.{bytes_eq}
-use Rattle.rt_words.specs.Command.{command}
+use Rattle.rt_io.specs.Command.{command}
 use Rattle.rt_outcome.specs.Source.{Text}
 use Rattle.rt_grading.specs.Words.{grade_words}
 

@@ -1,11 +1,11 @@
 ghost use Rattle.std.specs.Prelude.{◌≡◌};
 ghost use Rattle.rt_tools.specs.Texts.{place, status_of};
 
+use crate::row_fault::RowFault;
+use crate::row_outcome::RowVerdict;
 use rt_grading::{Grade, GradeFault};
 use rt_io::Place;
 use rt_outcome::{Outcome, Spent};
-use rt_row::RowFault;
-use rt_row_run::RowVerdict;
 use rt_value::{Keep, List, Txt};
 
 /// How a call of `tool_run` ends.

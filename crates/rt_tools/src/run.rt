@@ -2,8 +2,8 @@ ghost use Rattle.std.specs.Prelude.{◌≡◌, ◌⊎◌, IfOk};
 ghost use Rattle.rt_io.specs.Edge.{NoneFell};
 ghost use Rattle.rt_io.specs.Logs.{Broke, Grew, GrewPartly, IsKept, NoSinkRose, WritesNothing, at_place, log, other_place};
 ghost use Rattle.rt_input.specs.Reading.{Stop, call, limit_of};
-ghost use Rattle.rt_words.specs.Command.{command};
-ghost use Rattle.rt_row_run.specs.RowVerdicts.{IsRowAnswer};
+ghost use Rattle.rt_io.specs.Command.{command};
+ghost use Rattle.rt_tools.specs.RowVerdicts.{IsRowAnswer};
 ghost use Rattle.rt_tools.specs.Answers.{Ends, EndsBegun, EndsBroken, EndsWritten, IfNoMemory, IfText, IfWriteFault, SaysGrade, SaysRow, SaysVerdict, WritesTo};
 ghost use Rattle.rt_tools.specs.Judged.{HasRoomFor, IsAsJudged, IsNoFault, IsToldTool, IsUsageOrFault, NoCountRose, refusal_of};
 ghost use Rattle.rt_tools.specs.Texts.{place};
@@ -11,12 +11,12 @@ ghost use Rattle.rt_tools.specs.Words.{IsUsage, tool_of};
 ghost use Rattle.rt_tools.specs.declared.outcome.ToolOutcome.{ToolOutcome};
 
 use crate::outcome::ToolOutcome;
+use crate::row_verdict::row_answer;
 use crate::say::{USAGE, fault_line, grades_text};
 use rt_grading::{GradeFault, grades};
 use rt_input::stopped_text;
 use rt_io::{Files, Sink, SinkFail, write_at};
 use rt_outcome::Outcome;
-use rt_row_run::row_answer;
 use rt_value::{Bytes, List, NoMemory, Txt};
 use std::alloc::Global;
 

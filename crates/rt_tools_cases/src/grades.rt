@@ -87,20 +87,28 @@ const AGAIN: &str =
 /// The same but for one number, than which each grade is larger.
 const EACH: &str = "SELECT r.name FROM reg r WHERE r.dept = 'CS' AND r.grade > 70";
 
+/// Two that differ in one sign: the first is as `EACH`, the second lacks two of the three rows.
+const PLUS: &str = "SELECT r.name FROM reg r WHERE r.dept = 'CS' AND r.grade + 10 > 80";
+
+const MINUS: &str = "SELECT r.name FROM reg r WHERE r.dept = 'CS' AND r.grade - 10 > 80";
+
+/// The files with this list and these candidates.
+fn with_spellings(alloc: Global, list: &[u8]) -> Result<MemFiles, NoMemory> {
+    let mut files = with_list(alloc, list)?;
+    files.hold("again.sql", AGAIN.as_bytes())?;
+    files.hold("each.sql", EACH.as_bytes())?;
+    files.hold("plus.sql", PLUS.as_bytes())?;
+    files.hold("minus.sql", MINUS.as_bytes())?;
+    Ok(files)
+}
+
 #[test]
 fn spellings_of_a_query(rt: HostRuntime) {
     let alloc = rt.alloc();
-    let mut files = with_list(alloc, b"b.sql\neach.sql\nagain.sql\neach.sql\n").expect(
-        &rt, "memory",
-    );
-    files
-        .hold("again.sql", AGAIN.as_bytes())
-        .expect(&rt, "memory");
-    files
-        .hold("each.sql", EACH.as_bytes())
-        .expect(&rt, "memory");
+    let list = b"b.sql\neach.sql\nagain.sql\neach.sql\nplus.sql\nminus.sql\n";
+    let mut files = with_spellings(alloc, list).expect(&rt, "memory");
     let out =
-        "b.sql: witness 2\neach.sql: agree\nagain.sql: witness 2\neach.sql: agree\ngraded: 4\n";
+        "b.sql: witness 2\neach.sql: agree\nagain.sql: witness 2\neach.sql: agree\nplus.sql: agree\nminus.sql: witness 2\ngraded: 6\n";
     assert!(rt; ends(alloc, &mut files, &WORDS, 0, out, "").expect(&rt, "memory"));
 }
 
@@ -125,6 +133,9 @@ fn long_lists(rt: HostRuntime) {
     let mut many = with_lines(alloc, 257).expect(&rt, "memory");
     let paths = "ratest: limit: more than 256 paths\n";
     assert!(rt; ends(alloc, &mut many, &WORDS, 5, "", paths).expect(&rt, "memory"));
+    let mut most = with_lines(alloc, 256).expect(&rt, "memory");
+    let unread = "ratest: cannot read c\n";
+    assert!(rt; ends(alloc, &mut most, &WORDS, 6, "", unread).expect(&rt, "memory"));
     let mut long = with_lines(alloc, 2_097_153).expect(&rt, "memory");
     let bytes = "ratest: limit: list is longer than 4194304 bytes\n";
     assert!(rt; ends(alloc, &mut long, &WORDS, 5, "", bytes).expect(&rt, "memory"));

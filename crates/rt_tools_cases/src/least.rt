@@ -2,9 +2,8 @@
 use crate::held::{files, list_of};
 use rt_input::{Input, read_input};
 use rt_outcome::Outcome;
-use rt_row::read_row;
-use rt_row_run::smallest_row;
 use rt_search::Best;
+use rt_tools::{read_row, smallest_row};
 use rt_value::Row;
 use std::alloc::Global;
 use std::process::Abort;

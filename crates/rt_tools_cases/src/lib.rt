@@ -10,4 +10,6 @@ mod held;
 #[cfg(test)]
 mod least;
 #[cfg(test)]
+mod row_texts;
+#[cfg(test)]
 mod rows;

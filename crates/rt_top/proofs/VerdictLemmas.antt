@@ -14,8 +14,8 @@ use Rattle.rt_io.specs.declared.place.Place.{Place}
 use Rattle.rt_io.specs.declared.place.Place.TheVariants as at
 use Rattle.rt_input.specs.Accepted.{Accepted}
 use Rattle.rt_outcome.specs.Source.{source_of}
-use Rattle.rt_words.specs.Command.{command}
-use Rattle.rt_words.specs.Ranges.{Command}
+use Rattle.rt_io.specs.Command.{command}
+use Rattle.rt_io.specs.Ranges.{Command}
 use Rattle.rt_input.specs.Judged.{command_judged, judged}
 use Rattle.rt_outcome.specs.Steps.{is_memory}
 use Rattle.rt_outcome.specs.Texts.{place}

@@ -3,8 +3,8 @@ use Rattle.std.specs.Option.{ForSome}
 use Rattle.std.specs.Prelude.{◌≡◌, ℕ, ◌≤◌, ◌^◌, ◌⊎◌, Bool, List, Some, ⊤}
 use Rattle.rt_io.specs.Logs.{Log, Grew, GrewPartly, IsKept, Broke, at_place, other_place}
 use Rattle.rt_schema.specs.Given.{places}
-use Rattle.rt_words.specs.Command.{command}
-use Rattle.rt_words.specs.Ranges.{Command}
+use Rattle.rt_io.specs.Command.{command}
+use Rattle.rt_io.specs.Ranges.{Command}
 use Rattle.rt_outcome.specs.declared.part.Part.{Part}
 use Rattle.rt_outcome.specs.declared.outcome.Fault.{Fault}
 use Rattle.rt_outcome.specs.declared.outcome.Limit.{Limit}

@@ -1,6 +1,6 @@
 ghost use Rattle.std.specs.Prelude.{◌≡◌, ◌⊎◌, false, None, IfOk, Ok, Err};
 ghost use Rattle.rt_io.specs.Edge.{NoneFell};
-ghost use Rattle.rt_words.specs.Command.{command};
+ghost use Rattle.rt_io.specs.Command.{command};
 ghost use Rattle.rt_input.specs.Judged.{judged};
 ghost use Rattle.rt_input.specs.Accepted.{Accepted};
 ghost use Rattle.rt_io.specs.Logs.{log, NoSinkRose, WritesNothing};

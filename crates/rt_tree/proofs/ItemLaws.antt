@@ -1,16 +1,16 @@
 -- Items: each reader keeps to the spelling.
 use Rattle.std.proofs.Common.{◌≡◌, ◌∙◌, ◌≤◌, ◌<◌, sym, ap, subst, ℕ, List, [], ◌∷◌, ◌++◌, length, refl, Bool, true, false, Option, Some, None, append_assoc, arith}
 use Rattle.std.specs.List.{flat_map}
-use Rattle.rt_grammar.specs.declared.fixed.Fixed.TheVariants as fixed
-use Rattle.rt_grammar.specs.declared.terminal.Name.{Name}
-use Rattle.rt_grammar.specs.declared.terminal.Terminal.TheVariants as terminal
-use Rattle.rt_grammar.specs.Terminals.{Kinds, after, front, maybe}
-use Rattle.rt_grammar.specs.Readers.{Parser, both, list_of, made, optional, read_name, starts}
-use Rattle.rt_grammar.proofs.CalmLemmas.{IsCalm}
-use Rattle.rt_grammar.proofs.ManyLemmas.{bind-some, some-is}
-use Rattle.rt_grammar.proofs.FrontLemmas.{Passed, after-sound, other-nat, passed-cons, passed-nil}
-use Rattle.rt_grammar.proofs.Laws.{Lawful, both-law, either-sound, made-sound}
-use Rattle.rt_grammar.proofs.ListLaws.{StepLaw, after-law, follows, list-law}
+use Rattle.rt_token.specs.declared.fixed.Fixed.TheVariants as fixed
+use Rattle.rt_token.specs.declared.terminal.Name.{Name}
+use Rattle.rt_token.specs.declared.terminal.Terminal.TheVariants as terminal
+use Rattle.rt_token.specs.Terminals.{Kinds, after, front, maybe}
+use Rattle.rt_token.specs.Readers.{Parser, both, list_of, made, optional, read_name, starts}
+use Rattle.rt_token.proofs.CalmLemmas.{IsCalm}
+use Rattle.rt_token.proofs.ManyLemmas.{bind-some, some-is}
+use Rattle.rt_token.proofs.FrontLemmas.{Passed, after-sound, other-nat, passed-cons, passed-nil}
+use Rattle.rt_token.proofs.Laws.{Lawful, both-law, either-sound, made-sound}
+use Rattle.rt_token.proofs.ListLaws.{StepLaw, after-law, follows, list-law}
 use Rattle.rt_tree.specs.declared.tree.Alias.{Alias}
 use Rattle.rt_tree.specs.declared.tree.Item.{Item}
 use Rattle.rt_tree.specs.declared.tree.Item.TheVariants as item

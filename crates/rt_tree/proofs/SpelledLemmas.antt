@@ -2,11 +2,11 @@
 use Rattle.std.proofs.Common.{◌∙◌, ap, sym, refl}
 use Rattle.std.specs.Prelude.{◌≡◌, ℕ, ℤ, Bool, List, [], ◌∷◌, ◌++◌, map, Option, Some, None, replicate}
 use Rattle.std.specs.List.{flat_map}
-use Rattle.rt_grammar.specs.declared.fixed.Fixed.{Fixed}
-use Rattle.rt_grammar.specs.declared.fixed.Fixed.TheVariants as fixed
-use Rattle.rt_grammar.specs.declared.terminal.Name.{Name}
-use Rattle.rt_grammar.specs.declared.terminal.Terminal.TheVariants as terminal
-use Rattle.rt_grammar.specs.Terminals.{Kinds, flag, in_paren, maybe}
+use Rattle.rt_token.specs.declared.fixed.Fixed.{Fixed}
+use Rattle.rt_token.specs.declared.fixed.Fixed.TheVariants as fixed
+use Rattle.rt_token.specs.declared.terminal.Name.{Name}
+use Rattle.rt_token.specs.declared.terminal.Terminal.TheVariants as terminal
+use Rattle.rt_token.specs.Terminals.{Kinds, flag, in_paren, maybe}
 use Rattle.rt_tree.specs.declared.tree.Alias.{Alias}
 use Rattle.rt_tree.specs.declared.tree.Items.{Items}
 use Rattle.rt_tree.specs.declared.tree.Op.{Op}

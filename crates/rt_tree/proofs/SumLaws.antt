@@ -2,16 +2,16 @@
 use Rattle.std.proofs.Common.{◌≡◌, ◌∙◌, ◌≤◌, ◌<◌, ◌+◌, sym, ap, subst, ℕ, zero, suc, List, [], ◌∷◌, ◌++◌, length, refl, Bool, true, false, Option, Some, None, append_assoc, arith, ◌==◌, length-append}
 use Rattle.std.specs.Prelude.{replicate, ◌||◌}
 use Rattle.std.specs.List.{flat_map}
-use Rattle.rt_grammar.specs.declared.fixed.Fixed.TheVariants as fixed
-use Rattle.rt_grammar.specs.declared.terminal.Name.{Name}
-use Rattle.rt_grammar.specs.declared.terminal.Terminal.TheVariants as terminal
-use Rattle.rt_grammar.specs.Terminals.{Kinds, after, code, flag, front, in_paren, maybe}
-use Rattle.rt_grammar.specs.Readers.{Parser, both, either, flagged, lead, list_of, made, optional, paren, read_name, repeated, starts, starts_name}
-use Rattle.rt_grammar.proofs.CalmLemmas.{IsCalm, calm-name}
-use Rattle.rt_grammar.proofs.ManyLemmas.{bind-some, some-is}
-use Rattle.rt_grammar.proofs.FrontLemmas.{Passed, after-none, after-sound, other-nat, passed-cons, passed-nil}
-use Rattle.rt_grammar.proofs.Laws.{Lawful, both-law, either-sound, flagged-law, lead-law, made-law, made-sound, name-law, optional-law, paren-law, repeated-law, weaker}
-use Rattle.rt_grammar.proofs.ListLaws.{StepLaw, after-law, follows, list-law, when-law}
+use Rattle.rt_token.specs.declared.fixed.Fixed.TheVariants as fixed
+use Rattle.rt_token.specs.declared.terminal.Name.{Name}
+use Rattle.rt_token.specs.declared.terminal.Terminal.TheVariants as terminal
+use Rattle.rt_token.specs.Terminals.{Kinds, after, code, flag, front, in_paren, maybe}
+use Rattle.rt_token.specs.Readers.{Parser, both, either, flagged, lead, list_of, made, optional, paren, read_name, repeated, starts, starts_name}
+use Rattle.rt_token.proofs.CalmLemmas.{IsCalm, calm-name}
+use Rattle.rt_token.proofs.ManyLemmas.{bind-some, some-is}
+use Rattle.rt_token.proofs.FrontLemmas.{Passed, after-none, after-sound, other-nat, passed-cons, passed-nil}
+use Rattle.rt_token.proofs.Laws.{Lawful, both-law, either-sound, flagged-law, lead-law, made-law, made-sound, name-law, optional-law, paren-law, repeated-law, weaker}
+use Rattle.rt_token.proofs.ListLaws.{StepLaw, after-law, follows, list-law, when-law}
 use Rattle.rt_tree.specs.declared.tree.Alias.{Alias}
 use Rattle.rt_tree.specs.declared.tree.Leaf.{Leaf, out-Leaf, roll-Leaf, roll-out-Leaf}
 use Rattle.rt_tree.specs.declared.tree.Leaf.TheVariants as leaf

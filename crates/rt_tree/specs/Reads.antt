@@ -2,11 +2,11 @@
 --
 -- Contracts of readers alone cite them: what a query is, `Spelled` says.
 use Rattle.std.specs.Prelude.{ℕ, zero, suc, ◌+◌, ◌&&◌, ◌||◌, Bool, true, false, List, [], ◌∷◌, length, Option, Some, None}
-use Rattle.rt_grammar.specs.Readers.{Parser, Step, both, either, flagged, lead, list_of, made, optional, paren, read_name, repeated, starts, starts_name, step_after, step_when, ◌>>=◌}
-use Rattle.rt_grammar.specs.Terminals.{Kinds, after, tail_of}
-use Rattle.rt_grammar.specs.declared.fixed.Fixed.TheVariants as fixed
-use Rattle.rt_grammar.specs.declared.terminal.Name.{Name}
-use Rattle.rt_grammar.specs.declared.terminal.Terminal.TheVariants as terminal
+use Rattle.rt_token.specs.Readers.{Parser, Step, both, either, flagged, lead, list_of, made, optional, paren, read_name, repeated, starts, starts_name, step_after, step_when, ◌>>=◌}
+use Rattle.rt_token.specs.Terminals.{Kinds, after, tail_of}
+use Rattle.rt_token.specs.declared.fixed.Fixed.TheVariants as fixed
+use Rattle.rt_token.specs.declared.terminal.Name.{Name}
+use Rattle.rt_token.specs.declared.terminal.Terminal.TheVariants as terminal
 use Rattle.rt_tree.specs.declared.tree.Alias.{Alias}
 use Rattle.rt_tree.specs.declared.tree.Factor.{Factor, roll-Factor}
 use Rattle.rt_tree.specs.declared.tree.Item.{Item}

@@ -1,10 +1,10 @@
 //! What was read, where a terminal has to stand after it.
 
 ghost use Rattle.std.specs.Prelude.{option_map};
-ghost use Rattle.rt_grammar.specs.Reads.{Reads};
-ghost use Rattle.rt_grammar.specs.Terminals.{after};
+ghost use Rattle.rt_token.specs.Reads.{Reads};
+ghost use Rattle.rt_token.specs.Terminals.{after};
 
-use rt_grammar::{Fixed, ReadFault, Terminal, expect};
+use rt_token::{Fixed, ReadFault, Terminal, expect};
 use rt_value::Boxed;
 use std::alloc::Global;
 

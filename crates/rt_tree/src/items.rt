@@ -1,14 +1,14 @@
 //! Items.
 
 ghost use Rattle.std.specs.Prelude.{◌≡◌};
-ghost use Rattle.rt_grammar.specs.Readers.{list_of};
-ghost use Rattle.rt_grammar.specs.Reads.{Reads};
+ghost use Rattle.rt_token.specs.Readers.{list_of};
+ghost use Rattle.rt_token.specs.Reads.{Reads};
 ghost use Rattle.rt_tree.specs.Reads as spec;
 
 use crate::names::maybe_alias;
 use crate::sums::sum_at;
 use crate::tree::{Item, Items};
-use rt_grammar::{Fixed, ReadFault, Terminal, after, expect, name, starts, starts_name, tail};
+use rt_token::{Fixed, ReadFault, Terminal, after, expect, name, starts, starts_name, tail};
 use rt_value::List;
 use std::alloc::Global;
 

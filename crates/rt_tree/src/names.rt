@@ -1,12 +1,12 @@
 //! Aliases.
 
 ghost use Rattle.std.specs.Prelude.{◌≡◌};
-ghost use Rattle.rt_grammar.specs.Readers.{optional};
-ghost use Rattle.rt_grammar.specs.Reads.{Reads};
+ghost use Rattle.rt_token.specs.Readers.{optional};
+ghost use Rattle.rt_token.specs.Reads.{Reads};
 ghost use Rattle.rt_tree.specs.Reads as spec;
 
 use crate::tree::Alias;
-use rt_grammar::{Fixed, NAME, ReadFault, Terminal, code, flag, front, name};
+use rt_token::{Fixed, NAME, ReadFault, Terminal, code, flag, front, name};
 use std::alloc::Global;
 
 /// Whether an alias stands at the front.

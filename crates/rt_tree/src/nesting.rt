@@ -1,7 +1,7 @@
 //! Parentheses that are nested too deep.
 
 ghost use Rattle.std.specs.Prelude.{◌≡◌};
-ghost use Rattle.rt_grammar.specs.Words.{kinds};
+ghost use Rattle.rt_token.specs.Words.{kinds};
 ghost use Rattle.rt_tree.specs.Nesting as spec;
 
 use rt_token::{Sym, Token, TokenKind};

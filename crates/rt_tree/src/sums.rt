@@ -1,13 +1,13 @@
 //! Sums.
 
 ghost use Rattle.std.specs.Prelude.{◌≡◌};
-ghost use Rattle.rt_grammar.specs.Readers.{list_of};
-ghost use Rattle.rt_grammar.specs.Reads.{Reads};
+ghost use Rattle.rt_token.specs.Readers.{list_of};
+ghost use Rattle.rt_token.specs.Reads.{Reads};
 ghost use Rattle.rt_tree.specs.Reads as spec;
 
 use crate::ends::boxed_before;
 use crate::tree::{Factor, Leaf, Mul, Sum, SumLink};
-use rt_grammar::{Fixed, ReadFault, Terminal, after, counted, expect, name, starts, starts_name};
+use rt_token::{Fixed, ReadFault, Terminal, after, counted, expect, name, starts, starts_name};
 use rt_value::List;
 use std::alloc::Global;
 

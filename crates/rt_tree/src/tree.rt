@@ -3,7 +3,7 @@
 //! A type that is in no cycle has a drop of its own: one call wherever a value goes, where a derived
 //! one is made anew in each crate.
 
-use rt_grammar::Name;
+use rt_token::Name;
 use rt_value::{Boxed, List, Txt};
 
 /// `"=" | "<>" | "<" | "<=" | ">" | ">="`

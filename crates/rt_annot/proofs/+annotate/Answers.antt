@@ -21,7 +21,7 @@ use Rattle.rt_annot.proofs.Knowing.{known_last, known_more, last_within, known_p
 use Rattle.rt_annot.proofs.Growing.{grown_trans, all_stays, mean_stays, node_as, nodes_are, nodes_stay, noted_stay}
 use Rattle.rt_annot.proofs.Distinct.{noted_at}
 use Rattle.rt_annot.proofs.Walking.{next_is, table_entries}
-use Rattle.rt_shape.proofs.Equations.{at_table, at_cmp, at_is_null, at_one_of, at_select, at_project, at_union, at_except, at_intersect}
+use Rattle.rt_algebra.proofs.Equations.{at_table, at_cmp, at_is_null, at_one_of, at_select, at_project, at_union, at_except, at_intersect}
 use Rattle.rt_annot.proofs.Layers.{outcome, mean_push, mean_as, yes_more, no_more, joined_gate, joined_stops, and_gate, or_gate, exists_gate, member_gate, gives_as, gives_same, gives_stay, gives_of, gives_projected, gives_merged, choose, leave_out, choosing_at}
 use Rattle.rt_annot.proofs.Joining.{joint_below}
 use Rattle.rt_annot.proofs.Members.{choosing_rows, narrowed_rows, whole_rows, members_same, members_below, makes_product, makes_single, give_push, answers_more}

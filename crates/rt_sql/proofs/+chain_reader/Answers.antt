@@ -1,7 +1,7 @@
 use Rattle.std.proofs.Common.{◌∙◌, sym, refl}
-use Rattle.rt_grammar.proofs.Loops.{after-ends, after-fails, after-more, after-shorter, passed-on, when-ends, when-fails, when-more, when-shorter}
-use Rattle.rt_grammar.specs.Readers.{starts}
-use Rattle.rt_grammar.specs.declared.fixed.Fixed.TheVariants as fixed
+use Rattle.rt_token.proofs.Loops.{after-ends, after-fails, after-more, after-shorter, passed-on, when-ends, when-fails, when-more, when-shorter}
+use Rattle.rt_token.specs.Readers.{starts}
+use Rattle.rt_token.specs.declared.fixed.Fixed.TheVariants as fixed
 use Rattle.rt_sql.specs.Reads.{is_join, is_union, level, read_chain_link, read_conj, read_join, read_meet_link, read_neg, read_source}
 use Rattle.rt_sql.proofs.CondLaws.{conj-step-law, neg-step-law}
 use Rattle.rt_sql.proofs.ChainLaws.{chain-step-law, join-step-law, level-chain, level-cond, level-law, level-none, meet-step-law, source-step-law}

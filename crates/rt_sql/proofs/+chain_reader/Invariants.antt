@@ -1,5 +1,5 @@
 use Rattle.std.proofs.Common.{length, ◌+◌, ◌*◌}
-use Rattle.rt_grammar.proofs.Loops.{Goes}
+use Rattle.rt_token.proofs.Loops.{Goes}
 use Rattle.rt_sql.specs.Reads.{chain_step, conj_step, join_step, level, meet_step, neg_step, source_step}
 use Rattle.rt_sql.proofs.+chain_reader.Given as goal
 

@@ -2,8 +2,9 @@
 use super::worked::{MEET, MEETS};
 use rt_cases::{ABC, MARY, ONE, ONES, REG, SCHOOL, SOME, STUDENT, TWOS, ends, files, words};
 use rt_input::{Input, read_input};
+use rt_io::MemSink;
 use rt_outcome::Outcome;
-use rt_top::{Best, decide};
+use rt_top::{Best, decide, ratest};
 use std::alloc::Global;
 use std::process::Abort;
 
@@ -49,10 +50,27 @@ fn read(rt: &impl Abort, alloc: Global) -> Result<Input, Outcome> {
     read
 }
 
+/// Whether the outcome on this input says the same.
+fn is_told_spent(rt: &impl Abort, alloc: Global) -> bool {
+    let mut files = files(alloc, ABC, &ONES, MEET, MEETS).expect(rt, "memory");
+    let command = words(alloc, &["s", "d", "p", "q", "--conflicts", "1"]).expect(rt, "memory");
+    let (mut out, mut err) = (MemSink::new(alloc), MemSink::new(alloc));
+    let outcome = ratest(alloc, command.as_slice(), &mut files, &mut out, &mut err);
+    drop(command);
+    drop(files);
+    let found = match &outcome {
+        Outcome::Spent(spent) => spent.best.is_none() && !spent.least,
+        _ => false,
+    };
+    drop(outcome);
+    found
+}
+
 #[test]
 fn a_budget_of_one_clause(rt: HostRuntime) {
     let read = read(&rt, rt.alloc());
     assert!(rt; is_input_spent(&rt, rt.alloc(), read));
+    assert!(rt; is_told_spent(&rt, rt.alloc()));
 }
 
 /// Whether these words end so, over these files.

@@ -2,7 +2,7 @@ use Rattle.std.proofs.Common.{◌∙◌, Some, ap, cond, sym}
 use Rattle.std.specs.BTreeMap.{is_at}
 use Rattle.std.specs.Cmp.Lexicographic.{slice_cmp}
 use Rattle.std.specs.Ordering.{nat_cmp}
-use Rattle.rt_grammar.specs.Terminals.{Word}
+use Rattle.rt_token.specs.Terminals.{Word}
 use Rattle.rt_ddl.specs.Places.{placed_at}
 use Rattle.rt_ddl.proofs.PlaceLemmas.{kept, put}
 use Rattle.rt_ddl.proofs.name_list.put_first.Goals as goal

@@ -1,5 +1,5 @@
 use Rattle.std.proofs.Common.{◌∙◌, ◌++◌, ◌∷◌, [], List, ap, sym}
-use Rattle.rt_grammar.specs.Terminals.{Word}
+use Rattle.rt_token.specs.Terminals.{Word}
 use Rattle.rt_ddl.specs.Places.{column_names}
 use Rattle.rt_ddl.proofs.TwiceLemmas.{columns-step, parts-step}
 use Rattle.rt_ddl.proofs.twice.parts_twice.Goals as goal

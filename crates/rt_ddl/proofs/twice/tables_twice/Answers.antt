@@ -1,5 +1,5 @@
 use Rattle.std.proofs.Common.{◌∙◌, ◌++◌, ◌∷◌, [], List, Some, true, ap, sym}
-use Rattle.rt_grammar.specs.Terminals.{Word}
+use Rattle.rt_token.specs.Terminals.{Word}
 use Rattle.rt_ddl.specs.Meaning.{has_name}
 use Rattle.rt_ddl.proofs.TwiceLemmas.{names-step, tables-none, tables-now, tables-some}
 use Rattle.rt_ddl.proofs.twice.tables_twice.Goals as goal

@@ -1,5 +1,5 @@
 use Rattle.std.proofs.Common.{◌∙◌, sym, refl}
-use Rattle.rt_grammar.proofs.Loops.{passed-on, when-ends, when-fails, when-more, when-shorter}
+use Rattle.rt_token.proofs.Loops.{passed-on, when-ends, when-fails, when-more, when-shorter}
 use Rattle.rt_ddl_tree.specs.Reads.{is_column_rule, read_column_constraint}
 use Rattle.rt_ddl_tree.proofs.ColumnLaws.{column-constraint-step-law}
 use Rattle.rt_ddl_tree.proofs.columns.column_constraints.Goals as goal

@@ -1,4 +1,4 @@
-use Rattle.rt_grammar.proofs.Loops.{after-ends, after-fails, passed-on}
+use Rattle.rt_token.proofs.Loops.{after-ends, after-fails, passed-on}
 use Rattle.rt_ddl_tree.proofs.MemberLemmas.{behind-more, behind-shorter}
 use Rattle.rt_ddl_tree.proofs.member.more.Goals as goal
 

@@ -1,6 +1,6 @@
 use Rattle.std.proofs.Common.{length}
-use Rattle.rt_grammar.proofs.Loops.{Goes}
-use Rattle.rt_grammar.specs.Readers.{step_after}
+use Rattle.rt_token.proofs.Loops.{Goes}
+use Rattle.rt_token.specs.Readers.{step_after}
 use Rattle.rt_ddl_tree.proofs.member.more.Given as goal
 
 abbrev pub invariant-items : goal.invariant-items

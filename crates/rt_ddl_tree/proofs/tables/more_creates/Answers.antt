@@ -1,7 +1,7 @@
 use Rattle.std.proofs.Common.{◌∙◌, sym, refl}
-use Rattle.rt_grammar.proofs.Loops.{passed-on, when-ends, when-fails, when-more, when-shorter}
-use Rattle.rt_grammar.specs.Readers.{lead}
-use Rattle.rt_grammar.specs.declared.fixed.Fixed.TheVariants as fixed
+use Rattle.rt_token.proofs.Loops.{passed-on, when-ends, when-fails, when-more, when-shorter}
+use Rattle.rt_token.specs.Readers.{lead}
+use Rattle.rt_token.specs.declared.fixed.Fixed.TheVariants as fixed
 use Rattle.rt_ddl_tree.specs.Reads.{read_create, starts_more}
 use Rattle.rt_ddl_tree.proofs.TextLaws.{create-step-law}
 use Rattle.rt_ddl_tree.proofs.tables.more_creates.Goals as goal

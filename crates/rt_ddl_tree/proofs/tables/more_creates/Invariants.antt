@@ -1,5 +1,5 @@
 use Rattle.std.proofs.Common.{length}
-use Rattle.rt_grammar.proofs.Loops.{Goes}
+use Rattle.rt_token.proofs.Loops.{Goes}
 use Rattle.rt_ddl_tree.specs.Reads.{create_step}
 use Rattle.rt_ddl_tree.proofs.tables.more_creates.Given as goal
 

@@ -1,5 +1,5 @@
 use Rattle.std.proofs.Common.{◌≡◌, ◌∙◌, sym, ap, subst}
-use Rattle.rt_words.specs.Ranges.{Command}
+use Rattle.rt_io.specs.Ranges.{Command}
 use Rattle.rt_top.specs.Smallest.{IsVerdict}
 use Rattle.rt_grading.specs.Grades.{beside}
 use Rattle.rt_grading.proofs.JudgeLemmas.{no_budget, of_budget, of_parts}

@@ -1,5 +1,5 @@
 use Rattle.std.proofs.Common.{◌∙◌, ap, subst}
-use Rattle.rt_words.specs.Ranges.{Command, IsInRange}
+use Rattle.rt_io.specs.Ranges.{Command, IsInRange}
 use Rattle.rt_input.specs.Judged.{within_limit}
 use Rattle.rt_grading.specs.Grades.{beside}
 use Rattle.rt_grading.proofs.JudgeLemmas.{accepted, decided_result, is_within}

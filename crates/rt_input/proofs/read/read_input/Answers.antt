@@ -1,4 +1,4 @@
-use Rattle.rt_words.specs.Command.{command}
+use Rattle.rt_io.specs.Command.{command}
 use Rattle.rt_input.proofs.LastLemmas.{none_begun}
 use Rattle.rt_input.proofs.read.read_input.Goals as goal
 

@@ -1,6 +1,6 @@
-use Rattle.rt_grammar.proofs.Loops.{after-ends, after-fails, after-more, after-shorter, passed-on}
-use Rattle.rt_grammar.specs.declared.fixed.Fixed.TheVariants as fixed
-use Rattle.rt_grammar.specs.Readers.{read_name}
+use Rattle.rt_token.proofs.Loops.{after-ends, after-fails, after-more, after-shorter, passed-on}
+use Rattle.rt_token.specs.declared.fixed.Fixed.TheVariants as fixed
+use Rattle.rt_token.specs.Readers.{read_name}
 use Rattle.rt_ra_tree.proofs.TestLaws.{name-step-law}
 use Rattle.rt_ra_tree.proofs.conditions.more_names.Goals as goal
 

@@ -1,5 +1,5 @@
-use Rattle.rt_grammar.proofs.Loops.{after-ends, after-fails, after-more, after-shorter, passed-on}
-use Rattle.rt_grammar.specs.declared.fixed.Fixed.TheVariants as fixed
+use Rattle.rt_token.proofs.Loops.{after-ends, after-fails, after-more, after-shorter, passed-on}
+use Rattle.rt_token.specs.declared.fixed.Fixed.TheVariants as fixed
 use Rattle.rt_ra_tree.specs.Reads.{read_test}
 use Rattle.rt_ra_tree.proofs.TestLaws.{test-step-law}
 use Rattle.rt_ra_tree.proofs.conditions.more_tests.Goals as goal

@@ -1,5 +1,5 @@
 use Rattle.std.proofs.Common.{length}
-use Rattle.rt_grammar.proofs.Loops.{Goes}
+use Rattle.rt_token.proofs.Loops.{Goes}
 use Rattle.rt_ra_tree.specs.Reads.{test_step}
 use Rattle.rt_ra_tree.proofs.conditions.more_tests.Given as goal
 

@@ -1,7 +1,7 @@
 use Rattle.std.proofs.Common.{◌≡◌, ◌≤◌, ◌+◌, drop}
 use Rattle.std.specs.Prelude.{count_by}
 use Rattle.rt_ra_tree.specs.Depth.{is_doubling}
-use Rattle.rt_grammar.specs.Words.{kinds}
+use Rattle.rt_token.specs.Words.{kinds}
 use Rattle.rt_ra_tree.proofs.depth.doubles_too_many.Given as goal
 
 abbrev pub invariant-loop-token : goal.invariant-loop-token

@@ -1,6 +1,6 @@
 use Rattle.std.proofs.Common.{◌≡◌, ◌≤◌, ◌+◌, drop}
 use Rattle.rt_sql.specs.Depth.{is_minus, repeats}
-use Rattle.rt_grammar.specs.Words.{kinds}
+use Rattle.rt_token.specs.Words.{kinds}
 use Rattle.rt_sql.proofs.depth.repeats_minus.Given as goal
 
 abbrev pub invariant-loop-token : goal.invariant-loop-token

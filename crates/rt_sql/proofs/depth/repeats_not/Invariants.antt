@@ -1,7 +1,7 @@
 use Rattle.std.proofs.Common.{◌≡◌, ◌≤◌, ◌+◌, drop}
 use Rattle.std.specs.Prelude.{codes}
 use Rattle.rt_sql.specs.Depth.{is_word, repeats}
-use Rattle.rt_grammar.specs.Words.{kinds}
+use Rattle.rt_token.specs.Words.{kinds}
 use Rattle.rt_sql.proofs.depth.repeats_not.Given as goal
 
 abbrev pub invariant-loop-token : goal.invariant-loop-token

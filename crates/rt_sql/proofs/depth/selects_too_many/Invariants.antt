@@ -1,7 +1,7 @@
 use Rattle.std.proofs.Common.{◌≡◌, ◌≤◌, ◌+◌, drop}
 use Rattle.std.specs.Prelude.{codes, count_by}
 use Rattle.rt_sql.specs.Depth.{is_word}
-use Rattle.rt_grammar.specs.Words.{kinds}
+use Rattle.rt_token.specs.Words.{kinds}
 use Rattle.rt_sql.proofs.depth.selects_too_many.Given as goal
 
 abbrev pub invariant-loop-token : goal.invariant-loop-token

@@ -1,5 +1,5 @@
 use Rattle.std.proofs.Common.{◌≡◌, ◌≤◌, ◌+◌, length}
-use Rattle.rt_grammar.specs.Terminals.{skip}
+use Rattle.rt_token.specs.Terminals.{skip}
 use Rattle.rt_sql.proofs.looks.skip.Given as goal
 
 abbrev pub invariant-terminals : goal.invariant-terminals

@@ -1,6 +1,6 @@
 use Rattle.std.proofs.Common.{◌∙◌, sym, ap, Some}
 use Rattle.std.proofs.lemmas.Result.{err_from_is_err_and}
-use Rattle.rt_grammar.specs.Terminals.{Kinds}
+use Rattle.rt_token.specs.Terminals.{Kinds}
 use Rattle.rt_sql.proofs.TreeLemmas.{tree-failed, tree-read}
 use Rattle.rt_sql.proofs.parser.tree.Goals as goal
 

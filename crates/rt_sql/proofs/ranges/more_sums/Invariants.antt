@@ -1,5 +1,5 @@
 use Rattle.std.proofs.Common.{length}
-use Rattle.rt_grammar.proofs.Loops.{Goes}
+use Rattle.rt_token.proofs.Loops.{Goes}
 use Rattle.rt_sql.specs.Reads.{comma_sum_step}
 use Rattle.rt_sql.proofs.ranges.more_sums.Given as goal
 

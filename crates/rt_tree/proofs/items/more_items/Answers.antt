@@ -1,5 +1,5 @@
-use Rattle.rt_grammar.proofs.Loops.{after-ends, after-fails, after-more, after-shorter, passed-on}
-use Rattle.rt_grammar.specs.declared.fixed.Fixed.TheVariants as fixed
+use Rattle.rt_token.proofs.Loops.{after-ends, after-fails, after-more, after-shorter, passed-on}
+use Rattle.rt_token.specs.declared.fixed.Fixed.TheVariants as fixed
 use Rattle.rt_tree.specs.Reads.{read_item}
 use Rattle.rt_tree.proofs.ItemLaws.{item-step-law}
 use Rattle.rt_tree.proofs.items.more_items.Goals as goal

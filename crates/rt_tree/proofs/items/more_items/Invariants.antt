@@ -1,5 +1,5 @@
 use Rattle.std.proofs.Common.{length}
-use Rattle.rt_grammar.proofs.Loops.{Goes}
+use Rattle.rt_token.proofs.Loops.{Goes}
 use Rattle.rt_tree.specs.Reads.{item_step}
 use Rattle.rt_tree.proofs.items.more_items.Given as goal
 

@@ -1,6 +1,6 @@
 use Rattle.std.proofs.Common.{◌≡◌, ◌≤◌, ◌+◌, drop}
 use Rattle.rt_tree.specs.Nesting.{opens_too_many}
-use Rattle.rt_grammar.specs.Words.{kinds}
+use Rattle.rt_token.specs.Words.{kinds}
 use Rattle.rt_tree.proofs.nesting.opens_too_many.Given as goal
 
 abbrev pub invariant-loop-token : goal.invariant-loop-token

@@ -1,6 +1,6 @@
 use Rattle.std.proofs.Common.{◌∙◌, sym, refl}
-use Rattle.rt_grammar.proofs.Loops.{after-ends, after-fails, after-more, after-shorter, passed-on, when-ends, when-fails, when-more, when-shorter}
-use Rattle.rt_grammar.specs.declared.fixed.Fixed.TheVariants as fixed
+use Rattle.rt_token.proofs.Loops.{after-ends, after-fails, after-more, after-shorter, passed-on, when-ends, when-fails, when-more, when-shorter}
+use Rattle.rt_token.specs.declared.fixed.Fixed.TheVariants as fixed
 use Rattle.rt_tree.specs.Reads.{is_sign, read_factor, read_sum, read_sum_link}
 use Rattle.rt_tree.proofs.SumLaws.{factor-step-law, sum-law, sum-step-law}
 use Rattle.rt_tree.proofs.sums.+sum_reader.Goals as goal

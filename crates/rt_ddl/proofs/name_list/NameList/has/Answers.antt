@@ -1,5 +1,5 @@
 use Rattle.std.proofs.Common.{◌∙◌, List, ap}
-use Rattle.rt_grammar.specs.Terminals.{Word}
+use Rattle.rt_token.specs.Terminals.{Word}
 use Rattle.rt_ddl.specs.Meaning.{has_name}
 use Rattle.rt_ddl.proofs.PlaceLemmas.{has}
 use Rattle.rt_ddl.proofs.name_list.NameList.has.Goals as goal

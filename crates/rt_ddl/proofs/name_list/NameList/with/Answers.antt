@@ -1,6 +1,6 @@
 use Rattle.std.proofs.Common.{◌∙◌, ◌++◌, ◌∷◌, [], List, ℕ, ap, subst, sym}
 use Rattle.std.specs.Prelude.{bytes_eq}
-use Rattle.rt_grammar.specs.Terminals.{Word}
+use Rattle.rt_token.specs.Terminals.{Word}
 use Rattle.rt_ddl.specs.Meaning.{given, or_else}
 use Rattle.rt_ddl.specs.Places.{ArePlacesOf, placed_at}
 use Rattle.rt_ddl.proofs.PlaceLemmas.{places-more}

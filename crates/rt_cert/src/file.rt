@@ -1,0 +1,85 @@
+//! The certificate in a file.
+ghost use Rattle.std.specs.Prelude.{◌≡◌, IsTrue, IfOk, IfErr};
+ghost use Rattle.rt_io.specs.Edge.{OnlyRises};
+ghost use Rattle.rt_recorder.specs.Certificate.{IsCert, cert_text};
+ghost use Rattle.rt_outcome.specs.Held.{without_mark};
+ghost use Rattle.rt_outcome.specs.Steps.{over};
+ghost use Rattle.rt_cert.specs.CertFile.{FileStops, IsFileOf, IsTextOf, TextStops};
+
+use rt_io::{Files, ReadFail, read_file};
+use rt_recorder::{Cert, CertFault, read_cert};
+use rt_value::{Bytes, List, NoMemory, Txt};
+use std::alloc::Global;
+
+/// The most bytes of the file.
+const MOST_BYTES: usize = 67_108_864;
+
+/// Why there is no certificate.
+#[derive(Clone, Copy, PartialEq, Eq, Debug)]
+pub(crate) enum FileFault {
+    /// The first line that can't stand there, counted from 1.
+    BadLine(usize),
+    /// The file has too many bytes.
+    Long,
+    /// The file could not be read.
+    Unread,
+    NoMemory,
+}
+
+impl From<NoMemory> for FileFault {
+    ghost use Rattle.std.specs.Prelude.{◌≡◌};
+    ghost use Rattle.rt_cert.specs.declared.file.FileFault.TheVariants.{NoMemory as memory};
+
+    ghost from_gives = { λ _ fault. fault ≡ memory };
+
+    fn from(_e: NoMemory) -> FileFault {
+        FileFault::NoMemory
+    }
+}
+
+fn without_mark(alloc: Global, bytes: Bytes) -> Result<Bytes, NoMemory>
+    ensures { IfOk result (λ text. text ≡ without_mark bytes) }
+{
+    match bytes.as_slice() {
+        [0xEF, 0xBB, 0xBF, rest @ ..] => List::from_slice(alloc, rest),
+        _ => Ok(bytes),
+    }
+}
+
+/// The text of the named file, without a byte order mark at its start.
+fn read_text<F: Files>(alloc: Global, name: &Txt, files: &mut F) -> Result<Bytes, FileFault>
+    ensures ok { IfOk result (λ text. IsTrue F.tells → IsTextOf (F.held files.old name.now) text) }
+    ensures err { IfErr result (FileStops (over F.Files files.old files.new) name.now) }
+    ensures held { F.held files.new ≡ F.held files.old }
+    ensures rises { OnlyRises name.now (F.faults files.old) (F.faults files.new) }
+{
+    match read_file(alloc, files, name.as_str(), MOST_BYTES) {
+        Ok(bytes) => Ok(without_mark(alloc, bytes)?),
+        Err(ReadFail::Failed) => Err(FileFault::Unread),
+        Err(ReadFail::TooLong) => Err(FileFault::Long),
+        Err(ReadFail::NoMemory) => Err(FileFault::NoMemory),
+    }
+}
+
+/// The certificate that a text is.
+fn cert_of(alloc: Global, text: &[u8]) -> Result<Cert, FileFault>
+    ensures ok { IfOk result (λ cert. IsCert cert × (text.now ≡ cert_text cert)) }
+    ensures err { IfErr result (TextStops text.now) }
+{
+    match read_cert(alloc, text) {
+        Ok(cert) => Ok(cert),
+        Err(CertFault::BadLine(line)) => Err(FileFault::BadLine(line)),
+        Err(CertFault::NoMemory) => Err(FileFault::NoMemory),
+    }
+}
+
+/// The certificate in the named file.
+pub(crate) fn cert_in<F: Files>(alloc: Global, name: &Txt, files: &mut F) -> Result<Cert, FileFault>
+    ensures ok { IfOk result (λ cert. IsTrue F.tells → IsFileOf (F.held files.old name.now) cert) }
+    ensures err { IfErr result (FileStops (over F.Files files.old files.new) name.now) }
+    ensures held { F.held files.new ≡ F.held files.old }
+    ensures rises { OnlyRises name.now (F.faults files.old) (F.faults files.new) }
+{
+    let text = read_text(alloc, name, files)?;
+    cert_of(alloc, text.as_slice())
+}

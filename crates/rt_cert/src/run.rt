@@ -1,0 +1,94 @@
+ghost use Rattle.std.specs.Prelude.{◌≡◌, ◌<◌, ◌⊎◌, ℕ, length, Some, Err, IfOk};
+ghost use Rattle.rt_io.specs.Edge.{NoneFell};
+ghost use Rattle.rt_io.specs.Logs.{IsKept, NoSinkRose, WritesNothing, at_place, log, other_place};
+ghost use Rattle.rt_cert.specs.Certified.{claim_fault};
+ghost use Rattle.rt_cert.specs.declared.judgement.Why.{Why};
+ghost use Rattle.rt_recorder.specs.declared.cert.Cert.{Cert};
+ghost use Rattle.rt_recorder.specs.declared.fault.CertFault.TheVariants.{BadLine};
+ghost use Rattle.rt_input.specs.Reading.{IsTold, call};
+ghost use Rattle.rt_input.specs.Judged.{judged};
+ghost use Rattle.rt_outcome.specs.declared.outcome.Outcome.{Outcome};
+ghost use Rattle.rt_cert.specs.Answers.{Ends, EndsBegun, EndsBroken, EndsWritten, IfNoMemory, IfText, IfWriteFault, IsOrFault, IsProvedOrMemory, IsUsageOrFault, OverCalm, OverFile, YieldsTo};
+ghost use Rattle.rt_cert.specs.CertFile.{IsBadFile, IsFileOf, most_bytes};
+ghost use Rattle.rt_cert.specs.Steps.{WritesTo};
+ghost use Rattle.rt_cert.specs.Texts.{place};
+ghost use Rattle.rt_cert.specs.Words.{IfEither, IsUsage, asked_by};
+ghost use Rattle.rt_cert.specs.declared.outcome.CertOutcome.{CertOutcome};
+ghost use Rattle.rt_cert.specs.declared.outcome.CertOutcome.TheVariants as outcome;
+
+use crate::check_told::check_told;
+use crate::outcome::CertOutcome;
+use crate::prove_told::prove_told;
+use crate::say::CERT_USAGE;
+use crate::told::Told;
+use rt_io::{Files, Sink, SinkFail, write_at};
+use rt_outcome::Outcome;
+use rt_value::{List, NoMemory, Txt};
+use std::alloc::Global;
+
+/// What is to be said of the words.
+fn prepare<F: Files>(alloc: Global, words: &[Txt], files: &mut F) -> Result<Told, NoMemory>
+    ensures ends { IfOk result (λ t. Ends (call F.Files words.now files.old files.new) t.outcome t.text) }
+    ensures held { F.held files.new ≡ F.held files.old }
+    ensures rises { NoneFell (F.faults files.old) (F.faults files.new) }
+{
+    match words {
+        [word, args @ ..] if word.as_str() == "prove" => prove_told(alloc, args, files),
+        [word, name, args @ ..] if word.as_str() == "check" => check_told(alloc, name, args, files),
+        _ => {
+            let text = List::from_slice(alloc, CERT_USAGE.as_bytes())?;
+            let outcome = CertOutcome::Verdict(Outcome::Usage);
+            Ok(Told { outcome, text })
+        }
+    }
+}
+
+/// Writes the text of an answer to its sink.
+fn speak<O: Sink, E: Sink>(out: &mut O, err: &mut E, told: Told) -> CertOutcome
+    ensures ends { WritesTo (at_place (place told.outcome) (log O.Sink out.old out.new) (log E.Sink err.old err.new)) told.outcome told.text result }
+    ensures kept { IsKept (other_place (place told.outcome) (log O.Sink out.old out.new) (log E.Sink err.old err.new)) }
+{
+    let place = told.outcome.place();
+    match write_at(out, err, place, told.text.as_slice()) {
+        Ok(()) => told.outcome,
+        Err(SinkFail::Failed) => CertOutcome::Verdict(Outcome::WriteFault),
+        Err(SinkFail::NoMemory) => CertOutcome::Verdict(Outcome::NoMemory),
+    }
+}
+
+/// Writes a certificate of the verdict on a command's input, or checks the one in a file over it: reads
+/// the files that the words name, and writes what is found to `out`, or to `err` why there is nothing.
+pub fn cert_run<F: Files, O: Sink, E: Sink>(
+    alloc: Global,
+    words: &[Txt],
+    files: &mut F,
+    out: &mut O,
+    err: &mut E,
+) -> CertOutcome
+    // Each outcome comes only where it may; its whole text went to its sink, and nothing to the other.
+    ensures ends { IfText result (EndsWritten (call F.Files words.now files.old files.new) (log O.Sink out.old out.new) (log E.Sink err.old err.new) result) }
+    // Only where the sink of an outcome that may come failed in this call.
+    ensures write_fault { IfWriteFault result ((allowed : CertOutcome) × EndsBroken (call F.Files words.now files.old files.new) (log O.Sink out.old out.new) (log E.Sink err.old err.new) allowed) }
+    // Want of memory may come anywhere; at most a prefix of such a text was written.
+    ensures no_memory { let o = log O.Sink out.old out.new in let e = log E.Sink err.old err.new in
+        IfNoMemory result (WritesNothing o e ⊎ ((allowed : CertOutcome) × EndsBegun (call F.Files words.now files.old files.new) o e allowed)) }
+    // Where the words are no command, that is told; and where the input is refused, the first refusal is.
+    ensures usage { IsUsage (asked_by words.now) → IsUsageOrFault result }
+    ensures refused { IfEither (asked_by words.now) (λ args. IsTold (call F.Files args files.old files.new)
+        → (refusal : Outcome) → judged args (F.held files.old) ≡ Err refusal → YieldsTo refusal result) }
+    // Over an accepted input a certificate that is too long or malformed is told as that, and what is
+    // wrong with its claim is told, whatever its steps.
+    ensures long { OverFile (call F.Files words.now files.old files.new) (λ input bytes. most_bytes < length bytes → IsOrFault outcome.CertLong result) }
+    ensures malformed { OverFile (call F.Files words.now files.old files.new) (λ input bytes. (line : ℕ) → IsBadFile bytes line → IsOrFault (outcome.Malformed (BadLine line)) result) }
+    ensures claim { OverFile (call F.Files words.now files.old files.new) (λ input bytes. (cert : Cert) → IsFileOf bytes cert → (why : Why) → claim_fault input cert.keep ≡ Some why → IsOrFault (outcome.Wrong why) result) }
+    // Of an accepted input without a budget, or with one that no search can spend, there is a certificate
+    // over files and sinks that don't fail.
+    ensures complete { OverCalm (call F.Files words.now files.old files.new) (NoSinkRose (log O.Sink out.old out.new) (log E.Sink err.old err.new) → IsProvedOrMemory result) }
+    ensures held { F.held files.new ≡ F.held files.old }
+    ensures rises { NoneFell (F.faults files.old) (F.faults files.new) }
+{
+    match prepare(alloc, words, files) {
+        Ok(told) => speak(out, err, told),
+        Err(NoMemory) => CertOutcome::Verdict(Outcome::NoMemory),
+    }
+}

@@ -1,4 +1,0 @@
-mod ExactLemmas
-mod FileLemmas
-mod SayLemmas
-mod WriteLemmas

@@ -1,9 +1,0 @@
-use Rattle.std.proofs.Common.{◌≡◌, length}
-use Rattle.rt_columns.specs.Columns.{same_kinds}
-use Rattle.rt_columns.proofs.united.same_kinds.Given as goal
-
-abbrev pub invariant-columns : goal.invariant-columns
-invariant-columns g l = same_kinds g.C.Column.kind_of l.left l.right ≡ same_kinds g.C.Column.kind_of l.columns l.others
-
-abbrev pub decreases-columns : goal.decreases-columns
-decreases-columns g l = length l.left

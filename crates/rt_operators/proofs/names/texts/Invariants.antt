@@ -1,6 +1,0 @@
-use Rattle.std.proofs.Common.{◌≡◌, ◌++◌, drop, map}
-use Rattle.rt_operators.specs.Columns.{texts}
-use Rattle.rt_operators.proofs.names.texts.Given as goal
-
-abbrev pub invariant-loop-name : goal.invariant-loop-name
-invariant-loop-name l = l.texts ++ map (λ n. n.text) (drop l.name-index l.names.tail) ≡ texts l.names

@@ -1,0 +1,21 @@
+//! SELECT.
+
+ghost use Rattle.rt_ra.specs.Operators as spec;
+ghost use Rattle.rt_ra_tree.specs.Refusals.{is_memory};
+ghost use Rattle.rt_value.specs.Gives.{Gives};
+
+use crate::conditions::selected;
+use crate::relation::Relation;
+use crate::tests::tests as conditions;
+use rt_ra_tree::{RaFault, RaTests};
+use std::alloc::Global;
+
+/// The rows that meet the tests.
+pub fn select(alloc: Global, of: Relation, tests: &RaTests) -> Result<Relation, RaFault>
+    ensures { Gives is_memory result (spec.select of tests.now) }
+{
+    let Relation { query, columns } = of;
+    let conds = conditions(alloc, columns.as_slice(), tests)?;
+    let query = selected(alloc, query, conds)?;
+    Ok(Relation { query, columns })
+}

@@ -1,4 +1,0 @@
-pub mod More
-pub mod Sets
-pub mod Sources
-pub mod Tested

@@ -1,4 +1,0 @@
-pub mod Alone
-pub mod Conditions
-pub mod Relations
-pub mod Sources

@@ -1,4 +1,0 @@
-mod RowLemmas
-mod Nodes
-mod Transfer
-mod VerdictLemmas

@@ -1,3 +1,0 @@
-pub mod RowVerdicts
-pub mod Said
-pub mod Holds

@@ -1,4 +1,0 @@
-pub mod App
-pub mod Command
-pub mod Ranges
-pub mod Reading
