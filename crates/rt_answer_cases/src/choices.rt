@@ -1,31 +1,34 @@
 //! Choices of rows, and the inputs that they are of.
-ghost use Rattle.std.specs.Prelude.{◌≡◌, IfOk, length};
+ghost use Rattle.std.specs.Prelude.{◌≡◌, length};
 
 use rt_cases::{FOUR, words};
 use rt_input::{Input, read_input};
 use rt_io::MemFiles;
 use rt_outcome::Outcome;
-use rt_value::{Keep, NoMemory};
+use rt_value::Keep;
 use std::alloc::Global;
+use std::process::Abort;
 
 /// The choice of a number's binary digits, the lowest for the first place.
-pub(crate) fn choice(alloc: Global, places: usize, number: usize) -> Result<Keep, NoMemory>
-    ensures { IfOk result (λ keep. length keep ≡ places) }
+pub(crate) fn choice(rt: &impl Abort, alloc: Global, places: usize, number: usize) -> Keep
+    ensures { length result ≡ places }
 {
-    let mut keep = Keep::all(alloc, places, false)?;
+    let mut keep = Keep::all(alloc, places, false).expect(rt, "memory");
     let mut digits = number;
     for place in 0..places {
         keep.set(place, digits % 2 == 1);
         digits /= 2;
     }
-    Ok(keep)
+    keep
 }
 
-/// The input of four files, if it is accepted.
-pub(crate) fn input(alloc: Global, files: &mut MemFiles) -> Result<Option<Input>, NoMemory> {
-    let command = words(alloc, &FOUR)?;
-    let read = read_input(alloc, command.as_slice(), files);
-    Ok(accepted(read))
+/// The input of four files, if it is accepted. The files are let go of here.
+pub(crate) fn input(rt: &impl Abort, alloc: Global, mut files: MemFiles) -> Option<Input> {
+    let command = words(alloc, &FOUR).expect(rt, "memory");
+    let read = read_input(alloc, command.as_slice(), &mut files);
+    drop(command);
+    drop(files);
+    accepted(read)
 }
 
 /// What was read, if it is an input.

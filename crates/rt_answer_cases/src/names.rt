@@ -55,8 +55,8 @@ fn are_rows(rt: &impl Abort, alloc: Global, rows: &[Row], wanted: &str) -> bool 
 /// Whether these are the rows of the first query on all four rows.
 fn has_rows(rt: &impl Abort, alloc: Global, input: &Input, wanted: &str) -> bool {
     let places = input.given().total();
-    let keep = choice(alloc, places, 15).expect(rt, "memory");
-    let rows = answer(alloc, input, &keep).expect(rt, "memory");
+    let keep = choice(rt, alloc, places, 15);
+    let rows = answer(rt, alloc, input, &keep);
     drop(keep);
     let found = places == 4 && are_rows(rt, alloc, rows.as_slice(), wanted);
     drop(rows);

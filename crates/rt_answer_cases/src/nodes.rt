@@ -9,9 +9,9 @@ use rt_annot::{annotate, differ};
 use rt_cases::{ABC, ONE, ONES, REG, SCHOOL, STUDENT, files};
 use rt_formula::{Dag, Node};
 use rt_input::Input;
-use rt_io::MemFiles;
 use rt_value::{NoMemory, Row, Txt, Value};
 use std::alloc::Global;
+use std::process::Abort;
 
 const PAIR: &str = "CREATE TABLE t (a INTEGER); CREATE TABLE u (b INTEGER);";
 
@@ -21,46 +21,60 @@ const NOT_IN: &str = "SELECT a FROM t WHERE a NOT IN (SELECT b FROM u)";
 
 const NOT_EXISTS: &str = "SELECT a FROM t WHERE NOT EXISTS (SELECT * FROM u WHERE b = a)";
 
+/// Whether a node has this value at the choice of a number.
+fn has_value(
+    rt: &impl Abort,
+    alloc: Global,
+    dag: &Dag,
+    node: Node,
+    number: usize,
+    value: bool,
+) -> bool {
+    let keep = choice(rt, alloc, dag.rows(), number);
+    let found = holds(rt, dag, node, &keep) == value;
+    drop(keep);
+    found
+}
+
 /// Whether a node has these values at these choices.
 fn has_values(
+    rt: &impl Abort,
     alloc: Global,
     dag: &Dag,
     node: Node,
     values: &[(usize, bool)],
-) -> Result<bool, NoMemory> {
+) -> bool {
+    let mut good = true;
     for (number, value) in values {
-        let keep = choice(alloc, dag.rows(), *number)?;
-        if holds(dag, node, &keep)? != *value {
-            return Ok(false);
-        }
+        good = good && has_value(rt, alloc, dag, node, *number, *value);
     }
-    Ok(true)
+    good
+}
+
+fn row_node(rt: &impl Abort, alloc: Global, input: &Input, dag: &mut Dag, row: &Row) -> Option<Node>
+    requires { dag.old.rows ≡ places input.now.given.tables }
+{
+    let ann = annotated(rt, alloc, input, dag);
+    let node = ann.get(row);
+    drop(ann);
+    node
 }
 
 /// Whether the node of a row of the first query has these values.
 fn row_has(
+    rt: &impl Abort,
     alloc: Global,
     input: &Input,
     row: &Row,
     values: &[(usize, bool)],
-) -> Result<bool, NoMemory> {
-    let mut dag = Dag::new(alloc, input.given().total())?;
-    match row_node(alloc, input, &mut dag, row)? {
-        Some(node) => has_values(alloc, &dag, node, values),
-        None => Ok(false),
-    }
-}
-
-fn row_node(
-    alloc: Global,
-    input: &Input,
-    dag: &mut Dag,
-    row: &Row,
-) -> Result<Option<Node>, NoMemory>
-    requires { dag.old.rows ≡ places input.now.given.tables }
-{
-    let ann = annotated(alloc, input, dag)?;
-    Ok(ann.get(row))
+) -> bool {
+    let mut dag = Dag::new(alloc, input.given().total()).expect(rt, "memory");
+    let found = match row_node(rt, alloc, input, &mut dag, row) {
+        Some(node) => has_values(rt, alloc, &dag, node, values),
+        None => false,
+    };
+    drop(dag);
+    found
 }
 
 /// The node that is true where the two queries answer differently.
@@ -74,83 +88,66 @@ fn difference(alloc: Global, input: &Input, dag: &mut Dag) -> Result<Node, NoMem
 }
 
 /// Whether the node at which the two queries differ has these values.
-fn difference_has(
-    alloc: Global,
-    input: &Input,
-    values: &[(usize, bool)],
-) -> Result<bool, NoMemory> {
-    let mut dag = Dag::new(alloc, input.given().total())?;
-    let node = difference(alloc, input, &mut dag)?;
-    has_values(alloc, &dag, node, values)
-}
-
-fn single(alloc: Global, value: Value) -> Result<Row, NoMemory> {
-    let mut row = Row::new(alloc);
-    row.push(value)?;
-    Ok(row)
-}
-
-fn file_row_has(
-    alloc: Global,
-    files: &mut MemFiles,
-    row: &Row,
-    values: &[(usize, bool)],
-) -> Result<bool, NoMemory> {
-    let Some(input) = input(alloc, files)? else {
-        return Ok(false);
-    };
-    let found = row_has(alloc, &input, row, values);
-    drop(input);
+fn difference_has(rt: &impl Abort, alloc: Global, input: &Input, values: &[(usize, bool)]) -> bool {
+    let mut dag = Dag::new(alloc, input.given().total()).expect(rt, "memory");
+    let node = difference(alloc, input, &mut dag).expect(rt, "memory");
+    let found = has_values(rt, alloc, &dag, node, values);
+    drop(dag);
     found
 }
 
-/// Whether the first query of these files gives the row of this value with a node of these values.
-fn gives(
+/// Whether the first query of an input gives the row of this value with a node of these values.
+fn input_gives(
+    rt: &impl Abort,
     alloc: Global,
-    files: &mut MemFiles,
+    input: Option<Input>,
     value: Value,
     values: &[(usize, bool)],
-) -> Result<bool, NoMemory> {
-    let row = single(alloc, value)?;
-    file_row_has(alloc, files, &row, values)
-}
-
-/// Whether the node at which the queries of these files differ has these values.
-fn differs(
-    alloc: Global,
-    files: &mut MemFiles,
-    values: &[(usize, bool)],
-) -> Result<bool, NoMemory> {
-    let Some(input) = input(alloc, files)? else {
-        return Ok(false);
-    };
-    let found = difference_has(alloc, &input, values);
-    drop(input);
-    found
+) -> bool {
+    let mut row = Row::new(alloc);
+    row.push(value).expect(rt, "memory");
+    match input {
+        Some(input) => {
+            let found = row_has(rt, alloc, &input, &row, values);
+            drop(input);
+            found
+        }
+        None => false,
+    }
 }
 
 /// Whether a query over these tables gives the row of this value with a node of these values.
 fn query_gives(
+    rt: &impl Abort,
     alloc: Global,
-    schema: &str,
-    tables: &[(&str, &str)],
+    held: (&str, &[(&str, &str)]),
     query: &str,
     value: Value,
     values: &[(usize, bool)],
-) -> Result<bool, NoMemory> {
-    let mut held = files(alloc, schema, tables, query, query)?;
-    gives(alloc, &mut held, value, values)
+) -> bool {
+    let (schema, tables) = held;
+    let files = files(alloc, schema, tables, query, query).expect(rt, "memory");
+    let input = input(rt, alloc, files);
+    input_gives(rt, alloc, input, value, values)
 }
 
 /// Whether the node at which two queries over the three sets differ has these values.
 fn sets_differ(
+    rt: &impl Abort,
     alloc: Global,
     query1: &str,
     query2: &str,
     values: &[(usize, bool)],
-) -> Result<bool, NoMemory> {
-    let mut held = files(alloc, ABC, &ONES, query1, query2)?;
-    differs(alloc, &mut held, values)
+) -> bool {
+    let files = files(alloc, ABC, &ONES, query1, query2).expect(rt, "memory");
+    match input(rt, alloc, files) {
+        Some(input) => {
+            let found = difference_has(rt, alloc, &input, values);
+            drop(input);
+            found
+        }
+        None => false,
+    }
 }
 
 #[test]
@@ -163,23 +160,29 @@ fn nodes_of_worked_rows(rt: HostRuntime) {
         (0b01101, false),
         (0b00100, false),
     ];
-    let found = query_gives(alloc, SCHOOL, &[STUDENT, REG], ONE, mary, &at);
-    assert!(rt; found.expect(&rt, "memory"), "the one course of Mary");
+    let school: (&str, &[(&str, &str)]) = (SCHOOL, &[STUDENT, REG]);
+    let found = query_gives(&rt, alloc, school, ONE, mary, &at);
+    assert!(rt; found, "the one course of Mary");
+    let pair: (&str, &[(&str, &str)]) = (PAIR, &NULLS);
     let at = [(0b01, true), (0b11, false)];
-    let found = query_gives(alloc, PAIR, &NULLS, NOT_IN, Value::Int(1), &at);
-    assert!(rt; found.expect(&rt, "memory"), "NOT IN beside NULL");
+    let found = query_gives(&rt, alloc, pair, NOT_IN, Value::Int(1), &at);
+    assert!(rt; found, "NOT IN beside NULL");
     let at = [(0b01, true), (0b11, true)];
-    let found = query_gives(alloc, PAIR, &NULLS, NOT_EXISTS, Value::Int(1), &at);
-    assert!(rt; found.expect(&rt, "memory"), "NOT EXISTS beside NULL");
+    let found = query_gives(&rt, alloc, pair, NOT_EXISTS, Value::Int(1), &at);
+    assert!(rt; found, "NOT EXISTS beside NULL");
     let at = [(0b01, true), (0b10, true), (0b11, true), (0b00, false)];
-    let (schema, fives) = ("CREATE TABLE d (a INTEGER);", [("d/d.csv", "a\n5\n5\n")]);
-    let found = query_gives(alloc, schema, &fives, "SELECT a FROM d", Value::Int(5), &at);
-    assert!(rt; found.expect(&rt, "memory"), "two equal rows");
+    let fives: (&str, &[(&str, &str)]) = (
+        "CREATE TABLE d (a INTEGER);",
+        &[("d/d.csv", "a\n5\n5\n")],
+    );
+    let found = query_gives(&rt, alloc, fives, "SELECT a FROM d", Value::Int(5), &at);
+    assert!(rt; found, "two equal rows");
     let found = sets_differ(
+        &rt,
         alloc,
         "SELECT x FROM a EXCEPT SELECT x FROM b UNION SELECT x FROM c",
         "SELECT x FROM a EXCEPT (SELECT x FROM b UNION SELECT x FROM c)",
         &[(0b011, false), (0b100, true)],
     );
-    assert!(rt; found.expect(&rt, "memory"), "EXCEPT and UNION");
+    assert!(rt; found, "EXCEPT and UNION");
 }

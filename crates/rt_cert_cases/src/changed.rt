@@ -1,80 +1,117 @@
 //! The check of certificates that were changed.
-use crate::held::{BOTH, SECOND, checked, written};
-use rt_value::{Bytes, List, NoMemory};
+use crate::held::{BOTH, SECOND, check_ends, run_on, with_cert, written};
+use rt_value::{Bytes, List};
 use std::alloc::Global;
+use std::process::Abort;
 
 /// The text with this in the place of each line that begins so.
-fn changed(alloc: Global, text: &[u8], head: &[u8], with: &[u8]) -> Result<Bytes, NoMemory> {
+fn changed(rt: &impl Abort, alloc: Global, text: &[u8], head: &[u8], with: &[u8]) -> Bytes {
     let mut out = List::new(alloc);
     for line in text.split(|byte| *byte == b'\n') {
         if line.is_empty() {
             continue;
         }
         if line.starts_with(head) {
-            out.extend(with)?;
+            out.extend(with).expect(rt, "memory");
         } else {
-            out.extend(line)?;
-            out.push(b'\n')?;
+            out.extend(line).expect(rt, "memory");
+            out.push(b'\n').expect(rt, "memory");
         }
     }
-    Ok(out)
+    out
+}
+
+/// Whether the check of the text, changed so, ends so.
+fn change_ends(
+    rt: &impl Abort,
+    alloc: Global,
+    text: &[u8],
+    change: (&[u8], &[u8]),
+    ended: (u8, &str, &str),
+) -> bool {
+    let (head, with) = change;
+    let other = changed(rt, alloc, text, head, with);
+    let found = check_ends(rt, alloc, other.as_slice(), &SECOND, ended);
+    drop(other);
+    found
+}
+
+/// Whether that check names a line.
+fn line_is_named(
+    rt: &impl Abort,
+    alloc: Global,
+    text: &[u8],
+    change: (&[u8], &[u8]),
+    status: u8,
+    why: &str,
+    at: usize,
+) -> bool {
+    let line = format!(in alloc; "ratest: certificate: {why} {at}\n").expect(rt, "memory");
+    let found = change_ends(rt, alloc, text, change, (status, "", line.as_str()));
+    drop(line);
+    found
 }
 
 fn lines_in(text: &[u8]) -> usize {
     text.iter().filter(|byte| **byte == b'\n').count()
 }
 
+/// Whether the text that keeps these rows is rejected for this, or else is valid.
+fn claim_ends(rt: &impl Abort, alloc: Global, text: &[u8], keep: &str, why: &str) -> bool {
+    let line = format!(in alloc; "ratest: certificate: rejected: {why}\n").expect(rt, "memory");
+    let ended = if why.is_empty() {
+        (0, "valid: witness 1\n", "")
+    } else {
+        (8, "", line.as_str())
+    };
+    let found = change_ends(rt, alloc, text, (b"keep", keep.as_bytes()), ended);
+    drop(line);
+    found
+}
+
 #[test]
 fn changed_claims(rt: HostRuntime) {
-    let alloc = rt.alloc();
-    let table: [(&str, &str); 5] = [
+    let table: &[(&str, &str)] = &[
         ("keep 2\n", "answers are the same"),
         ("keep 3\n", "place 3"),
         ("keep 4611686018427387903\n", "place 4611686018427387903"),
         ("keep 0\n", "answers are the same"),
         ("keep 1\n", ""),
     ];
-    let text = written(alloc, &SECOND).expect(&rt, "memory");
+    let text = written(&rt, rt.alloc(), &SECOND);
     for (keep, why) in table {
-        let other = changed(alloc, text.as_slice(), b"keep", keep.as_bytes()).expect(&rt, "memory");
-        let told = checked(alloc, other.as_slice(), &SECOND).expect(&rt, "memory");
-        if why.is_empty() {
-            assert!(rt; told.is(0, "valid: witness 1\n", ""));
-        } else {
-            let line = format!(in alloc; "ratest: certificate: rejected: {why}\n").expect(
-                &rt, "memory",
-            );
-            assert!(rt; told.is(8, "", line.as_str()), "{why}");
-        }
+        assert!(rt;
+            claim_ends(&rt, rt.alloc(), text.as_slice(), keep, why),
+            "{keep}{why}"
+        );
     }
 }
 
 /// A row that refers to another one is not lawful alone.
 #[test]
 fn a_row_alone(rt: HostRuntime) {
-    let alloc = rt.alloc();
     let text = b"ratest certificate 1\nverdict witness 1\nkeep 3\nadded 0\nend\n";
-    let told = checked(alloc, text, &BOTH).expect(&rt, "memory");
-    assert!(rt; told.is(8, "", "ratest: certificate: rejected: not lawful\n"));
+    let line = "ratest: certificate: rejected: not lawful\n";
+    assert!(rt; check_ends(&rt, rt.alloc(), text, &BOTH, (8, "", line)));
 }
 
 #[test]
 fn changed_steps(rt: HostRuntime) {
     let alloc = rt.alloc();
-    let text = written(alloc, &SECOND).expect(&rt, "memory");
-    let none = changed(alloc, text.as_slice(), b"d ", b"").expect(&rt, "memory");
-    let told = checked(alloc, none.as_slice(), &SECOND).expect(&rt, "memory");
-    assert!(rt; told.is(8, "", "ratest: certificate: rejected: no refutation\n"));
+    let text = written(&rt, alloc, &SECOND);
+    let none = changed(&rt, alloc, text.as_slice(), b"d ", b"");
+    let line = "ratest: certificate: rejected: no refutation\n";
+    assert!(rt; check_ends(&rt, alloc, none.as_slice(), &SECOND, (8, "", line)));
+    let steps = lines_in(text.as_slice()).saturating_sub(lines_in(none.as_slice()));
+    drop(none);
+    let (why, at) = ("rejected: line", steps.saturating_add(1));
     // Behind the steps that refute, one whose hint is no line, and one that follows from nothing.
-    for step in ["d ; 4611686018427387903\nend\n", "d +9 ;\nend\n"] {
-        let steps = lines_in(text.as_slice()).saturating_sub(lines_in(none.as_slice()));
-        let more = changed(alloc, text.as_slice(), b"end", step.as_bytes()).expect(&rt, "memory");
-        let told = checked(alloc, more.as_slice(), &SECOND).expect(&rt, "memory");
-        let at = steps.saturating_add(1);
-        let line = format!(in alloc; "ratest: certificate: rejected: line {at}\n").expect(
-            &rt, "memory",
+    for step in &["d ; 4611686018427387903\nend\n", "d +9 ;\nend\n"] {
+        let change = (b"end".as_slice(), step.as_bytes());
+        assert!(rt;
+            line_is_named(&rt, alloc, text.as_slice(), change, 8, why, at),
+            "{step}"
         );
-        assert!(rt; told.is(8, "", line.as_str()), "{step}");
     }
 }
 
@@ -82,14 +119,17 @@ fn changed_steps(rt: HostRuntime) {
 #[test]
 fn another_number_of_lines(rt: HostRuntime) {
     let alloc = rt.alloc();
-    let text = written(alloc, &SECOND).expect(&rt, "memory");
-    let other = changed(alloc, text.as_slice(), b"added", b"added 0\n").expect(&rt, "memory");
-    let told = checked(alloc, other.as_slice(), &SECOND).expect(&rt, "memory");
-    assert_eq!(rt; told.status, 8u8);
-    assert!(rt; told.out.as_slice().is_empty());
+    let text = written(&rt, alloc, &SECOND);
+    let other = changed(&rt, alloc, text.as_slice(), b"added", b"added 0\n");
+    drop(text);
+    let files = with_cert(&rt, alloc, other.as_slice());
+    drop(other);
+    let told = run_on(&rt, alloc, files, &["check", "cert"], &SECOND);
+    assert!(rt; told.status == 8);
+    assert!(rt; told.out.bytes().is_empty());
     assert!(rt;
         told.err
-            .as_slice()
+            .bytes()
             .starts_with(b"ratest: certificate: rejected: added ")
     );
 }
@@ -97,15 +137,11 @@ fn another_number_of_lines(rt: HostRuntime) {
 #[test]
 fn texts_that_are_no_certificate(rt: HostRuntime) {
     let alloc = rt.alloc();
-    let text = written(alloc, &SECOND).expect(&rt, "memory");
-    let short = changed(alloc, text.as_slice(), b"end", b"").expect(&rt, "memory");
-    let told = checked(alloc, short.as_slice(), &SECOND).expect(&rt, "memory");
-    let at = lines_in(text.as_slice());
-    let line = format!(in alloc; "ratest: certificate: malformed at line {at}\n").expect(
-        &rt, "memory",
-    );
-    assert!(rt; told.is(3, "", line.as_str()));
-    let table: [(&[u8], &str); 4] = [
+    let text = written(&rt, alloc, &SECOND);
+    let (why, at) = ("malformed at line", lines_in(text.as_slice()));
+    assert!(rt; line_is_named(&rt, alloc, text.as_slice(), (b"end", b""), 3, why, at));
+    drop(text);
+    let table: &[(&[u8], &str)] = &[
         (b"", "ratest: certificate: malformed at line 1\n"),
         (
             b"ratest certificate 2\n",
@@ -121,8 +157,10 @@ fn texts_that_are_no_certificate(rt: HostRuntime) {
         ),
     ];
     for (text, err) in table {
-        let told = checked(alloc, text, &SECOND).expect(&rt, "memory");
-        assert!(rt; told.is(3, "", err), "{err}");
+        assert!(rt;
+            check_ends(&rt, alloc, text, &SECOND, (3, "", err)),
+            "{err}"
+        );
     }
 }
 
@@ -130,9 +168,10 @@ fn texts_that_are_no_certificate(rt: HostRuntime) {
 #[test]
 fn a_mark_before_a_certificate(rt: HostRuntime) {
     let alloc = rt.alloc();
-    let text = written(alloc, &SECOND).expect(&rt, "memory");
+    let text = written(&rt, alloc, &SECOND);
     let mut marked = List::from_slice(alloc, b"\xEF\xBB\xBF").expect(&rt, "memory");
     marked.extend(text.as_slice()).expect(&rt, "memory");
-    let told = checked(alloc, marked.as_slice(), &SECOND).expect(&rt, "memory");
-    assert!(rt; told.is(0, "valid: witness 1\n", ""));
+    drop(text);
+    let ended = (0, "valid: witness 1\n", "");
+    assert!(rt; check_ends(&rt, alloc, marked.as_slice(), &SECOND, ended));
 }

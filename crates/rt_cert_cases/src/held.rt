@@ -1,8 +1,9 @@
 //! Files and sinks in memory.
 use rt_cert::{CertOutcome, cert_run};
 use rt_io::{MemFiles, MemSink};
-use rt_value::{Bytes, List, NoMemory, Txt};
+use rt_value::{Bytes, List, Txt};
 use std::alloc::Global;
+use std::process::Abort;
 
 const SCHEMA: &str = "CREATE TABLE t (a INTEGER, b INTEGER);";
 
@@ -60,45 +61,49 @@ pub(crate) const SAME: [&str; 4] = ["school", "d", "left.sql", "right.sql"];
 /// Those of an input whose smallest counterexample has two rows, one of which refers to the other.
 pub(crate) const BOTH: [&str; 4] = ["school", "d", "cs.sql", "best.sql"];
 
-fn hold_all(files: &mut MemFiles) -> Result<(), NoMemory> {
-    for (name, text) in FILES {
-        files.hold(name, text.as_bytes())?;
-    }
-    Ok(())
-}
-
 /// Schemas, their tables and queries.
-pub(crate) fn files(alloc: Global) -> Result<MemFiles, NoMemory> {
+pub(crate) fn files(rt: &impl Abort, alloc: Global) -> MemFiles {
     let mut files = MemFiles::new(alloc);
-    hold_all(&mut files)?;
-    Ok(files)
+    for (name, text) in &FILES {
+        files.hold(name, text.as_bytes()).expect(rt, "memory");
+    }
+    files
 }
 
-/// What a call wrote to its two sinks, and its status.
+/// The same with this certificate.
+pub(crate) fn with_cert(rt: &impl Abort, alloc: Global, text: &[u8]) -> MemFiles {
+    let mut files = files(rt, alloc);
+    files.hold("cert", text).expect(rt, "memory");
+    files
+}
+
+/// The status of a call, and what it wrote to its two sinks.
 #[derive(Drop)]
 pub(crate) struct Ended {
     pub(crate) status: u8,
-    pub(crate) out: Bytes,
-    pub(crate) err: Bytes,
+    pub(crate) out: MemSink,
+    pub(crate) err: MemSink,
 }
 
 impl Ended {
-    pub(crate) fn is(&self, status: u8, out: &str, err: &str) -> bool {
+    fn is(&self, status: u8, out: &str, err: &str) -> bool {
         self.status == status
-            && self.out.as_slice() == out.as_bytes()
-            && self.err.as_slice() == err.as_bytes()
+            && self.out.bytes() == out.as_bytes()
+            && self.err.bytes() == err.as_bytes()
     }
 }
 
-fn list_of(alloc: Global, head: &[&str], args: &[&str]) -> Result<List<Txt>, NoMemory> {
+pub(crate) fn list_of(rt: &impl Abort, alloc: Global, head: &[&str], args: &[&str]) -> List<Txt> {
     let mut list = List::new(alloc);
     for word in head {
-        list.push(Txt::of(alloc, word)?)?;
+        list.push(Txt::of(alloc, word).expect(rt, "memory"))
+            .expect(rt, "memory");
     }
     for word in args {
-        list.push(Txt::of(alloc, word)?)?;
+        list.push(Txt::of(alloc, word).expect(rt, "memory"))
+            .expect(rt, "memory");
     }
-    Ok(list)
+    list
 }
 
 /// The status of an outcome, which is let go of here.
@@ -108,41 +113,57 @@ pub(crate) fn status_of(outcome: CertOutcome) -> u8 {
     status
 }
 
-/// The call on these words, the later ones behind the earlier.
+/// The call on these words, the later ones behind the earlier, over these files, which are let go of
+/// here.
 pub(crate) fn run_on(
+    rt: &impl Abort,
     alloc: Global,
-    files: &mut MemFiles,
+    mut files: MemFiles,
     head: &[&str],
     args: &[&str],
-) -> Result<Ended, NoMemory> {
-    let words = list_of(alloc, head, args)?;
-    run_words(alloc, files, words.as_slice())
-}
-
-fn run_words(alloc: Global, files: &mut MemFiles, words: &[Txt]) -> Result<Ended, NoMemory> {
+) -> Ended {
+    let words = list_of(rt, alloc, head, args);
     let (mut out, mut err) = (MemSink::new(alloc), MemSink::new(alloc));
-    let outcome = cert_run(alloc, words, files, &mut out, &mut err);
-    told(alloc, status_of(outcome), out.bytes(), err.bytes())
+    let outcome = cert_run(alloc, words.as_slice(), &mut files, &mut out, &mut err);
+    drop(words);
+    drop(files);
+    let status = status_of(outcome);
+    Ended { status, out, err }
 }
 
-fn told(alloc: Global, status: u8, out: &[u8], err: &[u8]) -> Result<Ended, NoMemory> {
-    Ok(Ended {
-        status,
-        out: List::from_slice(alloc, out)?,
-        err: List::from_slice(alloc, err)?,
-    })
+/// Whether that call ends so.
+pub(crate) fn ends(
+    rt: &impl Abort,
+    alloc: Global,
+    files: MemFiles,
+    head: &[&str],
+    args: &[&str],
+    ended: (u8, &str, &str),
+) -> bool {
+    let (status, out, err) = ended;
+    let told = run_on(rt, alloc, files, head, args);
+    let found = told.is(status, out, err);
+    drop(told);
+    found
 }
 
 /// The certificate that is written of an input.
-pub(crate) fn written(alloc: Global, args: &[&str]) -> Result<Bytes, NoMemory> {
-    let mut files = files(alloc)?;
-    let told = run_on(alloc, &mut files, &["prove"], args)?;
-    Ok(told.out)
+pub(crate) fn written(rt: &impl Abort, alloc: Global, args: &[&str]) -> Bytes {
+    let files = files(rt, alloc);
+    let told = run_on(rt, alloc, files, &["prove"], args);
+    let text = List::from_slice(alloc, told.out.bytes()).expect(rt, "memory");
+    drop(told);
+    text
 }
 
-/// The check of this text over an input.
-pub(crate) fn checked(alloc: Global, text: &[u8], args: &[&str]) -> Result<Ended, NoMemory> {
-    let mut files = files(alloc)?;
-    files.hold("cert", text)?;
-    run_on(alloc, &mut files, &["check", "cert"], args)
+/// Whether the check of this text over an input ends so.
+pub(crate) fn check_ends(
+    rt: &impl Abort,
+    alloc: Global,
+    text: &[u8],
+    args: &[&str],
+    ended: (u8, &str, &str),
+) -> bool {
+    let files = with_cert(rt, alloc, text);
+    ends(rt, alloc, files, &["check", "cert"], args, ended)
 }

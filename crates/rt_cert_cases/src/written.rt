@@ -1,12 +1,26 @@
 //! Certificates that are written, and their check.
-use crate::held::{BOTH, SAME, SECOND, checked, files, run_on, written};
+use crate::held::{BOTH, SAME, SECOND, check_ends, files, run_on, written};
+use std::alloc::Global;
+use std::process::Abort;
 
 const TWENTY: [&str; 2] = ["made", "20"];
 
+/// Whether a whole certificate that begins so is written of an input.
+fn is_written(rt: &impl Abort, alloc: Global, args: &[&str], head: &str) -> bool {
+    let files = files(rt, alloc);
+    let told = run_on(rt, alloc, files, &["prove"], args);
+    let text = told.out.bytes();
+    let found = told.status == 0
+        && told.err.bytes().is_empty()
+        && text.starts_with(head.as_bytes())
+        && text.ends_with(b"\nend\n");
+    drop(told);
+    found
+}
+
 #[test]
 fn certificates_that_are_written(rt: HostRuntime) {
-    let alloc = rt.alloc();
-    let table: [(&[&str], &str); 3] = [
+    let table: &[(&[&str], &str)] = &[
         (
             &SECOND,
             "ratest certificate 1\nverdict witness 1\nkeep 1\nadded ",
@@ -18,38 +32,43 @@ fn certificates_that_are_written(rt: HostRuntime) {
         (&SAME, "ratest certificate 1\nverdict agree\nadded "),
     ];
     for (args, head) in table {
-        let mut files = files(alloc).expect(&rt, "memory");
-        let told = run_on(alloc, &mut files, &["prove"], args).expect(&rt, "memory");
-        let text = told.out.as_slice();
-        assert_eq!(rt; told.status, 0u8);
-        assert!(rt; told.err.as_slice().is_empty());
-        assert!(rt; text.starts_with(head.as_bytes()), "{head}");
-        assert!(rt; text.ends_with(b"\nend\n"));
+        assert!(rt; is_written(&rt, rt.alloc(), args, head), "{head}");
     }
+}
+
+/// Whether the certificate that is written of an input is accepted so.
+fn is_accepted(rt: &impl Abort, alloc: Global, args: &[&str], out: &str) -> bool {
+    let text = written(rt, alloc, args);
+    let found = check_ends(rt, alloc, text.as_slice(), args, (0, out, ""));
+    drop(text);
+    found
 }
 
 #[test]
 fn certificates_that_are_accepted(rt: HostRuntime) {
-    let alloc = rt.alloc();
-    let table: [(&[&str], &str); 4] = [
+    let table: &[(&[&str], &str)] = &[
         (&SECOND, "valid: witness 1\n"),
         (&BOTH, "valid: witness 2\n"),
         (&SAME, "valid: agree\n"),
         (&TWENTY, "valid: witness 3\n"),
     ];
     for (args, out) in table {
-        let text = written(alloc, args).expect(&rt, "memory");
-        let told = checked(alloc, text.as_slice(), args).expect(&rt, "memory");
-        assert!(rt; told.is(0, out, ""), "{out}");
+        assert!(rt; is_accepted(&rt, rt.alloc(), args, out), "{out}");
     }
+}
+
+/// Whether just this text is written of an input.
+fn is_text_of(rt: &impl Abort, alloc: Global, args: &[&str], text: &[u8]) -> bool {
+    let other = written(rt, alloc, args);
+    let found = other.as_slice() == text;
+    drop(other);
+    found
 }
 
 /// A certificate has the same text at each run, and of whatever options.
 #[test]
 fn the_same_text_again(rt: HostRuntime) {
-    let alloc = rt.alloc();
-    let first = written(alloc, &SECOND).expect(&rt, "memory");
-    let second = written(alloc, &SECOND).expect(&rt, "memory");
+    let first = written(&rt, rt.alloc(), &SECOND);
     let more: [&str; 6] = [
         "--work=9000",
         "--conflicts=8",
@@ -58,7 +77,6 @@ fn the_same_text_again(rt: HostRuntime) {
         "above1.sql",
         "above2.sql",
     ];
-    let third = written(alloc, &more).expect(&rt, "memory");
-    assert!(rt; first.as_slice() == second.as_slice());
-    assert!(rt; first.as_slice() == third.as_slice());
+    assert!(rt; is_text_of(&rt, rt.alloc(), &SECOND, first.as_slice()));
+    assert!(rt; is_text_of(&rt, rt.alloc(), &more, first.as_slice()));
 }

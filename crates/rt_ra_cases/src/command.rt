@@ -3,6 +3,7 @@ use rt_io::{MemFiles, MemSink};
 use rt_ra_run::{RA_USAGE, RaOutcome, ra_run};
 use rt_value::{List, NoMemory, Txt};
 use std::alloc::Global;
+use std::process::Abort;
 
 mod failing;
 mod refused;
@@ -24,12 +25,13 @@ const FIVE: [&str; 5] = ["ra", "s", "d", "p", "q"];
 const MARY: &str =
     "witness: 1\nstudent 1: 'Mary', 'CS'\nonly query 1: 0\nonly query 2: 1\n  'Mary', 'CS'\nboth: 0\n";
 
-fn words(alloc: Global, words: &[&str]) -> Result<List<Txt>, NoMemory> {
+fn words(rt: &impl Abort, alloc: Global, words: &[&str]) -> List<Txt> {
     let mut list = List::new(alloc);
     for word in words {
-        list.push(Txt::of(alloc, word)?)?;
+        let word = Txt::of(alloc, word).expect(rt, "memory");
+        list.push(word).expect(rt, "memory");
     }
-    Ok(list)
+    list
 }
 
 fn hold_all(
@@ -49,19 +51,20 @@ fn hold_all(
 
 /// The files of a schema, of tables by the names of their files, and of two texts.
 fn files(
+    rt: &impl Abort,
     alloc: Global,
     schema: &str,
     tables: &[(&str, &str)],
     left: &str,
     right: &str,
-) -> Result<MemFiles, NoMemory> {
+) -> MemFiles {
     let mut files = MemFiles::new(alloc);
-    hold_all(&mut files, schema, tables, left, right)?;
-    Ok(files)
+    hold_all(&mut files, schema, tables, left, right).expect(rt, "memory");
+    files
 }
 
-fn school(alloc: Global, left: &str, right: &str) -> Result<MemFiles, NoMemory> {
-    files(alloc, SCHOOL, &[STUDENT, REG], left, right)
+fn school(rt: &impl Abort, alloc: Global, left: &str, right: &str) -> MemFiles {
+    files(rt, alloc, SCHOOL, &[STUDENT, REG], left, right)
 }
 
 /// The status of an outcome, which is let go of here.
@@ -71,17 +74,22 @@ fn status_of(outcome: RaOutcome) -> u8 {
     status
 }
 
-/// Whether the command ends with this status and writes just these texts.
+/// Whether the command ends with this status and writes just these texts, over these files, which are
+/// let go of here.
 fn ends(
+    rt: &impl Abort,
     alloc: Global,
-    files: &mut MemFiles,
+    mut files: MemFiles,
     command: &[&str],
     status: u8,
     out: &str,
     err: &str,
-) -> Result<bool, NoMemory> {
-    let command = words(alloc, command)?;
-    Ok(words_end(alloc, files, command.as_slice(), status, out, err))
+) -> bool {
+    let command = words(rt, alloc, command);
+    let found = words_end(alloc, &mut files, command.as_slice(), status, out, err);
+    drop(command);
+    drop(files);
+    found
 }
 
 fn words_end(
@@ -100,9 +108,8 @@ fn words_end(
 
 #[test]
 fn words_and_options(rt: HostRuntime) {
-    let alloc = rt.alloc();
     let work = "ratest: limit: work 11 is above 10\n";
-    let table: [(&[&str], u8, &str, &str); 14] = [
+    let table: &[(&[&str], u8, &str, &str)] = &[
         (&[], 2, "", RA_USAGE),
         (&["ra"], 2, "", RA_USAGE),
         (&["s", "d", "p", "q"], 2, "", RA_USAGE),
@@ -134,9 +141,9 @@ fn words_and_options(rt: HostRuntime) {
         (&["ra", "s", "d", "p", "q", "--work", "10"], 5, "", work),
     ];
     for (command, status, out, err) in table {
-        let mut files = school(alloc, "student", "student;").expect(&rt, "memory");
+        let files = school(&rt, rt.alloc(), "student", "student;");
         assert!(rt;
-            ends(alloc, &mut files, command, status, out, err).expect(&rt, "memory"),
+            ends(&rt, rt.alloc(), files, command, *status, out, err),
             "{out}{err}"
         );
     }

@@ -1,6 +1,7 @@
 use rt_ra_tree::{RaFault, parse_ra};
 use rt_token::tokens;
 use std::alloc::Global;
+use std::process::Abort;
 
 #[derive(Clone, Copy, PartialEq, Eq)]
 enum Told {
@@ -10,16 +11,18 @@ enum Told {
     Other,
 }
 
-fn answer_of(alloc: Global, text: &str) -> Told {
-    let Ok(tokens) = tokens(alloc, text.as_bytes()) else {
-        return Told::Other;
-    };
-    match parse_ra(alloc, tokens.as_slice()) {
+fn answer_of(rt: &impl Abort, alloc: Global, text: &str) -> Told {
+    let tokens = tokens(alloc, text.as_bytes()).expect(rt, "tokens");
+    let parsed = parse_ra(alloc, tokens.as_slice());
+    drop(tokens);
+    let told = match &parsed {
         Ok(_) => Told::Formed,
         Err(RaFault::TooDeep) => Told::Deep,
-        Err(RaFault::Syntax(at)) => Told::Syntax(at),
+        Err(RaFault::Syntax(at)) => Told::Syntax(*at),
         Err(_) => Told::Other,
-    }
+    };
+    drop(parsed);
+    told
 }
 
 // The word of an operator that isn't reserved is a name where no parenthesis follows it, and so is
@@ -38,7 +41,7 @@ fn reads_each_rule(rt: HostRuntime) {
         "cross(anti(a, b), leftjoin(join(c, d), divide(e, f)))",
         "union(except(a, b), intersect(c, d));",
     ] {
-        assert!(rt; answer_of(rt.alloc(), text) == Told::Formed, "{text}");
+        assert!(rt; answer_of(&rt, rt.alloc(), text) == Told::Formed, "{text}");
     }
 }
 
@@ -54,7 +57,10 @@ fn refuses_other_texts(rt: HostRuntime) {
         ("select(t, a = 1 OR a = 2)", 16),
         ("t;;", 2),
     ] {
-        assert!(rt; answer_of(rt.alloc(), text) == Told::Syntax(*at), "{text}");
+        assert!(rt;
+            answer_of(&rt, rt.alloc(), text) == Told::Syntax(*at),
+            "{text}"
+        );
     }
 }
 
@@ -79,6 +85,6 @@ fn refuses_what_is_too_deep(rt: HostRuntime) {
             Told::Deep,
         ),
     ] {
-        assert!(rt; answer_of(rt.alloc(), text) == *wanted, "{text}");
+        assert!(rt; answer_of(&rt, rt.alloc(), text) == *wanted, "{text}");
     }
 }

@@ -94,8 +94,16 @@ fn told_of(rt: &impl Abort, alloc: Global, text: &str, data: &Data) -> Bytes
     requires { IsOf data.now.schema data.now.given }
 {
     match resolve(rt, alloc, text, &data.schema) {
-        Ok(typed) => answer_text(rt, alloc, &typed, &data.given),
-        Err(fault) => fault_text(rt, alloc, &fault),
+        Ok(typed) => {
+            let told = answer_text(rt, alloc, &typed, &data.given);
+            drop(typed);
+            told
+        }
+        Err(fault) => {
+            let told = fault_text(rt, alloc, &fault);
+            drop(fault);
+            told
+        }
     }
 }
 

@@ -1,27 +1,32 @@
 use rt_recorder::{CertFault, cert_text, read_cert};
 use std::alloc::Global;
+use std::process::Abort;
 
-fn written_back(alloc: Global, text: &str) -> Result<bool, CertFault> {
-    let cert = read_cert(alloc, text.as_bytes())?;
-    let again = cert_text(alloc, &cert)?;
-    Ok(again.as_slice() == text.as_bytes())
+fn is_written_back(rt: &impl Abort, alloc: Global, text: &str) -> bool {
+    let cert = read_cert(alloc, text.as_bytes()).expect(rt, "a certificate");
+    let again = cert_text(alloc, &cert).expect(rt, "memory");
+    drop(cert);
+    let found = again.as_slice() == text.as_bytes();
+    drop(again);
+    found
 }
 
 #[test]
 fn each_form_of_a_line(rt: HostRuntime) {
-    for text in [
+    let table = &[
         "ratest certificate 1\nverdict agree\nadded 0\nend\n",
         "ratest certificate 1\nverdict witness 0\nkeep\nadded 0\nend\n",
         "ratest certificate 1\nverdict witness 1\nkeep 1\nadded 12\nd ;\nend\n",
         "ratest certificate 1\nverdict witness 2\nkeep 0 1\nadded 4611686018427387903\nd +0 -4611686018427387903 ; 5 5\nd -1 ;\nd ; 0\nend\n",
-    ] {
-        assert!(rt; written_back(rt.alloc(), text) == Ok(true), "{text}");
+    ];
+    for text in table {
+        assert!(rt; is_written_back(&rt, rt.alloc(), text), "{text}");
     }
 }
 
 #[test]
 fn the_first_line_that_cannot_stand(rt: HostRuntime) {
-    for (head, rest, line) in [
+    let table = &[
         // No text, a last line without its LF, and a text that ends too early.
         ("", "", 1usize),
         ("", "ratest certificate 1", 1),
@@ -171,16 +176,23 @@ fn the_first_line_that_cannot_stand(rt: HostRuntime) {
             "d ; 1\r\nend\n",
             4,
         ),
-    ] {
-        let told = told_of(rt.alloc(), head, rest);
-        assert!(rt; told == Err(CertFault::BadLine(line)), "{head}{rest}");
+    ];
+    for (head, rest, line) in table {
+        let told = told_of(&rt, rt.alloc(), head, rest);
+        assert!(rt; told == Some(CertFault::BadLine(*line)), "{head}{rest}");
     }
 }
 
-fn told_of(alloc: Global, head: &str, rest: &str) -> Result<(), CertFault> {
-    let Ok(text) = format!(in alloc; "{head}{rest}") else {
-        return Err(CertFault::NoMemory);
-    };
-    let _cert = read_cert(alloc, text.as_str().as_bytes())?;
-    Ok(())
+/// The fault of a text in two parts, if it has one.
+fn told_of(rt: &impl Abort, alloc: Global, head: &str, rest: &str) -> Option<CertFault> {
+    let text = format!(in alloc; "{head}{rest}").expect(rt, "memory");
+    let read = read_cert(alloc, text.as_str().as_bytes());
+    drop(text);
+    match read {
+        Ok(cert) => {
+            drop(cert);
+            None
+        }
+        Err(fault) => Some(fault),
+    }
 }

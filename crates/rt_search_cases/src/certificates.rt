@@ -1,35 +1,40 @@
 use rt_clause::{Adds, Lines, Lit};
 use rt_derive::Checker;
 use rt_recorder::{Cert, Checked, Encoded, Recorder, Step, check_steps};
-use rt_value::{List, NoMemory};
+use rt_value::List;
 use std::alloc::Global;
 use std::process::Abort;
 
 // The lines x0 or x1, and not x0 or x1.
-fn two_lines(alloc: Global) -> Result<Checker, NoMemory> {
+fn two_lines(rt: &impl Abort, alloc: Global) -> Checker {
     let mut checker = Checker::new(alloc);
-    checker.add(&[Lit::of(0, true), Lit::of(1, true)])?;
-    checker.add(&[Lit::of(0, false), Lit::of(1, true)])?;
-    Ok(checker)
+    checker
+        .add(&[Lit::of(0, true), Lit::of(1, true)])
+        .expect(rt, "memory");
+    checker
+        .add(&[Lit::of(0, false), Lit::of(1, true)])
+        .expect(rt, "memory");
+    checker
 }
 
 // A certificate of agreement with these steps.
-fn cert_of(alloc: Global, steps: &[(&[Lit], &[u64])]) -> Result<Cert, NoMemory> {
+fn cert_of(rt: &impl Abort, alloc: Global, steps: &[(&[Lit], &[u64])]) -> Cert {
     let mut list = List::new(alloc);
     for (lits, hints) in steps {
-        list.push(step_of(alloc, lits, hints)?)?;
+        list.push(step_of(rt, alloc, lits, hints))
+            .expect(rt, "memory");
     }
-    Ok(Cert {
+    Cert {
         keep: None,
         added: 2,
         steps: list,
-    })
+    }
 }
 
-fn step_of(alloc: Global, lits: &[Lit], hints: &[u64]) -> Result<Step, NoMemory> {
-    let lits = List::from_slice(alloc, lits)?;
-    let hints = List::from_slice(alloc, hints)?;
-    Ok(Step { lits, hints })
+fn step_of(rt: &impl Abort, alloc: Global, lits: &[Lit], hints: &[u64]) -> Step {
+    let lits = List::from_slice(alloc, lits).expect(rt, "memory");
+    let hints = List::from_slice(alloc, hints).expect(rt, "memory");
+    Step { lits, hints }
 }
 
 fn checked(
@@ -38,9 +43,12 @@ fn checked(
     steps: &[(&[Lit], &[u64])],
     assume: Option<Lit>,
 ) -> Checked {
-    let mut checker = two_lines(alloc).expect(rt, "memory");
-    let cert = cert_of(alloc, steps).expect(rt, "memory");
-    check_steps(alloc, &mut checker, &cert, assume).expect(rt, "memory")
+    let mut checker = two_lines(rt, alloc);
+    let cert = cert_of(rt, alloc, steps);
+    let found = check_steps(alloc, &mut checker, &cert, assume).expect(rt, "memory");
+    drop(cert);
+    drop(checker);
+    found
 }
 
 #[test]

@@ -1,24 +1,28 @@
-ghost use Rattle.std.specs.Prelude.{◌≡◌, IfOk, length};
+ghost use Rattle.std.specs.Prelude.{◌≡◌, length};
 
 use rt_clause::{Adds, Lines, Lit};
 use rt_derive::Checker;
-use rt_value::NoMemory;
 use std::alloc::Global;
+use std::process::Abort;
 
 // The lines x0 or x1, and not x0 or x1.
-fn two_lines(alloc: Global) -> Result<Checker, NoMemory>
-    ensures { IfOk result (λ c. length (⟦<Checker as Adds>⟧.lines c) ≡ 2) }
+fn two_lines(rt: &impl Abort, alloc: Global) -> Checker
+    ensures { length (⟦<Checker as Adds>⟧.lines result) ≡ 2 }
 {
     let mut checker = Checker::new(alloc);
-    checker.add(&[Lit::of(0, true), Lit::of(1, true)])?;
-    checker.add(&[Lit::of(0, false), Lit::of(1, true)])?;
-    Ok(checker)
+    checker
+        .add(&[Lit::of(0, true), Lit::of(1, true)])
+        .expect(rt, "memory");
+    checker
+        .add(&[Lit::of(0, false), Lit::of(1, true)])
+        .expect(rt, "memory");
+    checker
 }
 
 #[test]
 fn a_clause_follows_along_its_hints(rt: HostRuntime) {
     let second = [Lit::of(1, true)];
-    let mut checker = two_lines(rt.alloc()).expect(&rt, "memory");
+    let mut checker = two_lines(&rt, rt.alloc());
     assert!(rt; !checker.derive(&second, &[0]).expect(&rt, "memory"));
     assert!(rt; checker.derive(&second, &[0, 1]).expect(&rt, "memory"));
     // The clause is line 2 now, and by itself refutes nothing.

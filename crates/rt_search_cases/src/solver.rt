@@ -28,15 +28,20 @@ fn model(rt: &impl Abort, solver: &mut Solver<Checker>) -> [bool; 2] {
 
 // Whether the lines are refuted within the budget.
 fn is_refuted<L: Lines + Drop>(
+    rt: &impl Abort,
     solver: &mut Solver<L>,
     assume: Option<Lit>,
     first: usize,
     budget: Option<u64>,
-) -> Result<bool, NoMemory>
+) -> bool
     requires { IfSome budget (λ b. 1 ≤ b) }
 {
-    let found = solver.solve(assume, first, budget, Order::Free)?;
-    Ok(matches!(&found, Found::Refuted))
+    let found = solver
+        .solve(assume, first, budget, Order::Free)
+        .expect(rt, "memory");
+    let is_refuted = matches!(&found, Found::Refuted);
+    drop(found);
+    is_refuted
 }
 
 #[test]
@@ -49,12 +54,12 @@ fn clauses_may_be_added_between_calls(rt: HostRuntime) {
     assert!(rt; either[0] || either[1]);
     solver.add(&[second.negated()]).expect(&rt, "memory");
     let denied = Some(first.negated());
-    assert!(rt; is_refuted(&mut solver, denied, 2, Some(4)).expect(&rt, "memory"));
+    assert!(rt; is_refuted(&rt, &mut solver, denied, 2, Some(4)));
     assert!(rt; solver.lines().refutes(denied));
     let alone = model(&rt, &mut solver);
     assert!(rt; alone[0] && !alone[1]);
     solver.add(&[first.negated()]).expect(&rt, "memory");
-    assert!(rt; is_refuted(&mut solver, None, 2, Some(4)).expect(&rt, "memory"));
+    assert!(rt; is_refuted(&rt, &mut solver, None, 2, Some(4)));
     assert!(rt; solver.lines().refutes(None));
 }
 
@@ -136,7 +141,7 @@ fn four_pigeons_in_three_holes(rt: HostRuntime) {
     let learned = list.as_slice()[0].as_slice();
     assert!(rt; solver.lines().len() == 23);
     assert!(rt; solver.lines().has(22, learned));
-    assert!(rt; is_refuted(&mut solver, None, 12, Some(4096)).expect(&rt, "memory"));
+    assert!(rt; is_refuted(&rt, &mut solver, None, 12, Some(4096)));
     assert!(rt; solver.lines().refutes(None));
     assert!(rt; solver.lines().has(22, learned));
 }
@@ -145,7 +150,7 @@ fn four_pigeons_in_three_holes(rt: HostRuntime) {
 fn seven_pigeons_in_six_holes(rt: HostRuntime) {
     let mut solver = solver(rt.alloc());
     add_pigeons(rt.alloc(), &mut solver, 6, Holes::Six).expect(&rt, "memory");
-    assert!(rt; is_refuted(&mut solver, None, 42, None).expect(&rt, "memory"));
+    assert!(rt; is_refuted(&rt, &mut solver, None, 42, None));
 }
 
 // Three literals over 60 variables, of a sequence of numbers. The first one is true where the even

@@ -3,12 +3,11 @@ use crate::told::Told;
 use rt_sql::{SqlFault, parse};
 use rt_token::tokens;
 use rt_tree::Sql;
-use std::alloc::{AllocError, Global};
+use std::alloc::Global;
+use std::process::Abort;
 
-fn parsed(alloc: Global, text: &str) -> Result<Sql, SqlFault> {
-    let Ok(tokens) = tokens(alloc, text.as_bytes()) else {
-        return Err(SqlFault::NoMemory);
-    };
+fn parsed(rt: &impl Abort, alloc: Global, text: &str) -> Result<Sql, SqlFault> {
+    let tokens = tokens(alloc, text.as_bytes()).expect(rt, "tokens");
     let parsed = parse(alloc, tokens.as_slice());
     drop(tokens);
     parsed
@@ -32,8 +31,8 @@ fn put_fault(out: &mut Told, fault: &SqlFault) {
 }
 
 // Puts the tree's short text, or the fault.
-fn put_read(out: &mut Told, alloc: Global, text: &str) {
-    match parsed(alloc, text) {
+fn put_read(rt: &impl Abort, alloc: Global, out: &mut Told, text: &str) {
+    match parsed(rt, alloc, text) {
         Ok(sql) => {
             shape(out, &sql);
             drop(sql);
@@ -45,9 +44,9 @@ fn put_read(out: &mut Told, alloc: Global, text: &str) {
     }
 }
 
-fn is_told(alloc: Global, text: &str, wanted: &str) -> bool {
+fn is_told(rt: &impl Abort, alloc: Global, text: &str, wanted: &str) -> bool {
     let mut out = Told::new(alloc);
-    put_read(&mut out, alloc, text);
+    put_read(rt, alloc, &mut out, text);
     out.is(wanted)
 }
 
@@ -173,8 +172,8 @@ fn reads_each_rule(rt: HostRuntime) {
             "SELECT select FROM t",
         ),
     ] {
-        assert!(rt; is_told(rt.alloc(), text, wanted), "{text}");
-        assert!(rt; ends(rt.alloc(), other) == Ending::Syntax, "{other}");
+        assert!(rt; is_told(&rt, rt.alloc(), text, wanted), "{text}");
+        assert!(rt; ends(&rt, rt.alloc(), other) == Ending::Syntax, "{other}");
     }
 }
 
@@ -189,28 +188,29 @@ fn tells_faults(rt: HostRuntime) {
         ("WITH t AS (SELECT a FROM t) SELECT a FROM t", "no with 0"),
         ("SELECT \"f\"(a) FROM t", "syntax 10"),
     ] {
-        assert!(rt; is_told(rt.alloc(), text, wanted), "{text}");
+        assert!(rt; is_told(&rt, rt.alloc(), text, wanted), "{text}");
     }
 }
 
 // `open` as often as told, the middle, and `close` as often.
 fn nested(
+    rt: &impl Abort,
     alloc: Global,
     front: &str,
     open: &str,
     times: usize,
     middle: &str,
     close: &str,
-) -> Result<String, AllocError> {
-    let mut text = String::from_str(alloc, front)?;
+) -> String {
+    let mut text = String::from_str(alloc, front).expect(rt, "memory");
     for _ in 0..times {
-        text.push_str(open)?;
+        text.push_str(open).expect(rt, "memory");
     }
-    text.push_str(middle)?;
+    text.push_str(middle).expect(rt, "memory");
     for _ in 0..times {
-        text.push_str(close)?;
+        text.push_str(close).expect(rt, "memory");
     }
-    Ok(text)
+    text
 }
 
 // How a text ends.
@@ -222,19 +222,20 @@ enum Ending {
     Other,
 }
 
-fn ends(alloc: Global, text: &str) -> Ending {
-    match parsed(alloc, text) {
-        Ok(sql) => {
-            drop(sql);
-            Ending::Read
-        }
+fn ends(rt: &impl Abort, alloc: Global, text: &str) -> Ending {
+    let parsed = parsed(rt, alloc, text);
+    let ending = match &parsed {
+        Ok(_) => Ending::Read,
         Err(SqlFault::TooDeep) => Ending::TooDeep,
         Err(SqlFault::Syntax(_)) => Ending::Syntax,
         Err(_) => Ending::Other,
-    }
+    };
+    drop(parsed);
+    ending
 }
 
 fn nested_ends(
+    rt: &impl Abort,
     alloc: Global,
     front: &str,
     open: &str,
@@ -242,10 +243,10 @@ fn nested_ends(
     middle: &str,
     close: &str,
 ) -> Ending {
-    match nested(alloc, front, open, times, middle, close) {
-        Ok(text) => ends(alloc, text.as_str()),
-        Err(_) => Ending::Other,
-    }
+    let text = nested(rt, alloc, front, open, times, middle, close);
+    let ending = ends(rt, alloc, text.as_str());
+    drop(text);
+    ending
 }
 
 #[test]
@@ -260,9 +261,9 @@ fn counts_nesting(rt: HostRuntime) {
         ("", inner, 63, "SELECT a FROM t", ")"),
         ("", "(", 64, "SELECT a FROM t", ")"),
     ] {
-        let read = nested_ends(alloc, front, open, *times, middle, close);
+        let read = nested_ends(&rt, alloc, front, open, *times, middle, close);
         assert!(rt; read == Ending::Read, "{open}");
-        let more = nested_ends(alloc, front, open, *times + 1, middle, close);
+        let more = nested_ends(&rt, alloc, front, open, *times + 1, middle, close);
         assert!(rt; more == Ending::TooDeep, "{open}");
     }
 }
@@ -271,21 +272,25 @@ fn counts_nesting(rt: HostRuntime) {
 #[test]
 fn reads_a_long_condition(rt: HostRuntime) {
     let front = "SELECT a FROM t WHERE a=1 ";
-    let read = nested_ends(rt.alloc(), front, "OR a=1 ", 599_182, "", "");
+    let read = nested_ends(&rt, rt.alloc(), front, "OR a=1 ", 599_182, "", "");
     assert!(rt; read == Ending::Read);
 }
 
 // `a` in sixty parentheses, between two texts.
-fn sixty(alloc: Global, front: &str, back: &str) -> Result<String, AllocError> {
-    let mut text = nested(alloc, front, "(", 60, "a", ")")?;
-    text.push_str(back)?;
-    Ok(text)
+fn sixty(rt: &impl Abort, alloc: Global, front: &str, back: &str) -> String {
+    let mut text = nested(rt, alloc, front, "(", 60, "a", ")");
+    text.push_str(back).expect(rt, "memory");
+    text
 }
 
 // The parentheses are those of a sum, as the comparison behind the last one says.
 #[test]
 fn reads_a_sum_in_sixty_parentheses(rt: HostRuntime) {
-    let text = sixty(rt.alloc(), "SELECT a FROM t WHERE ", " > 1").expect(&rt, "memory");
-    let wanted = sixty(rt.alloc(), "<S a F t{", ">1}>").expect(&rt, "memory");
-    assert!(rt; is_told(rt.alloc(), text.as_str(), wanted.as_str()));
+    let alloc = rt.alloc();
+    let text = sixty(&rt, alloc, "SELECT a FROM t WHERE ", " > 1");
+    let wanted = sixty(&rt, alloc, "<S a F t{", ">1}>");
+    let found = is_told(&rt, alloc, text.as_str(), wanted.as_str());
+    drop(text);
+    drop(wanted);
+    assert!(rt; found);
 }

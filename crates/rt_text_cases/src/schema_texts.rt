@@ -2,8 +2,9 @@ use crate::checks::rules;
 use crate::told::Told;
 use rt_ddl::{Excess, SchemaFault, read_schema};
 use rt_schema::{ColKind, Column, Foreign, Rule, Table};
-use rt_value::{List, NoMemory, Txt};
-use std::alloc::{AllocError, Global};
+use rt_value::{List, Txt};
+use std::alloc::Global;
+use std::fmt::Write;
 use std::process::Abort;
 
 fn columns(rt: &impl Abort, alloc: Global, named: &[(&str, ColKind)]) -> List<Column> {
@@ -99,36 +100,50 @@ create table reg (constraint k primary key (name, course), name text constraint 
     }
 }
 
+fn put_named(out: &mut Told, word: &str, name: &Txt) {
+    out.put(word);
+    out.put(" ");
+    out.put(name.as_str());
+}
+
 // The fault's kind and name, or its place.
-fn fault_told(alloc: Global, fault: &SchemaFault) -> Result<String, AllocError> {
-    let (word, name) = match fault {
-        SchemaFault::Lex(_) => return format!(in alloc; "lex"),
-        SchemaFault::Syntax(at) => return format!(in alloc; "syntax {at}"),
-        SchemaFault::DuplicateName(name) => ("twice", name),
-        SchemaFault::UnknownName(name) => ("unknown", name),
-        SchemaFault::KeyTypes(name) => ("key of", name),
-        SchemaFault::CheckTypes(name) => ("check of", name),
-        SchemaFault::TooMany(Excess::Tables) => return format!(in alloc; "tables"),
-        SchemaFault::TooMany(Excess::Columns(name)) => ("columns of", name),
-        SchemaFault::TooMany(Excess::Rules(name)) => ("rules of", name),
-        SchemaFault::NoMemory => return format!(in alloc; "memory"),
-    };
-    format!(in alloc; "{word} {}", name.as_str())
+fn put_fault(out: &mut Told, fault: &SchemaFault) {
+    match fault {
+        SchemaFault::Lex(_) => out.put("lex"),
+        SchemaFault::Syntax(at) => {
+            out.put("syntax ");
+            out.put_number(*at as i128);
+        }
+        SchemaFault::DuplicateName(name) => put_named(out, "twice", name),
+        SchemaFault::UnknownName(name) => put_named(out, "unknown", name),
+        SchemaFault::KeyTypes(name) => put_named(out, "key of", name),
+        SchemaFault::CheckTypes(name) => put_named(out, "check of", name),
+        SchemaFault::TooMany(Excess::Tables) => out.put("tables"),
+        SchemaFault::TooMany(Excess::Columns(name)) => put_named(out, "columns of", name),
+        SchemaFault::TooMany(Excess::Rules(name)) => put_named(out, "rules of", name),
+        SchemaFault::NoMemory => out.put("memory"),
+    }
 }
 
 // How many tables the text has, or its fault.
-fn told(alloc: Global, text: &str) -> Result<String, AllocError> {
+fn put_read(out: &mut Told, alloc: Global, text: &str) {
     match read_schema(alloc, text.as_bytes()) {
-        Ok(schema) => format!(in alloc; "tables {}", schema.tables().len()),
-        Err(fault) => fault_told(alloc, &fault),
+        Ok(schema) => {
+            out.put("tables ");
+            out.put_number(schema.tables().len() as i128);
+            drop(schema);
+        }
+        Err(fault) => {
+            put_fault(out, &fault);
+            drop(fault);
+        }
     }
 }
 
 fn is_told(alloc: Global, text: &str, wanted: &str) -> bool {
-    match told(alloc, text) {
-        Ok(told) => told.as_str() == wanted,
-        Err(_) => false,
-    }
+    let mut out = Told::new(alloc);
+    put_read(&mut out, alloc, text);
+    out.is(wanted)
 }
 
 #[test]
@@ -227,10 +242,10 @@ fn reads_checks(rt: HostRuntime) {
 }
 
 fn is_syntax_fault(alloc: Global, text: &str) -> bool {
-    match told(alloc, text) {
-        Ok(told) => told.as_str().starts_with("syntax "),
-        Err(_) => false,
-    }
+    matches!(
+        read_schema(alloc, text.as_bytes()),
+        Err(SchemaFault::Syntax(_))
+    )
 }
 
 // Nesting, arithmetic, names of tables, and rules that stand in the wrong place.
@@ -313,42 +328,44 @@ fn tells_faults_of_checks(rt: HostRuntime) {
 
 // A table with a key, a foreign key, this many checks and a dependency; the last check compares a
 // whole number with a text.
-fn checked(alloc: Global, checks: usize) -> Result<String, NoMemory> {
-    let mut text = String::from_str(
-        alloc,
-        "CREATE TABLE t (a INT NOT NULL UNIQUE, b INT REFERENCES t (a), DEPENDENCY (a) DETERMINES (b)",
-    )?;
+fn checked(rt: &impl Abort, alloc: Global, checks: usize) -> String {
+    let front =
+        "CREATE TABLE t (a INT NOT NULL UNIQUE, b INT REFERENCES t (a), DEPENDENCY (a) DETERMINES (b)";
+    let mut text = String::from_str(alloc, front).expect(rt, "memory");
     for _ in 1..checks {
-        text.push_str(", CHECK (a = 1)")?;
+        text.push_str(", CHECK (a = 1)").expect(rt, "memory");
     }
-    text.push_str(", CHECK (a = 'x'))")?;
-    Ok(text)
+    text.push_str(", CHECK (a = 'x'))").expect(rt, "memory");
+    text
 }
 
 // The rules are counted together, and a check's types are tested last.
 #[test]
 fn counts_rules(rt: HostRuntime) {
     for (checks, wanted) in &[(61, "check of t"), (62, "rules of t")] {
-        let text = checked(rt.alloc(), *checks).expect(&rt, "memory");
-        assert!(rt; is_told(rt.alloc(), text.as_str(), wanted), "{checks}");
+        let text = checked(&rt, rt.alloc(), *checks);
+        let found = is_told(rt.alloc(), text.as_str(), wanted);
+        drop(text);
+        assert!(rt; found, "{checks}");
     }
 }
 
 // A table with this many columns.
-fn wide(alloc: Global, columns: usize) -> Result<String, NoMemory> {
-    let mut text = String::from_str(alloc, "CREATE TABLE t (c INT")?;
+fn wide(rt: &impl Abort, alloc: Global, columns: usize) -> String {
+    let mut text = String::from_str(alloc, "CREATE TABLE t (c INT").expect(rt, "memory");
     for column in 1..columns {
-        let more = format!(in alloc; ", c{column} INT")?;
-        text.push_str(more.as_str())?;
+        write!(text, ", c{column} INT").expect(rt, "memory");
     }
-    text.push_str(")")?;
-    Ok(text)
+    text.push_str(")").expect(rt, "memory");
+    text
 }
 
 #[test]
 fn counts_columns(rt: HostRuntime) {
     for (columns, wanted) in &[(64, "tables 1"), (65, "columns of t")] {
-        let text = wide(rt.alloc(), *columns).expect(&rt, "memory");
-        assert!(rt; is_told(rt.alloc(), text.as_str(), wanted), "{columns}");
+        let text = wide(&rt, rt.alloc(), *columns);
+        let found = is_told(rt.alloc(), text.as_str(), wanted);
+        drop(text);
+        assert!(rt; found, "{columns}");
     }
 }

@@ -1,17 +1,13 @@
-use rt_token::{Fixed, ReadFault, Terminal, Token, name, syntax_place, terminals, tokens};
+use rt_token::{Fixed, ReadFault, Terminal, name, syntax_place, terminals, tokens};
 use rt_value::List;
 use std::alloc::Global;
+use std::process::Abort;
 
-fn lexed(alloc: Global, text: &str) -> Result<List<Token>, ReadFault> {
-    match tokens(alloc, text.as_bytes()) {
-        Ok(tokens) => Ok(tokens),
-        Err(_) => Err(ReadFault::NoMemory),
-    }
-}
-
-fn marked(alloc: Global, text: &str) -> Result<List<Terminal>, ReadFault> {
-    let tokens = lexed(alloc, text)?;
-    terminals(alloc, tokens.as_slice())
+fn marked(rt: &impl Abort, alloc: Global, text: &str) -> Result<List<Terminal>, ReadFault> {
+    let tokens = tokens(alloc, text.as_bytes()).expect(rt, "tokens");
+    let marked = terminals(alloc, tokens.as_slice());
+    drop(tokens);
+    marked
 }
 
 // Whether they are three: a name, quoted or not, a reserved word and a number.
@@ -26,9 +22,11 @@ fn are_three(alloc: Global, terminals: &[Terminal], quoted: bool) -> Result<bool
 }
 
 // Whether the text has three terminals: a name, a reserved word and a number.
-fn is_read(alloc: Global, text: &str) -> Result<bool, ReadFault> {
-    let terminals = marked(alloc, text)?;
-    are_three(alloc, terminals.as_slice(), text.starts_with('"'))
+fn is_read(rt: &impl Abort, alloc: Global, text: &str) -> Result<bool, ReadFault> {
+    let terminals = marked(rt, alloc, text)?;
+    let found = are_three(alloc, terminals.as_slice(), text.starts_with('"'));
+    drop(terminals);
+    found
 }
 
 #[test]
@@ -40,13 +38,13 @@ fn reads_names_words_and_numbers(rt: HostRuntime) {
         ("a order 7", Err(ReadFault::Syntax(2))),
         ("select a 7", Err(ReadFault::Syntax(3))),
     ] {
-        assert!(rt; is_read(rt.alloc(), text) == *wanted, "{text}");
+        assert!(rt; is_read(&rt, rt.alloc(), text) == *wanted, "{text}");
     }
 }
 
 #[test]
 fn tells_places(rt: HostRuntime) {
-    let tokens = lexed(rt.alloc(), "a b c").expect(&rt, "tokens");
+    let tokens = tokens(rt.alloc(), b"a b c").expect(&rt, "tokens");
     for (left, place) in &[(0, 5), (1, 4), (2, 2), (3, 0), (4, 5)] {
         assert!(rt; syntax_place(tokens.as_slice(), *left) == *place);
     }

@@ -1,6 +1,7 @@
 use crate::told::Told;
 use rt_token::{LexFault, Sym, Token, TokenKind, tokens};
 use std::alloc::Global;
+use std::process::Abort;
 
 fn fault_of(alloc: Global, text: &[u8]) -> Option<LexFault> {
     match tokens(alloc, text) {
@@ -82,10 +83,8 @@ fn put_tokens(out: &mut Told, tokens: &[Token]) {
     }
 }
 
-fn are_read(alloc: Global, text: &str, wanted: &str) -> bool {
-    let Ok(tokens) = tokens(alloc, text.as_bytes()) else {
-        return false;
-    };
+fn are_read(rt: &impl Abort, alloc: Global, text: &str, wanted: &str) -> bool {
+    let tokens = tokens(alloc, text.as_bytes()).expect(rt, "tokens");
     let mut out = Told::new(alloc);
     put_tokens(&mut out, tokens.as_slice());
     drop(tokens);
@@ -113,6 +112,6 @@ fn each_kind_of_token(rt: HostRuntime) {
         ("a--b", "a 0-1|"),
         ("- -", "- 0-1|- 2-3|"),
     ] {
-        assert!(rt; are_read(rt.alloc(), text, wanted), "{text}");
+        assert!(rt; are_read(&rt, rt.alloc(), text, wanted), "{text}");
     }
 }

@@ -1,8 +1,8 @@
 use crate::held::{ends, files};
 use rt_io::MemFiles;
 use rt_tools::USAGE;
-use rt_value::NoMemory;
-use std::alloc::{AllocError, Global};
+use std::alloc::Global;
+use std::process::Abort;
 
 const WORDS: [&str; 5] = ["grade", "s", "d", "a.sql", "list"];
 
@@ -10,16 +10,16 @@ const THREE: &str =
     "b.sql: witness 2\na.sql: agree\nc.sql: refused: unknown column: foo\ngraded: 3\n";
 
 /// The files with this list.
-fn with_list(alloc: Global, list: &[u8]) -> Result<MemFiles, NoMemory> {
-    let mut files = files(alloc)?;
-    files.hold("list", list)?;
-    Ok(files)
+fn with_list(rt: &impl Abort, alloc: Global, list: &[u8]) -> MemFiles {
+    let mut files = files(rt, alloc);
+    files.hold("list", list).expect(rt, "memory");
+    files
 }
 
 #[test]
 fn lists_of_candidates(rt: HostRuntime) {
     let alloc = rt.alloc();
-    let table: [(&[u8], u8, &str, &str); 6] = [
+    let table: &[(&[u8], u8, &str, &str)] = &[
         (b"b.sql\na.sql\nc.sql\n", 0, THREE, ""),
         (b"", 0, "graded: 0\n", ""),
         (b"\xEF\xBB\xBFb.sql\r\n\r\n\na.sql\r\nc.sql", 0, THREE, ""),
@@ -28,9 +28,9 @@ fn lists_of_candidates(rt: HostRuntime) {
         (b"a.sql\n\xFF", 3, "", "ratest: list: not UTF-8 at byte 6\n"),
     ];
     for (list, status, out, err) in table {
-        let mut files = with_list(alloc, list).expect(&rt, "memory");
+        let files = with_list(&rt, alloc, list);
         assert!(rt;
-            ends(alloc, &mut files, &WORDS, status, out, err).expect(&rt, "memory"),
+            ends(&rt, alloc, files, &WORDS, *status, out, err),
             "{out}{err}"
         );
     }
@@ -41,7 +41,7 @@ fn words_of_a_list(rt: HostRuntime) {
     let alloc = rt.alloc();
     let work = "b.sql: work 54\na.sql: work 45\nc.sql: refused: unknown column: foo\ngraded: 3\n";
     let limit = "b.sql: work 54\na.sql: agree\nc.sql: refused: unknown column: foo\ngraded: 3\n";
-    let table: [(&[&str], u8, &str, &str); 8] = [
+    let table: &[(&[&str], u8, &str, &str)] = &[
         (&["grade"], 2, "", USAGE),
         (&["grade", "s", "d", "a.sql"], 2, "", USAGE),
         (&["grade", "made", "3"], 2, "", USAGE),
@@ -72,9 +72,9 @@ fn words_of_a_list(rt: HostRuntime) {
         ),
     ];
     for (words, status, out, err) in table {
-        let mut files = with_list(alloc, b"b.sql\na.sql\nc.sql\n").expect(&rt, "memory");
+        let files = with_list(&rt, alloc, b"b.sql\na.sql\nc.sql\n");
         assert!(rt;
-            ends(alloc, &mut files, words, status, out, err).expect(&rt, "memory"),
+            ends(&rt, alloc, files, words, *status, out, err),
             "{out}{err}"
         );
     }
@@ -93,64 +93,74 @@ const PLUS: &str = "SELECT r.name FROM reg r WHERE r.dept = 'CS' AND r.grade + 1
 const MINUS: &str = "SELECT r.name FROM reg r WHERE r.dept = 'CS' AND r.grade - 10 > 80";
 
 /// The files with this list and these candidates.
-fn with_spellings(alloc: Global, list: &[u8]) -> Result<MemFiles, NoMemory> {
-    let mut files = with_list(alloc, list)?;
-    files.hold("again.sql", AGAIN.as_bytes())?;
-    files.hold("each.sql", EACH.as_bytes())?;
-    files.hold("plus.sql", PLUS.as_bytes())?;
-    files.hold("minus.sql", MINUS.as_bytes())?;
-    Ok(files)
+fn with_spellings(rt: &impl Abort, alloc: Global, list: &[u8]) -> MemFiles {
+    let mut files = with_list(rt, alloc, list);
+    for (name, text) in &[
+        ("again.sql", AGAIN),
+        ("each.sql", EACH),
+        ("plus.sql", PLUS),
+        ("minus.sql", MINUS),
+    ] {
+        files.hold(name, text.as_bytes()).expect(rt, "memory");
+    }
+    files
 }
 
 #[test]
 fn spellings_of_a_query(rt: HostRuntime) {
     let alloc = rt.alloc();
     let list = b"b.sql\neach.sql\nagain.sql\neach.sql\nplus.sql\nminus.sql\n";
-    let mut files = with_spellings(alloc, list).expect(&rt, "memory");
+    let files = with_spellings(&rt, alloc, list);
     let out =
         "b.sql: witness 2\neach.sql: agree\nagain.sql: witness 2\neach.sql: agree\nplus.sql: agree\nminus.sql: witness 2\ngraded: 6\n";
-    assert!(rt; ends(alloc, &mut files, &WORDS, 0, out, "").expect(&rt, "memory"));
+    assert!(rt; ends(&rt, alloc, files, &WORDS, 0, out, ""));
 }
 
 /// So many lines of one byte.
-fn short_lines(alloc: Global, lines: usize) -> Result<String, AllocError> {
+fn short_lines(rt: &impl Abort, alloc: Global, lines: usize) -> String {
     let mut text = String::new(alloc);
     for _ in 0..lines {
-        text.push_str("c\n")?;
+        text.push_str("c\n").expect(rt, "memory");
     }
-    Ok(text)
+    text
 }
 
 /// A list of so many such lines.
-fn with_lines(alloc: Global, lines: usize) -> Result<MemFiles, NoMemory> {
-    let list = short_lines(alloc, lines)?;
-    with_list(alloc, list.as_str().as_bytes())
+fn with_lines(rt: &impl Abort, alloc: Global, lines: usize) -> MemFiles {
+    let list = short_lines(rt, alloc, lines);
+    let files = with_list(rt, alloc, list.as_str().as_bytes());
+    drop(list);
+    files
 }
 
 #[test]
 fn long_lists(rt: HostRuntime) {
     let alloc = rt.alloc();
-    let mut many = with_lines(alloc, 257).expect(&rt, "memory");
-    let paths = "ratest: limit: more than 256 paths\n";
-    assert!(rt; ends(alloc, &mut many, &WORDS, 5, "", paths).expect(&rt, "memory"));
-    let mut most = with_lines(alloc, 256).expect(&rt, "memory");
-    let unread = "ratest: cannot read c\n";
-    assert!(rt; ends(alloc, &mut most, &WORDS, 6, "", unread).expect(&rt, "memory"));
-    let mut long = with_lines(alloc, 2_097_153).expect(&rt, "memory");
-    let bytes = "ratest: limit: list is longer than 4194304 bytes\n";
-    assert!(rt; ends(alloc, &mut long, &WORDS, 5, "", bytes).expect(&rt, "memory"));
+    let table: &[(usize, u8, &str)] = &[
+        (257, 5, "ratest: limit: more than 256 paths\n"),
+        (256, 6, "ratest: cannot read c\n"),
+        (
+            2_097_153,
+            5,
+            "ratest: limit: list is longer than 4194304 bytes\n",
+        ),
+    ];
+    for (lines, status, err) in table {
+        let files = with_lines(&rt, alloc, *lines);
+        assert!(rt; ends(&rt, alloc, files, &WORDS, *status, "", err), "{err}");
+    }
 }
 
 // A candidate of more than four MiB is graded so, and the next one as ever.
 #[test]
 fn a_long_candidate(rt: HostRuntime) {
     let alloc = rt.alloc();
-    let text = short_lines(alloc, 2_097_153).expect(&rt, "memory");
-    let mut files = with_list(alloc, b"long.sql\nb.sql\n").expect(&rt, "memory");
+    let text = short_lines(&rt, alloc, 2_097_153);
+    let mut files = with_list(&rt, alloc, b"long.sql\nb.sql\n");
     files
         .hold("long.sql", text.as_str().as_bytes())
         .expect(&rt, "memory");
     drop(text);
     let out = "long.sql: too long\nb.sql: witness 2\ngraded: 2\n";
-    assert!(rt; ends(alloc, &mut files, &WORDS, 0, out, "").expect(&rt, "memory"));
+    assert!(rt; ends(&rt, alloc, files, &WORDS, 0, out, ""));
 }

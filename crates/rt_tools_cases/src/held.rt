@@ -1,8 +1,9 @@
 //! Files and sinks in memory.
 use rt_io::{MemFiles, MemSink};
 use rt_tools::{ToolOutcome, tool_run};
-use rt_value::{List, NoMemory, Txt};
+use rt_value::{List, Txt};
 use std::alloc::Global;
+use std::process::Abort;
 
 const SCHEMA: &str = "CREATE TABLE student (name TEXT PRIMARY KEY, major TEXT);\n\
     CREATE TABLE reg (name TEXT REFERENCES student, course INTEGER, dept TEXT, grade INTEGER, PRIMARY KEY (name, course));";
@@ -22,27 +23,23 @@ const FILES: [(&str, &str); 6] = [
     ("c.sql", "SELECT foo FROM reg"),
 ];
 
-fn hold_all(files: &mut MemFiles) -> Result<(), NoMemory> {
-    for (name, text) in FILES {
-        files.hold(name, text.as_bytes())?;
-    }
-    Ok(())
-}
-
 /// A schema, two tables, two queries and a text that is no query of the schema.
-pub(crate) fn files(alloc: Global) -> Result<MemFiles, NoMemory> {
+pub(crate) fn files(rt: &impl Abort, alloc: Global) -> MemFiles {
     let mut files = MemFiles::new(alloc);
-    hold_all(&mut files)?;
-    Ok(files)
+    for (name, text) in &FILES {
+        files.hold(name, text.as_bytes()).expect(rt, "memory");
+    }
+    files
 }
 
 /// The words as a list.
-pub(crate) fn list_of(alloc: Global, words: &[&str]) -> Result<List<Txt>, NoMemory> {
+pub(crate) fn list_of(rt: &impl Abort, alloc: Global, words: &[&str]) -> List<Txt> {
     let mut list = List::new(alloc);
     for word in words {
-        list.push(Txt::of(alloc, word)?)?;
+        list.push(Txt::of(alloc, word).expect(rt, "memory"))
+            .expect(rt, "memory");
     }
-    Ok(list)
+    list
 }
 
 /// The status of an outcome, which is let go of here.
@@ -52,29 +49,28 @@ fn status_of(outcome: ToolOutcome) -> u8 {
     status
 }
 
-/// Whether the call ends with this status and writes just these texts.
+/// Whether the call ends with this status and writes just these texts, over these files, which are let
+/// go of here.
 pub(crate) fn ends(
+    rt: &impl Abort,
     alloc: Global,
-    files: &mut MemFiles,
+    mut files: MemFiles,
     words: &[&str],
     status: u8,
     out: &str,
     err: &str,
-) -> Result<bool, NoMemory> {
-    let words = list_of(alloc, words)?;
-    Ok(words_end(alloc, files, words.as_slice(), status, out, err))
-}
-
-fn words_end(
-    alloc: Global,
-    files: &mut MemFiles,
-    words: &[Txt],
-    status: u8,
-    out: &str,
-    err: &str,
 ) -> bool {
+    let words = list_of(rt, alloc, words);
     let (mut to_out, mut to_err) = (MemSink::new(alloc), MemSink::new(alloc));
-    let outcome = tool_run(alloc, words, files, &mut to_out, &mut to_err);
+    let outcome = tool_run(
+        alloc,
+        words.as_slice(),
+        &mut files,
+        &mut to_out,
+        &mut to_err,
+    );
+    drop(words);
+    drop(files);
     let ended = status_of(outcome);
     ended == status && to_out.bytes() == out.as_bytes() && to_err.bytes() == err.as_bytes()
 }

@@ -10,8 +10,8 @@ use std::process::Abort;
 
 /// The input of the two queries over the rows of the files in memory.
 fn read(rt: &impl Abort, alloc: Global) -> Result<Input, Outcome> {
-    let mut files = files(alloc).expect(rt, "memory");
-    let words = list_of(alloc, &["s", "d", "a.sql", "b.sql"]).expect(rt, "memory");
+    let mut files = files(rt, alloc);
+    let words = list_of(rt, alloc, &["s", "d", "a.sql", "b.sql"]);
     let read = read_input(alloc, words.as_slice(), &mut files);
     drop(words);
     drop(files);

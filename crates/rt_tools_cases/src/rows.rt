@@ -8,7 +8,7 @@ const MARY: &str = "witness: 2\nstudent 1: 'Mary', 'CS'\nreg 2: 'Mary', 230, 'CS
 #[test]
 fn one_named_row(rt: HostRuntime) {
     let alloc = rt.alloc();
-    let table: [(&str, u8, &str, &str); 7] = [
+    let table: &[(&str, u8, &str, &str)] = &[
         ("'Mary'", 1, MARY, ""),
         ("'John'", 0, "never\n", ""),
         ("'Jane'", 0, "never\n", ""),
@@ -28,12 +28,9 @@ fn one_named_row(rt: HostRuntime) {
         ),
     ];
     for (row, status, out, err) in table {
-        let mut files = files(alloc).expect(&rt, "memory");
-        let words = ["row", row, "s", "d", "a.sql", "b.sql"];
-        assert!(rt;
-            ends(alloc, &mut files, &words, status, out, err).expect(&rt, "memory"),
-            "{row}"
-        );
+        let files = files(&rt, alloc);
+        let words = ["row", *row, "s", "d", "a.sql", "b.sql"];
+        assert!(rt; ends(&rt, alloc, files, &words, *status, out, err), "{row}");
     }
 }
 
@@ -43,7 +40,7 @@ fn words_of_a_row(rt: HostRuntime) {
     let made = "witness: 3\nstudent 3: 3\nreg 5: 3, 3, 'CS'\nreg 6: 3, 6, 'CS'\n\
         only query 1: 1\n  3\nonly query 2: 0\nboth: 0\n";
     let work = "ratest: limit: work 738 is above 737\n";
-    let table: [(&[&str], u8, &str, &str); 7] = [
+    let table: &[(&[&str], u8, &str, &str)] = &[
         (&[], 2, "", USAGE),
         (&["row"], 2, "", USAGE),
         (&["row", "5"], 2, "", USAGE),
@@ -53,9 +50,9 @@ fn words_of_a_row(rt: HostRuntime) {
         (&["row", "3", "made", "3", "--work", "737"], 5, "", work),
     ];
     for (words, status, out, err) in table {
-        let mut files = files(alloc).expect(&rt, "memory");
+        let files = files(&rt, alloc);
         assert!(rt;
-            ends(alloc, &mut files, words, status, out, err).expect(&rt, "memory"),
+            ends(&rt, alloc, files, words, *status, out, err),
             "{out}{err}"
         );
     }
@@ -64,9 +61,9 @@ fn words_of_a_row(rt: HostRuntime) {
 #[test]
 fn files_of_a_row_that_fail(rt: HostRuntime) {
     let alloc = rt.alloc();
-    let mut failing = files(alloc).expect(&rt, "memory");
+    let mut failing = files(&rt, alloc);
     failing.fail_begin("b.sql").expect(&rt, "memory");
     let words = ["row", "'Mary'", "s", "d", "a.sql", "b.sql"];
     let line = "ratest: cannot read query 2\n";
-    assert!(rt; ends(alloc, &mut failing, &words, 6, "", line).expect(&rt, "memory"));
+    assert!(rt; ends(&rt, alloc, failing, &words, 6, "", line));
 }

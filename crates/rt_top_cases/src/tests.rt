@@ -1,7 +1,7 @@
 //! What the command says, over files and sinks in memory.
 use rt_cases::{ALL, FOUR, LARGE, SCHEMA, TABLE, ends, files, is_write_fault, words};
+use rt_io::MemFiles;
 use rt_top::USAGE;
-use rt_value::NoMemory;
 use std::alloc::{AllocError, Global};
 use std::fmt::Write;
 use std::process::Abort;
@@ -10,6 +10,21 @@ mod checks;
 mod first;
 mod spent;
 mod worked;
+
+/// Whether these words end so over these files, which are let go of here.
+fn files_end(
+    rt: &impl Abort,
+    alloc: Global,
+    mut files: MemFiles,
+    command: &[&str],
+    status: u8,
+    out: &str,
+    err: &str,
+) -> bool {
+    let found = ends(alloc, &mut files, command, status, out, err).expect(rt, "memory");
+    drop(files);
+    found
+}
 
 /// Whether these words end so, over two queries of one table.
 fn command_ends(
@@ -21,10 +36,8 @@ fn command_ends(
     err: &str,
 ) -> bool {
     let same = "SELECT * FROM t WHERE a >= 2";
-    let mut files = files(alloc, SCHEMA, &[TABLE], ALL, same).expect(rt, "memory");
-    let found = ends(alloc, &mut files, command, status, out, err).expect(rt, "memory");
-    drop(files);
-    found
+    let files = files(alloc, SCHEMA, &[TABLE], ALL, same).expect(rt, "memory");
+    files_end(rt, alloc, files, command, status, out, err)
 }
 
 #[test]
@@ -90,32 +103,35 @@ fn words_and_options(rt: HostRuntime) {
 }
 
 /// Whether a table is named whose file fails at its first read.
-fn is_read_fault(alloc: Global) -> Result<bool, NoMemory> {
-    let mut failing = files(alloc, SCHEMA, &[TABLE], ALL, LARGE)?;
-    failing.fail_read("d/t.csv", 1)?;
+fn is_read_fault(rt: &impl Abort, alloc: Global) -> bool {
+    let mut failing = files(alloc, SCHEMA, &[TABLE], ALL, LARGE).expect(rt, "memory");
+    failing.fail_read("d/t.csv", 1).expect(rt, "memory");
     let line = "ratest: cannot read table t\n";
-    ends(alloc, &mut failing, &FOUR, 6, "", line)
+    files_end(rt, alloc, failing, &FOUR, 6, "", line)
 }
 
 /// Whether a query is named whose file can't be begun.
-fn is_begin_fault(alloc: Global) -> Result<bool, NoMemory> {
-    let mut failing = files(alloc, SCHEMA, &[TABLE], ALL, LARGE)?;
-    failing.fail_begin("p")?;
+fn is_begin_fault(rt: &impl Abort, alloc: Global) -> bool {
+    let mut failing = files(alloc, SCHEMA, &[TABLE], ALL, LARGE).expect(rt, "memory");
+    failing.fail_begin("p").expect(rt, "memory");
     let line = "ratest: cannot read query 1\n";
-    ends(alloc, &mut failing, &FOUR, 6, "", line)
+    files_end(rt, alloc, failing, &FOUR, 6, "", line)
 }
 
-fn is_cut(alloc: Global) -> Result<bool, NoMemory> {
-    let mut files = files(alloc, SCHEMA, &[TABLE], ALL, LARGE)?;
-    let command = words(alloc, &FOUR)?;
-    Ok(is_write_fault(alloc, command.as_slice(), &mut files, b"witness: 1"))
+fn is_cut(rt: &impl Abort, alloc: Global) -> bool {
+    let mut files = files(alloc, SCHEMA, &[TABLE], ALL, LARGE).expect(rt, "memory");
+    let command = words(alloc, &FOUR).expect(rt, "memory");
+    let found = is_write_fault(alloc, command.as_slice(), &mut files, b"witness: 1");
+    drop(command);
+    drop(files);
+    found
 }
 
 #[test]
 fn faults_of_files_and_sinks(rt: HostRuntime) {
-    assert!(rt; is_read_fault(rt.alloc()).expect(&rt, "memory"));
-    assert!(rt; is_begin_fault(rt.alloc()).expect(&rt, "memory"));
-    assert!(rt; is_cut(rt.alloc()).expect(&rt, "memory"));
+    assert!(rt; is_read_fault(&rt, rt.alloc()));
+    assert!(rt; is_begin_fault(&rt, rt.alloc()));
+    assert!(rt; is_cut(&rt, rt.alloc()));
 }
 
 /// A table of one column with the rows from 1 to `last`.
@@ -151,11 +167,9 @@ fn thousands_end(
         "SELECT a FROM x WHERE a > 0",
         "SELECT a FROM x WHERE a >= 1",
     );
-    let mut files = files(alloc, schema, &tables, left, right).expect(rt, "memory");
-    let found = ends(alloc, &mut files, command, status, out, err).expect(rt, "memory");
-    drop(files);
+    let files = files(alloc, schema, &tables, left, right).expect(rt, "memory");
     drop(rows);
-    found
+    files_end(rt, alloc, files, command, status, out, err)
 }
 
 #[test]
@@ -199,9 +213,7 @@ fn is_past_work(
         files.hold(name, rows.as_bytes()).expect(rt, "memory");
     }
     drop(rows);
-    let found = ends(alloc, &mut files, &FOUR, 5, "", line).expect(rt, "memory");
-    drop(files);
-    found
+    files_end(rt, alloc, files, &FOUR, 5, "", line)
 }
 
 #[test]
@@ -248,8 +260,8 @@ fn put_long(text: &mut String) -> Result<(), AllocError> {
 fn limit_of_bytes(rt: HostRuntime) {
     let mut text = String::new(rt.alloc());
     put_long(&mut text).expect(&rt, "memory");
-    let mut long = files(rt.alloc(), SCHEMA, &[TABLE], text.as_str(), ALL).expect(&rt, "memory");
+    let long = files(rt.alloc(), SCHEMA, &[TABLE], text.as_str(), ALL).expect(&rt, "memory");
     drop(text);
     let limit = "ratest: limit: query 1 is longer than 4194304 bytes\n";
-    assert!(rt; ends(rt.alloc(), &mut long, &FOUR, 5, "", limit).expect(&rt, "memory"));
+    assert!(rt; files_end(&rt, rt.alloc(), long, &FOUR, 5, "", limit));
 }

@@ -3,8 +3,8 @@ use super::{FIVE, MARY, ends, school, words};
 use rt_io::MemSink;
 use rt_outcome::Outcome;
 use rt_ra_run::{RaOutcome, ra_run};
-use rt_value::NoMemory;
 use std::alloc::Global;
+use std::process::Abort;
 
 /// The names of the files, and what a refusal calls each.
 const PARTS: [(&str, &str); 5] = [
@@ -16,38 +16,37 @@ const PARTS: [(&str, &str); 5] = [
 ];
 
 /// Whether the part is named where the first read of its file fails.
-fn is_named(alloc: Global, name: &str, part: &str) -> Result<bool, NoMemory> {
-    let mut files = school(alloc, "semi(student, reg)", "student")?;
-    files.fail_read(name, 1)?;
-    let line = format!(in alloc; "ratest: cannot read {part}\n")?;
-    ends(alloc, &mut files, &FIVE, 6, "", line.as_str())
+fn is_named(rt: &impl Abort, alloc: Global, name: &str, part: &str) -> bool {
+    let mut files = school(rt, alloc, "semi(student, reg)", "student");
+    files.fail_read(name, 1).expect(rt, "memory");
+    let line = format!(in alloc; "ratest: cannot read {part}\n").expect(rt, "memory");
+    let found = ends(rt, alloc, files, &FIVE, 6, "", line.as_str());
+    drop(line);
+    found
 }
 
 #[test]
 fn files_that_fail(rt: HostRuntime) {
-    for (name, part) in PARTS {
-        assert!(rt;
-            is_named(rt.alloc(), name, part).expect(&rt, "memory"),
-            "{part}"
-        );
+    for (name, part) in &PARTS {
+        assert!(rt; is_named(&rt, rt.alloc(), name, part), "{part}");
     }
 }
 
 /// Whether a sink that takes ten bytes holds just these of the witness.
-fn is_cut(alloc: Global) -> Result<bool, NoMemory> {
-    let mut files = school(alloc, "semi(student, reg)", "student")?;
-    let command = words(alloc, &FIVE)?;
+fn is_cut(rt: &impl Abort, alloc: Global) -> bool {
+    let mut files = school(rt, alloc, "semi(student, reg)", "student");
+    let command = words(rt, alloc, &FIVE);
     let (mut out, mut err) = (MemSink::new(alloc), MemSink::new(alloc));
     out.room(10);
     let outcome = ra_run(alloc, command.as_slice(), &mut files, &mut out, &mut err);
-    Ok(
-        matches!(&outcome, RaOutcome::Verdict(Outcome::WriteFault))
-            && out.bytes() == MARY.as_bytes().split_at(10).0
-            && err.bytes().is_empty(),
-    )
+    drop(command);
+    drop(files);
+    let is_fault = matches!(&outcome, RaOutcome::Verdict(Outcome::WriteFault));
+    drop(outcome);
+    is_fault && out.bytes() == MARY.as_bytes().split_at(10).0 && err.bytes().is_empty()
 }
 
 #[test]
 fn full_sinks(rt: HostRuntime) {
-    assert!(rt; is_cut(rt.alloc()).expect(&rt, "memory"));
+    assert!(rt; is_cut(&rt, rt.alloc()));
 }

@@ -1,17 +1,15 @@
 //! The refusals, one line each.
 use super::{FIVE, ends, files, school};
-use rt_value::NoMemory;
 use std::alloc::Global;
+use std::process::Abort;
 
-/// Whether each text, beside `student`, is refused as query 1 with its line.
-fn all_refused(alloc: Global, cases: &[(&str, &str)]) -> Result<bool, NoMemory> {
-    let mut good = true;
-    for (text, line) in cases {
-        let mut files = school(alloc, text, "student")?;
-        let err = format!(in alloc; "ratest: query 1: {line}\n")?;
-        good = ends(alloc, &mut files, &FIVE, 3, "", err.as_str())? && good;
-    }
-    Ok(good)
+/// Whether the text, beside `student`, is refused as query 1 with its line.
+fn is_refused(rt: &impl Abort, alloc: Global, text: &str, line: &str) -> bool {
+    let files = school(rt, alloc, text, "student");
+    let err = format!(in alloc; "ratest: query 1: {line}\n").expect(rt, "memory");
+    let found = ends(rt, alloc, files, &FIVE, 3, "", err.as_str());
+    drop(err);
+    found
 }
 
 #[test]
@@ -19,7 +17,7 @@ fn texts(rt: HostRuntime) {
     let nine = "leftjoin(student, leftjoin(student, leftjoin(student, leftjoin(student, \
         leftjoin(student, leftjoin(student, leftjoin(student, leftjoin(student, \
         leftjoin(student, student)))))))))";
-    let cases = [
+    let cases = &[
         (
             "select(student, name = 'abc",
             "text without end from byte 23",
@@ -36,13 +34,15 @@ fn texts(rt: HostRuntime) {
         ("rename(student, (a))", "numbers of columns differ"),
         ("union(student, reg)", "numbers of columns differ"),
     ];
-    assert!(rt; all_refused(rt.alloc(), &cases).expect(&rt, "memory"));
+    for (text, line) in cases {
+        assert!(rt; is_refused(&rt, rt.alloc(), text, line), "{text}");
+    }
 }
 
 #[test]
 fn other_parts(rt: HostRuntime) {
     let alloc = rt.alloc();
-    let cases = [
+    let cases = &[
         ("student", "regs", "ratest: query 2: unknown table: regs\n"),
         ("regs", "nowhere", "ratest: query 1: unknown table: regs\n"),
         (
@@ -57,24 +57,11 @@ fn other_parts(rt: HostRuntime) {
         ),
     ];
     for (left, right, err) in cases {
-        let mut files = school(alloc, left, right).expect(&rt, "memory");
-        assert!(rt;
-            ends(alloc, &mut files, &FIVE, 3, "", err).expect(&rt, "memory"),
-            "{err}"
-        );
+        let files = school(&rt, alloc, left, right);
+        assert!(rt; ends(&rt, alloc, files, &FIVE, 3, "", err), "{err}");
     }
-    let mut files = files(alloc, "CREATE TABLE t (a INTEGER, A TEXT);", &[], "t", "t").expect(
-        &rt, "memory",
-    );
-    assert!(rt;
-        ends(
-            alloc,
-            &mut files,
-            &FIVE,
-            3,
-            "",
-            "ratest: schema: name twice: a\n"
-        )
-        .expect(&rt, "memory")
-    );
+    let twice = "CREATE TABLE t (a INTEGER, A TEXT);";
+    let files = files(&rt, alloc, twice, &[], "t", "t");
+    let line = "ratest: schema: name twice: a\n";
+    assert!(rt; ends(&rt, alloc, files, &FIVE, 3, "", line));
 }

@@ -1,20 +1,19 @@
 //! Of several smallest witnesses the first in the order of rows is printed.
-use super::numbers;
 use super::worked::all_end;
-use rt_cases::{ALL, FOUR, LOOSE, REG, SCHEMA, STUDENT, TABLE, ends, files, words};
+use super::{files_end, numbers};
+use rt_cases::{ALL, FOUR, LOOSE, REG, SCHEMA, STUDENT, TABLE, files, words};
 use rt_io::{MemFiles, MemSink};
 use rt_outcome::Outcome;
 use rt_top::ratest;
-use rt_value::{List, NoMemory, Txt};
+use rt_value::{List, Txt};
 use std::alloc::Global;
+use std::process::Abort;
 
 /// Of two smallest witnesses the first in the order of rows is printed.
 #[test]
 fn first_of_two(rt: HostRuntime) {
-    let alloc = rt.alloc();
-    assert!(rt;
-        all_end(
-            alloc,
+    let table: &[(&str, &[(&str, &str)], &[(&str, &str, u8, &str)])] = &[
+        (
             "CREATE TABLE d (a INTEGER);",
             &[("d/d.csv", "a\n5\n5\n")],
             &[(
@@ -22,13 +21,9 @@ fn first_of_two(rt: HostRuntime) {
                 "SELECT a FROM d WHERE a <> 5",
                 1,
                 "witness: 1\nd 1: 5\nonly query 1: 1\n  5\nonly query 2: 0\nboth: 0\n",
-            ),],
-        )
-        .expect(&rt, "memory")
-    );
-    assert!(rt;
-        all_end(
-            alloc,
+            )],
+        ),
+        (
             SCHEMA,
             &[TABLE],
             &[(
@@ -36,13 +31,9 @@ fn first_of_two(rt: HostRuntime) {
                 "SELECT * FROM t WHERE a > 3",
                 1,
                 "witness: 1\nt 2: 2, 20\nonly query 1: 1\n  2, 20\nonly query 2: 0\nboth: 0\n",
-            ),],
-        )
-        .expect(&rt, "memory")
-    );
-    assert!(rt;
-        all_end(
-            alloc,
+            )],
+        ),
+        (
             LOOSE,
             &[STUDENT, REG],
             &[(
@@ -50,10 +41,12 @@ fn first_of_two(rt: HostRuntime) {
                 "SELECT name FROM reg WHERE grade > 80",
                 1,
                 "witness: 1\nreg 1: 'Mary', 216, 'CS', 100\nonly query 1: 0\nonly query 2: 1\n  'Mary'\nboth: 0\n",
-            ),],
-        )
-        .expect(&rt, "memory")
-    );
+            )],
+        ),
+    ];
+    for (schema, tables, cases) in table {
+        assert!(rt; all_end(&rt, rt.alloc(), schema, tables, cases), "{schema}");
+    }
 }
 
 /// What these words end with, over no files.
@@ -64,37 +57,41 @@ fn outcome_of(alloc: Global, words: &[Txt]) -> Outcome {
 }
 
 /// The places that a witness keeps, and none of another outcome.
-fn places_of(alloc: Global, outcome: &Outcome) -> Result<List<usize>, NoMemory> {
+fn places_of(rt: &impl Abort, alloc: Global, outcome: &Outcome) -> List<usize> {
     let mut places = List::new(alloc);
     if let Outcome::Witness(keep) = outcome {
         for (place, kept) in keep.as_slice().iter().enumerate() {
             if *kept {
-                places.push(place)?;
+                places.push(place).expect(rt, "memory");
             }
         }
     }
-    Ok(places)
+    places
 }
 
-/// The places that the smallest witness of a command keeps, and none where there is no witness.
-fn witness(alloc: Global, command: &[&str]) -> Result<List<usize>, NoMemory> {
-    let command = words(alloc, command)?;
+/// Whether the smallest witness of a command keeps just these places.
+fn is_witness(rt: &impl Abort, alloc: Global, command: &[&str], wanted: &[usize]) -> bool {
+    let command = words(alloc, command).expect(rt, "memory");
     let outcome = outcome_of(alloc, command.as_slice());
-    let places = places_of(alloc, &outcome);
+    drop(command);
+    let places = places_of(rt, alloc, &outcome);
     drop(outcome);
-    places
+    let found = places.as_slice() == wanted;
+    drop(places);
+    found
 }
 
 /// The third student, and the fifth and the sixth registration: all students come first.
 #[test]
 fn first_of_the_generated(rt: HostRuntime) {
-    let alloc = rt.alloc();
-    let small = witness(alloc, &["made", "20"]).expect(&rt, "memory");
-    assert!(rt; small.as_slice() == [2, 24, 25].as_slice());
-    let large = witness(alloc, &["made", "400"]).expect(&rt, "memory");
-    assert!(rt; large.as_slice() == [2, 404, 405].as_slice());
-    let again = witness(alloc, &["made", "400"]).expect(&rt, "memory");
-    assert!(rt; again.as_slice() == large.as_slice());
+    let table: &[(&[&str], &[usize])] = &[
+        (&["made", "20"], &[2, 24, 25]),
+        (&["made", "400"], &[2, 404, 405]),
+        (&["made", "400"], &[2, 404, 405]),
+    ];
+    for (command, places) in table {
+        assert!(rt; is_witness(&rt, rt.alloc(), command, places), "{command:?}");
+    }
 }
 
 /// Each row is joined with itself; of the thousand smallest witnesses the first row is printed.
@@ -105,7 +102,8 @@ fn first_of_a_thousand(rt: HostRuntime) {
     let (left, right) = ("SELECT x.a FROM x, y WHERE x.a = y.a", "SELECT a FROM x");
     let rows = numbers(&rt, alloc, "a", 1000);
     let tables = [("d/x.csv", rows.as_str()), ("d/y.csv", rows.as_str())];
-    let mut files = files(alloc, schema, &tables, left, right).expect(&rt, "memory");
+    let files = files(alloc, schema, &tables, left, right).expect(&rt, "memory");
+    drop(rows);
     let out = "witness: 1\nx 1: 1\nonly query 1: 0\nonly query 2: 1\n  1\nboth: 0\n";
-    assert!(rt; ends(alloc, &mut files, &FOUR, 1, out, "").expect(&rt, "memory"));
+    assert!(rt; files_end(&rt, alloc, files, &FOUR, 1, out, ""));
 }

@@ -1,6 +1,7 @@
 //! Limits of work and budgets of clauses: what is still decided, and the verdict where one is spent.
+use super::files_end;
 use super::worked::{MEET, MEETS};
-use rt_cases::{ABC, MARY, ONE, ONES, REG, SCHOOL, SOME, STUDENT, TWOS, ends, files, words};
+use rt_cases::{ABC, MARY, ONE, ONES, REG, SCHOOL, SOME, STUDENT, TWOS, files, words};
 use rt_input::{Input, read_input};
 use rt_io::MemSink;
 use rt_outcome::Outcome;
@@ -82,11 +83,9 @@ fn command_ends(
     command: &[&str],
     ended: (u8, &str, &str),
 ) -> bool {
-    let mut files = files(alloc, held[0], tables, held[1], held[2]).expect(rt, "memory");
+    let files = files(alloc, held[0], tables, held[1], held[2]).expect(rt, "memory");
     let (status, out, err) = ended;
-    let found = ends(alloc, &mut files, command, status, out, err).expect(rt, "memory");
-    drop(files);
-    found
+    files_end(rt, alloc, files, command, status, out, err)
 }
 
 /// The work of the first row is 663.

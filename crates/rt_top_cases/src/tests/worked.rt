@@ -1,42 +1,55 @@
 //! The worked rows of accepted inputs, in memory.
+use super::files_end;
 use rt_cases::{
-    ABC, ALL, FOUR, LARGE, LOOSE, MARY, ONE, ONES, REG, SCHEMA, SCHOOL, SOME, STUDENT, TABLE, ends,
-    files,
+    ABC, ALL, FOUR, LARGE, LOOSE, MARY, ONE, ONES, REG, SCHEMA, SCHOOL, SOME, STUDENT, TABLE, files,
 };
-use rt_value::NoMemory;
 use std::alloc::Global;
+use std::process::Abort;
 
 pub(super) const MEET: &str = "SELECT x FROM a INTERSECT (SELECT x FROM b UNION SELECT x FROM c)";
 
 pub(super) const MEETS: &str =
     "SELECT x FROM a INTERSECT SELECT x FROM b UNION SELECT x FROM a INTERSECT SELECT x FROM c";
 
+/// Whether the two queries end with this status and write just this text.
+fn pair_ends(
+    rt: &impl Abort,
+    alloc: Global,
+    schema: &str,
+    tables: &[(&str, &str)],
+    queries: (&str, &str),
+    status: u8,
+    out: &str,
+) -> bool {
+    let (query1, query2) = queries;
+    let mut files = files(alloc, schema, tables, query1, query2).expect(rt, "memory");
+    files.piece(7);
+    files_end(rt, alloc, files, &FOUR, status, out, "")
+}
+
 /// Whether each pair of queries ends with its status and writes just its text.
 pub(super) fn all_end(
+    rt: &impl Abort,
     alloc: Global,
     schema: &str,
     tables: &[(&str, &str)],
     cases: &[(&str, &str, u8, &str)],
-) -> Result<bool, NoMemory> {
+) -> bool {
     let mut good = true;
     for (query1, query2, status, out) in cases {
-        let mut files = files(alloc, schema, tables, query1, query2)?;
-        files.piece(7);
-        good = ends(alloc, &mut files, &FOUR, *status, out, "")? && good;
+        good = pair_ends(rt, alloc, schema, tables, (query1, query2), *status, out) && good;
     }
-    Ok(good)
+    good
 }
 
 #[test]
 fn students(rt: HostRuntime) {
-    let alloc = rt.alloc();
-    assert!(rt;
-        all_end(
-            alloc,
+    let table: &[(&str, &[(&str, &str)], &[(&str, &str, u8, &str)])] = &[
+        (
             SCHOOL,
             &[STUDENT, REG],
             &[
-                (ONE, SOME, 1, MARY,),
+                (ONE, SOME, 1, MARY),
                 (
                     "SELECT r.name FROM reg r WHERE r.dept = 'CS'",
                     "SELECT r.name FROM reg r WHERE r.dept = 'CS' AND r.grade > 80",
@@ -68,12 +81,8 @@ fn students(rt: HostRuntime) {
                     "agree\n",
                 ),
             ],
-        )
-        .expect(&rt, "memory")
-    );
-    assert!(rt;
-        all_end(
-            alloc,
+        ),
+        (
             LOOSE,
             &[STUDENT, REG],
             &[(
@@ -81,30 +90,26 @@ fn students(rt: HostRuntime) {
                 "SELECT r.name FROM reg r WHERE r.dept = 'CS' AND r.grade > 80",
                 1,
                 "witness: 1\nreg 2: 'Mary', 230, 'CS', 75\nonly query 1: 1\n  'Mary'\nonly query 2: 0\nboth: 0\n",
-            ),],
-        )
-        .expect(&rt, "memory")
-    );
-    assert!(rt;
-        all_end(
-            alloc,
+            )],
+        ),
+        (
             SCHOOL,
             &[
                 ("d/student.csv", "name,major\n"),
-                ("d/reg.csv", "name,course,dept,grade\n")
+                ("d/reg.csv", "name,course,dept,grade\n"),
             ],
-            &[(ONE, SOME, 0, "agree\n",),],
-        )
-        .expect(&rt, "memory")
-    );
+            &[(ONE, SOME, 0, "agree\n")],
+        ),
+    ];
+    for (schema, tables, cases) in table {
+        assert!(rt; all_end(&rt, rt.alloc(), schema, tables, cases), "{schema}");
+    }
 }
 
 #[test]
 fn rules_and_nulls(rt: HostRuntime) {
-    let alloc = rt.alloc();
-    assert!(rt;
-        all_end(
-            alloc,
+    let table: &[(&str, &[(&str, &str)], &[(&str, &str, u8, &str)])] = &[
+        (
             "CREATE TABLE t (a INTEGER); CREATE TABLE u (b INTEGER);",
             &[("d/t.csv", "a\n1\n"), ("d/u.csv", "b\n\"\"\n")],
             &[(
@@ -112,13 +117,9 @@ fn rules_and_nulls(rt: HostRuntime) {
                 "SELECT a FROM t WHERE NOT EXISTS (SELECT * FROM u WHERE b = a)",
                 1,
                 "witness: 2\nt 1: 1\nu 1: NULL\nonly query 1: 0\nonly query 2: 1\n  1\nboth: 0\n",
-            ),],
-        )
-        .expect(&rt, "memory")
-    );
-    assert!(rt;
-        all_end(
-            alloc,
+            )],
+        ),
+        (
             "CREATE TABLE t (a INTEGER); CREATE TABLE u (b INTEGER);",
             &[("d/t.csv", "a\n1\n"), ("d/u.csv", "b\n")],
             &[(
@@ -126,13 +127,9 @@ fn rules_and_nulls(rt: HostRuntime) {
                 "SELECT a FROM t WHERE NOT EXISTS (SELECT * FROM u WHERE b = a)",
                 0,
                 "agree\n",
-            ),],
-        )
-        .expect(&rt, "memory")
-    );
-    assert!(rt;
-        all_end(
-            alloc,
+            )],
+        ),
+        (
             "CREATE TABLE p (k INTEGER PRIMARY KEY, v INTEGER);",
             &[("d/p.csv", "k,v\n1,1\n1,2\n")],
             &[(
@@ -140,13 +137,9 @@ fn rules_and_nulls(rt: HostRuntime) {
                 "SELECT k FROM p WHERE k <> k",
                 0,
                 "agree\n",
-            ),],
-        )
-        .expect(&rt, "memory")
-    );
-    assert!(rt;
-        all_end(
-            alloc,
+            )],
+        ),
+        (
             "CREATE TABLE emp (id INTEGER PRIMARY KEY, boss INTEGER REFERENCES emp);",
             &[("d/emp.csv", "id,boss\n1,2\n2,1\n")],
             &[(
@@ -154,13 +147,9 @@ fn rules_and_nulls(rt: HostRuntime) {
                 "SELECT id FROM emp WHERE id <> id",
                 1,
                 "witness: 2\nemp 1: 1, 2\nemp 2: 2, 1\nonly query 1: 2\n  1\n  2\nonly query 2: 0\nboth: 0\n",
-            ),],
-        )
-        .expect(&rt, "memory")
-    );
-    assert!(rt;
-        all_end(
-            alloc,
+            )],
+        ),
+        (
             "CREATE TABLE emp (id INTEGER PRIMARY KEY, boss INTEGER REFERENCES emp);",
             &[("d/emp.csv", "id,boss\n1,\n")],
             &[(
@@ -168,13 +157,9 @@ fn rules_and_nulls(rt: HostRuntime) {
                 "SELECT id FROM emp WHERE id <> id",
                 1,
                 "witness: 1\nemp 1: 1, NULL\nonly query 1: 1\n  1\nonly query 2: 0\nboth: 0\n",
-            ),],
-        )
-        .expect(&rt, "memory")
-    );
-    assert!(rt;
-        all_end(
-            alloc,
+            )],
+        ),
+        (
             "CREATE TABLE n (a INTEGER NOT NULL, b INTEGER);",
             &[("d/n.csv", "a,b\n,5\n7,\n")],
             &[(
@@ -182,13 +167,9 @@ fn rules_and_nulls(rt: HostRuntime) {
                 "SELECT b FROM n WHERE b <> b",
                 1,
                 "witness: 1\nn 2: 7, NULL\nonly query 1: 1\n  NULL\nonly query 2: 0\nboth: 0\n",
-            ),],
-        )
-        .expect(&rt, "memory")
-    );
-    assert!(rt;
-        all_end(
-            alloc,
+            )],
+        ),
+        (
             "CREATE TABLE n (a INTEGER NOT NULL, b INTEGER);",
             &[("d/n.csv", "a,b\n,5\n")],
             &[(
@@ -196,13 +177,9 @@ fn rules_and_nulls(rt: HostRuntime) {
                 "SELECT b FROM n WHERE b <> b",
                 0,
                 "agree\n",
-            ),],
-        )
-        .expect(&rt, "memory")
-    );
-    assert!(rt;
-        all_end(
-            alloc,
+            )],
+        ),
+        (
             "CREATE TABLE w (a INTEGER);",
             &[("d/w.csv", "a\n-9223372036854775808\n")],
             &[(
@@ -210,18 +187,18 @@ fn rules_and_nulls(rt: HostRuntime) {
                 "SELECT a*a FROM w",
                 1,
                 "witness: 1\nw 1: -9223372036854775808\nonly query 1: 1\n  85070591730234615865843651857942052865\nonly query 2: 1\n  85070591730234615865843651857942052864\nboth: 0\n",
-            ),],
-        )
-        .expect(&rt, "memory")
-    );
+            )],
+        ),
+    ];
+    for (schema, tables, cases) in table {
+        assert!(rt; all_end(&rt, rt.alloc(), schema, tables, cases), "{schema}");
+    }
 }
 
 #[test]
 fn sets_and_files(rt: HostRuntime) {
-    let alloc = rt.alloc();
-    assert!(rt;
-        all_end(
-            alloc,
+    let table: &[(&str, &[(&str, &str)], &[(&str, &str, u8, &str)])] = &[
+        (
             ABC,
             &ONES,
             &[
@@ -237,18 +214,14 @@ fn sets_and_files(rt: HostRuntime) {
                     1,
                     "witness: 1\nc 1: 1\nonly query 1: 1\n  1\nonly query 2: 0\nboth: 0\n",
                 ),
-                (MEET, MEETS, 0, "agree\n",),
+                (MEET, MEETS, 0, "agree\n"),
             ],
-        )
-        .expect(&rt, "memory")
-    );
-    assert!(rt;
-        all_end(
-            alloc,
+        ),
+        (
             SCHEMA,
             &[TABLE],
             &[
-                (ALL, "SELECT * FROM t WHERE a >= 2;", 0, "agree\n",),
+                (ALL, "SELECT * FROM t WHERE a >= 2;", 0, "agree\n"),
                 (
                     ALL,
                     LARGE,
@@ -256,21 +229,13 @@ fn sets_and_files(rt: HostRuntime) {
                     "witness: 1\nt 2: 2, 20\nonly query 1: 1\n  2, 20\nonly query 2: 0\nboth: 0\n",
                 ),
             ],
-        )
-        .expect(&rt, "memory")
-    );
-    assert!(rt;
-        all_end(
-            alloc,
+        ),
+        (
             SCHEMA,
             &[("d/t.csv", "a,b\n")],
-            &[(ALL, LARGE, 0, "agree\n",),],
-        )
-        .expect(&rt, "memory")
-    );
-    assert!(rt;
-        all_end(
-            alloc,
+            &[(ALL, LARGE, 0, "agree\n")],
+        ),
+        (
             "\u{feff}CREATE TABLE t (a INTEGER, b INTEGER)",
             &[("d/t.csv", "\u{feff}A , b\n 1 ,+2\n\n3,4\n")],
             &[(
@@ -278,13 +243,9 @@ fn sets_and_files(rt: HostRuntime) {
                 "SELECT * FROM t WHERE a > 1",
                 1,
                 "witness: 1\nt 1: 1, 2\nonly query 1: 1\n  1, 2\nonly query 2: 0\nboth: 0\n",
-            ),],
-        )
-        .expect(&rt, "memory")
-    );
-    assert!(rt;
-        all_end(
-            alloc,
+            )],
+        ),
+        (
             "CREATE TABLE p (k INTEGER PRIMARY KEY, up INTEGER REFERENCES p);",
             &[("d/p.csv", "k,up\n1,2\n2,\n")],
             &[(
@@ -292,13 +253,9 @@ fn sets_and_files(rt: HostRuntime) {
                 "SELECT * FROM p WHERE k > 1",
                 1,
                 "witness: 2\np 1: 1, 2\np 2: 2, NULL\nonly query 1: 1\n  1, 2\nonly query 2: 0\nboth: 1\n  2, NULL\n",
-            ),],
-        )
-        .expect(&rt, "memory")
-    );
-    assert!(rt;
-        all_end(
-            alloc,
+            )],
+        ),
+        (
             "CREATE TABLE p (k INTEGER PRIMARY KEY, up INTEGER REFERENCES p);",
             &[("d/p.csv", "k,up\n1,2\n")],
             &[(
@@ -306,13 +263,9 @@ fn sets_and_files(rt: HostRuntime) {
                 "SELECT * FROM p WHERE k > 1",
                 0,
                 "agree\n",
-            ),],
-        )
-        .expect(&rt, "memory")
-    );
-    assert!(rt;
-        all_end(
-            alloc,
+            )],
+        ),
+        (
             "CREATE TABLE p (k INTEGER PRIMARY KEY, up INTEGER REFERENCES p);",
             &[("d/p.csv", "k,up\n1,2\n1,\n")],
             &[(
@@ -320,8 +273,10 @@ fn sets_and_files(rt: HostRuntime) {
                 "SELECT * FROM p WHERE k > 1",
                 1,
                 "witness: 1\np 2: 1, NULL\nonly query 1: 1\n  1, NULL\nonly query 2: 0\nboth: 0\n",
-            ),],
-        )
-        .expect(&rt, "memory")
-    );
+            )],
+        ),
+    ];
+    for (schema, tables, cases) in table {
+        assert!(rt; all_end(&rt, rt.alloc(), schema, tables, cases), "{schema}");
+    }
 }
