@@ -1,8 +1,17 @@
-//! The tests of the tools: one named row, and the grades of many candidates.
+//! The tests of the commands of the second program but those on algebra texts: one named row, the
+//! grades of many candidates, and certificates.
 //!
 //! They stand in a crate of their own, since a crate with tests is proved twice.
 #![tactic(auto)]
 
+#[cfg(test)]
+mod cert_changed;
+#[cfg(test)]
+mod cert_held;
+#[cfg(test)]
+mod cert_refused;
+#[cfg(test)]
+mod cert_written;
 #[cfg(test)]
 mod grades;
 #[cfg(test)]

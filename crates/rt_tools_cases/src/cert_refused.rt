@@ -1,5 +1,5 @@
 //! Words, inputs and files that are refused.
-use crate::held::{SECOND, ends, files, list_of, status_of, with_cert};
+use crate::cert_held::{SECOND, ends, files, list_of, status_of, with_cert};
 use rt_cert::{CERT_USAGE, cert_run};
 use rt_io::{MemFiles, MemSink};
 use rt_value::List;

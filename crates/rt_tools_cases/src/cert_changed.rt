@@ -1,5 +1,5 @@
 //! The check of certificates that were changed.
-use crate::held::{BOTH, SECOND, check_ends, run_on, with_cert, written};
+use crate::cert_held::{BOTH, SECOND, check_ends, run_on, with_cert, written};
 use rt_value::{Bytes, List};
 use std::alloc::Global;
 use std::process::Abort;

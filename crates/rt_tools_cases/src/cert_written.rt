@@ -1,5 +1,5 @@
 //! Certificates that are written, and their check.
-use crate::held::{BOTH, SAME, SECOND, check_ends, files, run_on, written};
+use crate::cert_held::{BOTH, SAME, SECOND, check_ends, files, run_on, written};
 use std::alloc::Global;
 use std::process::Abort;
 
