@@ -184,89 +184,91 @@ fn assert_all(rt: &impl Abort, alloc: Global, schema: &str, pairs: &[(&str, &str
     }
 }
 
+const FREE_PAIRS: [(&str, &str); 10] = [
+    (
+        "SELECT a FROM t WHERE a < 2",
+        "SELECT a FROM t WHERE a <= 2",
+    ),
+    (
+        "SELECT b FROM t WHERE a IS NULL OR a > 0",
+        "SELECT b FROM t WHERE NOT a <= 0",
+    ),
+    (
+        "SELECT a FROM t WHERE b BETWEEN 0 AND 2",
+        "SELECT a FROM t WHERE b NOT IN (-1, 3)",
+    ),
+    (
+        "SELECT t.a, u.c FROM t, u WHERE t.b = u.b",
+        "SELECT t.a, u.c FROM t JOIN u ON t.b = u.b AND NOT u.c = t.a",
+    ),
+    (
+        "SELECT a FROM t WHERE b NOT IN (SELECT b FROM u)",
+        "SELECT a FROM t WHERE NOT EXISTS (SELECT * FROM u WHERE u.b = t.b)",
+    ),
+    (
+        "SELECT b FROM t EXCEPT SELECT b FROM u",
+        "SELECT b FROM t WHERE b NOT IN (SELECT b FROM u)",
+    ),
+    (
+        "SELECT a FROM t EXCEPT SELECT x.a FROM t x, t y WHERE x.a = y.a AND x.b <> y.b",
+        "SELECT a FROM t",
+    ),
+    (
+        "SELECT x.a FROM t x, u WHERE x.b = u.b AND NOT EXISTS (SELECT * FROM u v WHERE NOT EXISTS (SELECT * FROM t y WHERE y.a = x.a AND y.b = v.b))",
+        "SELECT a FROM t WHERE b IN (SELECT b FROM u)",
+    ),
+    (
+        "SELECT d.x FROM (SELECT a + 1 AS x FROM t WHERE b > 0) AS d WHERE d.x < 3",
+        "SELECT -(-1 - a) FROM t WHERE b > 0 AND a < 2",
+    ),
+    (
+        "SELECT a FROM t EXCEPT SELECT b FROM u UNION SELECT c FROM u",
+        "SELECT a FROM t EXCEPT (SELECT b FROM u UNION SELECT c FROM u)",
+    ),
+];
+
+const RULED_PAIRS: [(&str, &str); 10] = [
+    ("SELECT a * 2 - b FROM t", "SELECT a + a - b * b FROM t"),
+    (
+        "SELECT t.a FROM t JOIN u ON t.b = u.b",
+        "SELECT a FROM t WHERE b IS NOT NULL",
+    ),
+    (
+        "SELECT a FROM t WHERE EXISTS (SELECT * FROM u WHERE u.c > t.a)",
+        "SELECT a FROM t WHERE EXISTS (SELECT * FROM u WHERE u.c > 0)",
+    ),
+    (
+        "SELECT b FROM t UNION SELECT b FROM u",
+        "SELECT b FROM u UNION SELECT a FROM t",
+    ),
+    (
+        "SELECT b FROM t INTERSECT SELECT b FROM u",
+        "SELECT t.b FROM t, u WHERE t.b = u.b",
+    ),
+    (
+        "SELECT a FROM t WHERE a IN (SELECT c FROM u WHERE u.b = t.b)",
+        "SELECT a FROM t WHERE a IN (SELECT c FROM u)",
+    ),
+    (
+        "SELECT a FROM t WHERE a NOT IN (SELECT c FROM u WHERE u.b >= t.b)",
+        "SELECT a FROM t WHERE NOT EXISTS (SELECT * FROM u WHERE u.c = t.a AND u.b > t.b)",
+    ),
+    (
+        "SELECT a FROM t EXCEPT SELECT x.a FROM t x, t y WHERE x.a < y.a",
+        "SELECT a FROM t x WHERE NOT EXISTS (SELECT * FROM t y WHERE NOT y.a <= x.a)",
+    ),
+    (
+        "SELECT a FROM t WHERE a IN (1, 2, b)",
+        "SELECT a FROM t WHERE NOT (a <> 1 AND a <> 2) OR a <= b",
+    ),
+    (
+        "SELECT u.b FROM u WHERE NOT EXISTS (SELECT * FROM t WHERE t.b = u.b)",
+        "SELECT b FROM u EXCEPT SELECT b FROM t WHERE a NOT BETWEEN 0 AND 1",
+    ),
+];
+
 #[test]
 fn search_and_trial_agree(rt: HostRuntime) {
-    let free = &[
-        (
-            "SELECT a FROM t WHERE a < 2",
-            "SELECT a FROM t WHERE a <= 2",
-        ),
-        (
-            "SELECT b FROM t WHERE a IS NULL OR a > 0",
-            "SELECT b FROM t WHERE NOT a <= 0",
-        ),
-        (
-            "SELECT a FROM t WHERE b BETWEEN 0 AND 2",
-            "SELECT a FROM t WHERE b NOT IN (-1, 3)",
-        ),
-        (
-            "SELECT t.a, u.c FROM t, u WHERE t.b = u.b",
-            "SELECT t.a, u.c FROM t JOIN u ON t.b = u.b AND NOT u.c = t.a",
-        ),
-        (
-            "SELECT a FROM t WHERE b NOT IN (SELECT b FROM u)",
-            "SELECT a FROM t WHERE NOT EXISTS (SELECT * FROM u WHERE u.b = t.b)",
-        ),
-        (
-            "SELECT b FROM t EXCEPT SELECT b FROM u",
-            "SELECT b FROM t WHERE b NOT IN (SELECT b FROM u)",
-        ),
-        (
-            "SELECT a FROM t EXCEPT SELECT x.a FROM t x, t y WHERE x.a = y.a AND x.b <> y.b",
-            "SELECT a FROM t",
-        ),
-        (
-            "SELECT x.a FROM t x, u WHERE x.b = u.b AND NOT EXISTS (SELECT * FROM u v WHERE NOT EXISTS (SELECT * FROM t y WHERE y.a = x.a AND y.b = v.b))",
-            "SELECT a FROM t WHERE b IN (SELECT b FROM u)",
-        ),
-        (
-            "SELECT d.x FROM (SELECT a + 1 AS x FROM t WHERE b > 0) AS d WHERE d.x < 3",
-            "SELECT -(-1 - a) FROM t WHERE b > 0 AND a < 2",
-        ),
-        (
-            "SELECT a FROM t EXCEPT SELECT b FROM u UNION SELECT c FROM u",
-            "SELECT a FROM t EXCEPT (SELECT b FROM u UNION SELECT c FROM u)",
-        ),
-    ];
-    assert_all(&rt, rt.alloc(), FREE, free);
-    let ruled = &[
-        ("SELECT a * 2 - b FROM t", "SELECT a + a - b * b FROM t"),
-        (
-            "SELECT t.a FROM t JOIN u ON t.b = u.b",
-            "SELECT a FROM t WHERE b IS NOT NULL",
-        ),
-        (
-            "SELECT a FROM t WHERE EXISTS (SELECT * FROM u WHERE u.c > t.a)",
-            "SELECT a FROM t WHERE EXISTS (SELECT * FROM u WHERE u.c > 0)",
-        ),
-        (
-            "SELECT b FROM t UNION SELECT b FROM u",
-            "SELECT b FROM u UNION SELECT a FROM t",
-        ),
-        (
-            "SELECT b FROM t INTERSECT SELECT b FROM u",
-            "SELECT t.b FROM t, u WHERE t.b = u.b",
-        ),
-        (
-            "SELECT a FROM t WHERE a IN (SELECT c FROM u WHERE u.b = t.b)",
-            "SELECT a FROM t WHERE a IN (SELECT c FROM u)",
-        ),
-        (
-            "SELECT a FROM t WHERE a NOT IN (SELECT c FROM u WHERE u.b >= t.b)",
-            "SELECT a FROM t WHERE NOT EXISTS (SELECT * FROM u WHERE u.c = t.a AND u.b > t.b)",
-        ),
-        (
-            "SELECT a FROM t EXCEPT SELECT x.a FROM t x, t y WHERE x.a < y.a",
-            "SELECT a FROM t x WHERE NOT EXISTS (SELECT * FROM t y WHERE NOT y.a <= x.a)",
-        ),
-        (
-            "SELECT a FROM t WHERE a IN (1, 2, b)",
-            "SELECT a FROM t WHERE NOT (a <> 1 AND a <> 2) OR a <= b",
-        ),
-        (
-            "SELECT u.b FROM u WHERE NOT EXISTS (SELECT * FROM t WHERE t.b = u.b)",
-            "SELECT b FROM u EXCEPT SELECT b FROM t WHERE a NOT BETWEEN 0 AND 1",
-        ),
-    ];
-    assert_all(&rt, rt.alloc(), RULED, ruled);
+    assert_all(&rt, rt.alloc(), FREE, &FREE_PAIRS);
+    assert_all(&rt, rt.alloc(), RULED, &RULED_PAIRS);
 }

@@ -149,114 +149,116 @@ fn joins_and_stars(rt: HostRuntime) {
     assert_each(&rt, rt.alloc(), table);
 }
 
+const SEEN: [(&str, &str); 15] = [
+    (
+        "SELECT t.a FROM t, u JOIN u v ON v.b = t.b",
+        "unknown table: t",
+    ),
+    (
+        "SELECT t.a FROM t, u JOIN u v ON a = 1",
+        "unknown column: a",
+    ),
+    (
+        "SELECT x.a FROM t x JOIN u ON x.b = v.b JOIN u v ON u.b = v.b",
+        "unknown table: v",
+    ),
+    (
+        "SELECT x.a FROM t x JOIN u ON x.b = u.b JOIN t y ON y.a = x.a",
+        "|1|",
+    ),
+    (
+        "SELECT t.a FROM t, u JOIN u v ON EXISTS (SELECT * FROM t y WHERE y.a = t.a)",
+        "unknown table: t",
+    ),
+    (
+        "SELECT a FROM t WHERE EXISTS (SELECT * FROM u JOIN u v ON u.b = t.b)",
+        "|1|",
+    ),
+    ("SELECT t.a FROM t JOIN u ON b = 10", "ambiguous column: b"),
+    (
+        "SELECT a FROM t WHERE EXISTS (SELECT * FROM u WHERE b = 30)",
+        "|1|2|",
+    ),
+    (
+        "SELECT a FROM t WHERE EXISTS (SELECT * FROM u WHERE a = 1)",
+        "|1|",
+    ),
+    (
+        "SELECT d.c FROM t, (SELECT c FROM u WHERE u.b = t.b) AS d",
+        "unknown table: t",
+    ),
+    (
+        "SELECT d.c FROM t, (SELECT c FROM u WHERE a = 1) AS d",
+        "unknown column: a",
+    ),
+    (
+        "SELECT a FROM t WHERE EXISTS (SELECT * FROM (SELECT c FROM u WHERE u.b = t.b) AS d)",
+        "|1|",
+    ),
+    (
+        "SELECT d.a FROM (SELECT a, b AS a FROM t) AS d",
+        "ambiguous column: a",
+    ),
+    (
+        "SELECT a FROM (SELECT a, b AS a FROM t) AS d",
+        "ambiguous column: a",
+    ),
+    (
+        "SELECT * FROM (SELECT a, b AS a FROM t) AS d",
+        "|1, 10|2, 20|",
+    ),
+];
+
 #[test]
 fn what_a_name_sees(rt: HostRuntime) {
-    let table = &[
-        (
-            "SELECT t.a FROM t, u JOIN u v ON v.b = t.b",
-            "unknown table: t",
-        ),
-        (
-            "SELECT t.a FROM t, u JOIN u v ON a = 1",
-            "unknown column: a",
-        ),
-        (
-            "SELECT x.a FROM t x JOIN u ON x.b = v.b JOIN u v ON u.b = v.b",
-            "unknown table: v",
-        ),
-        (
-            "SELECT x.a FROM t x JOIN u ON x.b = u.b JOIN t y ON y.a = x.a",
-            "|1|",
-        ),
-        (
-            "SELECT t.a FROM t, u JOIN u v ON EXISTS (SELECT * FROM t y WHERE y.a = t.a)",
-            "unknown table: t",
-        ),
-        (
-            "SELECT a FROM t WHERE EXISTS (SELECT * FROM u JOIN u v ON u.b = t.b)",
-            "|1|",
-        ),
-        ("SELECT t.a FROM t JOIN u ON b = 10", "ambiguous column: b"),
-        (
-            "SELECT a FROM t WHERE EXISTS (SELECT * FROM u WHERE b = 30)",
-            "|1|2|",
-        ),
-        (
-            "SELECT a FROM t WHERE EXISTS (SELECT * FROM u WHERE a = 1)",
-            "|1|",
-        ),
-        (
-            "SELECT d.c FROM t, (SELECT c FROM u WHERE u.b = t.b) AS d",
-            "unknown table: t",
-        ),
-        (
-            "SELECT d.c FROM t, (SELECT c FROM u WHERE a = 1) AS d",
-            "unknown column: a",
-        ),
-        (
-            "SELECT a FROM t WHERE EXISTS (SELECT * FROM (SELECT c FROM u WHERE u.b = t.b) AS d)",
-            "|1|",
-        ),
-        (
-            "SELECT d.a FROM (SELECT a, b AS a FROM t) AS d",
-            "ambiguous column: a",
-        ),
-        (
-            "SELECT a FROM (SELECT a, b AS a FROM t) AS d",
-            "ambiguous column: a",
-        ),
-        (
-            "SELECT * FROM (SELECT a, b AS a FROM t) AS d",
-            "|1, 10|2, 20|",
-        ),
-    ];
-    assert_each(&rt, rt.alloc(), table);
+    assert_each(&rt, rt.alloc(), &SEEN);
 }
+
+const KINDS_AND_BOUNDS: [(&str, &str); 24] = [
+    ("SELECT a FROM t WHERE - - 'x' = 'x'", "types do not match"),
+    ("SELECT - - 'x' FROM t", "types do not match"),
+    ("SELECT - - NULL FROM t", "types do not match"),
+    ("SELECT a FROM t WHERE - - NULL = 'x'", "|"),
+    ("SELECT - NULL FROM t", "|NULL|"),
+    ("SELECT a FROM t WHERE - NULL = 'x'", "types do not match"),
+    ("SELECT - a FROM t", "|-2|-1|"),
+    ("SELECT NULL FROM t", "types do not match"),
+    ("SELECT (NULL) AS n FROM t", "types do not match"),
+    ("SELECT a + NULL FROM t", "|NULL|"),
+    ("SELECT a FROM t WHERE a IN (1, 'x')", "types do not match"),
+    ("SELECT a FROM t WHERE NULL IN (1, 'x')", "|"),
+    ("SELECT a FROM t WHERE a IN (NULL, 1)", "|1|"),
+    (
+        "SELECT a FROM t WHERE a BETWEEN 1 AND 'x'",
+        "types do not match",
+    ),
+    (
+        "SELECT a FROM t WHERE 'x' BETWEEN a AND 'z'",
+        "types do not match",
+    ),
+    ("SELECT a FROM t WHERE NULL BETWEEN 1 AND 'x'", "|"),
+    ("SELECT a FROM t WHERE a NOT BETWEEN 2 AND NULL", "|1|"),
+    (
+        "SELECT a FROM t WHERE a IN (SELECT c FROM u)",
+        "types do not match",
+    ),
+    (
+        "SELECT a FROM t WHERE a IN (SELECT c, b FROM u)",
+        "numbers of columns differ",
+    ),
+    ("SELECT a FROM t WHERE NULL IN (SELECT c FROM u)", "|"),
+    ("SELECT a FROM t WHERE EXISTS (SELECT b, c FROM u)", "|1|2|"),
+    ("SELECT b * b + 1 FROM t", "|101|401|"),
+    ("SELECT b * b + b * b FROM t", "arithmetic past 128 bits"),
+    (
+        "SELECT d.x * 4 FROM (SELECT 1 AS x FROM t UNION SELECT a * a FROM t) AS d",
+        "arithmetic past 128 bits",
+    ),
+];
 
 #[test]
 fn kinds_and_bounds(rt: HostRuntime) {
-    let table = &[
-        ("SELECT a FROM t WHERE - - 'x' = 'x'", "types do not match"),
-        ("SELECT - - 'x' FROM t", "types do not match"),
-        ("SELECT - - NULL FROM t", "types do not match"),
-        ("SELECT a FROM t WHERE - - NULL = 'x'", "|"),
-        ("SELECT - NULL FROM t", "|NULL|"),
-        ("SELECT a FROM t WHERE - NULL = 'x'", "types do not match"),
-        ("SELECT - a FROM t", "|-2|-1|"),
-        ("SELECT NULL FROM t", "types do not match"),
-        ("SELECT (NULL) AS n FROM t", "types do not match"),
-        ("SELECT a + NULL FROM t", "|NULL|"),
-        ("SELECT a FROM t WHERE a IN (1, 'x')", "types do not match"),
-        ("SELECT a FROM t WHERE NULL IN (1, 'x')", "|"),
-        ("SELECT a FROM t WHERE a IN (NULL, 1)", "|1|"),
-        (
-            "SELECT a FROM t WHERE a BETWEEN 1 AND 'x'",
-            "types do not match",
-        ),
-        (
-            "SELECT a FROM t WHERE 'x' BETWEEN a AND 'z'",
-            "types do not match",
-        ),
-        ("SELECT a FROM t WHERE NULL BETWEEN 1 AND 'x'", "|"),
-        ("SELECT a FROM t WHERE a NOT BETWEEN 2 AND NULL", "|1|"),
-        (
-            "SELECT a FROM t WHERE a IN (SELECT c FROM u)",
-            "types do not match",
-        ),
-        (
-            "SELECT a FROM t WHERE a IN (SELECT c, b FROM u)",
-            "numbers of columns differ",
-        ),
-        ("SELECT a FROM t WHERE NULL IN (SELECT c FROM u)", "|"),
-        ("SELECT a FROM t WHERE EXISTS (SELECT b, c FROM u)", "|1|2|"),
-        ("SELECT b * b + 1 FROM t", "|101|401|"),
-        ("SELECT b * b + b * b FROM t", "arithmetic past 128 bits"),
-        (
-            "SELECT d.x * 4 FROM (SELECT 1 AS x FROM t UNION SELECT a * a FROM t) AS d",
-            "arithmetic past 128 bits",
-        ),
-    ];
-    assert_each(&rt, rt.alloc(), table);
+    assert_each(&rt, rt.alloc(), &KINDS_AND_BOUNDS);
 }
 
 /// Whether the query has two columns, the first under this name and the second without one.
@@ -315,68 +317,69 @@ fn names_of_what_comes_out(rt: HostRuntime) {
     assert_each(&rt, rt.alloc(), table);
 }
 
+const FAULTS: [(&str, &str); 20] = [
+    (
+        "SELECT a, b FROM t UNION SELECT c FROM u",
+        "numbers of columns differ",
+    ),
+    (
+        "SELECT a FROM t EXCEPT SELECT c FROM u",
+        "types do not match",
+    ),
+    (
+        "SELECT a FROM t INTERSECT SELECT c, b FROM u",
+        "numbers of columns differ",
+    ),
+    (
+        "SELECT a FROM t UNION SELECT c FROM u EXCEPT SELECT foo FROM t",
+        "types do not match",
+    ),
+    (
+        "SELECT a FROM t UNION SELECT foo, c FROM u",
+        "unknown column: foo",
+    ),
+    (
+        "SELECT a FROM t UNION SELECT c FROM u INTERSECT SELECT a, b FROM t",
+        "numbers of columns differ",
+    ),
+    (
+        "SELECT foo FROM t UNION SELECT bar FROM t",
+        "unknown column: foo",
+    ),
+    ("SELECT foo FROM t WHERE bar = 1", "unknown column: bar"),
+    (
+        "SELECT foo FROM t JOIN u ON bar = 1, lost",
+        "unknown column: bar",
+    ),
+    (
+        "SELECT foo FROM t JOIN lost ON bar = 1",
+        "unknown table: lost",
+    ),
+    ("SELECT foo, NULL FROM t", "unknown column: foo"),
+    ("SELECT NULL, foo FROM t", "types do not match"),
+    (
+        "SELECT a FROM t WHERE a = 'x' AND foo = 1",
+        "types do not match",
+    ),
+    (
+        "SELECT a FROM t WHERE foo = 'x' OR a = 'x'",
+        "unknown column: foo",
+    ),
+    (
+        "SELECT a FROM t WHERE a IN ('x', foo)",
+        "types do not match",
+    ),
+    (
+        "SELECT a FROM t WHERE a BETWEEN 'x' AND foo",
+        "unknown column: foo",
+    ),
+    ("SELECT 'x' + foo FROM t", "types do not match"),
+    ("SELECT foo + 'x' FROM t", "unknown column: foo"),
+    ("SELECT b * b * 4 + 'x' FROM t", "arithmetic past 128 bits"),
+    ("SELECT 'x' + b * b * 4 FROM t", "types do not match"),
+];
+
 #[test]
 fn the_first_of_two_faults(rt: HostRuntime) {
-    let table = &[
-        (
-            "SELECT a, b FROM t UNION SELECT c FROM u",
-            "numbers of columns differ",
-        ),
-        (
-            "SELECT a FROM t EXCEPT SELECT c FROM u",
-            "types do not match",
-        ),
-        (
-            "SELECT a FROM t INTERSECT SELECT c, b FROM u",
-            "numbers of columns differ",
-        ),
-        (
-            "SELECT a FROM t UNION SELECT c FROM u EXCEPT SELECT foo FROM t",
-            "types do not match",
-        ),
-        (
-            "SELECT a FROM t UNION SELECT foo, c FROM u",
-            "unknown column: foo",
-        ),
-        (
-            "SELECT a FROM t UNION SELECT c FROM u INTERSECT SELECT a, b FROM t",
-            "numbers of columns differ",
-        ),
-        (
-            "SELECT foo FROM t UNION SELECT bar FROM t",
-            "unknown column: foo",
-        ),
-        ("SELECT foo FROM t WHERE bar = 1", "unknown column: bar"),
-        (
-            "SELECT foo FROM t JOIN u ON bar = 1, lost",
-            "unknown column: bar",
-        ),
-        (
-            "SELECT foo FROM t JOIN lost ON bar = 1",
-            "unknown table: lost",
-        ),
-        ("SELECT foo, NULL FROM t", "unknown column: foo"),
-        ("SELECT NULL, foo FROM t", "types do not match"),
-        (
-            "SELECT a FROM t WHERE a = 'x' AND foo = 1",
-            "types do not match",
-        ),
-        (
-            "SELECT a FROM t WHERE foo = 'x' OR a = 'x'",
-            "unknown column: foo",
-        ),
-        (
-            "SELECT a FROM t WHERE a IN ('x', foo)",
-            "types do not match",
-        ),
-        (
-            "SELECT a FROM t WHERE a BETWEEN 'x' AND foo",
-            "unknown column: foo",
-        ),
-        ("SELECT 'x' + foo FROM t", "types do not match"),
-        ("SELECT foo + 'x' FROM t", "unknown column: foo"),
-        ("SELECT b * b * 4 + 'x' FROM t", "arithmetic past 128 bits"),
-        ("SELECT 'x' + b * b * 4 FROM t", "types do not match"),
-    ];
-    assert_each(&rt, rt.alloc(), table);
+    assert_each(&rt, rt.alloc(), &FAULTS);
 }

@@ -36,21 +36,23 @@ fn cone_of(rt: &impl Abort, alloc: Global, schema: &str, file: &str, place: usiz
 }
 
 // A row that the goal names, and the rows that can matter then.
+const REFERRING: [(&str, usize, [bool; 3]); 8] = [
+    ("a,b\n1,2\n2,1\n3,\n", 0, [true, true, false]),
+    ("a,b\n1,2\n2,1\n3,\n", 1, [true, true, false]),
+    ("a,b\n1,2\n2,1\n3,\n", 2, [false, false, true]),
+    ("a,b\n1,2\n2,3\n3,\n", 0, [true, true, true]),
+    ("a,b\n3,\n2,3\n1,2\n", 2, [true, true, true]),
+    ("a,b\n3,\n2,3\n1,2\n", 1, [true, true, false]),
+    ("a,b\n1,2\n2,\n2,5\n", 0, [true, true, true]),
+    ("a,b\n1,\n,1\n2,\n", 0, [true, false, false]),
+];
+
 #[test]
 fn rows_that_refer_to_rows_of_their_table(rt: HostRuntime) {
     let alloc = rt.alloc();
     let schema = "CREATE TABLE t (a INTEGER PRIMARY KEY, b INTEGER REFERENCES t (a));";
-    for (file, place, wanted) in [
-        ("a,b\n1,2\n2,1\n3,\n", 0, [true, true, false]),
-        ("a,b\n1,2\n2,1\n3,\n", 1, [true, true, false]),
-        ("a,b\n1,2\n2,1\n3,\n", 2, [false, false, true]),
-        ("a,b\n1,2\n2,3\n3,\n", 0, [true, true, true]),
-        ("a,b\n3,\n2,3\n1,2\n", 2, [true, true, true]),
-        ("a,b\n3,\n2,3\n1,2\n", 1, [true, true, false]),
-        ("a,b\n1,2\n2,\n2,5\n", 0, [true, true, true]),
-        ("a,b\n1,\n,1\n2,\n", 0, [true, false, false]),
-    ] {
-        let rows = cone_of(&rt, alloc, schema, file, place);
+    for (file, place, wanted) in &REFERRING {
+        let rows = cone_of(&rt, alloc, schema, file, *place);
         assert!(rt; rows.as_slice() == wanted.as_slice(), "{file} {place}");
     }
 }

@@ -8,6 +8,8 @@ mod cones;
 #[cfg(test)]
 mod data;
 #[cfg(test)]
+mod large_law;
+#[cfg(test)]
 mod law;
 #[cfg(test)]
 mod printed;

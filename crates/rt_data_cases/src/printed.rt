@@ -157,23 +157,24 @@ fn a_spent_budget_is_printed(rt: HostRuntime) {
     assert!(rt; is_spent(&rt, rt.alloc(), Some(&keep), want));
 }
 
+const SUMMARIES: [(u64, MadeVerdict, &str); 3] = [
+    (
+        400,
+        MadeVerdict::Size(3),
+        "made 400\nrows 2000\nwitness: 3\n",
+    ),
+    (2, MadeVerdict::Agree, "made 2\nrows 10\nagree\n"),
+    (
+        20,
+        MadeVerdict::Undecided(7),
+        "made 20\nrows 100\nundecided: 7 conflicts\n",
+    ),
+];
+
 #[test]
 fn summaries_of_generated_inputs(rt: HostRuntime) {
-    let texts = [
-        (
-            400,
-            MadeVerdict::Size(3),
-            "made 400\nrows 2000\nwitness: 3\n",
-        ),
-        (2, MadeVerdict::Agree, "made 2\nrows 10\nagree\n"),
-        (
-            20,
-            MadeVerdict::Undecided(7),
-            "made 20\nrows 100\nundecided: 7 conflicts\n",
-        ),
-    ];
-    for (n, verdict, want) in texts {
-        let text = made_text(rt.alloc(), n, verdict).expect(&rt, "memory");
+    for (n, verdict, want) in &SUMMARIES {
+        let text = made_text(rt.alloc(), *n, *verdict).expect(&rt, "memory");
         assert!(rt; text.as_slice() == want.as_bytes(), "{want}");
     }
 }

@@ -1,5 +1,5 @@
 use rt_ddl::read_schema;
-use rt_load::{LoadFault, load, made};
+use rt_load::{LoadFault, Made, load, made};
 use rt_schema::{Given, Schema};
 use rt_value::{Bytes, Value};
 use std::alloc::Global;
@@ -71,19 +71,20 @@ fn is_refused(rt: &impl Abort, alloc: Global, schema: &str, file: &[u8], want: L
     }
 }
 
+const RECORDS: [(&str, &str); 7] = [
+    ("a,b\n\"x\"\"y\",z\n", ";|x\"y|z"),
+    ("a,b\n\"x\ny\",\"z,\"\n", ";|x\ny|z,"),
+    ("a,b\r1,2\r3,4\r", ";|1|2;|3|4"),
+    ("a,b\r\n1,2\r\n3,4", ";|1|2;|3|4"),
+    ("a,b\nx\"y,z\"\n", ";|x\"y|z\""),
+    ("\na,b\n\n1,2\n\r\n\n3,4\n\n", ";|1|2;|3|4"),
+    ("a,b\n x ,\n\"\",y", ";| x |NULL;|NULL|y"),
+];
+
 #[test]
 fn records_are_those_of_rfc_4180(rt: HostRuntime) {
     let alloc = rt.alloc();
-    let texts = [
-        ("a,b\n\"x\"\"y\",z\n", ";|x\"y|z"),
-        ("a,b\n\"x\ny\",\"z,\"\n", ";|x\ny|z,"),
-        ("a,b\r1,2\r3,4\r", ";|1|2;|3|4"),
-        ("a,b\r\n1,2\r\n3,4", ";|1|2;|3|4"),
-        ("a,b\nx\"y,z\"\n", ";|x\"y|z\""),
-        ("\na,b\n\n1,2\n\r\n\n3,4\n\n", ";|1|2;|3|4"),
-        ("a,b\n x ,\n\"\",y", ";| x |NULL;|NULL|y"),
-    ];
-    for (file, want) in texts {
+    for (file, want) in &RECORDS {
         assert!(rt; is_read(&rt, alloc, TEXTS, file.as_bytes(), want), "{file}");
     }
     let file = b"A , b\n 1 ,+2\n\n3,4\n-9223372036854775808,\n";
@@ -91,20 +92,21 @@ fn records_are_those_of_rfc_4180(rt: HostRuntime) {
     assert!(rt; is_read(&rt, alloc, WHOLES, file.as_slice(), want));
 }
 
+const FAULTS: [(&str, LoadFault); 6] = [
+    ("", LoadFault::BadHeader),
+    ("\u{feff}a,b\n", LoadFault::BadHeader),
+    ("b,a\n1", LoadFault::BadHeader),
+    ("a,b\n1\nx,y\n", LoadFault::FieldCount(2)),
+    ("a,b\n1,2\n\n1,x\n", LoadFault::BadInteger(3, 2)),
+    ("a,b\n9223372036854775808,x\n", LoadFault::BadInteger(2, 1)),
+];
+
 #[test]
 fn the_first_fault_decides(rt: HostRuntime) {
     let alloc = rt.alloc();
-    let faults = [
-        ("", LoadFault::BadHeader),
-        ("\u{feff}a,b\n", LoadFault::BadHeader),
-        ("b,a\n1", LoadFault::BadHeader),
-        ("a,b\n1\nx,y\n", LoadFault::FieldCount(2)),
-        ("a,b\n1,2\n\n1,x\n", LoadFault::BadInteger(3, 2)),
-        ("a,b\n9223372036854775808,x\n", LoadFault::BadInteger(2, 1)),
-    ];
-    for (file, want) in faults {
+    for (file, want) in &FAULTS {
         assert!(rt;
-            is_refused(&rt, alloc, WHOLES, file.as_bytes(), want),
+            is_refused(&rt, alloc, WHOLES, file.as_bytes(), *want),
             "{file}"
         );
     }
@@ -127,37 +129,45 @@ fn row_2001_is_one_too_many(rt: HostRuntime) {
     drop(file);
 }
 
-fn are_files(files: &[Bytes], wanted: [&str; 3]) -> bool {
-    match files {
-        [first, second, third] => {
-            first.as_slice() == wanted[0].as_bytes()
-                && second.as_slice() == wanted[1].as_bytes()
-                && third.as_slice() == wanted[2].as_bytes()
-        }
-        _ => false,
-    }
-}
-
 const MADE_SCHEMA: &str = "CREATE TABLE student (id INTEGER PRIMARY KEY);\n\
     CREATE TABLE reg (id INTEGER REFERENCES student, num INTEGER, dept TEXT, PRIMARY KEY (id, num));\n\
     CREATE TABLE room (num INTEGER PRIMARY KEY, id INTEGER REFERENCES student);\n";
 
-const MADE_FILES: [&str; 3] = [
-    "id\n1\n2\n3\n",
-    "id,num,dept\n1,1,CS\n1,4,MA\n2,2,CS\n2,5,MA\n3,3,CS\n3,6,CS\n",
-    "num,id\n1,1\n2,2\n3,3\n4,1\n5,2\n6,3\n",
-];
+const MADE_STUDENTS: &str = "id\n1\n2\n3\n";
+
+const MADE_REG: &str = "id,num,dept\n1,1,CS\n1,4,MA\n2,2,CS\n2,5,MA\n3,3,CS\n3,6,CS\n";
+
+const MADE_ROOMS: &str = "num,id\n1,1\n2,2\n3,3\n4,1\n5,2\n6,3\n";
 
 const MADE_LEFT: &str = "SELECT id FROM reg WHERE dept = 'CS'\n";
 
 const MADE_RIGHT: &str =
     "SELECT id FROM reg WHERE dept = 'CS' EXCEPT SELECT r.id FROM reg r, reg s WHERE r.id = s.id AND r.num < s.num AND r.dept = 'CS' AND s.dept = 'CS'\n";
 
+fn is(bytes: &Bytes, text: &str) -> bool {
+    bytes.as_slice() == text.as_bytes()
+}
+
+fn are_files(files: &[Bytes]) -> bool {
+    match files {
+        [students, reg, rooms] => {
+            is(students, MADE_STUDENTS) && is(reg, MADE_REG) && is(rooms, MADE_ROOMS)
+        }
+        _ => false,
+    }
+}
+
+fn are_texts(made: &Made) -> bool {
+    is(&made.schema, MADE_SCHEMA)
+        && are_files(made.files.as_slice())
+        && is(&made.query1, MADE_LEFT)
+        && is(&made.query2, MADE_RIGHT)
+}
+
 #[test]
 fn generated_texts(rt: HostRuntime) {
     let made = made(rt.alloc(), 3).expect(&rt, "memory");
-    assert!(rt; made.schema.as_slice() == MADE_SCHEMA.as_bytes());
-    assert!(rt; are_files(made.files.as_slice(), MADE_FILES));
-    assert!(rt; made.query1.as_slice() == MADE_LEFT.as_bytes());
-    assert!(rt; made.query2.as_slice() == MADE_RIGHT.as_bytes());
+    let found = are_texts(&made);
+    drop(made);
+    assert!(rt; found);
 }

@@ -24,160 +24,161 @@ fn each_form_of_a_line(rt: HostRuntime) {
     }
 }
 
+const BROKEN: [(&str, &str, usize); 36] = [
+    // No text, a last line without its LF, and a text that ends too early.
+    ("", "", 1usize),
+    ("", "ratest certificate 1", 1),
+    ("", "ratest certificate 1\n", 2),
+    ("ratest certificate 1\n", "verdict agree", 2),
+    ("ratest certificate 1\n", "verdict agree\nadded 0\n", 4),
+    ("ratest certificate 1\n", "verdict agree\nadded 0\nend", 4),
+    (
+        "ratest certificate 1\n",
+        "verdict witness 0\nkeep\nadded 0\nd ;\n",
+        6,
+    ),
+    // Behind the end.
+    (
+        "ratest certificate 1\n",
+        "verdict agree\nadded 0\nend\n\n",
+        5,
+    ),
+    (
+        "ratest certificate 1\n",
+        "verdict agree\nadded 0\nend\nx",
+        5,
+    ),
+    // Other heads and verdicts.
+    ("", "ratest certificate 2\nverdict agree\nadded 0\nend\n", 1),
+    ("", "\nratest certificate 1\n", 1),
+    (
+        "ratest certificate 1\n",
+        "verdict agree \nadded 0\nend\n",
+        2,
+    ),
+    (
+        "ratest certificate 1\n",
+        "verdict witness\nkeep\nadded 0\nend\n",
+        2,
+    ),
+    (
+        "ratest certificate 1\n",
+        "verdict witness 00\nkeep\nadded 0\nend\n",
+        2,
+    ),
+    ("ratest certificate 1\n", "keep\nadded 0\nend\n", 2),
+    // Places.
+    (
+        "ratest certificate 1\nverdict witness 2\n",
+        "keep 1\nadded 0\nend\n",
+        3,
+    ),
+    (
+        "ratest certificate 1\nverdict witness 2\n",
+        "keep 2 1\nadded 0\nend\n",
+        3,
+    ),
+    (
+        "ratest certificate 1\nverdict witness 2\n",
+        "keep 1 1\nadded 0\nend\n",
+        3,
+    ),
+    (
+        "ratest certificate 1\nverdict witness 2\n",
+        "keep  1 2\nadded 0\nend\n",
+        3,
+    ),
+    (
+        "ratest certificate 1\nverdict witness 2\n",
+        "keep 1 2 \nadded 0\nend\n",
+        3,
+    ),
+    (
+        "ratest certificate 1\nverdict witness 2\n",
+        "keep 01 2\nadded 0\nend\n",
+        3,
+    ),
+    (
+        "ratest certificate 1\nverdict witness 2\n",
+        "keep 1 4611686018427387904\nadded 0\nend\n",
+        3,
+    ),
+    (
+        "ratest certificate 1\nverdict witness 2\n",
+        "added 0\nend\n",
+        3,
+    ),
+    (
+        "ratest certificate 1\nverdict witness 2\n",
+        "keep 1 2\nend\n",
+        4,
+    ),
+    (
+        "ratest certificate 1\nverdict agree\n",
+        "keep\nadded 0\nend\n",
+        3,
+    ),
+    // The number of added lines, and steps.
+    (
+        "ratest certificate 1\nverdict agree\n",
+        "added 4611686018427387904\nend\n",
+        3,
+    ),
+    (
+        "ratest certificate 1\nverdict agree\n",
+        "added -1\nend\n",
+        3,
+    ),
+    (
+        "ratest certificate 1\nverdict agree\nadded 1\n",
+        "d\nend\n",
+        4,
+    ),
+    (
+        "ratest certificate 1\nverdict agree\nadded 1\n",
+        "d;\nend\n",
+        4,
+    ),
+    (
+        "ratest certificate 1\nverdict agree\nadded 1\n",
+        "d ; \nend\n",
+        4,
+    ),
+    (
+        "ratest certificate 1\nverdict agree\nadded 1\n",
+        "d 1 ;\nend\n",
+        4,
+    ),
+    (
+        "ratest certificate 1\nverdict agree\nadded 1\n",
+        "d + ;\nend\n",
+        4,
+    ),
+    (
+        "ratest certificate 1\nverdict agree\nadded 1\n",
+        "d +1 ; +1\nend\n",
+        4,
+    ),
+    (
+        "ratest certificate 1\nverdict agree\nadded 1\n",
+        "d ;\nd ; 1 ;\nend\n",
+        5,
+    ),
+    (
+        "ratest certificate 1\nverdict agree\nadded 1\n",
+        "d ;\nd +01 ;\nend\n",
+        5,
+    ),
+    (
+        "ratest certificate 1\nverdict agree\nadded 1\n",
+        "d ; 1\r\nend\n",
+        4,
+    ),
+];
+
 #[test]
 fn the_first_line_that_cannot_stand(rt: HostRuntime) {
-    let table = &[
-        // No text, a last line without its LF, and a text that ends too early.
-        ("", "", 1usize),
-        ("", "ratest certificate 1", 1),
-        ("", "ratest certificate 1\n", 2),
-        ("ratest certificate 1\n", "verdict agree", 2),
-        ("ratest certificate 1\n", "verdict agree\nadded 0\n", 4),
-        ("ratest certificate 1\n", "verdict agree\nadded 0\nend", 4),
-        (
-            "ratest certificate 1\n",
-            "verdict witness 0\nkeep\nadded 0\nd ;\n",
-            6,
-        ),
-        // Behind the end.
-        (
-            "ratest certificate 1\n",
-            "verdict agree\nadded 0\nend\n\n",
-            5,
-        ),
-        (
-            "ratest certificate 1\n",
-            "verdict agree\nadded 0\nend\nx",
-            5,
-        ),
-        // Other heads and verdicts.
-        ("", "ratest certificate 2\nverdict agree\nadded 0\nend\n", 1),
-        ("", "\nratest certificate 1\n", 1),
-        (
-            "ratest certificate 1\n",
-            "verdict agree \nadded 0\nend\n",
-            2,
-        ),
-        (
-            "ratest certificate 1\n",
-            "verdict witness\nkeep\nadded 0\nend\n",
-            2,
-        ),
-        (
-            "ratest certificate 1\n",
-            "verdict witness 00\nkeep\nadded 0\nend\n",
-            2,
-        ),
-        ("ratest certificate 1\n", "keep\nadded 0\nend\n", 2),
-        // Places.
-        (
-            "ratest certificate 1\nverdict witness 2\n",
-            "keep 1\nadded 0\nend\n",
-            3,
-        ),
-        (
-            "ratest certificate 1\nverdict witness 2\n",
-            "keep 2 1\nadded 0\nend\n",
-            3,
-        ),
-        (
-            "ratest certificate 1\nverdict witness 2\n",
-            "keep 1 1\nadded 0\nend\n",
-            3,
-        ),
-        (
-            "ratest certificate 1\nverdict witness 2\n",
-            "keep  1 2\nadded 0\nend\n",
-            3,
-        ),
-        (
-            "ratest certificate 1\nverdict witness 2\n",
-            "keep 1 2 \nadded 0\nend\n",
-            3,
-        ),
-        (
-            "ratest certificate 1\nverdict witness 2\n",
-            "keep 01 2\nadded 0\nend\n",
-            3,
-        ),
-        (
-            "ratest certificate 1\nverdict witness 2\n",
-            "keep 1 4611686018427387904\nadded 0\nend\n",
-            3,
-        ),
-        (
-            "ratest certificate 1\nverdict witness 2\n",
-            "added 0\nend\n",
-            3,
-        ),
-        (
-            "ratest certificate 1\nverdict witness 2\n",
-            "keep 1 2\nend\n",
-            4,
-        ),
-        (
-            "ratest certificate 1\nverdict agree\n",
-            "keep\nadded 0\nend\n",
-            3,
-        ),
-        // The number of added lines, and steps.
-        (
-            "ratest certificate 1\nverdict agree\n",
-            "added 4611686018427387904\nend\n",
-            3,
-        ),
-        (
-            "ratest certificate 1\nverdict agree\n",
-            "added -1\nend\n",
-            3,
-        ),
-        (
-            "ratest certificate 1\nverdict agree\nadded 1\n",
-            "d\nend\n",
-            4,
-        ),
-        (
-            "ratest certificate 1\nverdict agree\nadded 1\n",
-            "d;\nend\n",
-            4,
-        ),
-        (
-            "ratest certificate 1\nverdict agree\nadded 1\n",
-            "d ; \nend\n",
-            4,
-        ),
-        (
-            "ratest certificate 1\nverdict agree\nadded 1\n",
-            "d 1 ;\nend\n",
-            4,
-        ),
-        (
-            "ratest certificate 1\nverdict agree\nadded 1\n",
-            "d + ;\nend\n",
-            4,
-        ),
-        (
-            "ratest certificate 1\nverdict agree\nadded 1\n",
-            "d +1 ; +1\nend\n",
-            4,
-        ),
-        (
-            "ratest certificate 1\nverdict agree\nadded 1\n",
-            "d ;\nd ; 1 ;\nend\n",
-            5,
-        ),
-        (
-            "ratest certificate 1\nverdict agree\nadded 1\n",
-            "d ;\nd +01 ;\nend\n",
-            5,
-        ),
-        (
-            "ratest certificate 1\nverdict agree\nadded 1\n",
-            "d ; 1\r\nend\n",
-            4,
-        ),
-    ];
-    for (head, rest, line) in table {
+    for (head, rest, line) in &BROKEN {
         let told = told_of(&rt, rt.alloc(), head, rest);
         assert!(rt; told == Some(CertFault::BadLine(*line)), "{head}{rest}");
     }

@@ -1,6 +1,6 @@
 ghost use Rattle.std.specs.Prelude.{◌≡◌, ◌<◌, length};
 
-use rt_heap::Heap;
+use rt_solver::Heap;
 use rt_value::List;
 use std::alloc::Global;
 use std::process::Abort;

@@ -44,23 +44,36 @@ fn is_refuted<L: Lines + Drop>(
     is_refuted
 }
 
+// Whether there is a model of a clause of both variables.
+fn either_of_two(rt: &impl Abort, solver: &mut Solver<Checker>) -> bool {
+    let both = [Lit::of(0, true), Lit::of(1, true)];
+    solver.add(&both).expect(rt, "memory");
+    let either = model(rt, solver);
+    either[0] || either[1]
+}
+
+// Whether, once the second one is denied, the first can't be denied too, and is true.
+fn the_first_alone(rt: &impl Abort, solver: &mut Solver<Checker>) -> bool {
+    solver.add(&[Lit::of(1, false)]).expect(rt, "memory");
+    let denied = Lit::of(0, false);
+    let is_refuted = is_refuted(rt, solver, Some(denied), 2, Some(4));
+    let is_checked = solver.lines().refutes(Some(denied));
+    let alone = model(rt, solver);
+    is_refuted && is_checked && alone[0] && !alone[1]
+}
+
+// Whether, once the first one is denied too, there is no model.
+fn neither_of_two(rt: &impl Abort, solver: &mut Solver<Checker>) -> bool {
+    solver.add(&[Lit::of(0, false)]).expect(rt, "memory");
+    is_refuted(rt, solver, None, 2, Some(4)) && solver.lines().refutes(None)
+}
+
 #[test]
 fn clauses_may_be_added_between_calls(rt: HostRuntime) {
-    let first = Lit::of(0, true);
-    let second = Lit::of(1, true);
     let mut solver = solver(rt.alloc());
-    solver.add(&[first, second]).expect(&rt, "memory");
-    let either = model(&rt, &mut solver);
-    assert!(rt; either[0] || either[1]);
-    solver.add(&[second.negated()]).expect(&rt, "memory");
-    let denied = Some(first.negated());
-    assert!(rt; is_refuted(&rt, &mut solver, denied, 2, Some(4)));
-    assert!(rt; solver.lines().refutes(denied));
-    let alone = model(&rt, &mut solver);
-    assert!(rt; alone[0] && !alone[1]);
-    solver.add(&[first.negated()]).expect(&rt, "memory");
-    assert!(rt; is_refuted(&rt, &mut solver, None, 2, Some(4)));
-    assert!(rt; solver.lines().refutes(None));
+    assert!(rt; either_of_two(&rt, &mut solver));
+    assert!(rt; the_first_alone(&rt, &mut solver));
+    assert!(rt; neither_of_two(&rt, &mut solver));
 }
 
 // The variable that puts a pigeon into a hole, of three holes or of six.
@@ -130,20 +143,23 @@ fn spent(rt: &impl Abort, solver: &mut Solver<Recorded>) -> List<List<Lit>> {
     }
 }
 
-// The clause that spends the budget stands after the 22 given lines, and stays there.
+// Whether the clause that spends a budget of one stands after the 22 given lines, and stays there.
+fn keeps_its_clause(rt: &impl Abort, solver: &mut Solver<Recorded>, spent: &[List<Lit>]) -> bool {
+    let [learned] = spent else {
+        return false;
+    };
+    let is_next = solver.lines().len() == 23 && solver.lines().has(22, learned.as_slice());
+    let is_refuted = is_refuted(rt, solver, None, 12, Some(4096)) && solver.lines().refutes(None);
+    is_next && is_refuted && solver.lines().has(22, learned.as_slice())
+}
+
 #[test]
 fn four_pigeons_in_three_holes(rt: HostRuntime) {
     let mut solver = Solver::new(rt.alloc(), Recorded::new(rt.alloc()));
     add_pigeons(rt.alloc(), &mut solver, 3, Holes::Three).expect(&rt, "memory");
     assert!(rt; solver.lines().len() == 22);
-    let list = spent(&rt, &mut solver);
-    assert!(rt; list.len() == 1);
-    let learned = list.as_slice()[0].as_slice();
-    assert!(rt; solver.lines().len() == 23);
-    assert!(rt; solver.lines().has(22, learned));
-    assert!(rt; is_refuted(&rt, &mut solver, None, 12, Some(4096)));
-    assert!(rt; solver.lines().refutes(None));
-    assert!(rt; solver.lines().has(22, learned));
+    let spent = spent(&rt, &mut solver);
+    assert!(rt; keeps_its_clause(&rt, &mut solver, spent.as_slice()));
 }
 
 #[test]

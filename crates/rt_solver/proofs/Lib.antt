@@ -29,3 +29,5 @@ pub mod Rounds
 pub mod Picks
 pub mod Ordered
 pub mod Reading
+mod Exchanging
+mod Membership

@@ -15,3 +15,5 @@ pub mod Propagating
 pub mod Based
 pub mod Picking
 pub mod Fixed
+pub mod Members
+pub mod Places

@@ -6,7 +6,7 @@
 //! are first ones. A literal that others of the analysis imply is left out. The search goes back to
 //! the oldest part of the trail before a decision at which the others are false, and this one becomes
 //! true there. The variable that was met most in analyses, the latest ones counting for more, is
-//! decided next. There are no restarts and no clause is deleted, so that the solver's own clauses are
+//! decided next; `Heap` finds it. There are no restarts and no clause is deleted, so that the solver's own clauses are
 //! the lines in order. It ends without a budget, by the second law of `laws`; a clause that it counts
 //! against a budget is fresh, by the first.
 #![tactic(auto)]
@@ -15,14 +15,17 @@ mod back;
 mod base;
 mod clause;
 mod explain;
+mod heap;
 pub mod laws;
 mod lead;
 mod learn;
 mod marks;
 mod order;
 mod pick;
+mod places;
 mod propagate;
 mod search;
+mod sift;
 mod solver;
 mod trail;
 mod turn;
@@ -30,5 +33,6 @@ mod walk;
 mod watch;
 mod watches;
 
+pub use heap::Heap;
 pub use order::Order;
 pub use solver::{Found, Solver};

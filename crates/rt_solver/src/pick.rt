@@ -4,8 +4,8 @@ ghost use Rattle.rt_solver.specs.Trail.{value_in};
 ghost use Rattle.rt_solver.specs.Search.{HasValues};
 ghost use Rattle.rt_solver.specs.Picking.{holds, HasOpen, HasOpenBut, AreSet, IsOffered, IsPicked};
 
+use crate::heap::Heap;
 use crate::trail::Trail;
-use rt_heap::Heap;
 use rt_value::NoMemory;
 use std::alloc::Global;
 use std::marker::Model;

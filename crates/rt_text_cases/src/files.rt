@@ -27,13 +27,15 @@ fn is_too_long(alloc: Global, files: &mut impl Files, name: &str, max: usize) ->
 fn real_files_and_sinks(rt: HostRuntime) {
     let file = fs::create(&rt, "real.txt").expect(&rt, "a file");
     let mut sink = RealSink::new(file);
-    assert!(rt; write_text(&mut sink, b"some text").is_ok());
+    let is_written = write_text(&mut sink, b"some text").is_ok();
     drop(sink);
     let mut files = RealFiles::new(rt.clone().expect(&rt, "a runtime"));
-    assert!(rt; is_read(rt.alloc(), &mut files, "real.txt", 9, b"some text"));
-    assert!(rt; is_too_long(rt.alloc(), &mut files, "real.txt", 8));
+    let is_read = is_read(rt.alloc(), &mut files, "real.txt", 9, b"some text");
+    let is_longer = is_too_long(rt.alloc(), &mut files, "real.txt", 8);
     fs::remove_file(&rt, "real.txt").expect(&rt, "no file");
-    assert!(rt; files.begin("real.txt") == Err(BeginFail::Failed));
+    let is_gone = files.begin("real.txt") == Err(BeginFail::Failed);
+    drop(files);
+    assert!(rt; is_written && is_read && is_longer && is_gone);
 }
 
 // A writer that takes no more bytes answers so, and raises no error of its own.

@@ -51,127 +51,129 @@ fn is_told(rt: &impl Abort, alloc: Global, text: &str, wanted: &str) -> bool {
 }
 
 // Texts of the grammar, what tree they have, and beside each one that has none: a syntax fault.
+const RULES: [(&str, &str, &str); 25] = [
+    ("SELECT a FROM t;", "<S a F t>;", "SELECT a FROM t;;"),
+    (
+        "SELECT x FROM a EXCEPT SELECT x FROM b UNION SELECT x FROM c",
+        "<S x F a E S x F b U S x F c>",
+        "SELECT x FROM a UNION",
+    ),
+    (
+        "SELECT a FROM t EXCEPT DISTINCT SELECT b FROM u",
+        "<S a F t Ed S b F u>",
+        "SELECT a FROM t DISTINCT EXCEPT SELECT b FROM u",
+    ),
+    (
+        "SELECT a FROM t UNION SELECT b FROM u INTERSECT DISTINCT SELECT c FROM v",
+        "<S a F t U S b F u Id S c F v>",
+        "SELECT a FROM t INTERSECT INTERSECT SELECT b FROM u",
+    ),
+    (
+        "SELECT c FROM v EXCEPT (SELECT a FROM t UNION SELECT b FROM u)",
+        "<S c F v E <S a F t U S b F u>>",
+        "(SELECT a FROM t",
+    ),
+    (
+        "SELECT DISTINCT a FROM t WHERE a = 1",
+        "<Sd a F t{a=1}>",
+        "SELECT a WHERE a = 1",
+    ),
+    ("SELECT * FROM t", "<S * F t>", "SELECT *, a FROM t"),
+    (
+        "SELECT t.*, a AS b, c d FROM t",
+        "<S t.*,a:as b,c:d F t>",
+        "SELECT a b c FROM t",
+    ),
+    (
+        "SELECT a FROM t x, u AS y",
+        "<S a F t:x,u:as y>",
+        "SELECT a FROM t,",
+    ),
+    (
+        "SELECT a FROM (SELECT b FROM u) v",
+        "<S a F <S b F u>:v>",
+        "SELECT a FROM (SELECT b FROM u)",
+    ),
+    (
+        "SELECT a FROM t JOIN u ON a = b",
+        "<S a F tJu{a=b}>",
+        "SELECT a FROM t JOIN u",
+    ),
+    (
+        "SELECT a FROM t INNER JOIN u ON a = b, v",
+        "<S a F tNu{a=b},v>",
+        "SELECT a FROM t INNER u ON a = b",
+    ),
+    (
+        "SELECT a FROM t CROSS JOIN u",
+        "<S a F tXu>",
+        "SELECT a FROM t CROSS JOIN u ON a = b",
+    ),
+    (
+        "SELECT a FROM t WHERE NOT a = 1 AND b = 2 OR c = 3",
+        "<S a F t{!a=1&b=2|c=3}>",
+        "SELECT a FROM t WHERE AND a = 1",
+    ),
+    (
+        "SELECT a FROM t WHERE a <> 1 OR a < 2 OR a <= 3 OR a > 4 OR a >= 5",
+        "<S a F t{a<>1|a<2|a<=3|a>4|a>=5}>",
+        "SELECT a FROM t WHERE a = 1 = 2",
+    ),
+    (
+        "SELECT a FROM t WHERE a IS NULL OR b IS NOT NULL",
+        "<S a F t{a?|b!?}>",
+        "SELECT a FROM t WHERE a NOT IS NULL",
+    ),
+    (
+        "SELECT a FROM t WHERE a NOT IN ((SELECT b FROM u) UNION SELECT c FROM v)",
+        "<S a F t{a!@<<S b F u> U S c F v>}>",
+        "SELECT a FROM t WHERE a IN SELECT b FROM u",
+    ),
+    (
+        "SELECT a FROM t WHERE a IN ((1), 'x', NULL)",
+        "<S a F t{a@[(1),'x',N]}>",
+        "SELECT a FROM t WHERE a IN ()",
+    ),
+    (
+        "SELECT a FROM t WHERE a NOT BETWEEN 1 AND 2 AND b = 3",
+        "<S a F t{a!~1,2&b=3}>",
+        "SELECT a FROM t WHERE a BETWEEN 1 OR 2",
+    ),
+    (
+        "SELECT a FROM t WHERE NOT NOT EXISTS (SELECT * FROM u)",
+        "<S a F t{!!#<S * F u>}>",
+        "SELECT a FROM t WHERE EXISTS t",
+    ),
+    (
+        "SELECT a FROM t WHERE (a > 1)",
+        "<S a F t{{a>1}}>",
+        "SELECT a FROM t WHERE (a)",
+    ),
+    (
+        "SELECT a FROM t WHERE (a + 1) * 2 > 3 OR ((a) = 1)",
+        "<S a F t{(a+1)*2>3|{(a)=1}}>",
+        "SELECT a FROM t WHERE (a > 1) = 2",
+    ),
+    (
+        "SELECT a + 1 - b * - - 2 FROM t",
+        "<S a+1-b*--2 F t>",
+        "SELECT a + FROM t",
+    ),
+    (
+        "SELECT t.a, 'it''s', NULL FROM t",
+        "<S t.a,'it's',N F t>",
+        "SELECT t.a.b FROM t",
+    ),
+    (
+        "SELECT \"a b\" FROM \"select\"",
+        "<S a b F select>",
+        "SELECT select FROM t",
+    ),
+];
+
 #[test]
 fn reads_each_rule(rt: HostRuntime) {
-    for (text, wanted, other) in &[
-        ("SELECT a FROM t;", "<S a F t>;", "SELECT a FROM t;;"),
-        (
-            "SELECT x FROM a EXCEPT SELECT x FROM b UNION SELECT x FROM c",
-            "<S x F a E S x F b U S x F c>",
-            "SELECT x FROM a UNION",
-        ),
-        (
-            "SELECT a FROM t EXCEPT DISTINCT SELECT b FROM u",
-            "<S a F t Ed S b F u>",
-            "SELECT a FROM t DISTINCT EXCEPT SELECT b FROM u",
-        ),
-        (
-            "SELECT a FROM t UNION SELECT b FROM u INTERSECT DISTINCT SELECT c FROM v",
-            "<S a F t U S b F u Id S c F v>",
-            "SELECT a FROM t INTERSECT INTERSECT SELECT b FROM u",
-        ),
-        (
-            "SELECT c FROM v EXCEPT (SELECT a FROM t UNION SELECT b FROM u)",
-            "<S c F v E <S a F t U S b F u>>",
-            "(SELECT a FROM t",
-        ),
-        (
-            "SELECT DISTINCT a FROM t WHERE a = 1",
-            "<Sd a F t{a=1}>",
-            "SELECT a WHERE a = 1",
-        ),
-        ("SELECT * FROM t", "<S * F t>", "SELECT *, a FROM t"),
-        (
-            "SELECT t.*, a AS b, c d FROM t",
-            "<S t.*,a:as b,c:d F t>",
-            "SELECT a b c FROM t",
-        ),
-        (
-            "SELECT a FROM t x, u AS y",
-            "<S a F t:x,u:as y>",
-            "SELECT a FROM t,",
-        ),
-        (
-            "SELECT a FROM (SELECT b FROM u) v",
-            "<S a F <S b F u>:v>",
-            "SELECT a FROM (SELECT b FROM u)",
-        ),
-        (
-            "SELECT a FROM t JOIN u ON a = b",
-            "<S a F tJu{a=b}>",
-            "SELECT a FROM t JOIN u",
-        ),
-        (
-            "SELECT a FROM t INNER JOIN u ON a = b, v",
-            "<S a F tNu{a=b},v>",
-            "SELECT a FROM t INNER u ON a = b",
-        ),
-        (
-            "SELECT a FROM t CROSS JOIN u",
-            "<S a F tXu>",
-            "SELECT a FROM t CROSS JOIN u ON a = b",
-        ),
-        (
-            "SELECT a FROM t WHERE NOT a = 1 AND b = 2 OR c = 3",
-            "<S a F t{!a=1&b=2|c=3}>",
-            "SELECT a FROM t WHERE AND a = 1",
-        ),
-        (
-            "SELECT a FROM t WHERE a <> 1 OR a < 2 OR a <= 3 OR a > 4 OR a >= 5",
-            "<S a F t{a<>1|a<2|a<=3|a>4|a>=5}>",
-            "SELECT a FROM t WHERE a = 1 = 2",
-        ),
-        (
-            "SELECT a FROM t WHERE a IS NULL OR b IS NOT NULL",
-            "<S a F t{a?|b!?}>",
-            "SELECT a FROM t WHERE a NOT IS NULL",
-        ),
-        (
-            "SELECT a FROM t WHERE a NOT IN ((SELECT b FROM u) UNION SELECT c FROM v)",
-            "<S a F t{a!@<<S b F u> U S c F v>}>",
-            "SELECT a FROM t WHERE a IN SELECT b FROM u",
-        ),
-        (
-            "SELECT a FROM t WHERE a IN ((1), 'x', NULL)",
-            "<S a F t{a@[(1),'x',N]}>",
-            "SELECT a FROM t WHERE a IN ()",
-        ),
-        (
-            "SELECT a FROM t WHERE a NOT BETWEEN 1 AND 2 AND b = 3",
-            "<S a F t{a!~1,2&b=3}>",
-            "SELECT a FROM t WHERE a BETWEEN 1 OR 2",
-        ),
-        (
-            "SELECT a FROM t WHERE NOT NOT EXISTS (SELECT * FROM u)",
-            "<S a F t{!!#<S * F u>}>",
-            "SELECT a FROM t WHERE EXISTS t",
-        ),
-        (
-            "SELECT a FROM t WHERE (a > 1)",
-            "<S a F t{{a>1}}>",
-            "SELECT a FROM t WHERE (a)",
-        ),
-        (
-            "SELECT a FROM t WHERE (a + 1) * 2 > 3 OR ((a) = 1)",
-            "<S a F t{(a+1)*2>3|{(a)=1}}>",
-            "SELECT a FROM t WHERE (a > 1) = 2",
-        ),
-        (
-            "SELECT a + 1 - b * - - 2 FROM t",
-            "<S a+1-b*--2 F t>",
-            "SELECT a + FROM t",
-        ),
-        (
-            "SELECT t.a, 'it''s', NULL FROM t",
-            "<S t.a,'it's',N F t>",
-            "SELECT t.a.b FROM t",
-        ),
-        (
-            "SELECT \"a b\" FROM \"select\"",
-            "<S a b F select>",
-            "SELECT select FROM t",
-        ),
-    ] {
+    for (text, wanted, other) in &RULES {
         assert!(rt; is_told(&rt, rt.alloc(), text, wanted), "{text}");
         assert!(rt; ends(&rt, rt.alloc(), other) == Ending::Syntax, "{other}");
     }
@@ -249,22 +251,53 @@ fn nested_ends(
     ending
 }
 
+// Whether the text is read with so many nests, and too deep with one more.
+fn is_deepest(
+    rt: &impl Abort,
+    alloc: Global,
+    front: &str,
+    open: &str,
+    times: usize,
+    middle: &str,
+    close: &str,
+) -> bool {
+    let read = nested_ends(rt, alloc, front, open, times, middle, close);
+    let more = nested_ends(
+        rt,
+        alloc,
+        front,
+        open,
+        times.saturating_add(1),
+        middle,
+        close,
+    );
+    read == Ending::Read && more == Ending::TooDeep
+}
+
+// Texts before what is nested, what opens a nest, how many nests a query may have, and what stands in
+// the innermost one and closes each.
+const DEEPEST: [(&str, &str, usize, &str, &str); 5] = [
+    ("SELECT a FROM t WHERE ", "(", 64, "a = 1", ")"),
+    ("SELECT a FROM t WHERE ", "NOT ", 8, "a = 1", ""),
+    ("SELECT a FROM t WHERE ", "- ", 8, "a > 1", ""),
+    (
+        "",
+        "SELECT a FROM t WHERE a IN (",
+        63,
+        "SELECT a FROM t",
+        ")",
+    ),
+    ("", "(", 64, "SELECT a FROM t", ")"),
+];
+
 #[test]
 fn counts_nesting(rt: HostRuntime) {
     let alloc = rt.alloc();
-    let query = "SELECT a FROM t WHERE ";
-    let inner = "SELECT a FROM t WHERE a IN (";
-    for (front, open, times, middle, close) in &[
-        (query, "(", 64, "a = 1", ")"),
-        (query, "NOT ", 8, "a = 1", ""),
-        (query, "- ", 8, "a > 1", ""),
-        ("", inner, 63, "SELECT a FROM t", ")"),
-        ("", "(", 64, "SELECT a FROM t", ")"),
-    ] {
-        let read = nested_ends(&rt, alloc, front, open, *times, middle, close);
-        assert!(rt; read == Ending::Read, "{open}");
-        let more = nested_ends(&rt, alloc, front, open, *times + 1, middle, close);
-        assert!(rt; more == Ending::TooDeep, "{open}");
+    for (front, open, times, middle, close) in &DEEPEST {
+        assert!(rt;
+            is_deepest(&rt, alloc, front, open, *times, middle, close),
+            "{open}"
+        );
     }
 }
 

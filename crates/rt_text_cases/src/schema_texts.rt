@@ -157,12 +157,15 @@ fn tells_faults(rt: HostRuntime) {
             "key of t",
         ),
         ("CREATE TABLE t (a FLOAT);", "syntax 18"),
+        ("CREATE TABLE t (a \"int\")", "syntax 18"),
         (
             "CREATE TABLE t (a INT PRIMARY KEY, PRIMARY KEY (a, a))",
             "twice t",
         ),
         ("CREATE TABLE t (a INT REFERENCES u, a INT)", "twice a"),
         ("CREATE TABLE t (a INT REFERENCES t)", "unknown t"),
+        ("CREATE TABLE t (a INT, b INT, UNIQUE (a, b, a))", "twice a"),
+        ("CREATE TABLE t (a INT NOT)", "syntax 25"),
         ("CREATE TABLE t (a INT", "syntax 21"),
         ("CREATE TABLE t (a INT);;", "syntax 23"),
         ("CREATE TABLE \"a", "lex"),
@@ -192,51 +195,53 @@ fn are_told(alloc: Global, text: &str, wanted: &str) -> bool {
 }
 
 // Each line of the grammar of conditions, and the two NOTs.
+const CHECKS: [(&str, &str); 11] = [
+    ("CREATE TABLE t (a INT CHECK (a > 0), b INT)", "[#0>0]"),
+    (
+        "CREATE TABLE t (a INT NOT NULL CONSTRAINT k CHECK (b <> a) UNIQUE, b INT)",
+        ".[#1<>#0].",
+    ),
+    (
+        "CREATE TABLE t (a INT, CHECK (a = 1), CONSTRAINT k CHECK (NULL <= a), b INT)",
+        "[#0=1][N<=#0]",
+    ),
+    (
+        "CREATE TABLE t (a INT, b TEXT, CHECK (b >= 'x' OR a < -1 AND 'y' = b OR b = ''))",
+        "[#1>='x' | #0<-1 & 'y'=#1 | #1='']",
+    ),
+    (
+        "CREATE TABLE t (a INT, CHECK (a IS NULL AND a IS NOT NULL AND NOT a IS NULL AND NOT a IS NOT NULL))",
+        "[#0 null & !#0 null & !#0 null & #0 null]",
+    ),
+    (
+        "CREATE TABLE t (a INT, CHECK (a BETWEEN 1 AND 2 AND NOT a NOT BETWEEN -2 AND a OR NOT a BETWEEN NULL AND 3))",
+        "[#0 between 1 2 & #0 between -2 #0 | !#0 between N 3]",
+    ),
+    (
+        "CREATE TABLE t (a INT, CHECK (a IN (1) OR a NOT IN (a, -1, NULL) OR NOT 5 IN (1, 2)))",
+        "[#0 in 1 | !#0 in #0 -1 N | !5 in 1 2]",
+    ),
+    (
+        "CREATE TABLE t (a INT, CHECK (a = -170141183460469231731687303715884105727))",
+        "[#0=-170141183460469231731687303715884105727]",
+    ),
+    (
+        "CREATE TABLE t (a INT, b INT, c INT, DEPENDENCY (a, b) DETERMINES (c, a), CONSTRAINT k DEPENDENCY (c) DETERMINES (b))",
+        "[ 0 1 -> 2 0][ 2 -> 1]",
+    ),
+    (
+        "CREATE TABLE h (dependency INTEGER, CHECK (dependency BETWEEN 0 AND 100 OR dependency IN (-1)));",
+        "[#0 between 0 100 | #0 in -1]",
+    ),
+    (
+        "CREATE TABLE determines (dependency INT, determines TEXT, DEPENDENCY (dependency) DETERMINES (determines))",
+        "[ 0 -> 1]",
+    ),
+];
+
 #[test]
 fn reads_checks(rt: HostRuntime) {
-    for (text, wanted) in &[
-        ("CREATE TABLE t (a INT CHECK (a > 0), b INT)", "[#0>0]"),
-        (
-            "CREATE TABLE t (a INT NOT NULL CONSTRAINT k CHECK (b <> a) UNIQUE, b INT)",
-            ".[#1<>#0].",
-        ),
-        (
-            "CREATE TABLE t (a INT, CHECK (a = 1), CONSTRAINT k CHECK (NULL <= a), b INT)",
-            "[#0=1][N<=#0]",
-        ),
-        (
-            "CREATE TABLE t (a INT, b TEXT, CHECK (b >= 'x' OR a < -1 AND 'y' = b OR b = ''))",
-            "[#1>='x' | #0<-1 & 'y'=#1 | #1='']",
-        ),
-        (
-            "CREATE TABLE t (a INT, CHECK (a IS NULL AND a IS NOT NULL AND NOT a IS NULL AND NOT a IS NOT NULL))",
-            "[#0 null & !#0 null & !#0 null & #0 null]",
-        ),
-        (
-            "CREATE TABLE t (a INT, CHECK (a BETWEEN 1 AND 2 AND NOT a NOT BETWEEN -2 AND a OR NOT a BETWEEN NULL AND 3))",
-            "[#0 between 1 2 & #0 between -2 #0 | !#0 between N 3]",
-        ),
-        (
-            "CREATE TABLE t (a INT, CHECK (a IN (1) OR a NOT IN (a, -1, NULL) OR NOT 5 IN (1, 2)))",
-            "[#0 in 1 | !#0 in #0 -1 N | !5 in 1 2]",
-        ),
-        (
-            "CREATE TABLE t (a INT, CHECK (a = -170141183460469231731687303715884105727))",
-            "[#0=-170141183460469231731687303715884105727]",
-        ),
-        (
-            "CREATE TABLE t (a INT, b INT, c INT, DEPENDENCY (a, b) DETERMINES (c, a), CONSTRAINT k DEPENDENCY (c) DETERMINES (b))",
-            "[ 0 1 -> 2 0][ 2 -> 1]",
-        ),
-        (
-            "CREATE TABLE h (dependency INTEGER, CHECK (dependency BETWEEN 0 AND 100 OR dependency IN (-1)));",
-            "[#0 between 0 100 | #0 in -1]",
-        ),
-        (
-            "CREATE TABLE determines (dependency INT, determines TEXT, DEPENDENCY (dependency) DETERMINES (determines))",
-            "[ 0 -> 1]",
-        ),
-    ] {
+    for (text, wanted) in &CHECKS {
         assert!(rt; are_told(rt.alloc(), text, wanted), "{text}");
     }
 }
@@ -272,56 +277,58 @@ fn tells_what_is_no_check(rt: HostRuntime) {
 }
 
 // The order of the faults of checks and dependencies.
+const FAULTS_OF_CHECKS: [(&str, &str); 13] = [
+    ("CREATE TABLE h (dependency INTEGER)", "tables 1"),
+    (
+        "CREATE TABLE t (a INT, b INT, DEPENDENCY (a, b, a) DETERMINES (b), CHECK (c = 1))",
+        "twice a",
+    ),
+    (
+        "CREATE TABLE t (a INT, b INT, DEPENDENCY (a) DETERMINES (b, b))",
+        "twice b",
+    ),
+    (
+        "CREATE TABLE t (a INT, b INT, DEPENDENCY (a, b) DETERMINES (b, a))",
+        "tables 1",
+    ),
+    (
+        "CREATE TABLE t (a INT CHECK (a = 1 OR a IN (2, x) AND y = a), CHECK (z = 1))",
+        "unknown x",
+    ),
+    (
+        "CREATE TABLE t (a INT, CHECK (a BETWEEN 'x' AND u), FOREIGN KEY (v) REFERENCES w)",
+        "unknown u",
+    ),
+    (
+        "CREATE TABLE t (a INT, DEPENDENCY (x) DETERMINES (y))",
+        "unknown x",
+    ),
+    (
+        "CREATE TABLE t (a INT, DEPENDENCY (a) DETERMINES (y))",
+        "unknown y",
+    ),
+    (
+        "CREATE TABLE s (b TEXT PRIMARY KEY, CHECK (b = 1)); CREATE TABLE t (a INT REFERENCES s)",
+        "key of t",
+    ),
+    ("CREATE TABLE h (a INTEGER CHECK (a > 'x'));", "check of h"),
+    (
+        "CREATE TABLE t (a INT CHECK (a = a)); CREATE TABLE u (a TEXT CHECK ('x' IN ('y', 1))); CREATE TABLE v (a INT CHECK (a = 'x'))",
+        "check of u",
+    ),
+    (
+        "CREATE TABLE t (a INT, b TEXT, CHECK (a BETWEEN 1 AND b))",
+        "check of t",
+    ),
+    (
+        "CREATE TABLE t (a INT, b TEXT, CHECK (NULL BETWEEN a AND b AND NULL IN (1, 'x') AND a IS NULL))",
+        "tables 1",
+    ),
+];
+
 #[test]
 fn tells_faults_of_checks(rt: HostRuntime) {
-    for (text, wanted) in &[
-        ("CREATE TABLE h (dependency INTEGER)", "tables 1"),
-        (
-            "CREATE TABLE t (a INT, b INT, DEPENDENCY (a, b, a) DETERMINES (b), CHECK (c = 1))",
-            "twice a",
-        ),
-        (
-            "CREATE TABLE t (a INT, b INT, DEPENDENCY (a) DETERMINES (b, b))",
-            "twice b",
-        ),
-        (
-            "CREATE TABLE t (a INT, b INT, DEPENDENCY (a, b) DETERMINES (b, a))",
-            "tables 1",
-        ),
-        (
-            "CREATE TABLE t (a INT CHECK (a = 1 OR a IN (2, x) AND y = a), CHECK (z = 1))",
-            "unknown x",
-        ),
-        (
-            "CREATE TABLE t (a INT, CHECK (a BETWEEN 'x' AND u), FOREIGN KEY (v) REFERENCES w)",
-            "unknown u",
-        ),
-        (
-            "CREATE TABLE t (a INT, DEPENDENCY (x) DETERMINES (y))",
-            "unknown x",
-        ),
-        (
-            "CREATE TABLE t (a INT, DEPENDENCY (a) DETERMINES (y))",
-            "unknown y",
-        ),
-        (
-            "CREATE TABLE s (b TEXT PRIMARY KEY, CHECK (b = 1)); CREATE TABLE t (a INT REFERENCES s)",
-            "key of t",
-        ),
-        ("CREATE TABLE h (a INTEGER CHECK (a > 'x'));", "check of h"),
-        (
-            "CREATE TABLE t (a INT CHECK (a = a)); CREATE TABLE u (a TEXT CHECK ('x' IN ('y', 1))); CREATE TABLE v (a INT CHECK (a = 'x'))",
-            "check of u",
-        ),
-        (
-            "CREATE TABLE t (a INT, b TEXT, CHECK (a BETWEEN 1 AND b))",
-            "check of t",
-        ),
-        (
-            "CREATE TABLE t (a INT, b TEXT, CHECK (NULL BETWEEN a AND b AND NULL IN (1, 'x') AND a IS NULL))",
-            "tables 1",
-        ),
-    ] {
+    for (text, wanted) in &FAULTS_OF_CHECKS {
         assert!(rt; is_told(rt.alloc(), text, wanted), "{text}");
     }
 }

@@ -110,6 +110,7 @@ fn each_kind_of_token(rt: HostRuntime) {
         ),
         (" -- a\n_x /* b\n*/\t\ry2\u{c}", "_x 6-8|y2 18-20|"),
         ("a--b", "a 0-1|"),
+        ("a/* * / */b", "a 0-1|b 10-11|"),
         ("- -", "- 0-1|- 2-3|"),
     ] {
         assert!(rt; are_read(&rt, rt.alloc(), text, wanted), "{text}");

@@ -15,9 +15,9 @@ use Rattle.rt_tools.specs.declared.run.ToolAnswer.{ToolAnswer}
 use Rattle.rt_tools.specs.RowVerdicts.{IsRowAnswer}
 use Rattle.rt_tools.specs.declared.row_outcome.RowVerdict.{RowVerdict}
 use Rattle.rt_tools.specs.declared.row_outcome.RowVerdict.TheVariants as rows
-use Rattle.rt_grading.specs.Answers.{Stops}
-use Rattle.rt_grading.specs.declared.fault.GradeFault.{GradeFault}
-use Rattle.rt_grading.specs.declared.fault.GradeFault.TheVariants as faults
+use Rattle.rt_tools.specs.GradeAnswers.{Stops}
+use Rattle.rt_tools.specs.declared.grade_fault.GradeFault.{GradeFault}
+use Rattle.rt_tools.specs.declared.grade_fault.GradeFault.TheVariants as faults
 use Rattle.rt_tools.specs.declared.outcome.ToolOutcome.{ToolOutcome}
 use Rattle.rt_tools.specs.declared.outcome.ToolOutcome.TheVariants.{Verdict}
 use Rattle.rt_tools.specs.Answers.{Ends, EndsGrades, EndsGrading, IsOwn, SaysGrade, SaysRow, StopsTool, with_words}

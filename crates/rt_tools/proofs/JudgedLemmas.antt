@@ -26,12 +26,12 @@ use Rattle.rt_outcome.specs.Steps.{Failed, Seen}
 use Rattle.rt_tools.specs.RowVerdicts.{IsRowAnswer, Judges}
 use Rattle.rt_tools.specs.declared.row_outcome.RowVerdict.{RowVerdict}
 use Rattle.rt_tools.specs.declared.row_outcome.RowVerdict.TheVariants as rows
-use Rattle.rt_grading.specs.declared.grade.Grade.{Grade}
-use Rattle.rt_grading.specs.Answers.{AreGradedBy, FailsToRead, RefusesList, Stops, StopsFirst, StopsOf}
-use Rattle.rt_grading.specs.Words.{grade_words}
-use Rattle.rt_grading.specs.declared.fault.GradeFault.{GradeFault}
-use Rattle.rt_grading.specs.declared.fault.GradeFault.TheVariants as faults
-use Rattle.rt_grading.specs.declared.words.GradeWords.{GradeWords}
+use Rattle.rt_tools.specs.declared.grade.Grade.{Grade}
+use Rattle.rt_tools.specs.GradeAnswers.{AreGradedBy, FailsToRead, RefusesList, Stops, StopsFirst, StopsOf}
+use Rattle.rt_tools.specs.GradeWords.{grade_words}
+use Rattle.rt_tools.specs.declared.grade_fault.GradeFault.{GradeFault}
+use Rattle.rt_tools.specs.declared.grade_fault.GradeFault.TheVariants as faults
+use Rattle.rt_tools.specs.declared.grade_words.GradeWords.{GradeWords}
 use Rattle.rt_tools.specs.declared.outcome.ToolOutcome.{ToolOutcome}
 use Rattle.rt_tools.specs.declared.outcome.ToolOutcome.TheVariants.{RowWitness, RowNever, RowSpent, RowRefused, BadList, TooManyPaths, ListLong, FileRead, Grades, Verdict}
 use Rattle.rt_tools.specs.Answers.{Ends, EndsGrades, StopsTool, WritesTo, with_words}

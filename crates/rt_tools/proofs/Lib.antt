@@ -7,3 +7,10 @@ mod RowLemmas
 mod Nodes
 mod Transfer
 mod VerdictLemmas
+mod AloneLemmas
+mod FaultLemmas
+mod GradeLemmas
+mod WordLemmas
+mod JudgeLemmas
+mod KnownLemmas
+mod CandidateLemmas

@@ -9,10 +9,10 @@ use Rattle.rt_outcome.specs.Source.{Text}
 use Rattle.rt_tools.specs.RowVerdicts.{IsRowAnswer}
 use Rattle.rt_tools.specs.declared.row_outcome.RowVerdict.{RowVerdict}
 use Rattle.rt_tools.specs.declared.row_outcome.RowVerdict.TheVariants as rows
-use Rattle.rt_grading.specs.declared.grade.Grade.{Grade}
-use Rattle.rt_grading.specs.Answers.{AreGraded, Stops}
-use Rattle.rt_grading.specs.declared.fault.GradeFault.{GradeFault}
-use Rattle.rt_grading.specs.declared.fault.GradeFault.TheVariants as faults
+use Rattle.rt_tools.specs.declared.grade.Grade.{Grade}
+use Rattle.rt_tools.specs.GradeAnswers.{AreGraded, Stops}
+use Rattle.rt_tools.specs.declared.grade_fault.GradeFault.{GradeFault}
+use Rattle.rt_tools.specs.declared.grade_fault.GradeFault.TheVariants as faults
 use Rattle.rt_tools.specs.declared.outcome.ToolOutcome.{ToolOutcome}
 use Rattle.rt_tools.specs.declared.outcome.ToolOutcome.TheVariants.{RowWitness, RowNever, RowSpent, RowRefused, BadList, TooManyPaths, ListLong, FileRead, Grades, Verdict}
 use Rattle.rt_tools.specs.Outcomes.{of_fault, of_verdict}

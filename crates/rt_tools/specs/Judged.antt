@@ -15,10 +15,10 @@ use Rattle.rt_input.specs.First.{first_judged}
 use Rattle.rt_input.specs.Judged.{judged}
 use Rattle.rt_outcome.specs.Held.{Holding}
 use Rattle.rt_outcome.specs.Source.{Text, source_of}
-use Rattle.rt_grading.specs.Listing.{list_judged}
-use Rattle.rt_grading.specs.Words.{grade_words}
-use Rattle.rt_grading.specs.declared.fault.GradeFault.{GradeFault}
-use Rattle.rt_grading.specs.declared.words.GradeWords.{GradeWords}
+use Rattle.rt_tools.specs.Listing.{list_judged}
+use Rattle.rt_tools.specs.GradeWords.{grade_words}
+use Rattle.rt_tools.specs.declared.grade_fault.GradeFault.{GradeFault}
+use Rattle.rt_tools.specs.declared.grade_words.GradeWords.{GradeWords}
 use Rattle.rt_tools.specs.Answers.{with_words}
 use Rattle.rt_tools.specs.Outcomes.{of_fault}
 use Rattle.rt_tools.specs.Words.{Tool, grade, neither, row}

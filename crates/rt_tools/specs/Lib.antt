@@ -7,3 +7,12 @@ pub mod Rows
 pub mod RowVerdicts
 pub mod Said
 pub mod Holds
+pub mod GradeAnswers
+pub mod Candidates
+pub mod Listing
+pub mod GradeWords
+pub mod Grades
+pub mod Known
+pub mod Prepared
+pub mod Review
+pub mod Listed

@@ -3,7 +3,7 @@ use Rattle.std.specs.Prelude.{◌≡◌, List, [], ◌∷◌, None, codes, if◌
 use Rattle.std.specs.Str.{bytes_eq}
 use Rattle.rt_io.specs.Command.{command}
 use Rattle.rt_outcome.specs.Source.{Text}
-use Rattle.rt_grading.specs.Words.{grade_words}
+use Rattle.rt_tools.specs.GradeWords.{grade_words}
 
 -- the tool that the words name, and what is behind its name
 pub data Tool : Type 0 where

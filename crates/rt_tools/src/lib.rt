@@ -3,9 +3,24 @@
 //! The answer on one row of a command's first query is the smallest lawful sub-instance at which the
 //! first query alone answers with it (the smallest witness problem; Miao, Roy and Yang, SIGMOD 2019).
 //! The row is named by its cells as they are printed, parted by commas.
+//!
+//! The grade of a candidate is how its query stands to a reference over the same rows; the grades of
+//! many are those of a schema, its rows, a reference and a list of candidates' files.
 #![tactic(auto)]
 
+mod candidates;
+mod grade;
+mod grade_fault;
+mod grade_run;
+mod grade_words;
+mod judge;
+mod known;
+mod list;
 mod outcome;
+mod paths;
+mod paths_fault;
+mod prepared;
+mod review;
 mod row_aim;
 mod row_cell;
 mod row_fault;
@@ -16,8 +31,16 @@ mod row_text;
 mod row_verdict;
 mod run;
 mod say;
+mod small;
 
+pub use grade::Grade;
+pub use grade_fault::GradeFault;
+pub use grade_run::{Graded, grades};
+pub use grade_words::GradeWords;
 pub use outcome::ToolOutcome;
+pub use paths::read_paths;
+pub use paths_fault::PathsFault;
+pub use review::{Review, grade_text};
 pub use row_fault::RowFault;
 pub use row_outcome::{RowAnswer, RowVerdict};
 pub use row_reader::read_row;

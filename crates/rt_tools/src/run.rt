@@ -10,10 +10,11 @@ ghost use Rattle.rt_tools.specs.Texts.{place};
 ghost use Rattle.rt_tools.specs.Words.{IsUsage, tool_of};
 ghost use Rattle.rt_tools.specs.declared.outcome.ToolOutcome.{ToolOutcome};
 
+use crate::grade_fault::GradeFault;
+use crate::grade_run::grades;
 use crate::outcome::ToolOutcome;
 use crate::row_verdict::row_answer;
 use crate::say::{USAGE, fault_line, grades_text};
-use rt_grading::{GradeFault, grades};
 use rt_input::stopped_text;
 use rt_io::{Files, Sink, SinkFail, write_at};
 use rt_outcome::Outcome;

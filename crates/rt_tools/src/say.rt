@@ -2,7 +2,8 @@
 ghost use Rattle.std.specs.Prelude.{◌≡◌, ◌++◌, IfOk, OnOk};
 ghost use Rattle.rt_tools.specs.Texts as spec;
 
-use rt_grading::{Grade, GradeFault};
+use crate::grade::Grade;
+use crate::grade_fault::GradeFault;
 use rt_outcome::fault_text;
 use rt_value::{Bytes, List, NoMemory, Txt};
 use std::alloc::Global;

@@ -8,56 +8,58 @@ use std::process::Abort;
 
 const NONE: &[u8] = b"ratest certificate 1\nverdict agree\nadded 0\nend\n";
 
+const PAST_WORK: &str = "ratest: limit: work 36 is above 35\n";
+
+const REFUSED: [(&[&str], u8, &str, &str); 12] = [
+    (&[], 2, "", CERT_USAGE),
+    (&["prove"], 2, "", CERT_USAGE),
+    (&["proves", "made", "3"], 2, "", CERT_USAGE),
+    (&["prove", "made", "0"], 2, "", CERT_USAGE),
+    (&["check"], 2, "", CERT_USAGE),
+    (&["check", "cert"], 2, "", CERT_USAGE),
+    (&["check", "made", "3"], 2, "", CERT_USAGE),
+    (
+        &["prove", "s", "d", "no", "above2.sql"],
+        6,
+        "",
+        "ratest: cannot read query 1\n",
+    ),
+    (
+        &["check", "no", "s", "d", "above1.sql", "foo.sql"],
+        3,
+        "",
+        "ratest: query 2: unknown column: foo\n",
+    ),
+    (
+        &["check", "no", "s", "d", "above1.sql", "above2.sql"],
+        6,
+        "",
+        "ratest: cannot read certificate\n",
+    ),
+    (
+        &["prove", "--work=35", "s", "d", "above1.sql", "above2.sql"],
+        5,
+        "",
+        PAST_WORK,
+    ),
+    (
+        &[
+            "prove",
+            "--conflicts=1",
+            "sets",
+            "d",
+            "once.sql",
+            "twice.sql",
+        ],
+        4,
+        "undecided: 1 conflicts\n",
+        "",
+    ),
+];
+
 #[test]
 fn words_and_inputs(rt: HostRuntime) {
-    let work = "ratest: limit: work 36 is above 35\n";
-    let table: &[(&[&str], u8, &str, &str)] = &[
-        (&[], 2, "", CERT_USAGE),
-        (&["prove"], 2, "", CERT_USAGE),
-        (&["proves", "made", "3"], 2, "", CERT_USAGE),
-        (&["prove", "made", "0"], 2, "", CERT_USAGE),
-        (&["check"], 2, "", CERT_USAGE),
-        (&["check", "cert"], 2, "", CERT_USAGE),
-        (&["check", "made", "3"], 2, "", CERT_USAGE),
-        (
-            &["prove", "s", "d", "no", "above2.sql"],
-            6,
-            "",
-            "ratest: cannot read query 1\n",
-        ),
-        (
-            &["check", "no", "s", "d", "above1.sql", "foo.sql"],
-            3,
-            "",
-            "ratest: query 2: unknown column: foo\n",
-        ),
-        (
-            &["check", "no", "s", "d", "above1.sql", "above2.sql"],
-            6,
-            "",
-            "ratest: cannot read certificate\n",
-        ),
-        (
-            &["prove", "--work=35", "s", "d", "above1.sql", "above2.sql"],
-            5,
-            "",
-            work,
-        ),
-        (
-            &[
-                "prove",
-                "--conflicts=1",
-                "sets",
-                "d",
-                "once.sql",
-                "twice.sql",
-            ],
-            4,
-            "undecided: 1 conflicts\n",
-            "",
-        ),
-    ];
-    for (words, status, out, err) in table {
+    for (words, status, out, err) in &REFUSED {
         let files = with_cert(&rt, rt.alloc(), NONE);
         let ended = (*status, *out, *err);
         assert!(rt;

@@ -36,42 +36,47 @@ fn lists_of_candidates(rt: HostRuntime) {
     }
 }
 
+const PAST_WORK: &str =
+    "b.sql: work 54\na.sql: work 45\nc.sql: refused: unknown column: foo\ngraded: 3\n";
+
+const AT_WORK: &str =
+    "b.sql: work 54\na.sql: agree\nc.sql: refused: unknown column: foo\ngraded: 3\n";
+
+const OTHER_WORDS: [(&[&str], u8, &str, &str); 8] = [
+    (&["grade"], 2, "", USAGE),
+    (&["grade", "s", "d", "a.sql"], 2, "", USAGE),
+    (&["grade", "made", "3"], 2, "", USAGE),
+    (&["grade", "--", "made", "d", "a.sql", "list"], 2, "", USAGE),
+    (
+        &["grade", "s", "d", "a.sql", "no"],
+        6,
+        "",
+        "ratest: cannot read no\n",
+    ),
+    (
+        &["grade", "s", "d", "no", "list"],
+        6,
+        "",
+        "ratest: cannot read query 1\n",
+    ),
+    (
+        &["grade", "--work=1", "s", "d", "a.sql", "list"],
+        0,
+        PAST_WORK,
+        "",
+    ),
+    (
+        &["grade", "--work=45", "s", "d", "a.sql", "list"],
+        0,
+        AT_WORK,
+        "",
+    ),
+];
+
 #[test]
 fn words_of_a_list(rt: HostRuntime) {
     let alloc = rt.alloc();
-    let work = "b.sql: work 54\na.sql: work 45\nc.sql: refused: unknown column: foo\ngraded: 3\n";
-    let limit = "b.sql: work 54\na.sql: agree\nc.sql: refused: unknown column: foo\ngraded: 3\n";
-    let table: &[(&[&str], u8, &str, &str)] = &[
-        (&["grade"], 2, "", USAGE),
-        (&["grade", "s", "d", "a.sql"], 2, "", USAGE),
-        (&["grade", "made", "3"], 2, "", USAGE),
-        (&["grade", "--", "made", "d", "a.sql", "list"], 2, "", USAGE),
-        (
-            &["grade", "s", "d", "a.sql", "no"],
-            6,
-            "",
-            "ratest: cannot read no\n",
-        ),
-        (
-            &["grade", "s", "d", "no", "list"],
-            6,
-            "",
-            "ratest: cannot read query 1\n",
-        ),
-        (
-            &["grade", "--work=1", "s", "d", "a.sql", "list"],
-            0,
-            work,
-            "",
-        ),
-        (
-            &["grade", "--work=45", "s", "d", "a.sql", "list"],
-            0,
-            limit,
-            "",
-        ),
-    ];
-    for (words, status, out, err) in table {
+    for (words, status, out, err) in &OTHER_WORDS {
         let files = with_list(&rt, alloc, b"b.sql\na.sql\nc.sql\n");
         assert!(rt;
             ends(&rt, alloc, files, words, *status, out, err),

@@ -1,7 +1,14 @@
-//! The tests of the top call: worked inputs, refusals, faults, limits and budgets.
+//! The tests of the top call: worked inputs, limits and budgets; and of what stops a command:
+//! refusals, faults of files and sinks, and the parts of a command by themselves.
 //!
 //! They stand in a crate of their own, since a crate with tests is proved twice.
 #![tactic(auto)]
 
+#[cfg(test)]
+mod failing;
+#[cfg(test)]
+mod parts;
+#[cfg(test)]
+mod refused;
 #[cfg(test)]
 mod tests;

@@ -1,5 +1,5 @@
 //! What the command says, over files and sinks in memory.
-use rt_cases::{ALL, FOUR, LARGE, SCHEMA, TABLE, ends, files, is_write_fault, words};
+use rt_cases::{ABC, ALL, FOUR, LARGE, SCHEMA, TABLE, ends, files, is_write_fault, words};
 use rt_io::MemFiles;
 use rt_top::USAGE;
 use std::alloc::{AllocError, Global};
@@ -172,23 +172,32 @@ fn thousands_end(
     files_end(rt, alloc, files, command, status, out, err)
 }
 
+const PAST_WORK: &str = "ratest: limit: work 16000 is above 15999\n";
+
+const PAST_ROWS: &str = "ratest: limit: more than 2000 rows\n";
+
+const LARGE_TABLES: [(u64, &[&str], u8, &str, &str); 4] = [
+    (2000, &FOUR, 0, "agree\n", ""),
+    (
+        2000,
+        &["s", "d", "p", "q", "--conflicts", "1"],
+        0,
+        "agree\n",
+        "",
+    ),
+    (
+        2000,
+        &["--work", "15999", "s", "d", "p", "q"],
+        5,
+        "",
+        PAST_WORK,
+    ),
+    (2001, &FOUR, 5, "", PAST_ROWS),
+];
+
 #[test]
 fn large_tables(rt: HostRuntime) {
-    let work = "ratest: limit: work 16000 is above 15999\n";
-    let limit = "ratest: limit: more than 2000 rows\n";
-    let table: &[(u64, &[&str], u8, &str, &str)] = &[
-        (2000, &FOUR, 0, "agree\n", ""),
-        (
-            2000,
-            &["s", "d", "p", "q", "--conflicts", "1"],
-            0,
-            "agree\n",
-            "",
-        ),
-        (2000, &["--work", "15999", "s", "d", "p", "q"], 5, "", work),
-        (2001, &FOUR, 5, "", limit),
-    ];
-    for (last, command, status, out, err) in table {
+    for (last, command, status, out, err) in &LARGE_TABLES {
         assert!(rt;
             thousands_end(&rt, rt.alloc(), *last, command, *status, out, err),
             "{last} {command:?}"
@@ -216,30 +225,39 @@ fn is_past_work(
     files_end(rt, alloc, files, &FOUR, 5, "", line)
 }
 
+const NUMBERS: &str = "CREATE TABLE t (x INTEGER);";
+
+const SIX: &str = "ratest: limit: work 413689024 is above 16000000\n";
+
+const THREE: &str = "ratest: limit: work 768642400 is above 16000000\n";
+
+const LIMITS: [(&str, &[&str], u64, &str, &str); 3] = [
+    (
+        NUMBERS,
+        &["d/t.csv"],
+        16,
+        "SELECT * FROM t a, t b, t c, t d, t e, t f",
+        SIX,
+    ),
+    (
+        NUMBERS,
+        &["d/t.csv"],
+        400,
+        "SELECT * FROM t a, t b, t c",
+        THREE,
+    ),
+    (
+        ABC,
+        &["d/a.csv", "d/b.csv", "d/c.csv"],
+        400,
+        "SELECT * FROM a, b, c",
+        THREE,
+    ),
+];
+
 #[test]
 fn limit_of_work(rt: HostRuntime) {
-    let one = "CREATE TABLE t (x INTEGER);";
-    let abc = "CREATE TABLE a (x INTEGER); CREATE TABLE b (x INTEGER); CREATE TABLE c (x INTEGER)";
-    let six = "ratest: limit: work 413689024 is above 16000000\n";
-    let three = "ratest: limit: work 768642400 is above 16000000\n";
-    let table: &[(&str, &[&str], u64, &str, &str)] = &[
-        (
-            one,
-            &["d/t.csv"],
-            16,
-            "SELECT * FROM t a, t b, t c, t d, t e, t f",
-            six,
-        ),
-        (one, &["d/t.csv"], 400, "SELECT * FROM t a, t b, t c", three),
-        (
-            abc,
-            &["d/a.csv", "d/b.csv", "d/c.csv"],
-            400,
-            "SELECT * FROM a, b, c",
-            three,
-        ),
-    ];
-    for (schema, names, last, query, line) in table {
+    for (schema, names, last, query, line) in &LIMITS {
         assert!(rt;
             is_past_work(&rt, rt.alloc(), schema, names, *last, query, line),
             "{query}"

@@ -1,7 +1,0 @@
-mod AloneLemmas
-mod FaultLemmas
-mod GradeLemmas
-mod WordLemmas
-mod JudgeLemmas
-mod KnownLemmas
-mod LineLemmas

@@ -1,9 +1,0 @@
-pub mod Answers
-pub mod Candidates
-pub mod Listing
-pub mod Words
-pub mod Grades
-pub mod Known
-pub mod Prepared
-pub mod Review
-pub mod Listed

@@ -1,2 +1,0 @@
-mod Exchanging
-mod Membership

@@ -1,5 +1,0 @@
-use Rattle.rt_schema.specs.Given.{IsOf}
-use Rattle.rt_ra_cases.proofs.data.read_rows.Given as goal
-
-abbrev pub invariant-files : goal.invariant-files
-invariant-files g l = IsOf l.schema l.given
