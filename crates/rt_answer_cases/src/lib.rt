@@ -1,5 +1,6 @@
 //! The tests of answers, annotations and verdicts as values: what names and set operators mean, and
-//! what is seen of an annotation and of a verdict from outside.
+//! what is seen of an annotation and of a verdict from outside; and of algebra texts: what is read,
+//! what a text becomes and answers, what is refused, and the command on them.
 //!
 //! They stand in a crate of their own, since a crate with tests is proved twice.
 #![tactic(auto)]
@@ -16,3 +17,11 @@ mod generated;
 mod names;
 #[cfg(test)]
 mod nodes;
+#[cfg(test)]
+mod ra_command;
+#[cfg(test)]
+mod ra_data;
+#[cfg(test)]
+mod ra_reads;
+#[cfg(test)]
+mod ra_resolves;

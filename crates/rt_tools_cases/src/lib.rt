@@ -1,6 +1,5 @@
-//! The tests of the commands of the second program: one named row, the grades of many candidates,
-//! certificates, and algebra texts, of which what is read, what a text becomes and answers, and what
-//! is refused is tested by itself too.
+//! The tests of the commands of the second program but those on algebra texts: one named row, the
+//! grades of many candidates, and certificates.
 //!
 //! They stand in a crate of their own, since a crate with tests is proved twice.
 #![tactic(auto)]
@@ -19,14 +18,6 @@ mod grades;
 mod held;
 #[cfg(test)]
 mod least;
-#[cfg(test)]
-mod ra_command;
-#[cfg(test)]
-mod ra_data;
-#[cfg(test)]
-mod ra_reads;
-#[cfg(test)]
-mod ra_resolves;
 #[cfg(test)]
 mod row_texts;
 #[cfg(test)]
