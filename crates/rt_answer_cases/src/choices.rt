@@ -2,9 +2,8 @@
 ghost use Rattle.std.specs.Prelude.{◌≡◌, length};
 
 use rt_cases::{FOUR, words};
-use rt_input::{Input, read_input};
+use rt_input::{Input, Outcome, read_input};
 use rt_io::MemFiles;
-use rt_outcome::Outcome;
 use rt_value::Keep;
 use std::alloc::Global;
 use std::process::Abort;

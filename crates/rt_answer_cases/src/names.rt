@@ -3,8 +3,7 @@
 use crate::annotated::answer;
 use crate::choices::choice;
 use rt_cases::{FOUR, files, words};
-use rt_input::{Input, read_input};
-use rt_outcome::{Outcome, Part, fault_text, refusal_line};
+use rt_input::{Input, Outcome, Part, fault_text, read_input, refusal_line};
 use rt_value::{Row, Value};
 use std::alloc::{AllocError, Global};
 use std::fmt::Write;

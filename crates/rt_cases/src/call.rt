@@ -1,7 +1,7 @@
 //! Calls of `ratest` in memory.
 use crate::held::words;
+use rt_input::Outcome;
 use rt_io::{MemFiles, MemSink};
-use rt_outcome::Outcome;
 use rt_top::ratest;
 use rt_value::{NoMemory, Txt};
 use std::alloc::Global;

@@ -12,17 +12,17 @@ use Rattle.rt_io.specs.Ranges.{Command}
 use Rattle.rt_recorder.specs.declared.cert.Cert.{Cert}
 use Rattle.rt_recorder.specs.declared.fault.CertFault.TheVariants as reading
 use Rattle.rt_recorder.proofs.BadLemmas.{of-bad, of-cert}
-use Rattle.rt_outcome.specs.declared.outcome.Outcome.{Outcome}
-use Rattle.rt_outcome.specs.declared.outcome.Outcome.TheVariants as outcome
-use Rattle.rt_outcome.specs.declared.outcome.Spent.{Spent}
-use Rattle.rt_outcome.specs.declared.part.Part.{Part}
-use Rattle.rt_outcome.specs.declared.part.Part.TheVariants as parts
+use Rattle.rt_input.specs.declared.outcome.Outcome.{Outcome}
+use Rattle.rt_input.specs.declared.outcome.Outcome.TheVariants as outcome
+use Rattle.rt_input.specs.declared.outcome.Spent.{Spent}
+use Rattle.rt_input.specs.declared.part.Part.{Part}
+use Rattle.rt_input.specs.declared.part.Part.TheVariants as parts
 use Rattle.rt_input.specs.Accepted.{Accepted}
 use Rattle.rt_input.specs.Reading.{Call, IsRead, IsTold, ReadFaultAt, ReadFaultRow, Stop, limit_of}
 use Rattle.rt_top.specs.Answers.{HasRoom, NoFileRose}
 use Rattle.rt_input.specs.Judged.{HasTable, IsNamed, Reaches, TableReached, command_judged, judged, schema_judged}
-use Rattle.rt_outcome.specs.Held.{Holding, without_mark}
-use Rattle.rt_outcome.specs.Source.{IsKnown, Text, source_from, source_of}
+use Rattle.rt_input.specs.Held.{Holding, without_mark}
+use Rattle.rt_input.specs.Source.{IsKnown, Text, source_from, source_of}
 use Rattle.rt_cert.specs.Certified.{IsJudged, claim_fault}
 use Rattle.rt_cert.specs.declared.judgement.Judgement.TheVariants as judgement
 use Rattle.rt_cert.specs.declared.judgement.Why.{Why}

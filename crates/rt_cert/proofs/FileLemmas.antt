@@ -2,9 +2,9 @@
 use Rattle.std.proofs.Common.{◌≡◌, ◌<◌, ℕ, length, subst, inl, inr, IsTrue, arith}
 use Rattle.rt_io.specs.Edge.{NoneFell}
 use Rattle.rt_input.specs.Accepted.{Accepted}
-use Rattle.rt_outcome.specs.Held.{Holding}
-use Rattle.rt_outcome.specs.Source.{Text}
-use Rattle.rt_outcome.specs.Steps.{Seen, seen}
+use Rattle.rt_input.specs.Held.{Holding}
+use Rattle.rt_input.specs.Source.{Text}
+use Rattle.rt_input.specs.Steps.{Seen, seen}
 use Rattle.rt_cert.specs.declared.file.FileFault.{FileFault}
 use Rattle.rt_cert.specs.declared.file.FileFault.TheVariants.{BadLine, Long, Unread, NoMemory}
 use Rattle.rt_cert.specs.declared.outcome.CertOutcome.{CertOutcome}

@@ -9,13 +9,13 @@ use Rattle.rt_value.specs.declared.no_memory.NoMemory.{NoMemory}
 use Rattle.rt_io.specs.Command.{command}
 use Rattle.rt_recorder.specs.declared.cert.Cert.{Cert}
 use Rattle.rt_recorder.specs.declared.fault.CertFault.TheVariants as reading
-use Rattle.rt_outcome.specs.declared.outcome.Outcome.{Outcome}
-use Rattle.rt_outcome.specs.declared.outcome.Outcome.TheVariants as outcome
+use Rattle.rt_input.specs.declared.outcome.Outcome.{Outcome}
+use Rattle.rt_input.specs.declared.outcome.Outcome.TheVariants as outcome
 use Rattle.rt_input.specs.Accepted.{Accepted}
 use Rattle.rt_input.specs.Reading.{Call, IsRead, Stop, limit_of}
-use Rattle.rt_outcome.specs.Held.{Holding}
-use Rattle.rt_outcome.specs.Source.{Text}
-use Rattle.rt_outcome.specs.Steps.{Seen, seen}
+use Rattle.rt_input.specs.Held.{Holding}
+use Rattle.rt_input.specs.Source.{Text}
+use Rattle.rt_input.specs.Steps.{Seen, seen}
 use Rattle.rt_cert.specs.Certified.{IsJudged, IsProof}
 use Rattle.rt_cert.specs.declared.judgement.Judgement.{Judgement}
 use Rattle.rt_cert.specs.declared.judgement.Judgement.TheVariants as judgement

@@ -7,16 +7,16 @@ use Rattle.rt_recorder.specs.Certificate.{cert_text}
 use Rattle.rt_recorder.specs.declared.cert.Cert.{Cert}
 use Rattle.rt_recorder.specs.declared.fault.CertFault.{CertFault}
 use Rattle.rt_recorder.specs.declared.fault.CertFault.TheVariants as faults
-use Rattle.rt_outcome.specs.declared.outcome.Outcome.{Outcome}
-use Rattle.rt_outcome.specs.declared.outcome.Outcome.TheVariants as outcome
-use Rattle.rt_outcome.specs.declared.outcome.Spent.{Spent}
+use Rattle.rt_input.specs.declared.outcome.Outcome.{Outcome}
+use Rattle.rt_input.specs.declared.outcome.Outcome.TheVariants as outcome
+use Rattle.rt_input.specs.declared.outcome.Spent.{Spent}
 use Rattle.rt_input.specs.Accepted.{Accepted}
 use Rattle.rt_input.specs.Reading.{Call, IsRead, IsTold, Stop, limit_of}
 use Rattle.rt_top.specs.Answers as top
 use Rattle.rt_input.specs.Judged.{judged}
 use Rattle.rt_top.specs.Smallest.{IsGivenUp}
-use Rattle.rt_outcome.specs.Source.{Text}
-use Rattle.rt_outcome.specs.Steps.{Seen}
+use Rattle.rt_input.specs.Source.{Text}
+use Rattle.rt_input.specs.Steps.{Seen}
 use Rattle.rt_top.specs.Texts.{spent_of}
 use Rattle.rt_cert.specs.Certified.{IsJudged, IsProof}
 use Rattle.rt_cert.specs.declared.judgement.Judgement.{Judgement}

@@ -4,9 +4,9 @@ use Rattle.rt_io.specs.Edge.{Rose}
 use Rattle.rt_recorder.specs.Certificate.{IsCert, cert_text}
 use Rattle.rt_recorder.specs.Lines.{IsFirstBad}
 use Rattle.rt_recorder.specs.declared.cert.Cert.{Cert}
-use Rattle.rt_outcome.specs.Held.{without_mark}
-use Rattle.rt_outcome.specs.Source.{Text}
-use Rattle.rt_outcome.specs.Steps.{Seen}
+use Rattle.rt_input.specs.Held.{without_mark}
+use Rattle.rt_input.specs.Source.{Text}
+use Rattle.rt_input.specs.Steps.{Seen}
 use Rattle.rt_cert.specs.declared.file.FileFault.{FileFault}
 use Rattle.rt_cert.specs.declared.file.FileFault.TheVariants.{BadLine, Long, Unread, NoMemory}
 

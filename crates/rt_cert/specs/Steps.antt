@@ -4,12 +4,12 @@ use Rattle.rt_io.specs.Logs.{Broke, Grew, GrewPartly, Log}
 use Rattle.rt_io.specs.Command.{command}
 use Rattle.rt_recorder.specs.Certificate.{cert_text}
 use Rattle.rt_recorder.specs.declared.cert.Cert.{Cert}
-use Rattle.rt_outcome.specs.declared.outcome.Outcome.{Outcome}
-use Rattle.rt_outcome.specs.declared.outcome.Outcome.TheVariants as outcome
+use Rattle.rt_input.specs.declared.outcome.Outcome.{Outcome}
+use Rattle.rt_input.specs.declared.outcome.Outcome.TheVariants as outcome
 use Rattle.rt_input.specs.Accepted.{Accepted}
 use Rattle.rt_input.specs.Reading.{Call, IsRead, Stop, limit_of}
-use Rattle.rt_outcome.specs.Source.{Text}
-use Rattle.rt_outcome.specs.Steps.{Seen}
+use Rattle.rt_input.specs.Source.{Text}
+use Rattle.rt_input.specs.Steps.{Seen}
 use Rattle.rt_cert.specs.Certified.{IsJudged, IsProof}
 use Rattle.rt_cert.specs.declared.judgement.Judgement.{Judgement}
 use Rattle.rt_cert.specs.declared.file.FileFault.{FileFault}

@@ -5,10 +5,10 @@ use Rattle.rt_io.specs.declared.place.Place.{Place}
 use Rattle.rt_io.specs.declared.place.Place.TheVariants as at
 use Rattle.rt_recorder.specs.declared.fault.CertFault.{CertFault}
 use Rattle.rt_recorder.specs.declared.fault.CertFault.TheVariants as faults
-use Rattle.rt_outcome.specs.declared.outcome.Outcome.{Outcome}
-use Rattle.rt_outcome.specs.declared.outcome.Outcome.TheVariants as outcome
-use Rattle.rt_outcome.specs.Source.{Text}
-use Rattle.rt_outcome.specs.Texts.{place as place_of_outcome, status_of as status_of_outcome, stopped_text}
+use Rattle.rt_input.specs.declared.outcome.Outcome.{Outcome}
+use Rattle.rt_input.specs.declared.outcome.Outcome.TheVariants as outcome
+use Rattle.rt_input.specs.Source.{Text}
+use Rattle.rt_input.specs.Texts.{place as place_of_outcome, status_of as status_of_outcome, stopped_text}
 use Rattle.rt_cert.specs.declared.judgement.Judgement.{Judgement}
 use Rattle.rt_cert.specs.declared.judgement.Judgement.TheVariants as judgement
 use Rattle.rt_cert.specs.declared.judgement.Why.{Why}

@@ -2,7 +2,7 @@
 use Rattle.std.specs.Prelude.{◌≡◌, List, [], ◌∷◌, None, codes, if◌then◌else◌, ⊤}
 use Rattle.std.specs.Str.{bytes_eq}
 use Rattle.rt_io.specs.Command.{command}
-use Rattle.rt_outcome.specs.Source.{Text}
+use Rattle.rt_input.specs.Source.{Text}
 
 -- what the words ask for, and the words of a command of `ratest`
 pub data Asked : Type 0 where

@@ -2,7 +2,7 @@
 ghost use Rattle.std.specs.Prelude.{◌≡◌, IfOk};
 ghost use Rattle.rt_io.specs.Edge.{NoneFell, OnlyRises};
 ghost use Rattle.rt_input.specs.Reading.{call};
-ghost use Rattle.rt_outcome.specs.Steps.{over};
+ghost use Rattle.rt_input.specs.Steps.{over};
 ghost use Rattle.rt_cert.specs.Steps.{ChecksIn, IsFaultTold, JudgesIn, SaysCheck};
 
 use crate::checking::check;

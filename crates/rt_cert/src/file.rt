@@ -2,8 +2,8 @@
 ghost use Rattle.std.specs.Prelude.{◌≡◌, IsTrue, IfOk, IfErr};
 ghost use Rattle.rt_io.specs.Edge.{OnlyRises};
 ghost use Rattle.rt_recorder.specs.Certificate.{IsCert, cert_text};
-ghost use Rattle.rt_outcome.specs.Held.{without_mark};
-ghost use Rattle.rt_outcome.specs.Steps.{over};
+ghost use Rattle.rt_input.specs.Held.{without_mark};
+ghost use Rattle.rt_input.specs.Steps.{over};
 ghost use Rattle.rt_cert.specs.CertFile.{FileStops, IsFileOf, IsTextOf, TextStops};
 
 use rt_io::{Files, ReadFail, read_file};

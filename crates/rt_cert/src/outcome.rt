@@ -2,8 +2,8 @@ ghost use Rattle.std.specs.Prelude.{◌≡◌};
 ghost use Rattle.rt_cert.specs.Texts.{of_judgement, place, status_of};
 
 use crate::judgement::{Judgement, Why};
+use rt_input::Outcome;
 use rt_io::Place;
-use rt_outcome::Outcome;
 use rt_recorder::{Cert, CertFault, Encoded};
 use rt_value::Keep;
 

@@ -7,7 +7,7 @@ ghost use Rattle.rt_recorder.specs.declared.cert.Cert.{Cert};
 ghost use Rattle.rt_recorder.specs.declared.fault.CertFault.TheVariants.{BadLine};
 ghost use Rattle.rt_input.specs.Reading.{IsTold, call};
 ghost use Rattle.rt_input.specs.Judged.{judged};
-ghost use Rattle.rt_outcome.specs.declared.outcome.Outcome.{Outcome};
+ghost use Rattle.rt_input.specs.declared.outcome.Outcome.{Outcome};
 ghost use Rattle.rt_cert.specs.Answers.{Ends, EndsBegun, EndsBroken, EndsWritten, IfNoMemory, IfText, IfWriteFault, IsOrFault, IsProvedOrMemory, IsUsageOrFault, OverCalm, OverFile, YieldsTo};
 ghost use Rattle.rt_cert.specs.CertFile.{IsBadFile, IsFileOf, most_bytes};
 ghost use Rattle.rt_cert.specs.Steps.{WritesTo};
@@ -21,8 +21,8 @@ use crate::outcome::CertOutcome;
 use crate::prove_told::prove_told;
 use crate::say::CERT_USAGE;
 use crate::told::Told;
+use rt_input::Outcome;
 use rt_io::{Files, Sink, SinkFail, write_at};
-use rt_outcome::Outcome;
 use rt_value::{List, NoMemory, Txt};
 use std::alloc::Global;
 

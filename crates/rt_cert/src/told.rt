@@ -3,8 +3,7 @@ ghost use Rattle.rt_cert.specs.Steps.{SaysVerdict};
 
 use crate::outcome::CertOutcome;
 use crate::say::CERT_USAGE;
-use rt_input::stopped_text;
-use rt_outcome::Outcome;
+use rt_input::{Outcome, stopped_text};
 use rt_value::{Bytes, NoMemory, Txt};
 use std::alloc::Global;
 

@@ -1,20 +1,20 @@
 -- Which file a reading begins last.
 use Rattle.std.proofs.Common.{◌≡◌, ◌∙◌, Bool, List, ℕ, Result, Ok, refl, sym, ap, inl, inr, subst}
 use Rattle.std.specs.Prelude.{Option, None, Some, IfSome, IsOk}
-use Rattle.rt_outcome.specs.declared.outcome.Outcome.{Outcome}
-use Rattle.rt_outcome.specs.declared.part.Part.{Part}
-use Rattle.rt_outcome.specs.declared.part.Part.TheVariants.{Query1, Query2}
+use Rattle.rt_input.specs.declared.outcome.Outcome.{Outcome}
+use Rattle.rt_input.specs.declared.part.Part.{Part}
+use Rattle.rt_input.specs.declared.part.Part.TheVariants.{Query1, Query2}
 use Rattle.rt_input.specs.Judged.{Data, Reaches, data_judged, query_judged}
-use Rattle.rt_outcome.specs.Held.{Holding}
-use Rattle.rt_outcome.specs.declared.source.Source.{Source}
+use Rattle.rt_input.specs.Held.{Holding}
+use Rattle.rt_input.specs.declared.source.Source.{Source}
 use Rattle.rt_io.specs.declared.files.Files.{Ghosts}
 use Rattle.rt_io.specs.Ranges.{Command}
 use Rattle.rt_input.specs.Reading.{LastBegun}
 use Rattle.rt_input.specs.declared.first.First.{First}
 use Rattle.rt_input.specs.First.{first_judged}
 use Rattle.rt_input.proofs.StepLemmas.{first_reaches}
-use Rattle.rt_outcome.specs.Source.{IsKnown, file_of, source_of}
-use Rattle.rt_outcome.specs.Steps.{IsFileOf, LastIs}
+use Rattle.rt_input.specs.Source.{IsKnown, file_of, source_of}
+use Rattle.rt_input.specs.Steps.{IsFileOf, LastIs}
 
 -- none was begun
 pub last_same : (tells : Bool) (o : Option (List ℕ)) (source : Source) (R : Part → Type 0) → LastIs tells o o source R

@@ -15,16 +15,16 @@ use Rattle.rt_token.specs.Lexed.{lexed}
 use Rattle.rt_token.specs.declared.fault.LexFault.{LexFault}
 use Rattle.rt_token.specs.declared.fault.LexFault.TheVariants as lex
 use Rattle.rt_token.specs.declared.token.Token.{Token}
-use Rattle.rt_outcome.specs.declared.part.Part.{Part}
-use Rattle.rt_outcome.specs.declared.part.Part.TheVariants as part
-use Rattle.rt_outcome.specs.declared.outcome.Outcome.{Outcome}
-use Rattle.rt_outcome.specs.declared.outcome.Outcome.TheVariants as outcome
-use Rattle.rt_outcome.specs.declared.source.Source.{Source}
-use Rattle.rt_outcome.specs.Faults.{lex_outcome, load_outcome, name_outcome, schema_outcome, sql_outcome}
-use Rattle.rt_outcome.specs.Held.{Holding, text_of}
-use Rattle.rt_outcome.specs.Placed.{Parts, IsPlaceless, Placed, PlacedIn, Stands}
-use Rattle.rt_outcome.specs.Source.{Text}
-use Rattle.rt_outcome.specs.Steps.{Seen, TextStops}
+use Rattle.rt_input.specs.declared.part.Part.{Part}
+use Rattle.rt_input.specs.declared.part.Part.TheVariants as part
+use Rattle.rt_input.specs.declared.outcome.Outcome.{Outcome}
+use Rattle.rt_input.specs.declared.outcome.Outcome.TheVariants as outcome
+use Rattle.rt_input.specs.declared.source.Source.{Source}
+use Rattle.rt_input.specs.Faults.{lex_outcome, load_outcome, name_outcome, schema_outcome, sql_outcome}
+use Rattle.rt_input.specs.Held.{Holding, text_of}
+use Rattle.rt_input.specs.Placed.{Parts, IsPlaceless, Placed, PlacedIn, Stands}
+use Rattle.rt_input.specs.Source.{Text}
+use Rattle.rt_input.specs.Steps.{Seen, TextStops}
 
 ok_and : {T E : Type 0} (P : T → Type 0) (r : Result T E) (x : T) → r ≡ Ok x → P x → IsOkAnd r P
 ok_and {T = T} {E = E} P r x is p = subst (λ (q : Result T E). IsOkAnd q P) (sym is) p

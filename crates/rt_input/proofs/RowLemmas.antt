@@ -4,18 +4,18 @@ use Rattle.std.specs.Prelude.{List, Option, Some, IfOk, IsOkAnd, IsSome, IsSomeA
 use Rattle.rt_io.specs.Command.{command}
 use Rattle.rt_io.specs.Ranges.{Command}
 use Rattle.rt_schema.specs.declared.table.Table.{Table as TableOf}
-use Rattle.rt_outcome.specs.declared.outcome.Outcome.{Outcome}
-use Rattle.rt_outcome.specs.declared.outcome.Outcome.TheVariants as outcome
-use Rattle.rt_outcome.specs.declared.part.Part.{Part}
-use Rattle.rt_outcome.specs.declared.part.Part.TheVariants.{Schema, Table, Query1, Query2, Queries}
-use Rattle.rt_outcome.specs.declared.source.Source.{Source}
+use Rattle.rt_input.specs.declared.outcome.Outcome.{Outcome}
+use Rattle.rt_input.specs.declared.outcome.Outcome.TheVariants as outcome
+use Rattle.rt_input.specs.declared.part.Part.{Part}
+use Rattle.rt_input.specs.declared.part.Part.TheVariants.{Schema, Table, Query1, Query2, Queries}
+use Rattle.rt_input.specs.declared.source.Source.{Source}
 use Rattle.rt_input.specs.Accepted.{Accepted, HasOptions, IsAccepted}
 use Rattle.rt_input.specs.Judged.{command_judged, input_judged, judged, schema_judged, HasTable, IsNamed, Reaches, TableReached}
-use Rattle.rt_outcome.specs.Held.{Holding, text_of}
-use Rattle.rt_outcome.specs.Placed.{Placed}
+use Rattle.rt_input.specs.Held.{Holding, text_of}
+use Rattle.rt_input.specs.Placed.{Placed}
 use Rattle.rt_input.specs.Reading.{Call, IsRead, IsTold, PlacedRow, ReadFaultAt, Stop}
-use Rattle.rt_outcome.specs.Source.{IsKnown, source_of}
-use Rattle.rt_outcome.specs.Steps.{IsLongFor, Stops}
+use Rattle.rt_input.specs.Source.{IsKnown, source_of}
+use Rattle.rt_input.specs.Steps.{IsLongFor, Stops}
 
 -- ---- from the reading of the files to the rows
 

@@ -12,10 +12,10 @@ use Rattle.rt_algebra.specs.declared.typed.Typed.{Typed}
 use Rattle.rt_resolve.specs.Shapes.{ShapeAnswer}
 use Rattle.rt_scope.specs.declared.fault.NameFault.{NameFault}
 use Rattle.rt_scope.specs.declared.fault.NameFault.TheVariants as name
-use Rattle.rt_outcome.specs.declared.part.Part.TheVariants.{Queries}
-use Rattle.rt_outcome.specs.Faults.{name_outcome}
+use Rattle.rt_input.specs.declared.part.Part.TheVariants.{Queries}
+use Rattle.rt_input.specs.Faults.{name_outcome}
 use Rattle.rt_input.specs.Judged.{like_left}
-use Rattle.rt_outcome.specs.Steps.{Refuses}
+use Rattle.rt_input.specs.Steps.{Refuses}
 
 kind-Decides : (a b : ColKind) → Decides (kind_eq a b) (a ≡ b)
 kind-Decides Whole Whole = (λ h. refl, λ h. refl)

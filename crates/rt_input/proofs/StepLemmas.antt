@@ -29,24 +29,24 @@ use Rattle.rt_token.specs.declared.fault.LexFault.{LexFault}
 use Rattle.rt_token.specs.declared.fault.LexFault.TheVariants as lex
 use Rattle.rt_token.specs.declared.token.Token.{Token}
 use Rattle.rt_tree.specs.declared.tree.Sql.{Sql}
-use Rattle.rt_outcome.specs.declared.part.Part.{Part}
-use Rattle.rt_outcome.specs.declared.part.Part.TheVariants as part
-use Rattle.rt_outcome.specs.declared.part.Part.TheVariants.{Query1, Query2}
+use Rattle.rt_input.specs.declared.part.Part.{Part}
+use Rattle.rt_input.specs.declared.part.Part.TheVariants as part
+use Rattle.rt_input.specs.declared.part.Part.TheVariants.{Query1, Query2}
 use Rattle.rt_io.specs.Ranges.{Command}
-use Rattle.rt_outcome.specs.declared.outcome.Limit.{Limit}
-use Rattle.rt_outcome.specs.declared.outcome.Limit.TheVariants as limit
-use Rattle.rt_outcome.specs.declared.outcome.Outcome.{Outcome}
-use Rattle.rt_outcome.specs.declared.outcome.Outcome.TheVariants as outcome
-use Rattle.rt_outcome.specs.declared.source.Paths.{Paths}
-use Rattle.rt_outcome.specs.declared.source.Source.{Source}
-use Rattle.rt_outcome.specs.declared.source.Source.TheVariants.{Files}
-use Rattle.rt_outcome.specs.Faults.{excess_limit, lex_outcome, load_outcome, name_outcome, or_outcome, schema_outcome, sql_outcome}
+use Rattle.rt_input.specs.declared.outcome.Limit.{Limit}
+use Rattle.rt_input.specs.declared.outcome.Limit.TheVariants as limit
+use Rattle.rt_input.specs.declared.outcome.Outcome.{Outcome}
+use Rattle.rt_input.specs.declared.outcome.Outcome.TheVariants as outcome
+use Rattle.rt_input.specs.declared.source.Paths.{Paths}
+use Rattle.rt_input.specs.declared.source.Source.{Source}
+use Rattle.rt_input.specs.declared.source.Source.TheVariants.{Files}
+use Rattle.rt_input.specs.Faults.{excess_limit, lex_outcome, load_outcome, name_outcome, or_outcome, schema_outcome, sql_outcome}
 use Rattle.rt_input.specs.declared.first.First.{First}
 use Rattle.rt_input.specs.First.{data_in, first_judged, first_of}
 use Rattle.rt_input.specs.Judged.{Data, Reaches, accepted, data_judged, input_judged, query_judged, right_judged, then_read, within_limit, query_of, query_of_tokens, query_of_tree, schema_of}
-use Rattle.rt_outcome.specs.Held.{Holding, most_bytes, file_text, text_of}
-use Rattle.rt_outcome.specs.Source.{IsKnown, file_name, file_of, source_of}
-use Rattle.rt_outcome.specs.Steps.{Failed, IsLong, IsLongFor, Refuses, Seen, seen, Stops, TextStops, of_contents}
+use Rattle.rt_input.specs.Held.{Holding, most_bytes, file_text, text_of}
+use Rattle.rt_input.specs.Source.{IsKnown, file_name, file_of, source_of}
+use Rattle.rt_input.specs.Steps.{Failed, IsLong, IsLongFor, Refuses, Seen, seen, Stops, TextStops, of_contents}
 
 pub then_ok : {T U E : Type 0} (r : Result T E) (x : T) (f : T → Result U E) (y : Result U E) → r ≡ Ok x → f x ≡ y → then_read r f ≡ y
 then_ok r x f y p q = rw p q

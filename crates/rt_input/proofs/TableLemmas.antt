@@ -11,12 +11,12 @@ use Rattle.rt_schema.proofs.GivenLemmas.{places-set}
 use Rattle.rt_load.specs.declared.fault.LoadFault.{LoadFault}
 use Rattle.rt_load.specs.declared.fault.LoadFault.TheVariants.{BadHeader, FieldCount, TooManyRows}
 use Rattle.rt_load.specs.Loaded.{Field, begins_with_mark, cells, columns_at, is_header, loaded, row_at, rows_behind_header, rows_from, ◌>>=◌}
-use Rattle.rt_outcome.specs.declared.source.Source.{Source}
-use Rattle.rt_outcome.specs.declared.outcome.Outcome.{Outcome}
-use Rattle.rt_outcome.specs.declared.part.Part.TheVariants as part
-use Rattle.rt_outcome.specs.Faults.{load_outcome, or_outcome}
+use Rattle.rt_input.specs.declared.source.Source.{Source}
+use Rattle.rt_input.specs.declared.outcome.Outcome.{Outcome}
+use Rattle.rt_input.specs.declared.part.Part.TheVariants as part
+use Rattle.rt_input.specs.Faults.{load_outcome, or_outcome}
 use Rattle.rt_input.specs.Judged.{then_read, table_judged, tables_judged}
-use Rattle.rt_outcome.specs.Held.{Holding, text_of}
+use Rattle.rt_input.specs.Held.{Holding, text_of}
 use Rattle.rt_input.proofs.StepLemmas.{then_ok}
 
 -- ---- the rows of a file

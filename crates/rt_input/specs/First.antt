@@ -4,11 +4,11 @@ use Rattle.rt_schema.specs.Given.{IsOf, places, row_limit}
 use Rattle.rt_algebra.specs.Typed.{IsTypedOf}
 use Rattle.rt_algebra.specs.declared.typed.Typed.{Typed}
 use Rattle.rt_input.specs.declared.first.First.{First}
-use Rattle.rt_outcome.specs.declared.outcome.Outcome.{Outcome}
-use Rattle.rt_outcome.specs.declared.part.Part.TheVariants.{Query1}
-use Rattle.rt_outcome.specs.declared.source.Source.{Source}
+use Rattle.rt_input.specs.declared.outcome.Outcome.{Outcome}
+use Rattle.rt_input.specs.declared.part.Part.TheVariants.{Query1}
+use Rattle.rt_input.specs.declared.source.Source.{Source}
 use Rattle.rt_input.specs.Judged.{Data, data_judged, query_judged, then_read}
-use Rattle.rt_outcome.specs.Held.{Holding}
+use Rattle.rt_input.specs.Held.{Holding}
 
 -- the rows and the query are of the schema
 pub record IsFirst (first : First) : Type 0 where

@@ -22,17 +22,17 @@ use Rattle.rt_token.specs.declared.token.Token.{Token}
 use Rattle.rt_tree.specs.declared.tree.Sql.{Sql}
 use Rattle.rt_io.specs.Command.{command}
 use Rattle.rt_io.specs.Ranges.{Command}
-use Rattle.rt_outcome.specs.declared.part.Part.{Part}
-use Rattle.rt_outcome.specs.declared.part.Part.TheVariants.{Schema, Table, Query1, Query2, Queries}
-use Rattle.rt_outcome.specs.declared.outcome.Fault.TheVariants.{Name}
-use Rattle.rt_outcome.specs.declared.outcome.Limit.TheVariants as limit
-use Rattle.rt_outcome.specs.declared.outcome.Outcome.{Outcome}
-use Rattle.rt_outcome.specs.declared.outcome.Outcome.TheVariants as outcome
-use Rattle.rt_outcome.specs.declared.source.Source.{Source}
+use Rattle.rt_input.specs.declared.part.Part.{Part}
+use Rattle.rt_input.specs.declared.part.Part.TheVariants.{Schema, Table, Query1, Query2, Queries}
+use Rattle.rt_input.specs.declared.outcome.Fault.TheVariants.{Name}
+use Rattle.rt_input.specs.declared.outcome.Limit.TheVariants as limit
+use Rattle.rt_input.specs.declared.outcome.Outcome.{Outcome}
+use Rattle.rt_input.specs.declared.outcome.Outcome.TheVariants as outcome
+use Rattle.rt_input.specs.declared.source.Source.{Source}
 use Rattle.rt_input.specs.Accepted.{Accepted}
-use Rattle.rt_outcome.specs.Faults.{lex_outcome, load_outcome, name_outcome, or_outcome, schema_outcome, sql_outcome}
-use Rattle.rt_outcome.specs.Held.{Holding, text_of}
-use Rattle.rt_outcome.specs.Source.{Text, source_of}
+use Rattle.rt_input.specs.Faults.{lex_outcome, load_outcome, name_outcome, or_outcome, schema_outcome, sql_outcome}
+use Rattle.rt_input.specs.Held.{Holding, text_of}
+use Rattle.rt_input.specs.Source.{Text, source_of}
 
 -- goes on with the value
 abbrev pub then_read : {T U E : Type 0} → Result T E → (T → Result U E) → Result U E

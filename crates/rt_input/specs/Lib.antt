@@ -1,3 +1,9 @@
+pub mod Faults
+pub mod Held
+pub mod Placed
+pub mod Source
+pub mod Steps
+pub mod Texts
 pub mod Accepted
 pub mod First
 pub mod Judged

@@ -4,18 +4,18 @@ use Rattle.std.specs.Prelude.{◌≡◌, ℕ, IsTrue, List, Option, None, Some, 
 use Rattle.rt_io.specs.declared.files.Files.{Ghosts as Files}
 use Rattle.rt_io.specs.Command.{command}
 use Rattle.rt_io.specs.Ranges.{Command}
-use Rattle.rt_outcome.specs.declared.part.Part.{Part}
-use Rattle.rt_outcome.specs.declared.outcome.Fault.{Fault}
-use Rattle.rt_outcome.specs.declared.outcome.Limit.{Limit}
-use Rattle.rt_outcome.specs.declared.outcome.Outcome.{Outcome}
-use Rattle.rt_outcome.specs.declared.outcome.Outcome.TheVariants as outcome
+use Rattle.rt_input.specs.declared.part.Part.{Part}
+use Rattle.rt_input.specs.declared.outcome.Fault.{Fault}
+use Rattle.rt_input.specs.declared.outcome.Limit.{Limit}
+use Rattle.rt_input.specs.declared.outcome.Outcome.{Outcome}
+use Rattle.rt_input.specs.declared.outcome.Outcome.TheVariants as outcome
 use Rattle.rt_input.specs.Accepted.{Accepted, HasOptions, IsAccepted}
-use Rattle.rt_outcome.specs.Faults.{is_refusal, placeless}
+use Rattle.rt_input.specs.Faults.{is_refusal, placeless}
 use Rattle.rt_input.specs.Judged.{judged, Reaches}
-use Rattle.rt_outcome.specs.Held.{text_of}
-use Rattle.rt_outcome.specs.Placed.{Placed}
-use Rattle.rt_outcome.specs.Source.{IsKnown, IsMade, file_of, source_of}
-use Rattle.rt_outcome.specs.Steps.{BeginsOnly, Seen, over, Failed, IsLongFor}
+use Rattle.rt_input.specs.Held.{text_of}
+use Rattle.rt_input.specs.Placed.{Placed}
+use Rattle.rt_input.specs.Source.{IsKnown, IsMade, file_of, source_of}
+use Rattle.rt_input.specs.Steps.{BeginsOnly, Seen, over, Failed, IsLongFor}
 
 -- a call: its words, and what is known of the files over it
 pub record Call : Type 0 where

@@ -5,17 +5,19 @@ ghost use Rattle.rt_algebra.specs.Typed.{IsTypedOf};
 ghost use Rattle.rt_input.specs.Accepted.{IsAccepted};
 ghost use Rattle.rt_input.specs.First.{IsFirst, data_in, first_judged};
 ghost use Rattle.rt_input.specs.Judged.{accepted, Reaches};
-ghost use Rattle.rt_outcome.specs.Held.{text_of};
-ghost use Rattle.rt_outcome.specs.Placed.{Placed};
-ghost use Rattle.rt_outcome.specs.Source.{IsKnown, IsMade, source_of};
-ghost use Rattle.rt_outcome.specs.Steps.{over, BeginsOnly, Stops};
+ghost use Rattle.rt_input.specs.Held.{text_of};
+ghost use Rattle.rt_input.specs.Placed.{Placed};
+ghost use Rattle.rt_input.specs.Source.{IsKnown, IsMade, source_of};
+ghost use Rattle.rt_input.specs.Steps.{over, BeginsOnly, Stops};
 
 use crate::input::Input;
+use crate::outcome::Outcome;
+use crate::part::QueryPart;
 use crate::read::read_query;
+use crate::source::Source;
 use crate::tables::tables_of;
 use rt_algebra::Typed;
 use rt_io::{Files, Words};
-use rt_outcome::{Outcome, QueryPart, Source};
 use rt_schema::{Given, Schema};
 use std::alloc::Global;
 

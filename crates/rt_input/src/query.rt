@@ -3,12 +3,14 @@ ghost use Rattle.std.specs.Prelude.{◌≡◌, IfOk, IfErr, Ok};
 ghost use Rattle.rt_algebra.specs.Typed.{IsTypedOf};
 ghost use Rattle.rt_input.specs.Judged.{like_left, query_of, query_of_tokens, query_of_tree};
 ghost use Rattle.rt_token.specs.Lexed.{lexed};
-ghost use Rattle.rt_outcome.specs.Placed.{IsPlaceless, PlacedIn};
-ghost use Rattle.rt_outcome.specs.Source.{Text};
-ghost use Rattle.rt_outcome.specs.Steps.{Refuses};
+ghost use Rattle.rt_input.specs.Placed.{IsPlaceless, PlacedIn};
+ghost use Rattle.rt_input.specs.Source.{Text};
+ghost use Rattle.rt_input.specs.Steps.{Refuses};
 
+use crate::faults::{lex_outcome, name_outcome, sql_outcome};
+use crate::outcome::Outcome;
+use crate::part::Part;
 use rt_algebra::Typed;
-use rt_outcome::{Outcome, Part, lex_outcome, name_outcome, sql_outcome};
 use rt_resolve::{resolve, shapes};
 use rt_schema::Schema;
 use rt_sql::parse;

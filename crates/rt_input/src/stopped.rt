@@ -2,10 +2,11 @@
 ghost use Rattle.std.specs.Prelude.{◌≡◌, IfOk};
 ghost use Rattle.rt_io.specs.Command.{command};
 ghost use Rattle.rt_input.specs.Reading.{limit_of};
-ghost use Rattle.rt_outcome.specs.Texts.{stopped_text};
+ghost use Rattle.rt_input.specs.Texts.{stopped_text};
 
+use crate::outcome::Outcome;
+use crate::say::refusal_line;
 use rt_io::{WordFault, read_words};
-use rt_outcome::{Outcome, refusal_line};
 use rt_value::{Bytes, List, NoMemory, Txt};
 use std::alloc::Global;
 

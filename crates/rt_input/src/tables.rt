@@ -2,17 +2,21 @@
 ghost use Rattle.std.specs.Prelude.{◌≡◌, ◌≤◌, IsTrue, IfOk, IfErr, OnOk, Ok, Some, length, slice_get, slice_set};
 ghost use Rattle.rt_io.specs.Edge.{NoneFell};
 ghost use Rattle.rt_schema.specs.Given.{IsOf, places, rows_at, row_limit};
-ghost use Rattle.rt_outcome.specs.Source.{IsKnown, IsMade, tables_in};
+ghost use Rattle.rt_input.specs.Source.{IsKnown, IsMade, tables_in};
 ghost use Rattle.rt_input.specs.Judged.{schema_of, schema_judged, table_judged, tables_judged, data_judged, no_rows, IsTableReached, Reaches};
-ghost use Rattle.rt_outcome.specs.Held.{text_of};
-ghost use Rattle.rt_outcome.specs.Placed.{Placed, PlacedIn};
-ghost use Rattle.rt_outcome.specs.Steps.{over, BeginsOnly, Refuses, Stops};
-ghost use Rattle.rt_outcome.specs.declared.part.Part.TheVariants as parts;
+ghost use Rattle.rt_input.specs.Held.{text_of};
+ghost use Rattle.rt_input.specs.Placed.{Placed, PlacedIn};
+ghost use Rattle.rt_input.specs.Steps.{over, BeginsOnly, Refuses, Stops};
+ghost use Rattle.rt_input.specs.declared.part.Part.TheVariants as parts;
 
+use crate::faults::{load_outcome, schema_outcome};
+use crate::outcome::Outcome;
+use crate::part::Part;
+use crate::source::{Paths, Source};
+use crate::text::source_text;
 use rt_ddl::read_schema;
 use rt_io::Files;
 use rt_load::load;
-use rt_outcome::{Outcome, Part, Paths, Source, load_outcome, schema_outcome, source_text};
 use rt_schema::{Given, Schema, Table};
 use rt_value::Txt;
 use std::alloc::Global;

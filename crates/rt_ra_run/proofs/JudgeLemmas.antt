@@ -8,10 +8,10 @@ use Rattle.rt_schema.specs.Given.{Rows, places}
 use Rattle.rt_algebra.specs.Answer.{same_rows}
 use Rattle.rt_search.specs.Least.{HasFewest}
 use Rattle.rt_search.proofs.Targets.{spent-narrowed}
-use Rattle.rt_outcome.specs.declared.outcome.Limit.{Limit}
-use Rattle.rt_outcome.specs.declared.outcome.Outcome.{Outcome}
-use Rattle.rt_outcome.specs.declared.outcome.Outcome.TheVariants as outcome
-use Rattle.rt_outcome.specs.declared.outcome.Spent.{Spent}
+use Rattle.rt_input.specs.declared.outcome.Limit.{Limit}
+use Rattle.rt_input.specs.declared.outcome.Outcome.{Outcome}
+use Rattle.rt_input.specs.declared.outcome.Outcome.TheVariants as outcome
+use Rattle.rt_input.specs.declared.outcome.Spent.{Spent}
 use Rattle.rt_top.specs.Answers as answers
 use Rattle.rt_top.specs.Smallest as top
 use Rattle.rt_top.specs.Smallest.{IsChoice, lawful_at}

@@ -16,11 +16,11 @@ use Rattle.rt_ra_tree.specs.declared.fault.RaFault.TheVariants as fault
 use Rattle.rt_ra_tree.specs.declared.tree.RaText.{RaText}
 use Rattle.rt_ra.specs.Faults.{IsWalkFault}
 use Rattle.rt_ra.specs.Lowered.{ra_lowered}
-use Rattle.rt_outcome.specs.declared.part.Part.{Part}
-use Rattle.rt_outcome.specs.declared.outcome.Outcome.{Outcome}
-use Rattle.rt_outcome.specs.declared.outcome.Outcome.TheVariants as outcome
+use Rattle.rt_input.specs.declared.part.Part.{Part}
+use Rattle.rt_input.specs.declared.outcome.Outcome.{Outcome}
+use Rattle.rt_input.specs.declared.outcome.Outcome.TheVariants as outcome
 use Rattle.rt_input.specs.Judged.{then_read}
-use Rattle.rt_outcome.specs.Source.{Text}
+use Rattle.rt_input.specs.Source.{Text}
 use Rattle.rt_ra_run.specs.declared.outcome.RaOutcome.{RaOutcome}
 use Rattle.rt_ra_run.specs.declared.outcome.RaOutcome.TheVariants.{Verdict, Refused}
 use Rattle.rt_ra_run.specs.Faults.{fault_outcome, lex_outcome, or_outcome, placeless}

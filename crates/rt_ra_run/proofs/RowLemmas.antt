@@ -9,17 +9,17 @@ use Rattle.rt_io.specs.declared.place.Place.TheVariants as at
 use Rattle.rt_schema.specs.Given.{places}
 use Rattle.rt_schema.specs.declared.table.Table.{Table}
 use Rattle.rt_ra_tree.specs.declared.fault.RaFault.{RaFault}
-use Rattle.rt_outcome.specs.declared.outcome.Outcome.{Outcome}
-use Rattle.rt_outcome.specs.declared.outcome.Outcome.TheVariants as outcome
-use Rattle.rt_outcome.specs.declared.outcome.Spent.{Spent}
-use Rattle.rt_outcome.specs.declared.part.Part.{Part}
-use Rattle.rt_outcome.specs.declared.part.Part.TheVariants as parts
+use Rattle.rt_input.specs.declared.outcome.Outcome.{Outcome}
+use Rattle.rt_input.specs.declared.outcome.Outcome.TheVariants as outcome
+use Rattle.rt_input.specs.declared.outcome.Spent.{Spent}
+use Rattle.rt_input.specs.declared.part.Part.{Part}
+use Rattle.rt_input.specs.declared.part.Part.TheVariants as parts
 use Rattle.rt_input.specs.Reading.{Call}
 use Rattle.rt_top.specs.Answers.{HasRoom, IfText}
 use Rattle.rt_input.specs.Judged as top
 use Rattle.rt_input.specs.Judged.{HasTable, IsNamed, schema_judged}
-use Rattle.rt_outcome.specs.Held.{Holding}
-use Rattle.rt_outcome.specs.Source.{source_from, tables_in}
+use Rattle.rt_input.specs.Held.{Holding}
+use Rattle.rt_input.specs.Source.{source_from, tables_in}
 use Rattle.rt_ra_run.specs.declared.asked.Asked.{Asked}
 use Rattle.rt_ra_run.specs.declared.command.RaCommand.{RaCommand}
 use Rattle.rt_ra_run.specs.declared.outcome.RaOutcome.{RaOutcome}

@@ -5,22 +5,22 @@ use Rattle.rt_io.specs.Edge.{NoneFell, Rose}
 use Rattle.rt_schema.specs.Given.{Rows, Tables}
 use Rattle.rt_schema.specs.declared.table.Table.{Table}
 use Rattle.rt_algebra.specs.declared.typed.Typed.{Typed}
-use Rattle.rt_outcome.specs.declared.outcome.Fault.{Fault}
-use Rattle.rt_outcome.specs.declared.outcome.Limit.{Limit}
-use Rattle.rt_outcome.specs.declared.outcome.Limit.TheVariants as limit
-use Rattle.rt_outcome.specs.declared.outcome.Outcome.{Outcome}
-use Rattle.rt_outcome.specs.declared.outcome.Outcome.TheVariants as outcome
-use Rattle.rt_outcome.specs.declared.part.Part.{Part}
-use Rattle.rt_outcome.specs.declared.part.Part.TheVariants as parts
+use Rattle.rt_input.specs.declared.outcome.Fault.{Fault}
+use Rattle.rt_input.specs.declared.outcome.Limit.{Limit}
+use Rattle.rt_input.specs.declared.outcome.Limit.TheVariants as limit
+use Rattle.rt_input.specs.declared.outcome.Outcome.{Outcome}
+use Rattle.rt_input.specs.declared.outcome.Outcome.TheVariants as outcome
+use Rattle.rt_input.specs.declared.part.Part.{Part}
+use Rattle.rt_input.specs.declared.part.Part.TheVariants as parts
 use Rattle.rt_input.specs.Accepted.{Accepted}
 use Rattle.rt_input.specs.Judged as top
 use Rattle.rt_input.specs.Judged.{Data, like_left, then_read, within_limit}
-use Rattle.rt_outcome.specs.Held.{Holding, text_read}
-use Rattle.rt_outcome.specs.declared.part.QueryPart.{QueryPart}
-use Rattle.rt_outcome.specs.declared.part.QueryPart.TheVariants.{First, Second}
-use Rattle.rt_outcome.specs.Source.{file_of, query_part, tables_in}
-use Rattle.rt_outcome.specs.Steps as steps
-use Rattle.rt_outcome.specs.Steps.{Failed, IsLong as IsLongName, IsLongFor, Seen, seen, of_contents}
+use Rattle.rt_input.specs.Held.{Holding, text_read}
+use Rattle.rt_input.specs.declared.part.QueryPart.{QueryPart}
+use Rattle.rt_input.specs.declared.part.QueryPart.TheVariants.{First, Second}
+use Rattle.rt_input.specs.Source.{file_of, query_part, tables_in}
+use Rattle.rt_input.specs.Steps as steps
+use Rattle.rt_input.specs.Steps.{Failed, IsLong as IsLongName, IsLongFor, Seen, seen, of_contents}
 use Rattle.rt_ra_run.specs.declared.asked.Asked.{Asked}
 use Rattle.rt_ra_run.specs.declared.command.RaCommand.{RaCommand}
 use Rattle.rt_ra_run.specs.declared.outcome.RaOutcome.{RaOutcome}

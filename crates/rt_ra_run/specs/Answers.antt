@@ -3,19 +3,19 @@ use Rattle.std.specs.Prelude.{◌≡◌, ℕ, ◌⊎◌, Bool, IsTrue, List, Opt
 use Rattle.std.specs.Option.{ForSome}
 use Rattle.rt_io.specs.Logs.{Log, Broke, Grew, GrewPartly, IsKept, at_place, other_place}
 use Rattle.rt_ra_tree.specs.declared.fault.RaFault.{RaFault}
-use Rattle.rt_outcome.specs.declared.part.Part.{Part}
-use Rattle.rt_outcome.specs.declared.outcome.Fault.{Fault}
-use Rattle.rt_outcome.specs.declared.outcome.Limit.{Limit}
-use Rattle.rt_outcome.specs.declared.outcome.Outcome.{Outcome}
-use Rattle.rt_outcome.specs.declared.outcome.Outcome.TheVariants as outcome
-use Rattle.rt_outcome.specs.declared.outcome.Spent.{Spent}
+use Rattle.rt_input.specs.declared.part.Part.{Part}
+use Rattle.rt_input.specs.declared.outcome.Fault.{Fault}
+use Rattle.rt_input.specs.declared.outcome.Limit.{Limit}
+use Rattle.rt_input.specs.declared.outcome.Outcome.{Outcome}
+use Rattle.rt_input.specs.declared.outcome.Outcome.TheVariants as outcome
+use Rattle.rt_input.specs.declared.outcome.Spent.{Spent}
 use Rattle.rt_input.specs.Reading.{Call}
 use Rattle.rt_top.specs.Answers.{HasRoom, IfAgree, IfLimit, IfReadFault, IfRefused, IfSpent, IfText, IfUsage, IfWitness}
 use Rattle.rt_top.specs.Answers as top
-use Rattle.rt_outcome.specs.Faults as faults
+use Rattle.rt_input.specs.Faults as faults
 use Rattle.rt_input.specs.Judged.{IsNamed}
-use Rattle.rt_outcome.specs.Source.{source_from}
-use Rattle.rt_outcome.specs.Steps.{Seen, Failed}
+use Rattle.rt_input.specs.Source.{source_from}
+use Rattle.rt_input.specs.Steps.{Seen, Failed}
 use Rattle.rt_ra_run.specs.declared.asked.Asked.{Asked}
 use Rattle.rt_ra_run.specs.declared.command.RaCommand.{RaCommand}
 use Rattle.rt_ra_run.specs.declared.outcome.RaOutcome.{RaOutcome}

@@ -5,9 +5,9 @@ use Rattle.rt_token.specs.declared.fault.LexFault.{LexFault}
 use Rattle.rt_token.specs.declared.fault.LexFault.TheVariants as lex
 use Rattle.rt_ra_tree.specs.declared.fault.RaFault.{RaFault}
 use Rattle.rt_ra_tree.specs.declared.fault.RaFault.TheVariants as fault
-use Rattle.rt_outcome.specs.declared.part.Part.{Part}
-use Rattle.rt_outcome.specs.declared.outcome.Outcome.TheVariants as outcome
-use Rattle.rt_outcome.specs.Faults.{is_lex_refusal}
+use Rattle.rt_input.specs.declared.part.Part.{Part}
+use Rattle.rt_input.specs.declared.outcome.Outcome.TheVariants as outcome
+use Rattle.rt_input.specs.Faults.{is_lex_refusal}
 use Rattle.rt_ra_run.specs.declared.outcome.RaOutcome.{RaOutcome}
 use Rattle.rt_ra_run.specs.declared.outcome.RaOutcome.TheVariants.{Verdict, Refused}
 

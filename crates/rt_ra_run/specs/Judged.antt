@@ -9,16 +9,16 @@ use Rattle.rt_ra_tree.specs.Whole.{ra_read}
 use Rattle.rt_ra_tree.specs.declared.fault.RaFault.TheVariants as fault
 use Rattle.rt_ra_tree.specs.declared.tree.RaText.{RaText}
 use Rattle.rt_ra.specs.Lowered.{ra_lowered}
-use Rattle.rt_outcome.specs.declared.outcome.Outcome.{Outcome}
-use Rattle.rt_outcome.specs.declared.outcome.Outcome.TheVariants as outcome
-use Rattle.rt_outcome.specs.declared.part.Part.{Part}
-use Rattle.rt_outcome.specs.declared.part.Part.TheVariants as parts
+use Rattle.rt_input.specs.declared.outcome.Outcome.{Outcome}
+use Rattle.rt_input.specs.declared.outcome.Outcome.TheVariants as outcome
+use Rattle.rt_input.specs.declared.part.Part.{Part}
+use Rattle.rt_input.specs.declared.part.Part.TheVariants as parts
 use Rattle.rt_input.specs.declared.tables.Tables.{Tables}
 use Rattle.rt_input.specs.Accepted.{Accepted}
 use Rattle.rt_input.specs.Judged as top
 use Rattle.rt_input.specs.Judged.{Data, like_left, then_read, within_limit}
-use Rattle.rt_outcome.specs.Held.{Holding, text_of}
-use Rattle.rt_outcome.specs.Source.{Text, file_of, source_from, tables_in}
+use Rattle.rt_input.specs.Held.{Holding, text_of}
+use Rattle.rt_input.specs.Source.{Text, file_of, source_from, tables_in}
 use Rattle.rt_ra_run.specs.declared.asked.Asked.{Asked}
 use Rattle.rt_ra_run.specs.declared.command.RaCommand.{RaCommand}
 use Rattle.rt_ra_run.specs.declared.outcome.RaOutcome.{RaOutcome}

@@ -3,13 +3,13 @@
 use Rattle.std.specs.Prelude.{◌≡◌, IfOk, ⊤}
 use Rattle.rt_ra_tree.specs.declared.fault.RaFault.{RaFault}
 use Rattle.rt_ra_tree.specs.declared.fault.RaFault.TheVariants as fault
-use Rattle.rt_outcome.specs.declared.outcome.Outcome.{Outcome}
-use Rattle.rt_outcome.specs.declared.outcome.Outcome.TheVariants as outcome
-use Rattle.rt_outcome.specs.declared.part.Part.{Part}
-use Rattle.rt_outcome.specs.Held.{Holding, text_of}
-use Rattle.rt_outcome.specs.Placed as top
-use Rattle.rt_outcome.specs.Placed.{IsPlaceIn}
-use Rattle.rt_outcome.specs.Source.{Text, tables_in}
+use Rattle.rt_input.specs.declared.outcome.Outcome.{Outcome}
+use Rattle.rt_input.specs.declared.outcome.Outcome.TheVariants as outcome
+use Rattle.rt_input.specs.declared.part.Part.{Part}
+use Rattle.rt_input.specs.Held.{Holding, text_of}
+use Rattle.rt_input.specs.Placed as top
+use Rattle.rt_input.specs.Placed.{IsPlaceIn}
+use Rattle.rt_input.specs.Source.{Text, tables_in}
 use Rattle.rt_ra_run.specs.declared.command.RaCommand.{RaCommand}
 use Rattle.rt_ra_run.specs.declared.outcome.RaOutcome.{RaOutcome}
 use Rattle.rt_ra_run.specs.declared.outcome.RaOutcome.TheVariants.{Verdict, Refused}

@@ -7,7 +7,7 @@ use Rattle.rt_algebra.specs.Answer.{same_rows}
 use Rattle.rt_search.specs.Least.{IsLeast, IsSpentBest}
 use Rattle.rt_ra_tree.specs.declared.tree.RaText.{RaText}
 use Rattle.rt_ra.specs.Answer.{ra_answer}
-use Rattle.rt_outcome.specs.declared.outcome.Spent.{Spent}
+use Rattle.rt_input.specs.declared.outcome.Spent.{Spent}
 use Rattle.rt_top.specs.Smallest.{IsChoice, lawful_at}
 use Rattle.rt_ra_run.specs.declared.asked.Asked.{Asked}
 

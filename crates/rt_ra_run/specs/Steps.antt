@@ -1,13 +1,13 @@
 -- What stops the reading of a command's files.
 use Rattle.std.specs.Prelude.{◌≡◌, IsTrue, None, Result, Err, ⊤}
 use Rattle.rt_ra_tree.specs.declared.fault.RaFault.{RaFault}
-use Rattle.rt_outcome.specs.declared.part.Part.{Part}
-use Rattle.rt_outcome.specs.declared.outcome.Limit.{Limit}
-use Rattle.rt_outcome.specs.declared.outcome.Outcome.{Outcome}
-use Rattle.rt_outcome.specs.declared.outcome.Outcome.TheVariants as outcome
-use Rattle.rt_outcome.specs.Faults as top
-use Rattle.rt_outcome.specs.Source.{source_from}
-use Rattle.rt_outcome.specs.Steps.{Failed, IsLongFor, Seen, of_contents}
+use Rattle.rt_input.specs.declared.part.Part.{Part}
+use Rattle.rt_input.specs.declared.outcome.Limit.{Limit}
+use Rattle.rt_input.specs.declared.outcome.Outcome.{Outcome}
+use Rattle.rt_input.specs.declared.outcome.Outcome.TheVariants as outcome
+use Rattle.rt_input.specs.Faults as top
+use Rattle.rt_input.specs.Source.{source_from}
+use Rattle.rt_input.specs.Steps.{Failed, IsLongFor, Seen, of_contents}
 use Rattle.rt_ra_run.specs.declared.command.RaCommand.{RaCommand}
 use Rattle.rt_ra_run.specs.declared.outcome.RaOutcome.{RaOutcome}
 use Rattle.rt_ra_run.specs.declared.outcome.RaOutcome.TheVariants.{Verdict, Refused}

@@ -8,12 +8,12 @@ use Rattle.rt_scope.specs.declared.fault.NameFault.TheVariants as name
 use Rattle.rt_sql.specs.declared.fault.SqlFault.TheVariants as sql
 use Rattle.rt_ra_tree.specs.declared.fault.RaFault.{RaFault}
 use Rattle.rt_ra_tree.specs.declared.fault.RaFault.TheVariants as fault
-use Rattle.rt_outcome.specs.declared.part.Part.{Part}
-use Rattle.rt_outcome.specs.declared.outcome.Outcome.{Outcome}
-use Rattle.rt_outcome.specs.declared.outcome.Outcome.TheVariants as outcome
-use Rattle.rt_outcome.specs.declared.outcome.Spent.{Spent}
-use Rattle.rt_outcome.specs.Texts as texts
-use Rattle.rt_outcome.specs.Texts.{lex_text, name_text, part_text, sql_text}
+use Rattle.rt_input.specs.declared.part.Part.{Part}
+use Rattle.rt_input.specs.declared.outcome.Outcome.{Outcome}
+use Rattle.rt_input.specs.declared.outcome.Outcome.TheVariants as outcome
+use Rattle.rt_input.specs.declared.outcome.Spent.{Spent}
+use Rattle.rt_input.specs.Texts as texts
+use Rattle.rt_input.specs.Texts.{lex_text, name_text, part_text, sql_text}
 use Rattle.rt_ra_run.specs.declared.asked.Asked.{Asked}
 use Rattle.rt_ra_run.specs.declared.outcome.RaOutcome.{RaOutcome}
 use Rattle.rt_ra_run.specs.declared.outcome.RaOutcome.TheVariants.{Verdict, Refused}

@@ -5,11 +5,11 @@ use Rattle.std.specs.Option.{ForSome}
 use Rattle.std.specs.Str.{bytes_eq}
 use Rattle.rt_io.specs.Command.{command}
 use Rattle.rt_io.specs.Ranges.{Command, IsWithin, most_conflicts, most_work}
-use Rattle.rt_outcome.specs.declared.outcome.Outcome.{Outcome}
-use Rattle.rt_outcome.specs.declared.outcome.Outcome.TheVariants as outcome
-use Rattle.rt_outcome.specs.declared.part.QueryPart.{QueryPart}
-use Rattle.rt_outcome.specs.declared.part.QueryPart.TheVariants.{First, Second}
-use Rattle.rt_outcome.specs.Source.{Text}
+use Rattle.rt_input.specs.declared.outcome.Outcome.{Outcome}
+use Rattle.rt_input.specs.declared.outcome.Outcome.TheVariants as outcome
+use Rattle.rt_input.specs.declared.part.QueryPart.{QueryPart}
+use Rattle.rt_input.specs.declared.part.QueryPart.TheVariants.{First, Second}
+use Rattle.rt_input.specs.Source.{Text}
 use Rattle.rt_ra_run.specs.declared.command.RaCommand.{RaCommand}
 
 -- the words behind `ra`

@@ -3,9 +3,8 @@ ghost use Rattle.std.specs.Prelude.{◌≡◌, IfOk, IfErr, Some, option_and_the
 ghost use Rattle.rt_io.specs.Command.{command};
 ghost use Rattle.rt_ra_run.specs.Words.{IsInRange, WordsStop, over_files, query_path, ra_command};
 
-use rt_input::read_words;
+use rt_input::{Outcome, QueryPart, read_words};
 use rt_io::Words;
-use rt_outcome::{Outcome, QueryPart};
 use rt_value::Txt;
 use std::alloc::Global;
 

@@ -3,7 +3,7 @@ ghost use Rattle.std.specs.Prelude.{◌≡◌};
 ghost use Rattle.rt_ra_run.specs.Faults.{fault_outcome, lex_outcome};
 
 use crate::outcome::RaOutcome;
-use rt_outcome::{Outcome, Part};
+use rt_input::{Outcome, Part};
 use rt_ra_tree::RaFault;
 use rt_token::LexFault;
 

@@ -1,8 +1,8 @@
 ghost use Rattle.std.specs.Prelude.{◌≡◌};
 ghost use Rattle.rt_ra_run.specs.Texts.{place, status_of};
 
+use rt_input::{Outcome, Part};
 use rt_io::Place;
-use rt_outcome::{Outcome, Part};
 use rt_ra_tree::RaFault;
 
 /// How a call of `ra_run` ends.

@@ -2,7 +2,7 @@
 ghost use Rattle.std.specs.Prelude.{◌≡◌, IfOk, IfErr, Ok};
 ghost use Rattle.rt_token.specs.Lexed.{lexed};
 ghost use Rattle.rt_ra_tree.specs.Formed.{IsFormed};
-ghost use Rattle.rt_outcome.specs.Source.{Text};
+ghost use Rattle.rt_input.specs.Source.{Text};
 ghost use Rattle.rt_ra_run.specs.Asked.{IsLowered};
 ghost use Rattle.rt_ra_run.specs.Judged.{query_of, query_of_tokens, query_of_tree};
 ghost use Rattle.rt_ra_run.specs.Placed.{PlacedIn};
@@ -11,7 +11,7 @@ ghost use Rattle.rt_ra_run.specs.Steps.{Refuses};
 use crate::faults::fault_outcome;
 use crate::outcome::RaOutcome;
 use rt_algebra::Typed;
-use rt_outcome::Part;
+use rt_input::Part;
 use rt_ra::resolve_ra;
 use rt_ra_tree::{RaFault, RaText, parse_ra};
 use rt_schema::Schema;

@@ -3,7 +3,7 @@ ghost use Rattle.rt_io.specs.Edge.{NoneFell};
 ghost use Rattle.rt_io.specs.Logs.{NoSinkRose, WritesNothing, log};
 ghost use Rattle.rt_input.specs.Reading.{call};
 ghost use Rattle.rt_top.specs.Answers.{HasRoom, IfAgree, IfLimit, IfNoMemory, IfReadFault, IfRefused, IfSpent, IfUsage, IfWitness, IfWriteFault};
-ghost use Rattle.rt_outcome.specs.Source.{Text};
+ghost use Rattle.rt_input.specs.Source.{Text};
 ghost use Rattle.rt_ra_run.specs.declared.asked.Asked.{Asked};
 ghost use Rattle.rt_ra_run.specs.declared.outcome.RaOutcome.{RaOutcome};
 ghost use Rattle.rt_ra_run.specs.Answers.{AgreeRow, IfRefusedText, IfSaid, IfVerdict, IsTextOf, IsUsageOrFault, IsVerdictOrMemory, LimitRow, NoFileRose, ReadFaultRow, RefusedElsewhereRow, RefusedRow, Row, SpentRow, UsageRow, WitnessRow, Writes, WritesAll, WritesPart, WritesUntilFault, YieldsTo};
@@ -16,8 +16,8 @@ use crate::outcome::RaOutcome;
 use crate::read::read_asked;
 use crate::say::refusal_text;
 use crate::verdicts::{RaAnswer, judge};
+use rt_input::Outcome;
 use rt_io::{Files, Sink, SinkFail, write_at};
-use rt_outcome::Outcome;
 use rt_value::{NoMemory, Txt};
 use std::alloc::Global;
 

@@ -3,7 +3,7 @@ ghost use Rattle.std.specs.Prelude.{◌≡◌, IfOk, string_bytes};
 ghost use Rattle.rt_ra_run.specs.Texts.{fault_text, refusal_text, refused_line};
 
 use crate::outcome::RaOutcome;
-use rt_outcome::{Outcome, Part, lex_text, part_text, refusal_line};
+use rt_input::{Outcome, Part, lex_text, part_text, refusal_line};
 use rt_ra_tree::RaFault;
 use rt_value::{Bytes, List, NoMemory};
 use std::alloc::{AllocError, Global};

@@ -6,13 +6,13 @@ use Rattle.rt_schema.specs.declared.table.Table.{Table as TableOf}
 use Rattle.rt_algebra.specs.declared.typed.Typed.{Typed}
 use Rattle.rt_io.specs.Ranges.{Command}
 use Rattle.rt_input.specs.declared.first.First.{First}
-use Rattle.rt_outcome.specs.declared.outcome.Outcome.{Outcome}
-use Rattle.rt_outcome.specs.declared.part.Part.TheVariants.{Query1, Query2}
+use Rattle.rt_input.specs.declared.outcome.Outcome.{Outcome}
+use Rattle.rt_input.specs.declared.part.Part.TheVariants.{Query1, Query2}
 use Rattle.rt_input.specs.Accepted.{Accepted}
 use Rattle.rt_input.specs.First.{first_judged, first_of}
 use Rattle.rt_input.specs.Judged.{Data, accepted, data_judged, data_of, input_judged, like_left, no_rows, query_judged, query_of, right_judged, schema_judged, table_judged, tables_judged, then_read, within_limit}
-use Rattle.rt_outcome.specs.Held.{Holding, text_read}
-use Rattle.rt_outcome.specs.Source.{Text, source_of}
+use Rattle.rt_input.specs.Held.{Holding, text_read}
+use Rattle.rt_input.specs.Source.{Text, source_of}
 use Rattle.rt_tools.specs.Grades.{beside, candidate_judged}
 use Rattle.rt_tools.proofs.WordLemmas.{four}
 

@@ -4,17 +4,17 @@ use Rattle.std.specs.Prelude.{Option, Some, IfErr, IfOk, IsOk, IsOkAnd, IsSomeAn
 use Rattle.std.specs.List.{AllZip}
 use Rattle.rt_io.specs.Edge.{NoneFell, Rose}
 use Rattle.rt_input.specs.declared.first.First.{First}
-use Rattle.rt_outcome.specs.declared.outcome.Limit.{Limit}
-use Rattle.rt_outcome.specs.declared.outcome.Outcome.{Outcome}
-use Rattle.rt_outcome.specs.declared.outcome.Outcome.TheVariants as outcome
-use Rattle.rt_outcome.specs.declared.part.Part.TheVariants.{Query2}
+use Rattle.rt_input.specs.declared.outcome.Limit.{Limit}
+use Rattle.rt_input.specs.declared.outcome.Outcome.{Outcome}
+use Rattle.rt_input.specs.declared.outcome.Outcome.TheVariants as outcome
+use Rattle.rt_input.specs.declared.part.Part.TheVariants.{Query2}
 use Rattle.rt_input.specs.Reading.{Call}
 use Rattle.rt_input.specs.First.{first_judged}
 use Rattle.rt_input.specs.Judged.{Reaches}
-use Rattle.rt_outcome.specs.Held.{Holding, text_of, text_read}
-use Rattle.rt_outcome.specs.Placed.{Placed}
-use Rattle.rt_outcome.specs.Source.{IsKnown, Text, source_of}
-use Rattle.rt_outcome.specs.Steps.{Seen, Stops as StopsReading, TextStops, seen}
+use Rattle.rt_input.specs.Held.{Holding, text_of, text_read}
+use Rattle.rt_input.specs.Placed.{Placed}
+use Rattle.rt_input.specs.Source.{IsKnown, Text, source_of}
+use Rattle.rt_input.specs.Steps.{Seen, Stops as StopsReading, TextStops, seen}
 use Rattle.rt_io.specs.Ranges.{Command}
 use Rattle.rt_tools.specs.Grades.{IsGrade, IsPlacedIn, candidate_judged, outcome_of}
 use Rattle.rt_tools.specs.declared.grade.Grade.{Grade}

@@ -8,17 +8,17 @@ use Rattle.rt_algebra.specs.declared.typed.Typed.{Typed}
 use Rattle.rt_io.specs.Command.{command}
 use Rattle.rt_io.specs.Ranges.{Command}
 use Rattle.rt_input.specs.declared.first.First.{First}
-use Rattle.rt_outcome.specs.declared.outcome.Limit.TheVariants as limit
-use Rattle.rt_outcome.specs.declared.outcome.Outcome.{Outcome}
-use Rattle.rt_outcome.specs.declared.outcome.Outcome.TheVariants as outcome
-use Rattle.rt_outcome.specs.declared.part.Part.TheVariants.{Query2}
+use Rattle.rt_input.specs.declared.outcome.Limit.TheVariants as limit
+use Rattle.rt_input.specs.declared.outcome.Outcome.{Outcome}
+use Rattle.rt_input.specs.declared.outcome.Outcome.TheVariants as outcome
+use Rattle.rt_input.specs.declared.part.Part.TheVariants.{Query2}
 use Rattle.rt_input.specs.Accepted.{Accepted, HasOptions}
 use Rattle.rt_input.specs.Reading.{Call, IsRead, IsTold, PlacedRow}
 use Rattle.rt_input.specs.First.{first_judged}
 use Rattle.rt_input.specs.Judged.{command_judged, input_judged, judged, then_read, total_work, within_limit}
-use Rattle.rt_outcome.specs.Held.{text_of, text_read}
-use Rattle.rt_outcome.specs.Source.{IsKnown, Text, source_of}
-use Rattle.rt_outcome.specs.Steps.{Seen}
+use Rattle.rt_input.specs.Held.{text_of, text_read}
+use Rattle.rt_input.specs.Source.{IsKnown, Text, source_of}
+use Rattle.rt_input.specs.Steps.{Seen}
 use Rattle.rt_tools.specs.Grades.{DecidesOn, IsPlacedIn, beside, candidate_judged, right_of}
 use Rattle.rt_tools.specs.declared.grade.Grade.{Grade}
 use Rattle.rt_tools.specs.declared.grade.Grade.TheVariants.{Agree, Witness, Undecided, Refused, Work, TooLong}

@@ -10,17 +10,17 @@ use Rattle.rt_search.specs.declared.best.Best.TheVariants as best
 use Rattle.rt_search.specs.declared.best.SpentBest.{SpentBest}
 use Rattle.rt_io.specs.Ranges.{Command, IsInRange}
 use Rattle.rt_input.specs.declared.first.First.{First}
-use Rattle.rt_outcome.specs.declared.outcome.Limit.TheVariants as limit
-use Rattle.rt_outcome.specs.declared.outcome.Outcome.{Outcome}
-use Rattle.rt_outcome.specs.declared.outcome.Outcome.TheVariants as outcome
-use Rattle.rt_outcome.specs.declared.part.Part.TheVariants.{Query2}
+use Rattle.rt_input.specs.declared.outcome.Limit.TheVariants as limit
+use Rattle.rt_input.specs.declared.outcome.Outcome.{Outcome}
+use Rattle.rt_input.specs.declared.outcome.Outcome.TheVariants as outcome
+use Rattle.rt_input.specs.declared.part.Part.TheVariants.{Query2}
 use Rattle.rt_input.specs.Accepted.{Accepted, IsAccepted}
 use Rattle.rt_input.specs.First.{IsFirst}
 use Rattle.rt_input.specs.Judged.{like_left, query_of, then_read, total_work, within_limit}
-use Rattle.rt_outcome.specs.Placed.{IsPlaceless, PlacedIn, Stands}
+use Rattle.rt_input.specs.Placed.{IsPlaceless, PlacedIn, Stands}
 use Rattle.rt_top.specs.Smallest.{IsGivenUp, IsVerdict}
-use Rattle.rt_outcome.specs.Source.{Text}
-use Rattle.rt_outcome.specs.Steps.{Refuses}
+use Rattle.rt_input.specs.Source.{Text}
+use Rattle.rt_input.specs.Steps.{Refuses}
 use Rattle.rt_tools.specs.declared.grade.Grade.{Grade}
 use Rattle.rt_tools.specs.declared.grade.Grade.TheVariants.{Agree, Witness, Undecided, Refused, Work, TooLong}
 use Rattle.rt_tools.specs.Grades.{Decides, IsGrade, IsPlacedIn, beside, candidate_judged, right_of}

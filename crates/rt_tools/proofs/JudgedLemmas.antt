@@ -11,18 +11,18 @@ use Rattle.rt_io.specs.Command.{command}
 use Rattle.rt_io.specs.Ranges.{Command}
 use Rattle.rt_tools.specs.Rows.{row_read}
 use Rattle.rt_input.specs.declared.first.First.{First}
-use Rattle.rt_outcome.specs.declared.outcome.Fault.{Fault}
-use Rattle.rt_outcome.specs.declared.outcome.Limit.{Limit}
-use Rattle.rt_outcome.specs.declared.outcome.Outcome.{Outcome}
-use Rattle.rt_outcome.specs.declared.outcome.Outcome.TheVariants as outcome
-use Rattle.rt_outcome.specs.declared.outcome.Spent.{Spent}
-use Rattle.rt_outcome.specs.declared.part.Part.{Part}
+use Rattle.rt_input.specs.declared.outcome.Fault.{Fault}
+use Rattle.rt_input.specs.declared.outcome.Limit.{Limit}
+use Rattle.rt_input.specs.declared.outcome.Outcome.{Outcome}
+use Rattle.rt_input.specs.declared.outcome.Outcome.TheVariants as outcome
+use Rattle.rt_input.specs.declared.outcome.Spent.{Spent}
+use Rattle.rt_input.specs.declared.part.Part.{Part}
 use Rattle.rt_input.specs.Accepted.{Accepted, HasOptions}
 use Rattle.rt_input.specs.Reading.{Call, ReadFaultAt}
-use Rattle.rt_outcome.specs.Faults.{placeless}
+use Rattle.rt_input.specs.Faults.{placeless}
 use Rattle.rt_input.specs.Judged.{command_judged, judged}
-use Rattle.rt_outcome.specs.Source.{IsKnown, Text, file_of, source_from, source_of}
-use Rattle.rt_outcome.specs.Steps.{Failed, Seen}
+use Rattle.rt_input.specs.Source.{IsKnown, Text, file_of, source_from, source_of}
+use Rattle.rt_input.specs.Steps.{Failed, Seen}
 use Rattle.rt_tools.specs.RowVerdicts.{IsRowAnswer, Judges}
 use Rattle.rt_tools.specs.declared.row_outcome.RowVerdict.{RowVerdict}
 use Rattle.rt_tools.specs.declared.row_outcome.RowVerdict.TheVariants as rows

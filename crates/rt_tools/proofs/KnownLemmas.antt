@@ -10,9 +10,9 @@ use Rattle.rt_algebra.specs.Typed.{IsTypedOf}
 use Rattle.rt_clause.specs.Literal.{Literal}
 use Rattle.rt_io.specs.Ranges.{Command}
 use Rattle.rt_input.specs.declared.first.First.{First}
-use Rattle.rt_outcome.specs.declared.outcome.Limit.TheVariants as limit
-use Rattle.rt_outcome.specs.declared.outcome.Outcome.{Outcome}
-use Rattle.rt_outcome.specs.declared.outcome.Outcome.TheVariants as outcome
+use Rattle.rt_input.specs.declared.outcome.Limit.TheVariants as limit
+use Rattle.rt_input.specs.declared.outcome.Outcome.{Outcome}
+use Rattle.rt_input.specs.declared.outcome.Outcome.TheVariants as outcome
 use Rattle.rt_input.specs.Accepted.{Accepted, IsAccepted}
 use Rattle.rt_input.specs.Judged.{total_work, within_limit}
 use Rattle.rt_top.specs.Smallest.{Agrees, IsFirst, IsGivenUp, IsSmallest, counters}

@@ -1,3 +1,4 @@
+mod BesideLemmas
 mod EndLemmas
 mod JudgedLemmas
 mod LineLemmas

@@ -2,10 +2,10 @@
 use Rattle.std.proofs.Common.{◌≡◌, Result, Ok, Err, subst}
 use Rattle.std.specs.Prelude.{IfOk}
 use Rattle.rt_value.specs.declared.no_memory.NoMemory.{NoMemory}
-use Rattle.rt_outcome.specs.declared.outcome.Outcome.{Outcome}
+use Rattle.rt_input.specs.declared.outcome.Outcome.{Outcome}
 use Rattle.rt_input.specs.Accepted.{Accepted}
 use Rattle.rt_input.specs.Reading.{Call, IsRead}
-use Rattle.rt_outcome.specs.Source.{Text}
+use Rattle.rt_input.specs.Source.{Text}
 use Rattle.rt_tools.specs.declared.row_outcome.RowAnswer.{RowAnswer}
 use Rattle.rt_tools.specs.RowVerdicts.{IsRowAnswer, Judges}
 use Rattle.rt_tools.specs.Said.{row_text}

@@ -4,7 +4,7 @@ use Rattle.std.specs.Prelude.{Option, None, Some, codes, option_and_then, if◌t
 use Rattle.std.specs.Str.{bytes_eq}
 use Rattle.rt_io.specs.Command.{command}
 use Rattle.rt_io.specs.Ranges.{Command}
-use Rattle.rt_outcome.specs.Source.{IsKnown, Text, source_from, source_of}
+use Rattle.rt_input.specs.Source.{IsKnown, Text, source_from, source_of}
 use Rattle.rt_tools.specs.declared.grade_words.GradeWords.{GradeWords}
 use Rattle.rt_tools.specs.GradeWords.{alone, grade_words, of_command, of_form, of_paths}
 

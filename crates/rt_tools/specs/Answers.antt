@@ -2,10 +2,10 @@
 use Rattle.std.specs.Prelude.{◌≡◌, ◌≢◌, ◌⊎◌, List, ⊤}
 use Rattle.rt_io.specs.Logs.{Broke, Grew, GrewPartly, IsKept, Log, at_place, other_place}
 use Rattle.rt_io.specs.Command.{command}
-use Rattle.rt_outcome.specs.declared.outcome.Outcome.{Outcome}
-use Rattle.rt_outcome.specs.declared.outcome.Outcome.TheVariants as outcome
+use Rattle.rt_input.specs.declared.outcome.Outcome.{Outcome}
+use Rattle.rt_input.specs.declared.outcome.Outcome.TheVariants as outcome
 use Rattle.rt_input.specs.Reading.{Call, Stop, limit_of}
-use Rattle.rt_outcome.specs.Source.{Text}
+use Rattle.rt_input.specs.Source.{Text}
 use Rattle.rt_tools.specs.RowVerdicts.{IsRowAnswer}
 use Rattle.rt_tools.specs.declared.row_outcome.RowVerdict.{RowVerdict}
 use Rattle.rt_tools.specs.declared.row_outcome.RowVerdict.TheVariants as rows

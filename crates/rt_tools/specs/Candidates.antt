@@ -3,12 +3,12 @@ use Rattle.std.specs.Prelude.{◌≡◌, ℕ, Bool, List, Some, Ok, Err, IsTrue,
 use Rattle.rt_io.specs.Edge.{Rose}
 use Rattle.rt_io.specs.Ranges.{Command}
 use Rattle.rt_input.specs.declared.first.First.{First}
-use Rattle.rt_outcome.specs.declared.outcome.Limit.TheVariants as limit
-use Rattle.rt_outcome.specs.declared.outcome.Outcome.TheVariants as outcome
-use Rattle.rt_outcome.specs.declared.part.Part.TheVariants.{Query2}
-use Rattle.rt_outcome.specs.Held.{Holding, text_read}
-use Rattle.rt_outcome.specs.Source.{Text}
-use Rattle.rt_outcome.specs.Steps.{Seen}
+use Rattle.rt_input.specs.declared.outcome.Limit.TheVariants as limit
+use Rattle.rt_input.specs.declared.outcome.Outcome.TheVariants as outcome
+use Rattle.rt_input.specs.declared.part.Part.TheVariants.{Query2}
+use Rattle.rt_input.specs.Held.{Holding, text_read}
+use Rattle.rt_input.specs.Source.{Text}
+use Rattle.rt_input.specs.Steps.{Seen}
 use Rattle.rt_tools.specs.Grades.{IsGrade, IsPlacedIn, candidate_judged, outcome_of}
 use Rattle.rt_tools.specs.declared.grade.Grade.{Grade}
 use Rattle.rt_tools.specs.declared.grade.Grade.TheVariants.{Agree, Witness, Undecided, Refused, Work, TooLong}

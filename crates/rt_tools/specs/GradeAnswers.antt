@@ -5,18 +5,18 @@ use Rattle.std.specs.List.{AllZip}
 use Rattle.rt_io.specs.Edge.{Rose}
 use Rattle.rt_io.specs.Command.{command}
 use Rattle.rt_io.specs.Ranges.{Command}
-use Rattle.rt_outcome.specs.declared.outcome.Limit.TheVariants as limit
-use Rattle.rt_outcome.specs.declared.outcome.Outcome.{Outcome}
-use Rattle.rt_outcome.specs.declared.outcome.Outcome.TheVariants as outcome
-use Rattle.rt_outcome.specs.declared.part.Part.TheVariants.{Query2}
+use Rattle.rt_input.specs.declared.outcome.Limit.TheVariants as limit
+use Rattle.rt_input.specs.declared.outcome.Outcome.{Outcome}
+use Rattle.rt_input.specs.declared.outcome.Outcome.TheVariants as outcome
+use Rattle.rt_input.specs.declared.part.Part.TheVariants.{Query2}
 use Rattle.rt_input.specs.Reading.{Call, IsTold, RefusedRow}
 use Rattle.rt_top.specs.Answers.{AgreeRow, SpentRow, WitnessRow}
 use Rattle.rt_input.specs.First.{first_judged}
 use Rattle.rt_input.specs.Judged.{Reaches, judged}
-use Rattle.rt_outcome.specs.Held.{text_of}
-use Rattle.rt_outcome.specs.Placed.{Placed}
-use Rattle.rt_outcome.specs.Source.{IsKnown, Text, source_of}
-use Rattle.rt_outcome.specs.Steps.{IsLong, Seen, Stops as StopsReading}
+use Rattle.rt_input.specs.Held.{text_of}
+use Rattle.rt_input.specs.Placed.{Placed}
+use Rattle.rt_input.specs.Source.{IsKnown, Text, source_of}
+use Rattle.rt_input.specs.Steps.{IsLong, Seen, Stops as StopsReading}
 use Rattle.rt_input.specs.declared.first.First.{First}
 use Rattle.rt_tools.specs.declared.grade.Grade.{Grade}
 use Rattle.rt_tools.specs.declared.grade.Grade.TheVariants.{Agree, Witness, Undecided, Refused, Work, TooLong}

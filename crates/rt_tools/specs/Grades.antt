@@ -3,16 +3,16 @@ use Rattle.std.specs.Prelude.{◌≡◌, Some, Result, Ok, Err, IsTrue}
 use Rattle.rt_algebra.specs.declared.typed.Typed.{Typed}
 use Rattle.rt_io.specs.Ranges.{Command}
 use Rattle.rt_input.specs.declared.first.First.{First}
-use Rattle.rt_outcome.specs.declared.outcome.Limit.TheVariants as limit
-use Rattle.rt_outcome.specs.declared.outcome.Outcome.{Outcome}
-use Rattle.rt_outcome.specs.declared.outcome.Outcome.TheVariants as outcome
-use Rattle.rt_outcome.specs.declared.part.Part.TheVariants.{Query2}
+use Rattle.rt_input.specs.declared.outcome.Limit.TheVariants as limit
+use Rattle.rt_input.specs.declared.outcome.Outcome.{Outcome}
+use Rattle.rt_input.specs.declared.outcome.Outcome.TheVariants as outcome
+use Rattle.rt_input.specs.declared.part.Part.TheVariants.{Query2}
 use Rattle.rt_input.specs.Accepted.{Accepted, IsAccepted}
-use Rattle.rt_outcome.specs.Faults.{is_refusal, placeless}
+use Rattle.rt_input.specs.Faults.{is_refusal, placeless}
 use Rattle.rt_input.specs.Judged.{Data, accepted, like_left, query_of, then_read, within_limit}
-use Rattle.rt_outcome.specs.Placed.{Parts, Placed}
+use Rattle.rt_input.specs.Placed.{Parts, Placed}
 use Rattle.rt_top.specs.Smallest.{Agrees, IsGivenUp, IsSmallest}
-use Rattle.rt_outcome.specs.Source.{Text}
+use Rattle.rt_input.specs.Source.{Text}
 use Rattle.rt_tools.specs.declared.grade.Grade.{Grade}
 use Rattle.rt_tools.specs.declared.grade.Grade.TheVariants.{Agree, Witness, Undecided, Refused, Work, TooLong}
 

@@ -5,16 +5,16 @@ use Rattle.rt_io.specs.Edge.{Rose}
 use Rattle.rt_tools.specs.Rows.{row_read}
 use Rattle.rt_tools.specs.declared.row_fault.RowFault.{RowFault}
 use Rattle.rt_input.specs.declared.first.First.{First}
-use Rattle.rt_outcome.specs.declared.outcome.Outcome.{Outcome}
-use Rattle.rt_outcome.specs.declared.outcome.Outcome.TheVariants as outcome
+use Rattle.rt_input.specs.declared.outcome.Outcome.{Outcome}
+use Rattle.rt_input.specs.declared.outcome.Outcome.TheVariants as outcome
 use Rattle.rt_input.specs.Accepted.{Accepted}
 use Rattle.rt_input.specs.Reading.{Call, IsRead, IsTold}
 use Rattle.rt_top.specs.Answers.{HasRoom}
-use Rattle.rt_outcome.specs.Faults.{placeless}
+use Rattle.rt_input.specs.Faults.{placeless}
 use Rattle.rt_input.specs.First.{first_judged}
 use Rattle.rt_input.specs.Judged.{judged}
-use Rattle.rt_outcome.specs.Held.{Holding}
-use Rattle.rt_outcome.specs.Source.{Text, source_of}
+use Rattle.rt_input.specs.Held.{Holding}
+use Rattle.rt_input.specs.Source.{Text, source_of}
 use Rattle.rt_tools.specs.Listing.{list_judged}
 use Rattle.rt_tools.specs.GradeWords.{grade_words}
 use Rattle.rt_tools.specs.declared.grade_fault.GradeFault.{GradeFault}

@@ -4,12 +4,12 @@ use Rattle.rt_io.specs.Edge.{Rose}
 use Rattle.rt_tools.specs.Listed.{paths_read}
 use Rattle.rt_tools.specs.declared.paths_fault.PathsFault.{PathsFault}
 use Rattle.rt_tools.specs.declared.paths_fault.PathsFault.TheVariants as paths
-use Rattle.rt_outcome.specs.declared.outcome.Outcome.{Outcome}
-use Rattle.rt_outcome.specs.declared.outcome.Outcome.TheVariants as outcome
-use Rattle.rt_outcome.specs.declared.part.Part.TheVariants.{Query2}
-use Rattle.rt_outcome.specs.Held.{text_read}
-use Rattle.rt_outcome.specs.Source.{Text}
-use Rattle.rt_outcome.specs.Steps.{IsLong, Seen}
+use Rattle.rt_input.specs.declared.outcome.Outcome.{Outcome}
+use Rattle.rt_input.specs.declared.outcome.Outcome.TheVariants as outcome
+use Rattle.rt_input.specs.declared.part.Part.TheVariants.{Query2}
+use Rattle.rt_input.specs.Held.{text_read}
+use Rattle.rt_input.specs.Source.{Text}
+use Rattle.rt_input.specs.Steps.{IsLong, Seen}
 use Rattle.rt_tools.specs.declared.grade_fault.GradeFault.{GradeFault}
 use Rattle.rt_tools.specs.declared.grade_fault.GradeFault.TheVariants.{BadList, TooManyPaths, ListLong, FileRead, Verdict}
 

@@ -4,7 +4,7 @@ use Rattle.rt_print.specs.Texts.{spent_text}
 use Rattle.rt_tools.specs.declared.row_fault.RowFault.{RowFault}
 use Rattle.rt_tools.specs.declared.row_fault.RowFault.TheVariants.{Lex, RowSyntax, RowWidth, RowKind, NoMemory}
 use Rattle.rt_input.specs.Accepted.{Accepted}
-use Rattle.rt_outcome.specs.Texts.{lex_text}
+use Rattle.rt_input.specs.Texts.{lex_text}
 use Rattle.rt_top.specs.Texts.{rows_text}
 use Rattle.rt_tools.specs.declared.row_outcome.RowVerdict.{RowVerdict}
 use Rattle.rt_tools.specs.declared.row_outcome.RowVerdict.TheVariants.{Witness, Never, Spent, Refused}

@@ -2,7 +2,7 @@
 use Rattle.std.specs.Prelude.{◌≡◌, List, [], ◌∷◌, None, codes, if◌then◌else◌}
 use Rattle.std.specs.Str.{bytes_eq}
 use Rattle.rt_io.specs.Command.{command}
-use Rattle.rt_outcome.specs.Source.{Text}
+use Rattle.rt_input.specs.Source.{Text}
 use Rattle.rt_tools.specs.GradeWords.{grade_words}
 
 -- the tool that the words name, and what is behind its name

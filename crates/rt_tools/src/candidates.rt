@@ -2,16 +2,15 @@ ghost use Rattle.std.specs.Prelude.{◌≡◌, IfOk, IfErr};
 ghost use Rattle.std.specs.List.{AllZip};
 ghost use Rattle.rt_io.specs.Edge.{NoneFell, OnlyRises};
 ghost use Rattle.rt_input.specs.First.{IsFirst};
-ghost use Rattle.rt_outcome.specs.Steps.{over};
+ghost use Rattle.rt_input.specs.Steps.{over};
 ghost use Rattle.rt_tools.specs.Review.{IsReviewOf};
 ghost use Rattle.rt_tools.specs.Candidates.{CandidateStops, CandidatesStop, IsGradeOf};
 
 use crate::grade::Grade;
 use crate::grade_fault::GradeFault;
 use crate::review::{Review, grade_text};
-use rt_input::First;
+use rt_input::{First, Outcome, Part, read_text};
 use rt_io::{Files, Words};
-use rt_outcome::{Outcome, Part, read_text};
 use rt_value::{List, Txt};
 use std::alloc::Global;
 

@@ -1,6 +1,6 @@
 ghost use Rattle.std.specs.Prelude.{◌≡◌, IfOk, IfSome};
 
-use rt_outcome::{Fault, Part, Spent};
+use rt_input::{Fault, Part, Spent};
 use rt_value::{Keep, NoMemory};
 use std::alloc::Global;
 

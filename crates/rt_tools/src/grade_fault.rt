@@ -1,4 +1,4 @@
-use rt_outcome::Outcome;
+use rt_input::Outcome;
 use rt_value::{NoMemory, Txt};
 
 /// Why there are no grades.
@@ -29,7 +29,7 @@ impl From<Outcome> for GradeFault {
 
 impl From<NoMemory> for GradeFault {
     ghost use Rattle.std.specs.Prelude.{◌≡◌};
-    ghost use Rattle.rt_outcome.specs.declared.outcome.Outcome.TheVariants.{NoMemory};
+    ghost use Rattle.rt_input.specs.declared.outcome.Outcome.TheVariants.{NoMemory};
     ghost use Rattle.rt_tools.specs.declared.grade_fault.GradeFault.TheVariants.{Verdict};
 
     ghost from_gives = { λ _ fault. fault ≡ Verdict NoMemory };

@@ -2,7 +2,7 @@ ghost use Rattle.std.specs.Prelude.{◌≡◌, IfOk, IfErr};
 ghost use Rattle.rt_io.specs.Edge.{NoneFell};
 ghost use Rattle.rt_input.specs.Reading.{call};
 ghost use Rattle.rt_input.specs.First.{IsFirst};
-ghost use Rattle.rt_outcome.specs.Steps.{over};
+ghost use Rattle.rt_input.specs.Steps.{over};
 ghost use Rattle.rt_tools.specs.GradeWords.{IsSpelled};
 ghost use Rattle.rt_tools.specs.GradeAnswers.{AreGraded, AreGradedBeside, AreGradedBy, Stops, StopsBeside, StopsOf};
 

@@ -1,9 +1,8 @@
 ghost use Rattle.std.specs.Prelude.{◌≡◌, IfOk, IfErr, Some};
 ghost use Rattle.rt_tools.specs.GradeWords.{WordsStop, grade_words, of_command};
 
-use rt_input::read_words;
+use rt_input::{Outcome, read_words};
 use rt_io::Words;
-use rt_outcome::Outcome;
 use rt_value::{NoMemory, Txt};
 use std::alloc::Global;
 

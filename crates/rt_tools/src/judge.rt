@@ -2,16 +2,15 @@ ghost use Rattle.std.specs.Prelude.{◌≡◌, IfOk, IfErr, IfSome, Ok, Some};
 ghost use Rattle.rt_algebra.specs.Typed.{IsTypedOf};
 ghost use Rattle.rt_input.specs.First.{IsFirst};
 ghost use Rattle.rt_input.specs.Judged.{within_limit};
-ghost use Rattle.rt_outcome.specs.Steps.{Refuses};
+ghost use Rattle.rt_input.specs.Steps.{Refuses};
 ghost use Rattle.rt_tools.specs.Grades.{Decides, IsGrade, IsPlacedIn, beside, right_of};
 ghost use Rattle.rt_tools.specs.Prepared.{IsPreparedOf};
 
 use crate::grade::Grade;
 use crate::prepared::{Prepared, decide_prepared};
 use rt_algebra::Typed;
-use rt_input::{First, like_left, query_of, work_between};
+use rt_input::{First, Outcome, Part, Spent, like_left, query_of, work_between};
 use rt_io::Words;
-use rt_outcome::{Outcome, Part, Spent};
 use rt_search::Best;
 use rt_value::NoMemory;
 use std::alloc::Global;

@@ -8,6 +8,7 @@
 //! many are those of a schema, its rows, a reference and a list of candidates' files.
 #![tactic(auto)]
 
+mod beside;
 mod candidates;
 mod grade;
 mod grade_fault;
@@ -40,7 +41,6 @@ pub use grade_words::GradeWords;
 pub use outcome::ToolOutcome;
 pub use paths::read_paths;
 pub use paths_fault::PathsFault;
-pub use review::{Review, grade_text};
 pub use row_fault::RowFault;
 pub use row_outcome::{RowAnswer, RowVerdict};
 pub use row_reader::read_row;

@@ -1,13 +1,13 @@
 ghost use Rattle.std.specs.Prelude.{◌≡◌, IsTrue, IfOk, IfErr, Ok};
 ghost use Rattle.rt_io.specs.Edge.{OnlyRises};
-ghost use Rattle.rt_outcome.specs.Steps.{over};
+ghost use Rattle.rt_input.specs.Steps.{over};
 ghost use Rattle.rt_tools.specs.Listing.{ListStops, PathsStop, list_judged, paths_judged};
 
 use crate::grade_fault::GradeFault;
 use crate::paths::read_paths;
 use crate::paths_fault::PathsFault;
+use rt_input::{Outcome, Part, read_text};
 use rt_io::Files;
-use rt_outcome::{Outcome, Part, read_text};
 use rt_value::{List, Txt};
 use std::alloc::Global;
 

@@ -5,8 +5,8 @@ use crate::grade::Grade;
 use crate::grade_fault::GradeFault;
 use crate::row_fault::RowFault;
 use crate::row_outcome::RowVerdict;
+use rt_input::{Outcome, Spent};
 use rt_io::Place;
-use rt_outcome::{Outcome, Spent};
 use rt_value::{Keep, List, Txt};
 
 /// How a call of `tool_run` ends.

@@ -1,15 +1,14 @@
 ghost use Rattle.std.specs.Prelude.{IfOk, IfSome, ◌≤◌};
 ghost use Rattle.rt_algebra.specs.Typed.{IsTypedOf};
 ghost use Rattle.rt_input.specs.First.{IsFirst};
-ghost use Rattle.rt_top.specs.Smallest.{IsVerdictBeside};
-ghost use Rattle.rt_tools.specs.Prepared.{IsPreparedOf};
+ghost use Rattle.rt_tools.specs.Prepared.{IsPreparedOf, IsVerdictBeside};
 
+use crate::beside::decide_beside;
 use rt_algebra::Typed;
 use rt_annot::Reference;
 use rt_formula::Dag;
 use rt_input::First;
 use rt_search::Best;
-use rt_top::decide_beside;
 use rt_value::NoMemory;
 use std::alloc::Global;
 

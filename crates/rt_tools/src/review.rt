@@ -12,23 +12,22 @@ use crate::judge::{grade_query, right_of};
 use crate::known::{Known, keep, known_grade};
 use crate::prepared::Prepared;
 use rt_algebra::Typed;
-use rt_input::First;
+use rt_input::{First, Outcome};
 use rt_io::Words;
-use rt_outcome::Outcome;
 use rt_value::{List, NoMemory};
 use std::alloc::Global;
 
 /// What is known of a reference for the candidates to come: the reference itself, once it is
 /// prepared, and the queries that were graded beside it.
 #[derive(Drop)]
-pub struct Review {
+pub(crate) struct Review {
     prepared: Option<Prepared>,
     known: List<Known>,
 }
 
 impl Review {
     /// Nothing yet.
-    pub fn new(alloc: Global) -> Review
+    pub(crate) fn new(alloc: Global) -> Review
         ensures { (words : Command) (first : Before) → IsReviewOf words first result }
     {
         Review {
@@ -64,7 +63,7 @@ impl Review {
 /// The grade of the candidate that a text is, with the numbers of a command. The reference is
 /// prepared for the first candidate that is decided, and stays so for those after it; a query that
 /// is the same as one before it has that one's grade.
-pub fn grade_text(
+pub(crate) fn grade_text(
     alloc: Global,
     words: &Words,
     first: &First,

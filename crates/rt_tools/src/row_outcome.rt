@@ -1,5 +1,5 @@
 use crate::row_fault::RowFault;
-use rt_outcome::Spent;
+use rt_input::Spent;
 use rt_value::{Bytes, Keep};
 
 /// What is found of one named row.

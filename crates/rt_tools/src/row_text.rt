@@ -8,8 +8,7 @@ ghost use Rattle.rt_tools.specs.Said.{fault_line, fault_text};
 
 use crate::row_fault::RowFault;
 use rt_eval::answers;
-use rt_input::Input;
-use rt_outcome::{Fault, Spent};
+use rt_input::{Fault, Input, Spent};
 use rt_print::witness_text;
 use rt_value::{Bytes, Keep, List, NoMemory};
 use std::alloc::Global;
@@ -50,7 +49,7 @@ fn fault_text(alloc: Global, fault: &RowFault) -> Result<Bytes, NoMemory>
     ensures { IfOk result (λ text. text ≡ fault_text fault.now) }
 {
     match fault {
-        RowFault::Lex(fault) => rt_outcome::fault_text(alloc, &Fault::Lex(*fault)),
+        RowFault::Lex(fault) => rt_input::fault_text(alloc, &Fault::Lex(*fault)),
         RowFault::RowSyntax => List::from_slice(alloc, b"syntax fault"),
         RowFault::RowWidth => List::from_slice(alloc, b"numbers of columns differ"),
         RowFault::RowKind => List::from_slice(alloc, b"types do not match"),

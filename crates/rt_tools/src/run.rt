@@ -15,9 +15,8 @@ use crate::grade_run::grades;
 use crate::outcome::ToolOutcome;
 use crate::row_verdict::row_answer;
 use crate::say::{USAGE, fault_line, grades_text};
-use rt_input::stopped_text;
+use rt_input::{Outcome, stopped_text};
 use rt_io::{Files, Sink, SinkFail, write_at};
-use rt_outcome::Outcome;
 use rt_value::{Bytes, List, NoMemory, Txt};
 use std::alloc::Global;
 

@@ -4,7 +4,7 @@ ghost use Rattle.rt_tools.specs.Texts as spec;
 
 use crate::grade::Grade;
 use crate::grade_fault::GradeFault;
-use rt_outcome::fault_text;
+use rt_input::fault_text;
 use rt_value::{Bytes, List, NoMemory, Txt};
 use std::alloc::Global;
 

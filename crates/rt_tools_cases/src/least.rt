@@ -1,7 +1,6 @@
 //! The least choice of rows with a row in the first answer alone.
 use crate::held::{files, list_of};
-use rt_input::{Input, read_input};
-use rt_outcome::Outcome;
+use rt_input::{Input, Outcome, read_input};
 use rt_search::Best;
 use rt_tools::{read_row, smallest_row};
 use rt_value::Row;

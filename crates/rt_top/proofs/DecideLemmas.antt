@@ -1,6 +1,6 @@
 -- From the least choice at which the goal is true to the smallest counterexample.
-use Rattle.std.proofs.Common.{◌≡◌, ◌∙◌, sym, ap, subst, refl, ℕ, Bool, true, false, not, List, [], ◌∷◌, length, ◌&&◌, Result, Ok, Err, arith}
-use Rattle.std.specs.Prelude.{Option, Some, None, IfOk, IfSome, IsSomeAnd, ◌≤◌, ◌<◌, ◌^◌, slice_get}
+use Rattle.std.proofs.Common.{◌≡◌, ◌∙◌, sym, ap, subst, refl, ℕ, Bool, true, false, not, List, length, ◌&&◌, Result, Ok, Err}
+use Rattle.std.specs.Prelude.{Option, Some, None, IfOk, IfSome, IsSomeAnd, ◌<◌, ◌^◌}
 use Rattle.rt_clause.specs.Literal.{Literal}
 use Rattle.rt_value.specs.declared.no_memory.NoMemory.{NoMemory}
 use Rattle.rt_schema.specs.declared.table.Table.{Table}
@@ -10,11 +10,8 @@ use Rattle.rt_schema.specs.Law.{lawful}
 use Rattle.rt_algebra.specs.Answer.{plain, same_rows}
 use Rattle.rt_algebra.specs.declared.typed.Typed.{Typed}
 use Rattle.rt_formula.specs.Cut.{cut}
-use Rattle.rt_formula.specs.declared.entry.Entry.{Entry}
-use Rattle.rt_formula.specs.declared.entry.Entry.TheVariants.{No}
-use Rattle.rt_formula.specs.Shared.{IsGrown, IsSound, Shared, truncated, val}
+use Rattle.rt_formula.specs.Shared.{IsGrown, Shared, val}
 use Rattle.rt_formula.proofs.Cutting.{cut-length}
-use Rattle.rt_formula.proofs.Growth.{taken_back}
 use Rattle.rt_search.specs.Least.{HasFewest as HasFewestRows, IsBest, IsEnough, IsGoal, IsSpentBest}
 use Rattle.rt_search.specs.Nogoods.{IsSpentBy}
 use Rattle.rt_search.proofs.Targets.{spent-narrowed}
@@ -132,16 +129,3 @@ enough old d goal differs cone law grown parts lawful same keep g =
       both : (a b x y : Bool) → (a && x) ≡ true → (a ≡ true → b ≡ true) → y ≡ x → (b && y) ≡ true
       both false b x y q f e = absurd (cc)
       both true b x y q f e = rw (f refl, e) q
-
--- a Dag has the two constants
-pub two_nodes : (d : Shared) → IsSound d → 2 ≤ length d.entries
-two_nodes d sound = of_list d.entries sound.no
-  where
-    of_list : (es : List Entry) → slice_get es 1 ≡ Some No → 2 ≤ length es
-    of_list [] h = cc
-    of_list (x ∷ []) h = cc
-    of_list (x ∷ y ∷ es) h = omega arith
-
--- a Dag that is cut to the nodes that it had is as it was
-pub as_it_was : (old grown new : Shared) (nodes : ℕ) → nodes ≡ length old.entries → IsGrown old grown → new ≡ truncated nodes grown → new ≡ old
-as_it_was old grown new nodes n g e = e ∙ ap (λ k. truncated k grown) n ∙ taken_back old grown g

@@ -1,3 +1,3 @@
-mod DecideLemmas
+pub mod DecideLemmas
 mod OneLemmas
 mod VerdictLemmas

@@ -3,8 +3,8 @@ use Rattle.std.proofs.Common.{◌≡◌, ℕ, Bool, true, false, List, Ok, inl, 
 use Rattle.rt_search.specs.declared.best.Best.{Best}
 use Rattle.rt_search.specs.declared.best.Best.TheVariants.{Least, Never, Spent}
 use Rattle.rt_search.proofs.Keeps.{either-before}
-use Rattle.rt_outcome.specs.declared.outcome.Outcome.{Outcome}
-use Rattle.rt_outcome.specs.declared.outcome.Outcome.TheVariants as outcome
+use Rattle.rt_input.specs.declared.outcome.Outcome.{Outcome}
+use Rattle.rt_input.specs.declared.outcome.Outcome.TheVariants as outcome
 use Rattle.rt_input.specs.Accepted.{Accepted}
 use Rattle.rt_input.specs.Reading.{Call, IsRead}
 use Rattle.rt_top.specs.Answers.{IsTextOf}

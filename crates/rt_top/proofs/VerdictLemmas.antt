@@ -6,19 +6,19 @@ use Rattle.std.specs.Option.{ForSome}
 use Rattle.rt_io.specs.Edge.{Rose}
 use Rattle.rt_io.specs.Logs.{Log, NoSinkRose, at_place}
 use Rattle.rt_schema.specs.Given.{places}
-use Rattle.rt_outcome.specs.declared.outcome.Outcome.{Outcome}
-use Rattle.rt_outcome.specs.declared.outcome.Outcome.TheVariants as outcome
-use Rattle.rt_outcome.specs.declared.outcome.Spent.{Spent}
-use Rattle.rt_outcome.specs.declared.part.Part.{Part}
+use Rattle.rt_input.specs.declared.outcome.Outcome.{Outcome}
+use Rattle.rt_input.specs.declared.outcome.Outcome.TheVariants as outcome
+use Rattle.rt_input.specs.declared.outcome.Spent.{Spent}
+use Rattle.rt_input.specs.declared.part.Part.{Part}
 use Rattle.rt_io.specs.declared.place.Place.{Place}
 use Rattle.rt_io.specs.declared.place.Place.TheVariants as at
 use Rattle.rt_input.specs.Accepted.{Accepted}
-use Rattle.rt_outcome.specs.Source.{source_of}
+use Rattle.rt_input.specs.Source.{source_of}
 use Rattle.rt_io.specs.Command.{command}
 use Rattle.rt_io.specs.Ranges.{Command}
 use Rattle.rt_input.specs.Judged.{command_judged, judged}
-use Rattle.rt_outcome.specs.Steps.{is_memory}
-use Rattle.rt_outcome.specs.Texts.{place}
+use Rattle.rt_input.specs.Steps.{is_memory}
+use Rattle.rt_input.specs.Texts.{place}
 use Rattle.rt_top.specs.Texts.{refusal_text}
 use Rattle.rt_input.specs.Reading.{Call, ReadFaultAt, ReadFaultRow, Stop, IsRead, IsTold, limit_of}
 use Rattle.rt_input.proofs.RowLemmas.{known, named_from_reached}

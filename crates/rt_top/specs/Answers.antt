@@ -5,19 +5,19 @@ use Rattle.rt_io.specs.Logs.{Log, Grew, GrewPartly, IsKept, Broke, at_place, oth
 use Rattle.rt_schema.specs.Given.{places}
 use Rattle.rt_io.specs.Command.{command}
 use Rattle.rt_io.specs.Ranges.{Command}
-use Rattle.rt_outcome.specs.declared.part.Part.{Part}
-use Rattle.rt_outcome.specs.declared.outcome.Fault.{Fault}
-use Rattle.rt_outcome.specs.declared.outcome.Limit.{Limit}
-use Rattle.rt_outcome.specs.declared.outcome.Outcome.{Outcome}
-use Rattle.rt_outcome.specs.declared.outcome.Outcome.TheVariants as outcome
-use Rattle.rt_outcome.specs.declared.outcome.Spent.{Spent}
+use Rattle.rt_input.specs.declared.part.Part.{Part}
+use Rattle.rt_input.specs.declared.outcome.Fault.{Fault}
+use Rattle.rt_input.specs.declared.outcome.Limit.{Limit}
+use Rattle.rt_input.specs.declared.outcome.Outcome.{Outcome}
+use Rattle.rt_input.specs.declared.outcome.Outcome.TheVariants as outcome
+use Rattle.rt_input.specs.declared.outcome.Spent.{Spent}
 use Rattle.rt_input.specs.Accepted.{Accepted}
-use Rattle.rt_outcome.specs.Faults.{placeless}
+use Rattle.rt_input.specs.Faults.{placeless}
 use Rattle.rt_input.specs.Judged.{IsNamed}
 use Rattle.rt_input.specs.Reading.{Call, IsRead, LimitRow, ReadFaultRow, RefusedRow, UsageRow, limit_of}
-use Rattle.rt_outcome.specs.Source.{file_of, source_of}
-use Rattle.rt_outcome.specs.Steps.{Failed}
-use Rattle.rt_outcome.specs.Texts.{place}
+use Rattle.rt_input.specs.Source.{file_of, source_of}
+use Rattle.rt_input.specs.Steps.{Failed}
+use Rattle.rt_input.specs.Texts.{place}
 use Rattle.rt_top.specs.Smallest.{IsSmallest, Agrees, IsGivenUp}
 use Rattle.rt_top.specs.Texts.{agree_of, refusal_text, spent_of, witness_of}
 

@@ -8,7 +8,6 @@ use Rattle.rt_schema.specs.Law.{lawful}
 use Rattle.rt_algebra.specs.Answer.{plain, same_rows}
 use Rattle.rt_algebra.specs.declared.typed.Typed.{Typed}
 use Rattle.rt_input.specs.Accepted.{Accepted}
-use Rattle.rt_input.specs.declared.first.First.{First}
 use Rattle.rt_clause.specs.Literal.{Literal}
 use Rattle.rt_search.specs.Nogoods.{IsSpentBy}
 use Rattle.rt_search.specs.Order.{ComesBefore}
@@ -71,8 +70,3 @@ abbrev pub IsVerdict : Accepted → Best → Type 0
 IsVerdict input (Least keep) = IsSmallest input keep
 IsVerdict input Never = Agrees input
 IsVerdict input (Spent s) = IsSomeAnd input.conflicts (λ budget. IsGivenUp input budget s.best s.least s.nogoods)
-
--- the verdict on what is read first with a second query, whatever else the command says
-abbrev pub IsVerdictBeside : First → Typed → Option ℕ → Best → Type 0
-IsVerdictBeside first right conflicts best =
-    (limit : ℕ) (made : Option ℕ) → IsVerdict (record { schema = first.schema; given = first.given; left = first.left; right = right; conflicts = conflicts; work_limit = limit; made = made }) best

@@ -6,9 +6,9 @@ use Rattle.rt_print.specs.Texts.{spent_text, witness_text}
 use Rattle.rt_print.specs.declared.verdict.MadeVerdict.TheVariants as made
 use Rattle.rt_value.specs.Keep.{size}
 use Rattle.rt_input.specs.Accepted.{Accepted}
-use Rattle.rt_outcome.specs.Texts.{stopped_text}
-use Rattle.rt_outcome.specs.declared.outcome.Outcome.{Outcome}
-use Rattle.rt_outcome.specs.declared.outcome.Spent.{Spent}
+use Rattle.rt_input.specs.Texts.{stopped_text}
+use Rattle.rt_input.specs.declared.outcome.Outcome.{Outcome}
+use Rattle.rt_input.specs.declared.outcome.Spent.{Spent}
 use Rattle.rt_top.specs.Smallest.{answer_at}
 
 abbrev pub usage_text : List ℕ

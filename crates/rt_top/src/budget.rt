@@ -3,10 +3,9 @@ ghost use Rattle.std.specs.Prelude.{◌≡◌, IfOk, Some};
 ghost use Rattle.rt_top.specs.Answers.{Judges};
 ghost use Rattle.rt_top.specs.Smallest.{IsGivenUp};
 ghost use Rattle.rt_top.specs.Texts.{spent_of};
-ghost use Rattle.rt_outcome.specs.declared.outcome.Outcome.TheVariants as outcome;
+ghost use Rattle.rt_input.specs.declared.outcome.Outcome.TheVariants as outcome;
 
-use rt_input::Input;
-use rt_outcome::Spent;
+use rt_input::{Input, Spent};
 use rt_print::{MadeVerdict, made_text, spent_text};
 use rt_search::SpentBest;
 use rt_value::{Bytes, NoMemory};

@@ -1,17 +1,13 @@
 //! The verdict on an input.
-ghost use Rattle.std.specs.Prelude.{◌≡◌, ℕ, ◌≤◌, Option, IfOk, IfSome};
-ghost use Rattle.rt_schema.specs.Given.{IsOf, places};
+ghost use Rattle.std.specs.Prelude.{ℕ, ◌≤◌, Option, IfOk, IfSome};
+ghost use Rattle.rt_schema.specs.Given.{IsOf};
 ghost use Rattle.rt_algebra.specs.Typed.{IsTypedOf};
-ghost use Rattle.rt_formula.specs.Shared.{IsGrown};
-ghost use Rattle.rt_annot.specs.Reference.{IsReference};
-ghost use Rattle.rt_input.specs.First.{IsFirst};
-ghost use Rattle.rt_top.specs.Smallest.{IsVerdictBeside};
 ghost use Rattle.rt_top.specs.Smallest.{IsVerdict};
 
 use rt_algebra::Typed;
-use rt_annot::{Reference, goal, goal_beside};
+use rt_annot::goal;
 use rt_formula::Dag;
-use rt_input::{First, Input};
+use rt_input::Input;
 use rt_rules::cone;
 use rt_schema::{Given, Schema};
 use rt_search::{Best, smallest};
@@ -54,50 +50,4 @@ pub fn decide_between(
     let aim = goal(alloc, &mut dag, schema, given, left, right)?;
     let cone = cone(alloc, &dag, aim.differs, schema, given)?;
     smallest(alloc, &dag, aim.goal, &cone, conflicts)
-}
-
-/// The same of a first query that stands on a Dag as a reference and another one beside it. The Dag
-/// is left as it was.
-pub fn decide_beside(
-    alloc: Global,
-    dag: &mut Dag,
-    reference: &Reference,
-    first: &First,
-    right: &Typed,
-    conflicts: Option<u64>,
-) -> Result<Best, NoMemory>
-    requires first { IsFirst first.now }
-    requires rows { dag.old.rows ≡ places first.now.given.tables }
-    requires reference { IsReference first.now.schema first.now.given first.now.left dag.old reference.now }
-    requires right { IsTypedOf first.now.schema right.now }
-    requires conflicts { IfSome conflicts (λ b. 1 ≤ b) }
-    ensures verdict { IfOk result (IsVerdictBeside first.now right.now conflicts) }
-    ensures dag { dag.new ≡ dag.old }
-{
-    let nodes = dag.len();
-    let best = search_beside(alloc, dag, reference, first, right, conflicts);
-    dag.truncate(nodes);
-    best
-}
-
-// The same, which leaves its nodes on the Dag.
-fn search_beside(
-    alloc: Global,
-    dag: &mut Dag,
-    reference: &Reference,
-    first: &First,
-    right: &Typed,
-    conflicts: Option<u64>,
-) -> Result<Best, NoMemory>
-    requires first { IsFirst first.now }
-    requires rows { dag.old.rows ≡ places first.now.given.tables }
-    requires reference { IsReference first.now.schema first.now.given first.now.left dag.old reference.now }
-    requires right { IsTypedOf first.now.schema right.now }
-    requires conflicts { IfSome conflicts (λ b. 1 ≤ b) }
-    ensures grown { IsGrown dag.old dag.new }
-    ensures verdict { IfOk result (IsVerdictBeside first.now right.now conflicts) }
-{
-    let aim = goal_beside(alloc, dag, &first.given, reference, right)?;
-    let cone = cone(alloc, dag, aim.differs, &first.schema, &first.given)?;
-    smallest(alloc, dag, aim.goal, &cone, conflicts)
 }

@@ -8,7 +8,7 @@ mod top;
 mod verdicts;
 
 pub use budget::{GivenUp, given_up};
-pub use decision::{decide, decide_beside, decide_between};
+pub use decision::{decide, decide_between};
 pub use rt_search::{Best, SpentBest};
 pub use top::{USAGE, ratest};
 pub use verdicts::{Answer, verdict};

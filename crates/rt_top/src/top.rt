@@ -6,15 +6,14 @@ ghost use Rattle.rt_input.specs.Accepted.{Accepted};
 ghost use Rattle.rt_io.specs.Logs.{log, NoSinkRose, WritesNothing};
 ghost use Rattle.rt_input.specs.Reading.{call, limit_of, LastBegun, IsTold, IsMadeCall, UsageRow, RefusedRow, LimitRow, ReadFaultRow};
 ghost use Rattle.rt_top.specs.Answers.{Row, AgreeRow, WitnessRow, SpentRow, HasRoom, IfAgree, IfWitness, IfUsage, IfRefused, IfSpent, IfLimit, IfReadFault, IfWriteFault, IfNoMemory, IfText, YieldsTo, YieldsToWrite, IsVerdictOrMemory, NoFileRose, IsTextOf, Writes, WritesAll, WritesPart, WritesUntilFault};
-ghost use Rattle.rt_outcome.specs.Steps.{is_memory};
+ghost use Rattle.rt_input.specs.Steps.{is_memory};
 ghost use Rattle.rt_top.specs.Texts.{refusal_text};
-ghost use Rattle.rt_outcome.specs.declared.outcome.Outcome.{Outcome};
-ghost use Rattle.rt_outcome.specs.declared.outcome.Outcome.TheVariants as outcome;
+ghost use Rattle.rt_input.specs.declared.outcome.Outcome.{Outcome};
+ghost use Rattle.rt_input.specs.declared.outcome.Outcome.TheVariants as outcome;
 
 use crate::verdicts::{Answer, verdict};
-use rt_input::{read_input, stopped_text};
+use rt_input::{Outcome, read_input, stopped_text};
 use rt_io::{Files, Sink, SinkFail, write_at};
-use rt_outcome::Outcome;
 use rt_value::{Bytes, NoMemory, Txt};
 use std::alloc::Global;
 

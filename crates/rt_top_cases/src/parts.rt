@@ -1,8 +1,9 @@
 //! The parts of a command that other commands stand on, each called by itself.
 use rt_cases::{SCHEMA, TABLE, files, words};
-use rt_input::{Tables, read_tables, read_words};
+use rt_input::{
+    Fault, Outcome, Part, Tables, fault_text, read_tables, read_text, read_words, refusal_line,
+};
 use rt_load::LoadFault;
-use rt_outcome::{Fault, Outcome, Part, fault_text, read_text, refusal_line};
 use rt_resolve::NameFault;
 use rt_value::{Bytes, Txt};
 use std::alloc::Global;

@@ -1,7 +1,7 @@
 //! Files and sinks that fail.
 use super::{FIVE, MARY, ends, school, words};
+use rt_input::Outcome;
 use rt_io::MemSink;
-use rt_outcome::Outcome;
 use rt_ra_run::{RaOutcome, ra_run};
 use std::alloc::Global;
 use std::process::Abort;

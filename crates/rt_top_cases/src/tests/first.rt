@@ -2,8 +2,8 @@
 use super::worked::all_end;
 use super::{files_end, numbers};
 use rt_cases::{ALL, FOUR, LOOSE, REG, SCHEMA, STUDENT, TABLE, files, words};
+use rt_input::Outcome;
 use rt_io::{MemFiles, MemSink};
-use rt_outcome::Outcome;
 use rt_top::ratest;
 use rt_value::{List, Txt};
 use std::alloc::Global;

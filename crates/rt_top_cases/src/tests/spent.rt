@@ -2,9 +2,8 @@
 use super::files_end;
 use super::worked::{MEET, MEETS};
 use rt_cases::{ABC, MARY, ONE, ONES, REG, SCHOOL, SOME, STUDENT, TWOS, files, words};
-use rt_input::{Input, read_input};
+use rt_input::{Input, Outcome, read_input};
 use rt_io::MemSink;
-use rt_outcome::Outcome;
 use rt_top::{Best, decide, ratest};
 use std::alloc::Global;
 use std::process::Abort;

@@ -1,4 +1,4 @@
-use Rattle.rt_outcome.specs.Steps.{over}
+use Rattle.rt_input.specs.Steps.{over}
 use Rattle.rt_cert.proofs.SayLemmas.{check_says}
 use Rattle.rt_cert.proofs.check_told.check_told.Goals as goal
 

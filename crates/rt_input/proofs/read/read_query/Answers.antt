@@ -1,5 +1,5 @@
-use Rattle.rt_outcome.specs.Source.{query_part}
-use Rattle.rt_outcome.specs.Steps.{seen}
+use Rattle.rt_input.specs.Source.{query_part}
+use Rattle.rt_input.specs.Steps.{seen}
 use Rattle.rt_input.proofs.StepLemmas.{query_stops}
 use Rattle.rt_input.proofs.read.read_query.Goals as goal
 

@@ -2,8 +2,8 @@ use Rattle.std.proofs.Common.{◌≡◌, ◌∙◌, Ok, ap, sym}
 use Rattle.std.proofs.lemmas.Result.{err_from_is_err_and}
 use Rattle.rt_input.specs.Accepted.{Accepted}
 use Rattle.rt_input.specs.Judged.{Reaches, input_judged, within_limit}
-use Rattle.rt_outcome.specs.Source.{IsKnown}
-use Rattle.rt_outcome.specs.Steps.{Refuses, Stops, seen}
+use Rattle.rt_input.specs.Source.{IsKnown}
+use Rattle.rt_input.specs.Steps.{Refuses, Stops, seen}
 use Rattle.rt_input.proofs.LastLemmas.{right_last}
 use Rattle.rt_input.proofs.StepLemmas.{first_stops, if_err, judged_all, right_stops, stops_refused}
 use Rattle.rt_input.proofs.RowLemmas.{if_ok}

@@ -6,13 +6,13 @@ use Rattle.std.proofs.lemmas.Result.{err_from_is_err_and}
 use Rattle.rt_schema.specs.declared.table.Table.{Table}
 use Rattle.rt_schema.specs.Given.{Tables, places, rows_at}
 use Rattle.rt_schema.proofs.GivenLemmas.{no_rows-places}
-use Rattle.rt_outcome.specs.declared.outcome.Outcome.{Outcome}
-use Rattle.rt_outcome.specs.declared.part.Part.TheVariants as part
+use Rattle.rt_input.specs.declared.outcome.Outcome.{Outcome}
+use Rattle.rt_input.specs.declared.part.Part.TheVariants as part
 use Rattle.rt_input.specs.Judged.{IsTableReached, no_rows, table_judged, tables_judged}
-use Rattle.rt_outcome.specs.Held.{Holding}
-use Rattle.rt_outcome.specs.declared.source.Source.{Source}
-use Rattle.rt_outcome.specs.Source.{IsKnown}
-use Rattle.rt_outcome.specs.Steps.{LastIs}
+use Rattle.rt_input.specs.Held.{Holding}
+use Rattle.rt_input.specs.declared.source.Source.{Source}
+use Rattle.rt_input.specs.Source.{IsKnown}
+use Rattle.rt_input.specs.Steps.{LastIs}
 use Rattle.rt_input.proofs.LastLemmas.{last_on, last_same, last_then}
 use Rattle.rt_input.proofs.StepLemmas.{stops_on}
 use Rattle.rt_input.proofs.TableLemmas.{no_rows-at, rows_at-set_other, tables_judged-more, tables_judged-stops}

@@ -2,8 +2,8 @@ use Rattle.std.proofs.Common.{◌≡◌, ◌≤◌, ℕ, take, Ok, length}
 use Rattle.rt_io.specs.Edge.{NoneFell}
 use Rattle.rt_schema.specs.Given.{IsOf, places, rows_at, row_limit}
 use Rattle.rt_input.specs.Judged.{IsTableReached, no_rows, tables_judged}
-use Rattle.rt_outcome.specs.Source.{IsKnown, IsMade}
-use Rattle.rt_outcome.specs.Steps.{BeginsOnly}
+use Rattle.rt_input.specs.Source.{IsKnown, IsMade}
+use Rattle.rt_input.specs.Steps.{BeginsOnly}
 use Rattle.rt_input.proofs.tables.read_given.Given as goal
 
 abbrev pub invariant-tables : goal.invariant-tables

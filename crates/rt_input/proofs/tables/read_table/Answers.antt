@@ -2,9 +2,9 @@ use Rattle.std.proofs.Common.{◌≡◌, ◌<◌, sym, ap, ◌∙◌, arith, len
 use Rattle.rt_schema.specs.Given.{places, rows_at}
 use Rattle.rt_load.specs.Loaded.{columns_at, loaded}
 use Rattle.rt_load.proofs.SuitLemmas.{same-length}
-use Rattle.rt_outcome.specs.declared.part.Part.TheVariants as part
+use Rattle.rt_input.specs.declared.part.Part.TheVariants as part
 use Rattle.rt_input.specs.Judged.{table_judged}
-use Rattle.rt_outcome.specs.Steps.{seen}
+use Rattle.rt_input.specs.Steps.{seen}
 use Rattle.rt_input.proofs.StepLemmas.{stops_loaded}
 use Rattle.rt_input.proofs.TableLemmas.{columns_at-get, few_after, get-within, table_read}
 use Rattle.rt_input.proofs.tables.read_table.Goals as goal

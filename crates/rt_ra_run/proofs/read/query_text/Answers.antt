@@ -1,4 +1,4 @@
-use Rattle.rt_outcome.specs.Steps.{seen}
+use Rattle.rt_input.specs.Steps.{seen}
 use Rattle.rt_ra_run.proofs.StepLemmas.{placeless_text, stops_query_text, text_given}
 use Rattle.rt_ra_run.proofs.read.query_text.Goals as goal
 

@@ -1,5 +1,5 @@
 use Rattle.std.proofs.lemmas.Result.{err_from_is_err_and}
-use Rattle.rt_outcome.specs.Steps.{seen}
+use Rattle.rt_input.specs.Steps.{seen}
 use Rattle.rt_ra_run.specs.Judged.{Reaches, data_in, data_judged, queries_judged}
 use Rattle.rt_ra_run.proofs.StepLemmas.{asked_stops, asked_told, if_placed_later, stops_first}
 use Rattle.rt_ra_run.proofs.read.read_asked.Goals as goal

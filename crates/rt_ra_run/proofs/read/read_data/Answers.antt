@@ -1,5 +1,5 @@
 use Rattle.std.proofs.Common.{ap}
-use Rattle.rt_outcome.specs.Steps.{seen}
+use Rattle.rt_input.specs.Steps.{seen}
 use Rattle.rt_ra_run.specs.Faults.{or_outcome}
 use Rattle.rt_ra_run.specs.declared.outcome.RaOutcome.TheVariants.{Verdict}
 use Rattle.rt_ra_run.proofs.StepLemmas.{stops_data}

@@ -1,6 +1,6 @@
 use Rattle.std.proofs.Common.{◌≡◌, Ok}
 use Rattle.std.proofs.lemmas.Result.{err_from_is_err_and}
-use Rattle.rt_outcome.specs.Steps.{seen}
+use Rattle.rt_input.specs.Steps.{seen}
 use Rattle.rt_ra_run.specs.Asked.{HasNumbers, IsAsked, IsMeant}
 use Rattle.rt_ra_run.specs.Judged.{data_in, within_judged}
 use Rattle.rt_ra_run.specs.declared.asked.Asked.{Asked}

@@ -1,7 +1,7 @@
 use Rattle.std.proofs.Common.{◌≡◌}
 use Rattle.std.proofs.lemmas.Result.{err_from_is_err_and}
-use Rattle.rt_outcome.specs.Source.{query_part}
-use Rattle.rt_outcome.specs.Steps.{seen}
+use Rattle.rt_input.specs.Source.{query_part}
+use Rattle.rt_input.specs.Steps.{seen}
 use Rattle.rt_ra_run.specs.Judged.{query_of, text_judged}
 use Rattle.rt_ra_run.proofs.StepLemmas.{query_ok, query_placed, query_stops, stops_first}
 use Rattle.rt_ra_run.proofs.read.read_query.Goals as goal

@@ -1,7 +1,7 @@
 use Rattle.std.proofs.Common.{◌≡◌, Ok}
 use Rattle.std.proofs.lemmas.Result.{err_from_is_err_and}
-use Rattle.rt_outcome.specs.Steps.{seen}
-use Rattle.rt_outcome.specs.declared.part.Part.TheVariants as parts
+use Rattle.rt_input.specs.Steps.{seen}
+use Rattle.rt_input.specs.declared.part.Part.TheVariants as parts
 use Rattle.rt_ra_run.specs.Asked.{IsLowered}
 use Rattle.rt_ra_run.specs.Judged.{beside, query_judged}
 use Rattle.rt_ra_run.specs.declared.query.Lowered.{Lowered}

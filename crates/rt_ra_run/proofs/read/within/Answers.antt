@@ -1,6 +1,6 @@
 use Rattle.std.proofs.Common.{refl}
-use Rattle.rt_outcome.specs.Held.{text_of}
-use Rattle.rt_outcome.specs.Source.{tables_in}
+use Rattle.rt_input.specs.Held.{text_of}
+use Rattle.rt_input.specs.Source.{tables_in}
 use Rattle.rt_ra_run.proofs.StepLemmas.{within_ok, within_refuses}
 use Rattle.rt_ra_run.proofs.read.within.Goals as goal
 

@@ -1,5 +1,5 @@
 use Rattle.std.proofs.Common.{◌∙◌, subst, arith}
-use Rattle.rt_outcome.specs.Held.{Holding}
+use Rattle.rt_input.specs.Held.{Holding}
 use Rattle.rt_tools.specs.Candidates.{IsGradeOf}
 use Rattle.rt_tools.proofs.GradeLemmas.{one_more}
 use Rattle.rt_tools.proofs.candidates.grade_each.Goals as goal

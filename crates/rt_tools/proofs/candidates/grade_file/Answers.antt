@@ -1,5 +1,5 @@
 use Rattle.std.proofs.Common.{subst}
-use Rattle.rt_outcome.specs.Source.{Text}
+use Rattle.rt_input.specs.Source.{Text}
 use Rattle.rt_tools.specs.Grades.{IsGrade, IsPlacedIn, candidate_judged, outcome_of}
 use Rattle.rt_tools.proofs.FaultLemmas.{of_text}
 use Rattle.rt_tools.proofs.candidates.grade_file.Goals as goal

@@ -1,4 +1,4 @@
-use Rattle.rt_outcome.specs.Steps.{over}
+use Rattle.rt_input.specs.Steps.{over}
 use Rattle.rt_tools.proofs.FaultLemmas.{beside_fault, beside_result, first_stops}
 use Rattle.rt_tools.proofs.grade_run.grades_of.Goals as goal
 

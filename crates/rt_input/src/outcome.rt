@@ -1,6 +1,6 @@
 ghost use Rattle.std.specs.Prelude.{◌≡◌};
-ghost use Rattle.rt_outcome.specs.Steps.{is_memory};
-ghost use Rattle.rt_outcome.specs.Texts.{status_of};
+ghost use Rattle.rt_input.specs.Steps.{is_memory};
+ghost use Rattle.rt_input.specs.Texts.{status_of};
 
 use crate::part::Part;
 use rt_clause::LitList;
@@ -141,7 +141,7 @@ impl Outcome {
 
 impl From<NoMemory> for Outcome {
     ghost use Rattle.std.specs.Prelude.{◌≡◌};
-    ghost use Rattle.rt_outcome.specs.declared.outcome.Outcome.TheVariants.{NoMemory as memory};
+    ghost use Rattle.rt_input.specs.declared.outcome.Outcome.TheVariants.{NoMemory as memory};
 
     ghost from_gives = { λ _ o. o ≡ memory };
 

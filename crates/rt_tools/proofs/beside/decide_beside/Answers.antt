@@ -1,6 +1,6 @@
 use Rattle.std.proofs.Common.{arith}
-use Rattle.rt_top.proofs.DecideLemmas.{as_it_was, two_nodes}
-use Rattle.rt_top.proofs.decision.decide_beside.Goals as goal
+use Rattle.rt_tools.proofs.BesideLemmas.{as_it_was, two_nodes}
+use Rattle.rt_tools.proofs.beside.decide_beside.Goals as goal
 
 pub truncate-requires : goal.truncate-requires
 truncate-requires c = let t = two_nodes c.args.dag.now c.len-nodes.ensures.sound in let l = c.len-nodes.ensures.len in omega (arith, t, l)

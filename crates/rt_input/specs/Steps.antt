@@ -2,15 +2,15 @@
 use Rattle.std.specs.Prelude.{◌≡◌, ℕ, ◌+◌, Bool, true, false, IsTrue, List, Option, None, Some, IfSome, ◌⊎◌, Result, Err, ⊤}
 use Rattle.rt_io.specs.Edge.{Rose}
 use Rattle.rt_io.specs.declared.files.Files.{Ghosts}
-use Rattle.rt_outcome.specs.declared.part.Part.{Part}
-use Rattle.rt_outcome.specs.declared.outcome.Limit.{Limit}
-use Rattle.rt_outcome.specs.declared.outcome.Limit.TheVariants as limits
-use Rattle.rt_outcome.specs.declared.outcome.Outcome.{Outcome}
-use Rattle.rt_outcome.specs.declared.outcome.Outcome.TheVariants as outcome
-use Rattle.rt_outcome.specs.declared.source.Source.{Source}
-use Rattle.rt_outcome.specs.Faults.{is_refusal, placeless}
-use Rattle.rt_outcome.specs.Held.{Holding, most_bytes, text_read}
-use Rattle.rt_outcome.specs.Source.{IsKnown, file_of}
+use Rattle.rt_input.specs.declared.part.Part.{Part}
+use Rattle.rt_input.specs.declared.outcome.Limit.{Limit}
+use Rattle.rt_input.specs.declared.outcome.Limit.TheVariants as limits
+use Rattle.rt_input.specs.declared.outcome.Outcome.{Outcome}
+use Rattle.rt_input.specs.declared.outcome.Outcome.TheVariants as outcome
+use Rattle.rt_input.specs.declared.source.Source.{Source}
+use Rattle.rt_input.specs.Faults.{is_refusal, placeless}
+use Rattle.rt_input.specs.Held.{Holding, most_bytes, text_read}
+use Rattle.rt_input.specs.Source.{IsKnown, file_of}
 
 -- what is known of the files over a call: whether they tell their contents, these, the counts of
 -- faults before and after, and afterwards the current name and how many of its bytes were taken

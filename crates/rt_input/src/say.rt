@@ -1,6 +1,6 @@
 //! The texts of refusals and faults.
 ghost use Rattle.std.specs.Prelude.{◌≡◌, ◌++◌, IfOk, codes, decimal, string_bytes};
-ghost use Rattle.rt_outcome.specs.Texts.{part_text, fault_text, lex_text, limit_text, load_text, name_text, refusal_line, schema_text, sql_text, syntax_text};
+ghost use Rattle.rt_input.specs.Texts.{part_text, fault_text, lex_text, limit_text, load_text, name_text, refusal_line, schema_text, sql_text, syntax_text};
 
 use crate::outcome::{Fault, Limit, Outcome};
 use crate::part::Part;

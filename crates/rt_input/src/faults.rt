@@ -1,6 +1,6 @@
 //! The faults of each text as outcomes.
 ghost use Rattle.std.specs.Prelude.{◌≡◌};
-ghost use Rattle.rt_outcome.specs.Faults.{excess_limit, lex_outcome, load_outcome, name_outcome, schema_outcome, sql_outcome};
+ghost use Rattle.rt_input.specs.Faults.{excess_limit, lex_outcome, load_outcome, name_outcome, schema_outcome, sql_outcome};
 
 use crate::outcome::{Fault, Limit, Outcome};
 use crate::part::Part;

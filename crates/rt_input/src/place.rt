@@ -1,5 +1,5 @@
 ghost use Rattle.std.specs.Prelude.{◌≡◌};
-ghost use Rattle.rt_outcome.specs.Texts.{place};
+ghost use Rattle.rt_input.specs.Texts.{place};
 
 use crate::outcome::Outcome;
 use rt_io::Place;

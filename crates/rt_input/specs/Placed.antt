@@ -7,12 +7,12 @@ use Rattle.rt_ddl.specs.declared.fault.SchemaFault.{SchemaFault}
 use Rattle.rt_ddl.specs.declared.fault.SchemaFault.TheVariants as schema
 use Rattle.rt_sql.specs.declared.fault.SqlFault.{SqlFault}
 use Rattle.rt_sql.specs.declared.fault.SqlFault.TheVariants as sql
-use Rattle.rt_outcome.specs.declared.part.Part.{Part}
-use Rattle.rt_outcome.specs.declared.outcome.Fault.{Fault}
-use Rattle.rt_outcome.specs.declared.outcome.Fault.TheVariants.{Lex, Schema, Load, Sql, Name}
-use Rattle.rt_outcome.specs.declared.outcome.Outcome.{Outcome}
-use Rattle.rt_outcome.specs.declared.outcome.Outcome.TheVariants as outcome
-use Rattle.rt_outcome.specs.Source.{Text}
+use Rattle.rt_input.specs.declared.part.Part.{Part}
+use Rattle.rt_input.specs.declared.outcome.Fault.{Fault}
+use Rattle.rt_input.specs.declared.outcome.Fault.TheVariants.{Lex, Schema, Load, Sql, Name}
+use Rattle.rt_input.specs.declared.outcome.Outcome.{Outcome}
+use Rattle.rt_input.specs.declared.outcome.Outcome.TheVariants as outcome
+use Rattle.rt_input.specs.Source.{Text}
 
 -- the texts of the parts
 abbrev pub Parts : Type 0

@@ -1,12 +1,12 @@
 -- The text of a part of a command: that of its file, as what is held of names says, or the generated one.
 use Rattle.std.specs.Prelude.{ℕ, ◌==◌, ◌&&◌, nat_lt, List, [], ◌∷◌, length, Option, None, Some, Result, Ok, Err, if◌then◌else◌}
-use Rattle.rt_outcome.specs.declared.part.Part.{Part}
-use Rattle.rt_outcome.specs.declared.outcome.Limit.TheVariants as limit
-use Rattle.rt_outcome.specs.declared.outcome.Outcome.{Outcome}
-use Rattle.rt_outcome.specs.declared.outcome.Outcome.TheVariants as outcome
-use Rattle.rt_outcome.specs.declared.source.Source.{Source}
-use Rattle.rt_outcome.specs.declared.source.Source.TheVariants.{Files, Made}
-use Rattle.rt_outcome.specs.Source.{Text, file_name, made_part}
+use Rattle.rt_input.specs.declared.part.Part.{Part}
+use Rattle.rt_input.specs.declared.outcome.Limit.TheVariants as limit
+use Rattle.rt_input.specs.declared.outcome.Outcome.{Outcome}
+use Rattle.rt_input.specs.declared.outcome.Outcome.TheVariants as outcome
+use Rattle.rt_input.specs.declared.source.Source.{Source}
+use Rattle.rt_input.specs.declared.source.Source.TheVariants.{Files, Made}
+use Rattle.rt_input.specs.Source.{Text, file_name, made_part}
 
 -- what is held of each name
 abbrev pub Holding : Type 0

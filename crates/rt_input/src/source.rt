@@ -1,6 +1,6 @@
 //! Where the texts of a command stand.
 ghost use Rattle.std.specs.Prelude.{◌≡◌, IfOk};
-ghost use Rattle.rt_outcome.specs.Source.{file_name, made_part, paths_in, source_of, table_file, table_paths};
+ghost use Rattle.rt_input.specs.Source.{file_name, made_part, paths_in, source_of, table_file, table_paths};
 
 use crate::part::Part;
 use rt_io::Words;

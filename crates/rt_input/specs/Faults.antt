@@ -13,14 +13,14 @@ use Rattle.rt_scope.specs.declared.fault.NameFault.{NameFault}
 use Rattle.rt_scope.specs.declared.fault.NameFault.TheVariants as name
 use Rattle.rt_sql.specs.declared.fault.SqlFault.{SqlFault}
 use Rattle.rt_sql.specs.declared.fault.SqlFault.TheVariants as sql
-use Rattle.rt_outcome.specs.declared.part.Part.{Part}
-use Rattle.rt_outcome.specs.declared.part.Part.TheVariants as part
-use Rattle.rt_outcome.specs.declared.outcome.Fault.{Fault}
-use Rattle.rt_outcome.specs.declared.outcome.Fault.TheVariants.{Lex, Schema, Load, Sql, Name}
-use Rattle.rt_outcome.specs.declared.outcome.Limit.{Limit}
-use Rattle.rt_outcome.specs.declared.outcome.Limit.TheVariants as limit
-use Rattle.rt_outcome.specs.declared.outcome.Outcome.{Outcome}
-use Rattle.rt_outcome.specs.declared.outcome.Outcome.TheVariants as outcome
+use Rattle.rt_input.specs.declared.part.Part.{Part}
+use Rattle.rt_input.specs.declared.part.Part.TheVariants as part
+use Rattle.rt_input.specs.declared.outcome.Fault.{Fault}
+use Rattle.rt_input.specs.declared.outcome.Fault.TheVariants.{Lex, Schema, Load, Sql, Name}
+use Rattle.rt_input.specs.declared.outcome.Limit.{Limit}
+use Rattle.rt_input.specs.declared.outcome.Limit.TheVariants as limit
+use Rattle.rt_input.specs.declared.outcome.Outcome.{Outcome}
+use Rattle.rt_input.specs.declared.outcome.Outcome.TheVariants as outcome
 
 -- the value, or the outcome of the fault
 abbrev pub or_outcome : {T E : Type 0} → (E → Outcome) → Result T E → Result T Outcome

@@ -1,5 +1,5 @@
 ghost use Rattle.std.specs.Prelude.{◌≡◌};
-ghost use Rattle.rt_outcome.specs.Source.{query_part};
+ghost use Rattle.rt_input.specs.Source.{query_part};
 
 use rt_value::Txt;
 

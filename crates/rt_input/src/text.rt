@@ -1,11 +1,11 @@
 //! The texts of a command, from its files or generated.
 ghost use Rattle.std.specs.Prelude.{◌≡◌, IsTrue, IfOk, IfErr, IfSome, Ok};
 ghost use Rattle.rt_io.specs.Edge.{NoneFell, OnlyRises};
-ghost use Rattle.rt_outcome.specs.Source.{IsKnown, IsMade, file_name};
-ghost use Rattle.rt_outcome.specs.Held.{text_read, file_text, text_of, without_mark};
-ghost use Rattle.rt_outcome.specs.Placed.{IsPlaceless};
-ghost use Rattle.rt_outcome.specs.Steps.{over, BeginsOnly, Stops, TextStops};
-ghost use Rattle.rt_outcome.specs.declared.source.Source.TheVariants as sources;
+ghost use Rattle.rt_input.specs.Source.{IsKnown, IsMade, file_name};
+ghost use Rattle.rt_input.specs.Held.{text_read, file_text, text_of, without_mark};
+ghost use Rattle.rt_input.specs.Placed.{IsPlaceless};
+ghost use Rattle.rt_input.specs.Steps.{over, BeginsOnly, Stops, TextStops};
+ghost use Rattle.rt_input.specs.declared.source.Source.TheVariants as sources;
 
 use crate::outcome::{Limit, Outcome};
 use crate::part::Part;

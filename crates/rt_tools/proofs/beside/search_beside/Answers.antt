@@ -5,7 +5,7 @@ use Rattle.rt_schema.specs.Law.{lawful}
 use Rattle.rt_annot.proofs.Referring.{goal_means, goal_parts}
 use Rattle.rt_top.specs.Smallest.{IsVerdict}
 use Rattle.rt_top.proofs.DecideLemmas.{enough, verdict_of, whatever_else}
-use Rattle.rt_top.proofs.decision.search_beside.Goals as goal
+use Rattle.rt_tools.proofs.beside.search_beside.Goals as goal
 
 pub returns-clause-verdict : goal.returns-clause-verdict
 returns-clause-verdict c =

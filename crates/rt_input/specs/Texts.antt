@@ -11,14 +11,14 @@ use Rattle.rt_sql.specs.declared.fault.SqlFault.{SqlFault}
 use Rattle.rt_sql.specs.declared.fault.SqlFault.TheVariants as sql
 use Rattle.rt_token.specs.declared.fault.LexFault.{LexFault}
 use Rattle.rt_token.specs.declared.fault.LexFault.TheVariants as lex
-use Rattle.rt_outcome.specs.declared.part.Part.{Part}
-use Rattle.rt_outcome.specs.declared.part.Part.TheVariants.{Schema, Table, Query1, Query2, Queries}
-use Rattle.rt_outcome.specs.declared.outcome.Fault.{Fault}
-use Rattle.rt_outcome.specs.declared.outcome.Fault.TheVariants as fault
-use Rattle.rt_outcome.specs.declared.outcome.Limit.{Limit}
-use Rattle.rt_outcome.specs.declared.outcome.Limit.TheVariants.{TooLong, Tables, Columns, Rules, Rows, Work}
-use Rattle.rt_outcome.specs.declared.outcome.Outcome.{Outcome}
-use Rattle.rt_outcome.specs.declared.outcome.Outcome.TheVariants as outcome
+use Rattle.rt_input.specs.declared.part.Part.{Part}
+use Rattle.rt_input.specs.declared.part.Part.TheVariants.{Schema, Table, Query1, Query2, Queries}
+use Rattle.rt_input.specs.declared.outcome.Fault.{Fault}
+use Rattle.rt_input.specs.declared.outcome.Fault.TheVariants as fault
+use Rattle.rt_input.specs.declared.outcome.Limit.{Limit}
+use Rattle.rt_input.specs.declared.outcome.Limit.TheVariants.{TooLong, Tables, Columns, Rules, Rows, Work}
+use Rattle.rt_input.specs.declared.outcome.Outcome.{Outcome}
+use Rattle.rt_input.specs.declared.outcome.Outcome.TheVariants as outcome
 use Rattle.rt_io.specs.declared.place.Place.{Place}
 use Rattle.rt_io.specs.declared.place.Place.TheVariants as at
 

@@ -3,13 +3,13 @@ use Rattle.std.specs.Prelude.{ℕ, Bool, IsTrue, ⊤, List, [], ◌∷◌, ◌++
 use Rattle.rt_load.specs.Made.{made}
 use Rattle.rt_load.specs.declared.input.Made.{Made as Texts}
 use Rattle.rt_io.specs.Ranges.{Command}
-use Rattle.rt_outcome.specs.declared.part.QueryPart.{QueryPart}
-use Rattle.rt_outcome.specs.declared.part.QueryPart.TheVariants.{First, Second}
-use Rattle.rt_outcome.specs.declared.part.Part.{Part}
-use Rattle.rt_outcome.specs.declared.part.Part.TheVariants.{Schema, Table, Query1, Query2, Queries}
-use Rattle.rt_outcome.specs.declared.source.Paths.{Paths}
-use Rattle.rt_outcome.specs.declared.source.Source.{Source}
-use Rattle.rt_outcome.specs.declared.source.Source.TheVariants.{Files, Made}
+use Rattle.rt_input.specs.declared.part.QueryPart.{QueryPart}
+use Rattle.rt_input.specs.declared.part.QueryPart.TheVariants.{First, Second}
+use Rattle.rt_input.specs.declared.part.Part.{Part}
+use Rattle.rt_input.specs.declared.part.Part.TheVariants.{Schema, Table, Query1, Query2, Queries}
+use Rattle.rt_input.specs.declared.source.Paths.{Paths}
+use Rattle.rt_input.specs.declared.source.Source.{Source}
+use Rattle.rt_input.specs.declared.source.Source.TheVariants.{Files, Made}
 
 abbrev pub Text : Type 0
 Text = List ℕ
