@@ -17,6 +17,22 @@ const PAIR: &str = "CREATE TABLE t (a INTEGER); CREATE TABLE u (b INTEGER);";
 
 const NULLS: [(&str, &str); 2] = [("d/t.csv", "a\n1\n"), ("d/u.csv", "b\n\"\"\n")];
 
+/// A schema, and the rows of its tables.
+type Rows = (&'static str, &'static [(&'static str, &'static str)]);
+
+const SCHOOL_ROWS: Rows = (SCHOOL, &[STUDENT, REG]);
+
+const OF_MARY: [(usize, bool); 4] = [
+    (0b00101, true),
+    (0b01001, true),
+    (0b01101, false),
+    (0b00100, false),
+];
+
+const PAIR_ROWS: Rows = (PAIR, &NULLS);
+
+const FIVES: Rows = ("CREATE TABLE d (a INTEGER);", &[("d/d.csv", "a\n5\n5\n")]);
+
 const NOT_IN: &str = "SELECT a FROM t WHERE a NOT IN (SELECT b FROM u)";
 
 const NOT_EXISTS: &str = "SELECT a FROM t WHERE NOT EXISTS (SELECT * FROM u WHERE b = a)";
@@ -154,28 +170,16 @@ fn sets_differ(
 fn nodes_of_worked_rows(rt: HostRuntime) {
     let alloc = rt.alloc();
     let mary = Value::Text(Txt::of(alloc, "Mary").expect(&rt, "memory"));
-    let at = [
-        (0b00101, true),
-        (0b01001, true),
-        (0b01101, false),
-        (0b00100, false),
-    ];
-    let school: (&str, &[(&str, &str)]) = (SCHOOL, &[STUDENT, REG]);
-    let found = query_gives(&rt, alloc, school, ONE, mary, &at);
+    let found = query_gives(&rt, alloc, SCHOOL_ROWS, ONE, mary, &OF_MARY);
     assert!(rt; found, "the one course of Mary");
-    let pair: (&str, &[(&str, &str)]) = (PAIR, &NULLS);
-    let at = [(0b01, true), (0b11, false)];
-    let found = query_gives(&rt, alloc, pair, NOT_IN, Value::Int(1), &at);
+    let at = &[(0b01, true), (0b11, false)];
+    let found = query_gives(&rt, alloc, PAIR_ROWS, NOT_IN, Value::Int(1), at);
     assert!(rt; found, "NOT IN beside NULL");
-    let at = [(0b01, true), (0b11, true)];
-    let found = query_gives(&rt, alloc, pair, NOT_EXISTS, Value::Int(1), &at);
+    let at = &[(0b01, true), (0b11, true)];
+    let found = query_gives(&rt, alloc, PAIR_ROWS, NOT_EXISTS, Value::Int(1), at);
     assert!(rt; found, "NOT EXISTS beside NULL");
-    let at = [(0b01, true), (0b10, true), (0b11, true), (0b00, false)];
-    let fives: (&str, &[(&str, &str)]) = (
-        "CREATE TABLE d (a INTEGER);",
-        &[("d/d.csv", "a\n5\n5\n")],
-    );
-    let found = query_gives(&rt, alloc, fives, "SELECT a FROM d", Value::Int(5), &at);
+    let at = &[(0b01, true), (0b10, true), (0b11, true), (0b00, false)];
+    let found = query_gives(&rt, alloc, FIVES, "SELECT a FROM d", Value::Int(5), at);
     assert!(rt; found, "two equal rows");
     let found = sets_differ(
         &rt,

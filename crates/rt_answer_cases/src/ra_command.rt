@@ -106,41 +106,48 @@ fn words_end(
     ended == status && to_out.bytes() == out.as_bytes() && to_err.bytes() == err.as_bytes()
 }
 
+const PAST_WORK: &str = "ratest: limit: work 11 is above 10\n";
+
+const WORDS: [(&[&str], u8, &str, &str); 14] = [
+    (&[], 2, "", RA_USAGE),
+    (&["ra"], 2, "", RA_USAGE),
+    (&["s", "d", "p", "q"], 2, "", RA_USAGE),
+    (&["Ra", "s", "d", "p", "q"], 2, "", RA_USAGE),
+    (&["ra", "s", "d", "p"], 2, "", RA_USAGE),
+    (&["ra", "s", "d", "p", "q", "q"], 2, "", RA_USAGE),
+    (&["ra", "made", "3"], 2, "", RA_USAGE),
+    (&["ra", "--", "made", "d", "p", "q"], 2, "", RA_USAGE),
+    (
+        &["ra", "s", "d", "p", "q", "--conflicts", "0"],
+        2,
+        "",
+        RA_USAGE,
+    ),
+    (&FIVE, 0, "agree\n", ""),
+    (&["ra", "--", "s", "d", "p", "q"], 0, "agree\n", ""),
+    (
+        &["ra", "--conflicts=64", "s", "d", "p", "q"],
+        0,
+        "agree\n",
+        "",
+    ),
+    (
+        &["ra", "s", "d", "p", "q", "--work", "11"],
+        0,
+        "agree\n",
+        "",
+    ),
+    (
+        &["ra", "s", "d", "p", "q", "--work", "10"],
+        5,
+        "",
+        PAST_WORK,
+    ),
+];
+
 #[test]
 fn words_and_options(rt: HostRuntime) {
-    let work = "ratest: limit: work 11 is above 10\n";
-    let table: &[(&[&str], u8, &str, &str)] = &[
-        (&[], 2, "", RA_USAGE),
-        (&["ra"], 2, "", RA_USAGE),
-        (&["s", "d", "p", "q"], 2, "", RA_USAGE),
-        (&["Ra", "s", "d", "p", "q"], 2, "", RA_USAGE),
-        (&["ra", "s", "d", "p"], 2, "", RA_USAGE),
-        (&["ra", "s", "d", "p", "q", "q"], 2, "", RA_USAGE),
-        (&["ra", "made", "3"], 2, "", RA_USAGE),
-        (&["ra", "--", "made", "d", "p", "q"], 2, "", RA_USAGE),
-        (
-            &["ra", "s", "d", "p", "q", "--conflicts", "0"],
-            2,
-            "",
-            RA_USAGE,
-        ),
-        (&FIVE, 0, "agree\n", ""),
-        (&["ra", "--", "s", "d", "p", "q"], 0, "agree\n", ""),
-        (
-            &["ra", "--conflicts=64", "s", "d", "p", "q"],
-            0,
-            "agree\n",
-            "",
-        ),
-        (
-            &["ra", "s", "d", "p", "q", "--work", "11"],
-            0,
-            "agree\n",
-            "",
-        ),
-        (&["ra", "s", "d", "p", "q", "--work", "10"], 5, "", work),
-    ];
-    for (command, status, out, err) in table {
+    for (command, status, out, err) in &WORDS {
         let files = school(&rt, rt.alloc(), "student", "student;");
         assert!(rt;
             ends(&rt, rt.alloc(), files, command, *status, out, err),

@@ -12,13 +12,12 @@ fn only_nodes_under_the_goal_have_variables(rt: HostRuntime) {
 fn models_are_the_choices_of_the_goal(rt: HostRuntime) {
     let mut drawing = Drawing::new(&rt, rt.alloc(), 2);
     let goal = drawing.draw_all(&rt, &[Step::Row(0), Step::Row(1), Step::Any(&[0, 1])]);
-    let choices = [
+    for (kept, wanted) in &[
         ([true, false], true),
         ([false, true], true),
         ([true, true], true),
         ([false, false], false),
-    ];
-    for (kept, wanted) in &choices {
+    ] {
         assert!(rt; drawing.has_model(&rt, goal, *kept) == *wanted, "{kept:?}");
     }
 }

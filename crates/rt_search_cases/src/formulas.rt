@@ -1,18 +1,15 @@
 use crate::drawing::{Drawing, Step};
 
+/// Kept rows, and whether the first of two is among them.
+const CHOICES: [(&[usize], bool); 4] = [(&[], false), (&[0], true), (&[0, 1], true), (&[1], false)];
+
 #[test]
 fn a_row_or_its_negation(rt: HostRuntime) {
     let mut drawing = Drawing::new(&rt, rt.alloc(), 2);
     let either = drawing.draw_all(&rt, &[Step::Row(0), Step::Not(0), Step::Any(&[0, 1])]);
-    let choices: [(&[usize], bool); 4] = [
-        (&[], false),
-        (&[0], true),
-        (&[0, 1], true),
-        (&[1], false),
-    ];
-    for (kept, first) in choices {
+    for (kept, first) in &CHOICES {
         assert!(rt; drawing.value(&rt, either, kept), "{kept:?}");
-        assert!(rt; drawing.value(&rt, 0, kept) == first, "{kept:?}");
+        assert!(rt; drawing.value(&rt, 0, kept) == *first, "{kept:?}");
     }
 }
 
@@ -39,7 +36,7 @@ fn gates_that_are_no_gates(rt: HostRuntime) {
             Step::Any(&[1, 1]),
         ],
     );
-    let same = [
+    for (gate, same) in &[
         (2, 1),
         (3, 0),
         (5, 4),
@@ -50,8 +47,7 @@ fn gates_that_are_no_gates(rt: HostRuntime) {
         (12, 4),
         (13, 0),
         (14, 1),
-    ];
-    for (gate, same) in &same {
+    ] {
         assert!(rt; drawing.number(*gate) == drawing.number(*same), "{gate}");
     }
 }
@@ -80,7 +76,7 @@ fn gates_that_are_decided(rt: HostRuntime) {
             Step::Any(&[2, 1, 3, 3, 2]),
         ],
     );
-    let same = [
+    for (gate, same) in &[
         (5, 1),
         (6, 1),
         (7, 1),
@@ -89,8 +85,7 @@ fn gates_that_are_decided(rt: HostRuntime) {
         (10, 0),
         (12, 11),
         (14, 13),
-    ];
-    for (gate, same) in &same {
+    ] {
         assert!(rt; drawing.number(*gate) == drawing.number(*same), "{gate}");
     }
     assert!(rt; drawing.number(11) != drawing.number(13));
@@ -104,6 +99,14 @@ fn a_row_has_one_node(rt: HostRuntime) {
     assert!(rt; drawing.number(0) == drawing.number(1));
     assert!(rt; drawing.len() <= before + 1);
 }
+
+/// Children, the node of their gate after those that are drawn, and how many nodes there are then.
+const GATES: [(&[usize], usize, usize); 4] = [
+    (&[5, 8], 0, 1),
+    (&[2, 5, 6, 7, 8], 4, 5),
+    (&[5, 6, 7], 3, 5),
+    (&[5, 8, 7], 5, 6),
+];
 
 // Of children that come one after another and are an `all` over the same first child, that child is
 // written once.
@@ -126,16 +129,10 @@ fn a_run_shares_its_first_child(rt: HostRuntime) {
         ],
     );
     let n = drawing.len();
-    let gates: [(&[usize], usize, usize); 4] = [
-        (&[5, 8], 0, 1),
-        (&[2, 5, 6, 7, 8], 4, 5),
-        (&[5, 6, 7], 3, 5),
-        (&[5, 8, 7], 5, 6),
-    ];
-    for (children, node, len) in gates {
+    for (children, node, len) in &GATES {
         let gate = drawing.draw(&rt, Step::Any(children));
-        assert!(rt; drawing.number(gate) == n + node);
-        assert!(rt; drawing.len() == n + len);
+        assert!(rt; drawing.number(gate) == n + *node);
+        assert!(rt; drawing.len() == n + *len);
     }
 }
 

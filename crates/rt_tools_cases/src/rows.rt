@@ -34,22 +34,30 @@ fn one_named_row(rt: HostRuntime) {
     }
 }
 
+const MADE: &str = "witness: 3\nstudent 3: 3\nreg 5: 3, 3, 'CS'\nreg 6: 3, 6, 'CS'\n\
+    only query 1: 1\n  3\nonly query 2: 0\nboth: 0\n";
+
+const PAST_WORK: &str = "ratest: limit: work 738 is above 737\n";
+
+const WORDS: [(&[&str], u8, &str, &str); 7] = [
+    (&[], 2, "", USAGE),
+    (&["row"], 2, "", USAGE),
+    (&["row", "5"], 2, "", USAGE),
+    (&["rows", "5", "made", "3"], 2, "", USAGE),
+    (&["row", "5", "s", "d", "a.sql"], 2, "", USAGE),
+    (&["row", "3", "made", "3"], 1, MADE, ""),
+    (
+        &["row", "3", "made", "3", "--work", "737"],
+        5,
+        "",
+        PAST_WORK,
+    ),
+];
+
 #[test]
 fn words_of_a_row(rt: HostRuntime) {
     let alloc = rt.alloc();
-    let made = "witness: 3\nstudent 3: 3\nreg 5: 3, 3, 'CS'\nreg 6: 3, 6, 'CS'\n\
-        only query 1: 1\n  3\nonly query 2: 0\nboth: 0\n";
-    let work = "ratest: limit: work 738 is above 737\n";
-    let table: &[(&[&str], u8, &str, &str)] = &[
-        (&[], 2, "", USAGE),
-        (&["row"], 2, "", USAGE),
-        (&["row", "5"], 2, "", USAGE),
-        (&["rows", "5", "made", "3"], 2, "", USAGE),
-        (&["row", "5", "s", "d", "a.sql"], 2, "", USAGE),
-        (&["row", "3", "made", "3"], 1, made, ""),
-        (&["row", "3", "made", "3", "--work", "737"], 5, "", work),
-    ];
-    for (words, status, out, err) in table {
+    for (words, status, out, err) in &WORDS {
         let files = files(&rt, alloc);
         assert!(rt;
             ends(&rt, alloc, files, words, *status, out, err),

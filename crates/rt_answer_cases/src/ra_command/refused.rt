@@ -12,29 +12,31 @@ fn is_refused(rt: &impl Abort, alloc: Global, text: &str, line: &str) -> bool {
     found
 }
 
+const NINE: &str = "leftjoin(student, leftjoin(student, leftjoin(student, leftjoin(student, \
+    leftjoin(student, leftjoin(student, leftjoin(student, leftjoin(student, \
+    leftjoin(student, student)))))))))";
+
+const TEXTS: [(&str, &str); 12] = [
+    (
+        "select(student, name = 'abc",
+        "text without end from byte 23",
+    ),
+    ("student / reg", "unexpected byte at 8"),
+    (NINE, "nested too deep"),
+    ("select(student)", "syntax fault near byte 14"),
+    ("regs", "unknown table: regs"),
+    ("project(student, (nme))", "unknown column: nme"),
+    ("project(student, (name, name))", "column twice: name"),
+    ("cross(student, reg)", "column twice: name"),
+    ("divide(student, reg)", "unknown column: course"),
+    ("select(student, name = 1)", "types do not match"),
+    ("rename(student, (a))", "numbers of columns differ"),
+    ("union(student, reg)", "numbers of columns differ"),
+];
+
 #[test]
 fn texts(rt: HostRuntime) {
-    let nine = "leftjoin(student, leftjoin(student, leftjoin(student, leftjoin(student, \
-        leftjoin(student, leftjoin(student, leftjoin(student, leftjoin(student, \
-        leftjoin(student, student)))))))))";
-    let cases = &[
-        (
-            "select(student, name = 'abc",
-            "text without end from byte 23",
-        ),
-        ("student / reg", "unexpected byte at 8"),
-        (nine, "nested too deep"),
-        ("select(student)", "syntax fault near byte 14"),
-        ("regs", "unknown table: regs"),
-        ("project(student, (nme))", "unknown column: nme"),
-        ("project(student, (name, name))", "column twice: name"),
-        ("cross(student, reg)", "column twice: name"),
-        ("divide(student, reg)", "unknown column: course"),
-        ("select(student, name = 1)", "types do not match"),
-        ("rename(student, (a))", "numbers of columns differ"),
-        ("union(student, reg)", "numbers of columns differ"),
-    ];
-    for (text, line) in cases {
+    for (text, line) in &TEXTS {
         assert!(rt; is_refused(&rt, rt.alloc(), text, line), "{text}");
     }
 }
