@@ -2,20 +2,26 @@
 //! formula of the counterexamples has, how many rows can matter to it, into how many clauses it is
 //! written, and how many conflicts the search has. A line comes as soon as its part is done, so that
 //! a reader of the lines can take the times. The words are those of
-//! `ratest`, and so is the status where an input is refused.
+//! `ratest`, and so is the status where an input is refused. With the word `clauses` before them it
+//! says the clauses that a certificate of the verdict stands on.
 #![tactic(auto)]
+
+mod encoding;
+mod say;
 
 ghost use Rattle.std.specs.Prelude.{◌≡◌, ◌<◌, ◌≤◌, IfSome, length};
 ghost use Rattle.rt_algebra.specs.Typed.{IsTyped};
 ghost use Rattle.rt_schema.specs.Given.{places};
 ghost use Rattle.rt_search.specs.Least.{IsEnough};
 
+use crate::encoding::measure_encoding;
+use crate::say::say;
 use rt_algebra::Typed;
 use rt_annot::goal;
 use rt_eval::answers;
 use rt_formula::{Dag, Node};
 use rt_input::{Input, Outcome, read_input};
-use rt_io::{RealFiles, RealSink, Sink, SinkFail, given_words, refuse, write_text};
+use rt_io::{RealFiles, RealSink, Sink, given_words, refuse};
 use rt_rules::cone;
 use rt_schema::Given;
 use rt_search::smallest_counted;
@@ -23,17 +29,6 @@ use rt_top::USAGE;
 use rt_value::{Keep, Txt};
 use std::alloc::Global;
 use std::process::ExitCode;
-
-fn say<S: Sink>(alloc: Global, out: &mut S, name: &str, number: u64) -> Result<(), Outcome> {
-    let Ok(line) = format!(in alloc; "{name} {number}\n") else {
-        return Err(Outcome::NoMemory);
-    };
-    match write_text(out, line.as_bytes()) {
-        Ok(()) => Ok(()),
-        Err(SinkFail::Failed) => Err(Outcome::WriteFault),
-        Err(SinkFail::NoMemory) => Err(Outcome::NoMemory),
-    }
-}
 
 /// How many rows a query answers with.
 fn rows_of(alloc: Global, query: &Typed, given: &Given, all: &Keep) -> Result<u64, Outcome>
@@ -112,6 +107,32 @@ fn read_and_measure<S: Sink>(
     said
 }
 
+fn read_and_encode<S: Sink>(
+    alloc: Global,
+    words: &[Txt],
+    files: &mut RealFiles,
+    out: &mut S,
+) -> Result<(), Outcome> {
+    let input = read_input(alloc, words, files)?;
+    let said = measure_encoding(alloc, &input, out);
+    drop(input);
+    said
+}
+
+fn answer<S: Sink>(
+    alloc: Global,
+    words: &[Txt],
+    files: &mut RealFiles,
+    out: &mut S,
+) -> Result<(), Outcome> {
+    match words.split_first() {
+        Some((first, rest)) if first.as_str() == "clauses" => read_and_encode(
+            alloc, rest, files, out,
+        ),
+        _ => read_and_measure(alloc, words, files, out),
+    }
+}
+
 fn main(rt: HostRuntime) -> ExitCode {
     let mut out = RealSink::new(rt.stdout());
     let mut err = RealSink::new(rt.stderr());
@@ -121,7 +142,7 @@ fn main(rt: HostRuntime) -> ExitCode {
     };
     let alloc = rt.alloc();
     let mut files = RealFiles::new(rt);
-    match read_and_measure(alloc, words.as_slice(), &mut files, &mut out) {
+    match answer(alloc, words.as_slice(), &mut files, &mut out) {
         Ok(()) => ExitCode::from(0),
         Err(outcome) => ExitCode::from(outcome.status()),
     }

@@ -1,23 +1,13 @@
-//! Commands beside `ratest`, on the files of the system; the first word says which.
+//! Commands beside `ratest`, on the files of the system; the first word says which (`plus_command`).
 #![tactic(auto)]
 
 use rt_cert::cert_run;
-use rt_io::{Files, RealFiles, RealSink, Sink, given_words, refuse};
+use rt_io::{Files, PlusCommand, RealFiles, RealSink, Sink, given_words, plus_command, refuse};
 use rt_ra_run::{RA_USAGE, ra_run};
 use rt_tools::tool_run;
 use rt_value::Txt;
 use std::alloc::Global;
 use std::process::ExitCode;
-
-/// Whether the word is a command of certificates.
-fn is_certs(word: &str) -> bool {
-    word == "prove" || word == "check"
-}
-
-/// Whether the word is a command of the tools.
-fn is_tool(word: &str) -> bool {
-    word == "row" || word == "grade"
-}
 
 /// Runs a command of certificates, and gives its status.
 fn run_certs<F: Files, O: Sink, E: Sink>(
@@ -61,8 +51,7 @@ fn run_ra<F: Files, O: Sink, E: Sink>(
     status
 }
 
-/// Runs the command of the first word, and gives its status. Words that begin as no command's do are
-/// answered by `ra`.
+/// Runs the command that the words are, and gives its status.
 fn run<F: Files, O: Sink, E: Sink>(
     alloc: Global,
     words: &[Txt],
@@ -70,10 +59,10 @@ fn run<F: Files, O: Sink, E: Sink>(
     out: &mut O,
     err: &mut E,
 ) -> u8 {
-    match words {
-        [first, ..] if is_certs(first.as_str()) => run_certs(alloc, words, files, out, err),
-        [first, ..] if is_tool(first.as_str()) => run_tool(alloc, words, files, out, err),
-        _ => run_ra(alloc, words, files, out, err),
+    match plus_command(words) {
+        PlusCommand::Ra => run_ra(alloc, words, files, out, err),
+        PlusCommand::Row | PlusCommand::Grade => run_tool(alloc, words, files, out, err),
+        PlusCommand::Prove | PlusCommand::Check => run_certs(alloc, words, files, out, err),
     }
 }
 

@@ -1,3 +1,4 @@
+mod BegunLemmas
 mod ClaimLemmas
 mod LeastLemmas
 mod PlaceLemmas

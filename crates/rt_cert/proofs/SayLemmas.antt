@@ -33,10 +33,10 @@ use Rattle.rt_cert.proofs.FileLemmas.{checks-later, later}
 
 -- ---- the words
 
-prove_words : (first : Text) (args : List Text) → bytes_eq first (codes "prove") ≡ true → asked_by (first ∷ args) ≡ prove args
+pub prove_words : (first : Text) (args : List Text) → bytes_eq first (codes "prove") ≡ true → asked_by (first ∷ args) ≡ prove args
 prove_words first args is = rw is refl
 
-check_words : (first name : Text) (args : List Text) → bytes_eq first (codes "check") ≡ true → asked_by (first ∷ name ∷ args) ≡ check name args
+pub check_words : (first name : Text) (args : List Text) → bytes_eq first (codes "check") ≡ true → asked_by (first ∷ name ∷ args) ≡ check name args
 check_words first name args is =
     let same : first ≡ codes "check" = (bytes_eq-Decides first (codes "check")).0 is in
     ap (λ (word : Text). asked_by (word ∷ name ∷ args)) same

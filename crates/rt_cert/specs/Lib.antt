@@ -5,6 +5,7 @@ pub mod Claims
 pub mod Encodes
 pub mod Encoding
 pub mod Answers
+pub mod Begun
 pub mod CertFile
 pub mod Steps
 pub mod Texts

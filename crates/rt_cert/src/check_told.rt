@@ -1,8 +1,10 @@
 //! The check of a certificate in a file.
-ghost use Rattle.std.specs.Prelude.{◌≡◌, IfOk};
-ghost use Rattle.rt_io.specs.Edge.{NoneFell, OnlyRises};
+ghost use Rattle.std.specs.Prelude.{◌≡◌, [], ◌∷◌, IfOk};
+ghost use Rattle.rt_io.specs.Command.{command};
+ghost use Rattle.rt_io.specs.Edge.{AddsPrefix, NoneFell, OnlyRises};
 ghost use Rattle.rt_input.specs.Reading.{call};
 ghost use Rattle.rt_input.specs.Steps.{over};
+ghost use Rattle.rt_cert.specs.Begun.{ChecksFor};
 ghost use Rattle.rt_cert.specs.Steps.{ChecksIn, IsFaultTold, JudgesIn, SaysCheck};
 
 use crate::checking::check;
@@ -48,6 +50,7 @@ fn checked<F: Files>(
     files: &mut F,
 ) -> Result<Told, NoMemory>
     ensures says { IfOk result (λ t. ChecksIn (over F.Files files.old files.new) name.now input.now t.outcome t.text) }
+    ensures begun { AddsPrefix (F.begun files.old) (F.begun files.new) (name.now ∷ []) }
     ensures held { F.held files.new ≡ F.held files.old }
     ensures rises { OnlyRises name.now (F.faults files.old) (F.faults files.new) }
 {
@@ -69,6 +72,7 @@ pub(crate) fn check_told<F: Files>(
     files: &mut F,
 ) -> Result<Told, NoMemory>
     ensures says { IfOk result (λ t. SaysCheck (call F.Files words.now files.old files.new) name.now t.outcome t.text) }
+    ensures begun { ChecksFor F.tells (F.held files.old) name.now (command words.now) (F.begun files.old) (F.begun files.new) }
     ensures held { F.held files.new ≡ F.held files.old }
     ensures rises { NoneFell (F.faults files.old) (F.faults files.new) }
 {

@@ -1,14 +1,14 @@
 //! The certificate in a file.
-ghost use Rattle.std.specs.Prelude.{◌≡◌, IsTrue, IfOk, IfErr};
-ghost use Rattle.rt_io.specs.Edge.{OnlyRises};
+ghost use Rattle.std.specs.Prelude.{◌≡◌, [], ◌∷◌, IsTrue, IfOk, IfErr};
+ghost use Rattle.rt_io.specs.Edge.{AddsPrefix, OnlyRises};
 ghost use Rattle.rt_recorder.specs.Certificate.{IsCert, cert_text};
-ghost use Rattle.rt_input.specs.Held.{without_mark};
 ghost use Rattle.rt_input.specs.Steps.{over};
 ghost use Rattle.rt_cert.specs.CertFile.{FileStops, IsFileOf, IsTextOf, TextStops};
 
+use rt_input::without_mark;
 use rt_io::{Files, ReadFail, read_file};
 use rt_recorder::{Cert, CertFault, read_cert};
-use rt_value::{Bytes, List, NoMemory, Txt};
+use rt_value::{Bytes, NoMemory, Txt};
 use std::alloc::Global;
 
 /// The most bytes of the file.
@@ -37,19 +37,11 @@ impl From<NoMemory> for FileFault {
     }
 }
 
-fn without_mark(alloc: Global, bytes: Bytes) -> Result<Bytes, NoMemory>
-    ensures { IfOk result (λ text. text ≡ without_mark bytes) }
-{
-    match bytes.as_slice() {
-        [0xEF, 0xBB, 0xBF, rest @ ..] => List::from_slice(alloc, rest),
-        _ => Ok(bytes),
-    }
-}
-
 /// The text of the named file, without a byte order mark at its start.
 fn read_text<F: Files>(alloc: Global, name: &Txt, files: &mut F) -> Result<Bytes, FileFault>
     ensures ok { IfOk result (λ text. IsTrue F.tells → IsTextOf (F.held files.old name.now) text) }
     ensures err { IfErr result (FileStops (over F.Files files.old files.new) name.now) }
+    ensures begun { AddsPrefix (F.begun files.old) (F.begun files.new) (name.now ∷ []) }
     ensures held { F.held files.new ≡ F.held files.old }
     ensures rises { OnlyRises name.now (F.faults files.old) (F.faults files.new) }
 {
@@ -77,6 +69,7 @@ fn cert_of(alloc: Global, text: &[u8]) -> Result<Cert, FileFault>
 pub(crate) fn cert_in<F: Files>(alloc: Global, name: &Txt, files: &mut F) -> Result<Cert, FileFault>
     ensures ok { IfOk result (λ cert. IsTrue F.tells → IsFileOf (F.held files.old name.now) cert) }
     ensures err { IfErr result (FileStops (over F.Files files.old files.new) name.now) }
+    ensures begun { AddsPrefix (F.begun files.old) (F.begun files.new) (name.now ∷ []) }
     ensures held { F.held files.new ≡ F.held files.old }
     ensures rises { OnlyRises name.now (F.faults files.old) (F.faults files.new) }
 {

@@ -2,6 +2,8 @@
 ghost use Rattle.std.specs.Prelude.{◌≡◌, IfOk};
 ghost use Rattle.rt_cert.specs.Least.{IsSmallestOrNone};
 ghost use Rattle.rt_io.specs.Edge.{NoneFell};
+ghost use Rattle.rt_io.specs.Command.{command};
+ghost use Rattle.rt_input.specs.Begun.{Begins};
 ghost use Rattle.rt_input.specs.Reading.{call};
 ghost use Rattle.rt_cert.specs.Steps.{ProvesIn, SaysProve};
 
@@ -57,6 +59,7 @@ pub(crate) fn prove_told<F: Files>(
     files: &mut F,
 ) -> Result<Told, NoMemory>
     ensures says { IfOk result (λ t. SaysProve (call F.Files words.now files.old files.new) t.outcome t.text) }
+    ensures begun { Begins F.Files (command words.now) files.old files.new }
     ensures held { F.held files.new ≡ F.held files.old }
     ensures rises { NoneFell (F.faults files.old) (F.faults files.new) }
 {

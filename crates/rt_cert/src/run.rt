@@ -1,6 +1,7 @@
 ghost use Rattle.std.specs.Prelude.{◌≡◌, ◌<◌, ◌⊎◌, ℕ, length, Some, Err, IfOk};
 ghost use Rattle.rt_io.specs.Edge.{NoneFell};
 ghost use Rattle.rt_io.specs.Logs.{IsKept, NoSinkRose, WritesNothing, at_place, log, other_place};
+ghost use Rattle.rt_cert.specs.Begun.{Begins};
 ghost use Rattle.rt_cert.specs.Certified.{claim_fault};
 ghost use Rattle.rt_cert.specs.declared.judgement.Why.{Why};
 ghost use Rattle.rt_recorder.specs.declared.cert.Cert.{Cert};
@@ -29,6 +30,7 @@ use std::alloc::Global;
 /// What is to be said of the words.
 fn prepare<F: Files>(alloc: Global, words: &[Txt], files: &mut F) -> Result<Told, NoMemory>
     ensures ends { IfOk result (λ t. Ends (call F.Files words.now files.old files.new) t.outcome t.text) }
+    ensures begun { Begins F.Files (asked_by words.now) files.old files.new }
     ensures held { F.held files.new ≡ F.held files.old }
     ensures rises { NoneFell (F.faults files.old) (F.faults files.new) }
 {
@@ -84,6 +86,9 @@ pub fn cert_run<F: Files, O: Sink, E: Sink>(
     // Of an accepted input without a budget, or with one that no search can spend, there is a certificate
     // over files and sinks that don't fail.
     ensures complete { OverCalm (call F.Files words.now files.old files.new) (NoSinkRose (log O.Sink out.old out.new) (log E.Sink err.old err.new) → IsProvedOrMemory result) }
+    // The files that are begun are first ones of those that the words name, in the order of the reading,
+    // and none stands behind the first refusal.
+    ensures begun { Begins F.Files (asked_by words.now) files.old files.new }
     ensures held { F.held files.new ≡ F.held files.old }
     ensures rises { NoneFell (F.faults files.old) (F.faults files.new) }
 {

@@ -18,4 +18,6 @@ mod split;
 #[cfg(test)]
 mod table_files;
 #[cfg(test)]
+mod values;
+#[cfg(test)]
 mod work;

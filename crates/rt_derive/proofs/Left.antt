@@ -1,11 +1,12 @@
 -- What is left of a line under a set of literals, and propagation along hints step by step.
-use Rattle.std.proofs.Common.{◌≡◌, ℕ, suc, ◌+◌, ◌<◌, ◌≤◌, Bool, true, false, cond, ◌||◌, List, [], ◌∷◌, ◌++◌, length, take, drop, get_or, map, take-append-drop, drop-cons, add-one, refl, sym, ap, ◌∙◌, inl, inr}
+use Rattle.std.proofs.Common.{◌≡◌, ℕ, suc, ◌+◌, ◌<◌, ◌≤◌, Bool, true, false, cond, ◌||◌, List, [], ◌∷◌, ◌++◌, length, take, drop, get_or, map, take-append-drop, drop-cons, add-one, refl, sym, ap, ◌∙◌, subst, inl, inr, Option, Some, None}
 use Rattle.std.proofs.lemmas.List.{take_more, take_all}
 use Rattle.std.specs.List.{list_all}
 use Rattle.rt_clause.specs.Literal.{Literal, negated, lit_eq}
 use Rattle.rt_clause.specs.Lists.{has, is_false, left, line_at, propagates}
 use Rattle.rt_clause.proofs.Bools.{bool-cases}
 use Rattle.rt_clause.proofs.Propagating.{step-one}
+use Rattle.rt_derive.specs.Spent.{Takes}
 
 left-append : (set a b : List Literal) → left set (a ++ b) ≡ left set a ++ left set b
 left-append set [] b = refl
@@ -56,7 +57,7 @@ propagates-agrees lines a b h (i ∷ hints) =
     ap (go lines a hints) (left-agrees a b h (line_at lines i)) ∙ both (left b (line_at lines i))
 
 -- a line with one literal left adds that literal
-step-put : (lines : List (List Literal)) (set new : List Literal) (h : ℕ) (hints : List ℕ) (l : Literal)
+pub step-put : (lines : List (List Literal)) (set new : List Literal) (h : ℕ) (hints : List ℕ) (l : Literal)
     → ((more : List Literal) × (left set (line_at lines h) ≡ l ∷ more) × (list_all (lit_eq l) more ≡ true)) → ((k : Literal) → has new k ≡ (lit_eq k l || has set k))
     → propagates lines set (h ∷ hints) ≡ propagates lines new hints
 step-put lines set new h hints l m n =
@@ -67,9 +68,22 @@ pub begin : (lines : List (List Literal)) (held lits : List Literal) (hints : Li
 begin lines held lits hints i e h =
     propagates-agrees lines (map negated lits) held (λ k. ap (λ ys. has (map negated ys) k) (sym (take_all i lits e)) ∙ sym (h k)) hints
 
-pub next : (lines : List (List Literal)) (held new : List Literal) (hints : List ℕ) (i : ℕ) (l : Literal) → i < length hints
-    → ((more : List Literal) × (left held (line_at lines (get_or hints i 0)) ≡ l ∷ more) × (list_all (lit_eq l) more ≡ true)) → ((k : Literal) → has new k ≡ (lit_eq k l || has held k))
-    → propagates lines held (drop i hints) ≡ propagates lines new (drop (i + 1) hints)
-next lines held new hints i l h m n =
-    ap (propagates lines held) (drop-cons hints i 0 h) ∙ step-put lines held new (get_or hints i 0) (drop (suc i) hints) l m n
+-- two different literals are left
+pub step-several : (lines : List (List Literal)) (set : List Literal) (h : ℕ) (hints : List ℕ)
+    → ((l : Literal) × (more : List Literal) × (left set (line_at lines h) ≡ l ∷ more) × (list_all (lit_eq l) more ≡ false))
+    → propagates lines set (h ∷ hints) ≡ false
+step-several lines set h hints s = ap (go lines set hints) s.2 ∙ ap (λ b. cond b (propagates lines (s.0 ∷ set) hints) false) s.3
+
+hinted : (lines : List (List Literal)) (held : List Literal) (hints : List ℕ) (i : ℕ) → i < length hints → propagates lines held (drop i hints) ≡ propagates lines held (get_or hints i 0 ∷ drop (suc i) hints)
+hinted lines held hints i h = ap (propagates lines held) (drop-cons hints i 0 h)
+
+-- the hint at i gives the answer, or the next one is used
+pub answered : (lines : List (List Literal)) (held new : List Literal) (hints : List ℕ) (i : ℕ) (o : Option Bool) (answer : Bool) → i < length hints
+    → Takes lines held new (get_or hints i 0) o → o ≡ Some answer → propagates lines held (drop i hints) ≡ answer
+answered lines held new hints i o answer h t e = hinted lines held hints i h ∙ (let w = subst (Takes lines held new (get_or hints i 0)) e t in w (drop (suc i) hints))
+
+pub next : (lines : List (List Literal)) (held new : List Literal) (hints : List ℕ) (i : ℕ) (o : Option Bool) → i < length hints
+    → Takes lines held new (get_or hints i 0) o → o ≡ None → propagates lines held (drop i hints) ≡ propagates lines new (drop (i + 1) hints)
+next lines held new hints i o h t e =
+    hinted lines held hints i h ∙ (let w = subst (Takes lines held new (get_or hints i 0)) e t in w (drop (suc i) hints))
     ∙ ap (λ j. propagates lines new (drop j hints)) (sym (add-one i))

@@ -1,14 +1,18 @@
 ghost use Rattle.std.specs.Prelude.{◌≡◌, List as Seq, [], ◌∷◌, ◌++◌, ◌<◌, length, Bool, true, false, IsTrue, ◌↔◌, OnOk, OnErr, IfOk, if◌then◌else◌};
 ghost use Rattle.std.specs.List.{All as Each};
 ghost use Rattle.rt_clause.specs.Literal.{Literal};
-ghost use Rattle.rt_clause.specs.Lists.{follows, left};
+ghost use Rattle.rt_clause.specs.Lists.{follows, left, line_at};
 ghost use Rattle.rt_clause.specs.Refuting.{IsRefuted, Refutes};
+ghost use Rattle.rt_derive.specs.Alike.{Alike};
 ghost use Rattle.rt_derive.specs.Remaining.{IsRest};
+ghost use Rattle.rt_derive.specs.Spent.{AreSpent, Takes};
 
 use crate::held::Held;
-use rt_clause::{Adds, Clauses, Lines, Lit};
+use crate::store::Store;
+use rt_clause::{Adds, Lines, Lit, LitList};
 use rt_value::NoMemory;
 use std::alloc::Global;
+use std::collections::BTreeSet;
 
 /// What is left of a line when its false literals are taken away: no literal, one literal that may
 /// stand there several times, or two different ones.
@@ -41,21 +45,86 @@ fn what_is_left(line: &[Lit], held: &Held) -> Rest
     }
 }
 
+// What is left of a line of the store.
+fn rest_at(lines: &Store, h: usize, held: &Held) -> Rest
+    requires { h < length lines.now }
+    ensures { IsRest (left held.now (line_at lines.now h)) result }
+{
+    what_is_left(lines.brief_at(h), held)
+}
+
+// From so many literals on a line is long: it is read once in a check, however often it is hinted.
+const LONG: usize = 64;
+
+// Uses the line as a unit: what it answers, or nothing where the hints go on. A long line that was
+// used before would add nothing, so it is not read again.
+fn take(
+    held: &mut Held,
+    used: &mut BTreeSet<usize>,
+    lines: &Store,
+    h: usize,
+) -> Result<Option<bool>, NoMemory>
+    requires known { h < length lines.now }
+    requires spent { AreSpent lines.now held.old used.old.keys }
+    ensures takes { IfOk result (λ answer. Takes lines.now held.old held.new h answer) }
+    ensures spent { OnOk result (AreSpent lines.now held.new used.new.keys) }
+{
+    let is_long = lines.brief_at(h).len() >= LONG;
+    if is_long && used.contains(&h) {
+        return Ok(None);
+    }
+    match rest_at(lines, h, held) {
+        Rest::Nothing => Ok(Some(true)),
+        Rest::Several => Ok(Some(false)),
+        Rest::One(l) => {
+            held.put(l)?;
+            if is_long {
+                used.insert(h)?;
+            }
+            Ok(None)
+        }
+    }
+}
+
+// The literals of a line, each once.
+fn without_repeats(alloc: Global, lits: &[Lit], seen: &mut Held) -> Result<LitList, NoMemory>
+    ensures { IfOk result (λ line. Alike line lits.now) }
+{
+    seen.clear();
+    let mut line = LitList::new(alloc);
+    for l in lits {
+        if !seen.has(*l) {
+            line.push(*l)?;
+            seen.put(*l)?;
+        }
+    }
+    Ok(line)
+}
+
 // Whether assuming that the clause is false, and using the hinted lines in order as units, ends in
-// a false line.
-fn check(held: &mut Held, lines: &Clauses, lits: &[Lit], hints: &[usize]) -> Result<bool, NoMemory>
+// a false line. A line is read up to the second literal that is left of it, so no more of its literals
+// than there are in the clause and in the hints, and a long line once: this takes at most the time of
+// the clause, of the hints times the length at which a line is long, and of the lengths of the
+// different long lines that are hinted.
+fn check(
+    held: &mut Held,
+    used: &mut BTreeSet<usize>,
+    lines: &Store,
+    lits: &[Lit],
+    hints: &[usize],
+) -> Result<bool, NoMemory>
     requires { Each (λ h. h < length lines.now) hints.now }
     ensures { IfOk result (λ yes. yes ≡ follows lines.now lits.now hints.now) }
 {
     held.clear();
+    used.clear();
     for l in lits {
         held.put(l.negated())?;
     }
     for h in hints {
-        match what_is_left(lines.at(*h), held) {
-            Rest::Nothing => return Ok(true),
-            Rest::One(l) => held.put(l)?,
-            Rest::Several => return Ok(false),
+        match take(held, used, lines, *h)? {
+            Some(answer) => return Ok(answer),
+            None => {}
         }
     }
     Ok(false)
@@ -78,9 +147,11 @@ fn refutes_line(line: &[Lit], assume: &Option<Lit>) -> bool
 /// those before it by unit propagation along the hints given with it.
 #[derive(Drop)]
 pub struct Checker {
-    lines: Clauses,
+    lines: Store,
     derived: Vec<bool>,
     held: Held,
+    used: BTreeSet<usize>,
+    alloc: Global,
 }
 
 impl Checker {
@@ -90,9 +161,11 @@ impl Checker {
         ensures derived { ⟦<Checker as Adds>⟧.derived result ≡ [] }
     {
         Checker {
-            lines: Clauses::new(alloc),
+            lines: Store::new(alloc),
             derived: Vec::new(alloc),
             held: Held::new(alloc),
+            used: BTreeSet::new(alloc),
+            alloc,
         }
     }
 
@@ -129,6 +202,24 @@ impl Checker {
         self.derived.push_reserved(derived);
         Ok(())
     }
+
+    // Keeps the literals of a line, each once, where it is long and some are repeated. Where memory is
+    // wanting for it, nothing is kept.
+    fn shorten(&mut self, i: usize, lits: &[Lit])
+        requires known { i < length self.old.lines }
+        requires line { line_at self.old.lines i ≡ lits.now }
+        ensures lines { self.new.lines ≡ self.old.lines }
+        ensures derived { self.new.derived ≡ self.old.derived }
+    {
+        if lits.len() < LONG {
+            return;
+        }
+        if let Ok(line) = without_repeats(self.alloc, lits, &mut self.held) {
+            if line.len() < lits.len() {
+                let _ = self.lines.keep_brief(i, line.as_slice());
+            }
+        }
+    }
 }
 
 impl Adds for Checker {
@@ -137,15 +228,18 @@ impl Adds for Checker {
     ghost derived = { λ c. c.derived.items };
 
     fn add(&mut self, lits: &[Lit]) -> Result<(), NoMemory> {
+        self.held.make_room(lits)?;
         self.put(lits, false)
     }
 }
 
 impl Lines for Checker {
     fn derive(&mut self, lits: &[Lit], hints: &[usize]) -> Result<bool, NoMemory> {
-        let yes = check(&mut self.held, &self.lines, lits, hints)?;
+        let yes = check(&mut self.held, &mut self.used, &self.lines, lits, hints)?;
         if yes {
+            let i = self.lines.len();
             self.put(lits, true)?;
+            self.shorten(i, lits);
         }
         Ok(yes)
     }

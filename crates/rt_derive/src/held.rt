@@ -1,17 +1,21 @@
-ghost use Rattle.std.specs.Prelude.{◌≡◌, ℕ, ◌<◌, ◌^◌, [], ◌||◌, false, length, slice_index_or, OnOk};
+ghost use Rattle.std.specs.Prelude.{◌≡◌, ◌≢◌, ℕ, ◌≤◌, ◌^◌, [], ◌||◌, false, length, slice_index_or, OnOk};
 ghost use Rattle.rt_clause.specs.Literal.{Literal, lit_eq};
 ghost use Rattle.rt_clause.specs.Lists.{has};
 
 use rt_clause::Lit;
 use rt_value::NoMemory;
 use std::alloc::Global;
+use std::collections::BTreeSet;
 use std::marker::Model;
 
-/// A set of literals, which contracts see as a list in some order. It keeps a mark for each
-/// literal, so that it is emptied in time linear in what it holds and takes no memory again.
+/// A set of literals, which contracts see as a list in some order. A literal for which room was made
+/// has a mark, and all others stand in an ordered set, so that a literal whose variable is as large
+/// as a word allows takes no more memory than another. To empty the set takes time linear in what it
+/// holds.
 #[derive(Drop)]
 pub(crate) struct Held {
     marks: Vec<bool>,
+    far: BTreeSet<usize>,
     lits: Vec<Lit>,
 }
 
@@ -24,19 +28,43 @@ impl Model for Held {
 
     ghost view = { λ h. h.lits.items };
 
-    ghost invariant = { λ h. AreMarks h.marks.items h.lits.items };
+    ghost invariant = { λ h. AreMarks h.marks.items h.far.keys h.lits.items };
 }
 
-// Makes the list long enough to have the entry, and changes none.
-fn widen(marks: &mut Vec<bool>, at: usize) -> Result<(), NoMemory>
-    requires { at < 2 ^ 63 }
-    ensures long { OnOk result (at < length marks.new.items) }
+// The number of marks with which each literal of the line has one.
+fn marks_for(line: &[Lit]) -> usize
+    ensures { result ≤ 2 ^ 63 }
+{
+    let mut room = 0;
+    for lit in line {
+        let at = lit.index();
+        if room <= at {
+            room = at + 1;
+        }
+    }
+    room
+}
+
+// Makes the list at least so long, and changes no entry.
+fn widen(marks: &mut Vec<bool>, room: usize) -> Result<(), NoMemory>
+    requires { room ≤ 2 ^ 63 }
+    ensures longer { length marks.old.items ≤ length marks.new.items }
     ensures same { (k : ℕ) → slice_index_or marks.new.items k false ≡ slice_index_or marks.old.items k false }
 {
-    if marks.len() <= at {
-        marks.resize(at + 1, false)?;
+    if marks.len() < room {
+        marks.resize(room, false)?;
     }
     Ok(())
+}
+
+// Takes one mark away, where it is there.
+fn unmark(marks: &mut Vec<bool>, at: usize)
+    ensures off { slice_index_or marks.new.items at false ≡ false }
+    ensures others { (k : ℕ) → k ≢ at → slice_index_or marks.new.items k false ≡ slice_index_or marks.old.items k false }
+{
+    if at < marks.len() {
+        marks[at] = false;
+    }
 }
 
 impl Held {
@@ -45,24 +73,41 @@ impl Held {
     {
         Held {
             marks: Vec::new(alloc),
+            far: BTreeSet::new(alloc),
             lits: Vec::new(alloc),
         }
+    }
+
+    /// Empties the set, and makes room for a mark of each literal of the line.
+    pub(crate) fn make_room(&mut self, line: &[Lit]) -> Result<(), NoMemory>
+        ensures { self.new ≡ [] }
+    {
+        self.clear();
+        widen(&mut self.marks, marks_for(line))
     }
 
     pub(crate) fn has(&self, lit: Lit) -> bool
         ensures { result ≡ has self.now lit }
     {
         let at = lit.index();
-        at < self.marks.len() && self.marks[at]
+        if at < self.marks.len() {
+            self.marks[at]
+        } else {
+            self.far.contains(&at)
+        }
     }
 
     pub(crate) fn put(&mut self, lit: Lit) -> Result<(), NoMemory>
         ensures ok { OnOk result ((l : Literal) → has self.new l ≡ (lit_eq l lit || has self.old l)) }
     {
+        self.lits.reserve(1)?;
         let at = lit.index();
-        widen(&mut self.marks, at)?;
-        self.lits.push(lit)?;
-        self.marks[at] = true;
+        if at < self.marks.len() {
+            self.marks[at] = true;
+        } else {
+            self.far.insert(at)?;
+        }
+        self.lits.push_reserved(lit);
         Ok(())
     }
 
@@ -71,8 +116,9 @@ impl Held {
     {
         for i in 0..self.lits.len() {
             let lit = self.lits[i];
-            self.marks[lit.index()] = false;
+            unmark(&mut self.marks, lit.index());
         }
+        self.far.clear();
         self.lits.clear();
     }
 }

@@ -6,5 +6,6 @@
 
 mod checker;
 mod held;
+mod store;
 
 pub use checker::Checker;

@@ -8,11 +8,12 @@ ghost use Rattle.rt_eval.specs.Pairs.{all_joined};
 
 use crate::condition::{is_yes, pred};
 use crate::join::product;
-use crate::lists::{projected, table_rows};
+use crate::lists::projected;
 use crate::narrow::narrow_pairs;
 use crate::pairs::Pairs;
 use crate::query::{answer, each_answer};
 use rt_algebra::{Expr, Pred, Query, row, scope};
+use rt_schema::rows_at;
 use rt_value::{List, NoMemory, Row};
 use std::alloc::Global;
 
@@ -30,7 +31,7 @@ pub fn projection(
     match source {
         Query::Select(inner, condition) => match inner.get() {
             Query::Table(table) => {
-                let rows = table_rows(tables, *table);
+                let rows = rows_at(tables, *table);
                 let out = row_items(alloc, List::new(alloc), rows, condition, items, tables, env)?;
                 Ok(out)
             }

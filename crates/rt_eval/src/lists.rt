@@ -1,4 +1,4 @@
-ghost use Rattle.std.specs.Prelude.{◌≡◌, ◌∷◌, ◌++◌, [], map, not, slice_index_or, IfOk};
+ghost use Rattle.std.specs.Prelude.{◌≡◌, ◌∷◌, ◌++◌, [], map, not, IfOk};
 ghost use Rattle.std.specs.List.{filter};
 ghost use Rattle.rt_algebra.specs.Expression.{wrapped, row_by};
 ghost use Rattle.rt_algebra.specs.Answer.{has_row, some_truth, member_truth, pairs, join_each};
@@ -7,16 +7,6 @@ use crate::rows::Rows;
 use rt_algebra::{Expr, cell_truth, row, scope};
 use rt_value::{List, NoMemory, Row, Truth, Value};
 use std::alloc::Global;
-
-/// The rows of a table, none where there is no such table.
-pub fn table_rows(tables: &[List<Row>], table: usize) -> &[Row]
-    ensures { result.now ≡ slice_index_or tables.now table [] }
-{
-    match tables.get(table) {
-        Some(rows) => rows.as_slice(),
-        None => &[],
-    }
-}
 
 /// Whether there is a row.
 pub fn some_truth(rows: &[Row]) -> Truth

@@ -7,9 +7,10 @@ ghost use Rattle.rt_split.specs.Join.{product_rows};
 use crate::condition::{is_yes, pred};
 use crate::items::projection;
 use crate::join::product;
-use crate::lists::{appended, common, difference, table_rows};
+use crate::lists::{appended, common, difference};
 use crate::narrow::narrow;
 use rt_algebra::{Pred, Query, scope};
+use rt_schema::rows_at;
 use rt_value::{List, NoMemory, Row};
 use std::alloc::Global;
 
@@ -24,10 +25,10 @@ pub fn answer(
     ensures { IfOk result (λ rows. rows ≡ answer_by wrapped query.now tables.now (map (λ r. r.now) env.now)) }
 {
     match query {
-        Query::Table(table) => appended(alloc, List::new(alloc), table_rows(tables, *table)),
+        Query::Table(table) => appended(alloc, List::new(alloc), rows_at(tables, *table)),
         Query::Select(source, condition) => match source.get() {
             Query::Table(table) => {
-                let out = selected(alloc, table_rows(tables, *table), condition, tables, env)?;
+                let out = selected(alloc, rows_at(tables, *table), condition, tables, env)?;
                 Ok(out)
             }
             Query::Product(members) => {

@@ -1,6 +1,7 @@
-mod LastLemmas
+pub mod BegunLemmas
 mod PlaceLemmas
 pub mod RowLemmas
 mod ShapeLemmas
+mod SpeakLemmas
 mod StepLemmas
 mod TableLemmas

@@ -43,7 +43,7 @@ use Rattle.rt_input.specs.declared.source.Source.TheVariants.{Files}
 use Rattle.rt_input.specs.Faults.{excess_limit, lex_outcome, load_outcome, name_outcome, or_outcome, schema_outcome, sql_outcome}
 use Rattle.rt_input.specs.declared.first.First.{First}
 use Rattle.rt_input.specs.First.{data_in, first_judged, first_of}
-use Rattle.rt_input.specs.Judged.{Data, Reaches, accepted, data_judged, input_judged, query_judged, right_judged, then_read, within_limit, query_of, query_of_tokens, query_of_tree, schema_of}
+use Rattle.rt_input.specs.Judged.{Data, Reaches, ReachesFirst, accepted, data_judged, input_judged, query_judged, right_judged, then_read, within_limit, query_of, query_of_tokens, query_of_tree, schema_of}
 use Rattle.rt_input.specs.Held.{Holding, most_bytes, file_text, text_of}
 use Rattle.rt_input.specs.Source.{IsKnown, file_name, file_of, source_of}
 use Rattle.rt_input.specs.Steps.{Failed, IsLong, IsLongFor, Refuses, Seen, seen, Stops, TextStops, of_contents}
@@ -264,17 +264,24 @@ first_err {T = T} (Ok d) q f e is = go (q d) is
     go (Ok left) same = absurd cc
     go (Err o) same = let is : o ≡ e = cc in ap Err is
 
+reaches_first : (source : Source) (held : Holding) (p : Part) → ReachesFirst source held p → Reaches source held p
+reaches_first source held part.Schema reached = tt
+reaches_first source held (part.Table at name) reached = reached
+reaches_first source held part.Query1 reached = reached
+reaches_first source held part.Query2 reached = absurd reached
+reaches_first source held part.Queries reached = absurd reached
+
 -- what stops the reading before its second query
 pub first_stops : (tells : Bool) (held : Holding) (before after : List ℕ → ℕ) (current : Option (List ℕ)) (taken : ℕ) (source : Source) (k : Command) (o : Outcome) → source ≡ source_of k
-    → Stops (seen tells held before after current taken) source (first_judged source held) (Reaches source held) o
+    → Stops (seen tells held before after current taken) source (first_judged source held) (ReachesFirst source held) o
     → Stops (seen tells held before after current taken) source (input_judged held k) (Reaches source held) o
 first_stops tells held before after current taken source k o is stop =
     let judged : (e : Outcome) → first_judged source held ≡ Err e → input_judged held k ≡ Err e = λ e.
     subst (λ (s : Source). first_judged s held ≡ Err e → input_judged held k ≡ Err e) (sym is)
     (first_err (data_judged (source_of k) held) (λ d. query_judged (source_of k) held Query1 d.schema)
     (λ d left. then_read (right_judged (source_of k) held d.schema left) (λ right. within_limit (accepted k d left right))) e) in
-    stops_on tells held held before before after current taken source (first_judged source held) (input_judged held k) (Reaches source held) (Reaches source held) o
-    (λ name. omega arith) (λ t. judged) (λ t p reached. reached) stop
+    stops_on tells held held before before after current taken source (first_judged source held) (input_judged held k) (ReachesFirst source held) (Reaches source held) o
+    (λ name. omega arith) (λ t. judged) (λ t. reaches_first source held) stop
 
 pub input_after : (held : Holding) (source : Source) (k : Command) (first : First) → source ≡ source_of k → first_judged source held ≡ Ok first
     → input_judged held k ≡ then_read (right_judged source held first.schema first.left) (λ right. within_limit (accepted k (data_in first) first.left right))
@@ -298,14 +305,14 @@ right_stops tells held0 held1 before mid after current taken source k first o is
 pub left_stops : {T : Type 0} (tells : Bool) (held0 held1 : Holding) (before mid after : List ℕ → ℕ) (current : Option (List ℕ)) (taken : ℕ) (source : Source) (f : Data → Typed → Result T Outcome) (d : Data) (o : Outcome)
     → held1 ≡ held0 → NoneFell before mid → (IsKnown tells source → data_judged source held0 ≡ Ok d)
     → Stops (seen tells held1 mid after current taken) source (query_judged source held1 Query1 d.schema) (λ p. p ≡ Query1) o
-    → Stops (seen tells held0 before after current taken) source (then_read (data_judged source held0) (λ d. then_read (query_judged source held0 Query1 d.schema) (f d))) (Reaches source held0) o
+    → Stops (seen tells held0 before after current taken) source (then_read (data_judged source held0) (λ d. then_read (query_judged source held0 Query1 d.schema) (f d))) (ReachesFirst source held0) o
 left_stops {T = T} tells held0 held1 before mid after current taken source f d o same grew told stop =
     let all : Result T Outcome = then_read (data_judged source held0) (λ d. then_read (query_judged source held0 Query1 d.schema) (f d)) in
     let judged : IsKnown tells source → (e : Outcome) → query_judged source held1 Query1 d.schema ≡ Err e → all ≡ Err e = λ t e err.
     then_ok (data_judged source held0) d _ _ (told t) (then_err _ _ e (ap (λ (h : Holding). query_judged source h Query1 d.schema) (sym same) ∙ err)) in
-    let reached : IsKnown tells source → (p : Part) → p ≡ Query1 → Reaches source held0 p = λ t p named.
-    subst (Reaches source held0) (sym named) (subst (λ (r : Result Data Outcome). IsOk r) (sym (told t)) refl) in
-    stops_on tells held0 held1 before mid after current taken source (query_judged source held1 Query1 d.schema) all (λ p. p ≡ Query1) (Reaches source held0) o grew judged reached stop
+    let reached : IsKnown tells source → (p : Part) → p ≡ Query1 → ReachesFirst source held0 p = λ t p named.
+    subst (ReachesFirst source held0) (sym named) (subst (λ (r : Result Data Outcome). IsOk r) (sym (told t)) refl) in
+    stops_on tells held0 held1 before mid after current taken source (query_judged source held1 Query1 d.schema) all (λ p. p ≡ Query1) (ReachesFirst source held0) o grew judged reached stop
 
 -- a command whose texts are all read is judged by its work
 pub judged_all : (held0 held1 : Holding) (source : Source) (k : Command) (first : First) (right : Typed) → source ≡ source_of k → held1 ≡ held0

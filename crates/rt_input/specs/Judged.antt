@@ -159,6 +159,14 @@ Reaches source held Query1 = IsOk (data_judged source held)
 Reaches source held Query2 = IsOkAnd (data_judged source held) (λ d. IsOk (query_judged source held Query1 d.schema))
 Reaches source held Queries = ⊥
 
+-- the same before the second query
+abbrev pub ReachesFirst : Source → Holding → Part → Type 0
+ReachesFirst source held Schema = Unit {0}
+ReachesFirst source held (Table at name) = Reaches source held (Table at name)
+ReachesFirst source held Query1 = Reaches source held Query1
+ReachesFirst source held Query2 = ⊥
+ReachesFirst source held Queries = ⊥
+
 -- the parts that have a text of their own
 abbrev pub IsNamed : Source → Holding → Part → Type 0
 IsNamed source held Schema = Unit {0}

@@ -5,6 +5,7 @@ pub mod Source
 pub mod Steps
 pub mod Texts
 pub mod Accepted
+pub mod Begun
 pub mod First
 pub mod Judged
 pub mod Reading

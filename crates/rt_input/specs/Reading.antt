@@ -15,7 +15,7 @@ use Rattle.rt_input.specs.Judged.{judged, Reaches}
 use Rattle.rt_input.specs.Held.{text_of}
 use Rattle.rt_input.specs.Placed.{Placed}
 use Rattle.rt_input.specs.Source.{IsKnown, IsMade, file_of, source_of}
-use Rattle.rt_input.specs.Steps.{BeginsOnly, Seen, over, Failed, IsLongFor}
+use Rattle.rt_input.specs.Steps.{Seen, over, Failed, IsLongFor}
 
 -- a call: its words, and what is known of the files over it
 pub record Call : Type 0 where
@@ -33,12 +33,6 @@ IsTold c = ForSome (command c.words) (λ k. IsKnown c.files.tells (source_of k))
 -- the command asks for a generated input
 abbrev pub IsMadeCall : Option Command → Type 0
 IsMadeCall o = IsSomeAnd o (λ k. IsMade (source_of k))
-
--- the file that a call begins last, if it begins one, is that of a part that the reading comes to; so
--- none is begun after a refusal
-abbrev pub LastBegun : {F : Type 0} → Files F → Option Command → F → F → Type 0
-LastBegun files None old new = files.current new ≡ files.current old
-LastBegun files (Some k) old new = BeginsOnly files old new (source_of k) (Reaches (source_of k) (files.held old))
 
 -- an input that was read in the call: an accepted one with the numbers of the command, and where the
 -- contents of its source are known, the one that is judged

@@ -1,8 +1,9 @@
 -- What stops the reading of a command's files.
-use Rattle.std.specs.Prelude.{◌≡◌, ℕ, ◌+◌, Bool, true, false, IsTrue, List, Option, None, Some, IfSome, ◌⊎◌, Result, Err, ⊤}
+use Rattle.std.specs.Prelude.{◌≡◌, ℕ, ◌+◌, ◌≤◌, Bool, true, false, IsTrue, List, Option, None, Some, Result, Err, ⊤}
 use Rattle.rt_io.specs.Edge.{Rose}
 use Rattle.rt_io.specs.declared.files.Files.{Ghosts}
 use Rattle.rt_input.specs.declared.part.Part.{Part}
+use Rattle.rt_input.specs.declared.part.Part.TheVariants as parts
 use Rattle.rt_input.specs.declared.outcome.Limit.{Limit}
 use Rattle.rt_input.specs.declared.outcome.Limit.TheVariants as limits
 use Rattle.rt_input.specs.declared.outcome.Outcome.{Outcome}
@@ -48,8 +49,8 @@ IsLongFor s source (limits.Rules table) = ⊤
 IsLongFor s source limits.Rows = ⊤
 IsLongFor s source (limits.Work work) = ⊤
 
--- what stops the reading of one file: its count rose, one byte more than it may have was taken, or
--- memory was wanting
+-- what stops the reading of one file: its count rose before more bytes than it may have were taken, one
+-- byte more was taken, or memory was wanting
 abbrev pub TextStops : Seen → List ℕ → Part → Outcome → Type 0
 TextStops s name part outcome.Agree = ⊥
 TextStops s name part (outcome.Witness keep) = ⊥
@@ -57,7 +58,7 @@ TextStops s name part outcome.Usage = ⊥
 TextStops s name part (outcome.Refused p fault) = ⊥
 TextStops s name part (outcome.Spent spent) = ⊥
 TextStops s name part (outcome.Limit limit) = (limit ≡ limits.TooLong part) × IsLong s (Some name) × (IsTrue s.tells → text_read part (s.held name) ≡ Err (outcome.Limit (limits.TooLong part)))
-TextStops s name part (outcome.ReadFault p) = (p ≡ part) × Failed s (Some name)
+TextStops s name part (outcome.ReadFault p) = (p ≡ part) × Failed s (Some name) × (s.taken ≤ most_bytes)
 TextStops s name part outcome.WriteFault = ⊥
 TextStops s name part outcome.NoMemory = ⊤
 
@@ -99,15 +100,32 @@ Stops s source judged Reached (outcome.ReadFault part) = Failed s (file_of sourc
 Stops s source judged Reached outcome.WriteFault = ⊥
 Stops s source judged Reached outcome.NoMemory = ⊤
 
--- the file of a part that the reading comes to
-abbrev pub IsFileOf : Bool → Source → (Part → Type 0) → List ℕ → Type 0
-IsFileOf tells source Reached name = (part : Part) × (file_of source part ≡ Some name) × (IsKnown tells source → Reached part)
+-- ---- what an outcome speaks of
 
--- of the current file before and after: the last one that was begun, if one was, is that of a part
--- that the reading comes to
-abbrev pub LastIs : Bool → Option (List ℕ) → Option (List ℕ) → Source → (Part → Type 0) → Type 0
-LastIs tells before after source Reached = IfSome after (λ name. (before ≡ Some name) ⊎ IsFileOf tells source Reached name)
+abbrev pub IsLimitOf : (Part → Type 0) → Limit → Type 0
+IsLimitOf Among (limits.TooLong part) = Among part
+IsLimitOf Among limits.Tables = ⊤
+IsLimitOf Among (limits.Columns table) = ⊤
+IsLimitOf Among (limits.Rules table) = ⊤
+IsLimitOf Among limits.Rows = ⊤
+IsLimitOf Among (limits.Work work) = ⊥
 
--- the same of files that a call found as `old` and left as `new`
-abbrev pub BeginsOnly : {F : Type 0} → Ghosts F → F → F → Source → (Part → Type 0) → Type 0
-BeginsOnly files old new source Reached = LastIs files.tells (files.current old) (files.current new) source Reached
+-- a refusal, a limit or a fault of reading is that of one of these parts, and not of the work
+abbrev pub SpeaksOf : (Part → Type 0) → Outcome → Type 0
+SpeaksOf Among outcome.Agree = ⊤
+SpeaksOf Among (outcome.Witness keep) = ⊤
+SpeaksOf Among outcome.Usage = ⊤
+SpeaksOf Among (outcome.Refused part fault) = Among part
+SpeaksOf Among (outcome.Spent spent) = ⊤
+SpeaksOf Among (outcome.Limit limit) = IsLimitOf Among limit
+SpeaksOf Among (outcome.ReadFault part) = Among part
+SpeaksOf Among outcome.WriteFault = ⊤
+SpeaksOf Among outcome.NoMemory = ⊤
+
+-- the parts that are read before the second query
+abbrev pub IsFirstPart : Part → Type 0
+IsFirstPart parts.Schema = ⊤
+IsFirstPart (parts.Table at name) = ⊤
+IsFirstPart parts.Query1 = ⊤
+IsFirstPart parts.Query2 = ⊥
+IsFirstPart parts.Queries = ⊥

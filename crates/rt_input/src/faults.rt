@@ -31,7 +31,7 @@ fn excess_limit(excess: Excess) -> Limit
 }
 
 /// The outcome of a schema that is refused.
-pub fn schema_outcome(fault: SchemaFault) -> Outcome
+pub(crate) fn schema_outcome(fault: SchemaFault) -> Outcome
     ensures { result ≡ schema_outcome fault }
 {
     match fault {
@@ -43,7 +43,7 @@ pub fn schema_outcome(fault: SchemaFault) -> Outcome
 }
 
 /// The outcome of a table file that is refused.
-pub fn load_outcome(part: Part, fault: LoadFault) -> Outcome
+pub(crate) fn load_outcome(part: Part, fault: LoadFault) -> Outcome
     ensures { result ≡ load_outcome part fault }
 {
     match fault {
@@ -54,7 +54,7 @@ pub fn load_outcome(part: Part, fault: LoadFault) -> Outcome
 }
 
 /// The outcome of tokens that are no query.
-pub fn sql_outcome(part: Part, fault: SqlFault) -> Outcome
+pub(crate) fn sql_outcome(part: Part, fault: SqlFault) -> Outcome
     ensures { result ≡ sql_outcome part fault }
 {
     match fault {
@@ -64,7 +64,7 @@ pub fn sql_outcome(part: Part, fault: SqlFault) -> Outcome
 }
 
 /// The outcome of a query that has no meaning over the schema.
-pub fn name_outcome(part: Part, fault: NameFault) -> Outcome
+pub(crate) fn name_outcome(part: Part, fault: NameFault) -> Outcome
     ensures { result ≡ name_outcome part fault }
 {
     match fault {

@@ -1,14 +1,15 @@
 //! What a command reads before its second query.
-ghost use Rattle.std.specs.Prelude.{◌≡◌, IfOk, IfErr, Ok};
+ghost use Rattle.std.specs.Prelude.{◌≡◌, IfOk, IfErr, OnOk, Ok};
 ghost use Rattle.rt_io.specs.Edge.{NoneFell};
 ghost use Rattle.rt_algebra.specs.Typed.{IsTypedOf};
 ghost use Rattle.rt_input.specs.Accepted.{IsAccepted};
 ghost use Rattle.rt_input.specs.First.{IsFirst, data_in, first_judged};
-ghost use Rattle.rt_input.specs.Judged.{accepted, Reaches};
+ghost use Rattle.rt_input.specs.Judged.{accepted, ReachesFirst};
 ghost use Rattle.rt_input.specs.Held.{text_of};
 ghost use Rattle.rt_input.specs.Placed.{Placed};
 ghost use Rattle.rt_input.specs.Source.{IsKnown, IsMade, source_of};
-ghost use Rattle.rt_input.specs.Steps.{over, BeginsOnly, Stops};
+ghost use Rattle.rt_input.specs.Begun.{AddsAll, AddsSome, first_files, first_reached};
+ghost use Rattle.rt_input.specs.Steps.{over, IsFirstPart, SpeaksOf, Stops};
 
 use crate::input::Input;
 use crate::outcome::Outcome;
@@ -72,9 +73,11 @@ pub(crate) fn first_of<F: Files>(
 ) -> Result<First, Outcome>
     ensures sound { IfOk result IsFirst }
     ensures ok { IfOk result (λ first. IsKnown F.tells source.now → first_judged source.now (F.held files.old) ≡ Ok first) }
-    ensures err { IfErr result (Stops (over F.Files files.old files.new) source.now (first_judged source.now (F.held files.old)) (Reaches source.now (F.held files.old))) }
+    ensures err { IfErr result (Stops (over F.Files files.old files.new) source.now (first_judged source.now (F.held files.old)) (ReachesFirst source.now (F.held files.old))) }
     ensures place { IfErr result (λ o. IsKnown F.tells source.now → Placed (text_of source.now (F.held files.old)) o) }
-    ensures last { BeginsOnly F.Files files.old files.new source.now (Reaches source.now (F.held files.old)) }
+    ensures speaks { IfErr result (SpeaksOf IsFirstPart) }
+    ensures begun { AddsSome (IsKnown F.tells source.now) (first_files source.now) (first_reached source.now (F.held files.old)) (F.begun files.old) (F.begun files.new) }
+    ensures begun_ok { OnOk result (AddsAll (IsKnown F.tells source.now) (first_files source.now) (first_reached source.now (F.held files.old)) (F.begun files.old) (F.begun files.new)) }
     ensures made { IsMade source.now → files.new ≡ files.old }
     ensures held { F.held files.new ≡ F.held files.old }
     ensures rises { NoneFell (F.faults files.old) (F.faults files.new) }
@@ -93,9 +96,11 @@ pub(crate) fn first_of<F: Files>(
 pub fn read_first<F: Files>(alloc: Global, words: &Words, files: &mut F) -> Result<First, Outcome>
     ensures sound { IfOk result IsFirst }
     ensures ok { IfOk result (λ first. IsKnown F.tells (source_of words.now) → first_judged (source_of words.now) (F.held files.old) ≡ Ok first) }
-    ensures err { IfErr result (Stops (over F.Files files.old files.new) (source_of words.now) (first_judged (source_of words.now) (F.held files.old)) (Reaches (source_of words.now) (F.held files.old))) }
+    ensures err { IfErr result (Stops (over F.Files files.old files.new) (source_of words.now) (first_judged (source_of words.now) (F.held files.old)) (ReachesFirst (source_of words.now) (F.held files.old))) }
     ensures place { IfErr result (λ o. IsKnown F.tells (source_of words.now) → Placed (text_of (source_of words.now) (F.held files.old)) o) }
-    ensures last { BeginsOnly F.Files files.old files.new (source_of words.now) (Reaches (source_of words.now) (F.held files.old)) }
+    ensures speaks { IfErr result (SpeaksOf IsFirstPart) }
+    ensures begun { AddsSome (IsKnown F.tells (source_of words.now)) (first_files (source_of words.now)) (first_reached (source_of words.now) (F.held files.old)) (F.begun files.old) (F.begun files.new) }
+    ensures begun_ok { OnOk result (AddsAll (IsKnown F.tells (source_of words.now)) (first_files (source_of words.now)) (first_reached (source_of words.now) (F.held files.old)) (F.begun files.old) (F.begun files.new)) }
     ensures made { IsMade (source_of words.now) → files.new ≡ files.old }
     ensures held { F.held files.new ≡ F.held files.old }
     ensures rises { NoneFell (F.faults files.old) (F.faults files.new) }

@@ -16,7 +16,7 @@ mod stopped;
 mod tables;
 mod text;
 
-pub use faults::{lex_outcome, load_outcome, name_outcome, schema_outcome, sql_outcome};
+pub use faults::lex_outcome;
 pub use first::{First, read_first};
 pub use input::Input;
 pub use outcome::{Fault, Limit, Outcome, Spent};
@@ -24,7 +24,6 @@ pub use part::{Part, QueryPart};
 pub use query::{like_left, query_of};
 pub use read::{read_input, read_words, within_limit, work_between};
 pub use say::{fault_text, lex_text, part_text, refusal_line};
-pub use source::{Paths, Source};
 pub use stopped::stopped_text;
 pub use tables::{Tables, read_tables};
-pub use text::{read_text, source_text};
+pub use text::{read_text, without_mark};

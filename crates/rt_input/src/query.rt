@@ -5,7 +5,7 @@ ghost use Rattle.rt_input.specs.Judged.{like_left, query_of, query_of_tokens, qu
 ghost use Rattle.rt_token.specs.Lexed.{lexed};
 ghost use Rattle.rt_input.specs.Placed.{IsPlaceless, PlacedIn};
 ghost use Rattle.rt_input.specs.Source.{Text};
-ghost use Rattle.rt_input.specs.Steps.{Refuses};
+ghost use Rattle.rt_input.specs.Steps.{Refuses, SpeaksOf};
 
 use crate::faults::{lex_outcome, name_outcome, sql_outcome};
 use crate::outcome::Outcome;
@@ -23,6 +23,7 @@ fn query_of_tree(alloc: Global, part: Part, schema: &Schema, tree: &Sql) -> Resu
     ensures typed { IfOk result (IsTypedOf schema.now) }
     ensures ok { IfOk result (λ typed. query_of_tree part schema.now tree.now ≡ Ok typed) }
     ensures err { IfErr result (Refuses (query_of_tree part schema.now tree.now)) }
+    ensures speaks { IfErr result (SpeaksOf (λ p. p ≡ part)) }
     ensures place { IfErr result (λ o. (text : Text) → PlacedIn part text o) }
 {
     match resolve(alloc, tree, schema) {
@@ -41,6 +42,7 @@ fn query_of_tokens(
     ensures typed { IfOk result (IsTypedOf schema.now) }
     ensures ok { IfOk result (λ typed. query_of_tokens part schema.now tokens.now ≡ Ok typed) }
     ensures err { IfErr result (Refuses (query_of_tokens part schema.now tokens.now)) }
+    ensures speaks { IfErr result (SpeaksOf (λ p. p ≡ part)) }
     ensures place { IfErr result (λ o. (text : Text) → lexed text ≡ Ok tokens.now → PlacedIn part text o) }
 {
     match parse(alloc, tokens) {
@@ -54,6 +56,7 @@ pub fn query_of(alloc: Global, part: Part, schema: &Schema, text: &[u8]) -> Resu
     ensures typed { IfOk result (IsTypedOf schema.now) }
     ensures ok { IfOk result (λ typed. query_of part schema.now text.now ≡ Ok typed) }
     ensures err { IfErr result (Refuses (query_of part schema.now text.now)) }
+    ensures speaks { IfErr result (SpeaksOf (λ p. p ≡ part)) }
     ensures place { IfErr result (PlacedIn part text.now) }
 {
     match tokens(alloc, text) {

@@ -1,7 +1,7 @@
 //! The reading of a command's input.
-ghost use Rattle.std.specs.Prelude.{◌≡◌, ◌≤◌, IsSomeAnd, IfOk, IfErr, Ok, None, Some};
+ghost use Rattle.std.specs.Prelude.{◌≡◌, ◌≤◌, ◌++◌, IsSomeAnd, IfOk, IfErr, OnOk, Ok, None, Some};
 ghost use Rattle.std.specs.Option.{ForSome};
-ghost use Rattle.rt_io.specs.Edge.{NoneFell};
+ghost use Rattle.rt_io.specs.Edge.{AddsPrefix, NoneFell};
 ghost use Rattle.rt_schema.specs.Given.{IsOf};
 ghost use Rattle.rt_algebra.specs.Typed.{IsTypedOf};
 ghost use Rattle.rt_io.specs.Command.{command};
@@ -9,8 +9,9 @@ ghost use Rattle.rt_input.specs.Source.{IsKnown, IsMade, query_part, source_of};
 ghost use Rattle.rt_input.specs.Judged.{query_judged, right_judged, input_judged, total_work, within_limit, work_between, Reaches};
 ghost use Rattle.rt_input.specs.Held.{text_of};
 ghost use Rattle.rt_input.specs.Placed.{IsPlaceless, Placed};
-ghost use Rattle.rt_input.specs.Steps.{over, BeginsOnly, Refuses, Stops};
-ghost use Rattle.rt_input.specs.Reading.{call, LastBegun, IsMadeCall, IsRead, Stop, WordsStop};
+ghost use Rattle.rt_input.specs.Begun.{AddsAll, AddsSome, BeganFor, Begins, input_files, input_reached, part_files};
+ghost use Rattle.rt_input.specs.Steps.{over, Refuses, SpeaksOf, Stops};
+ghost use Rattle.rt_input.specs.Reading.{call, IsMadeCall, IsRead, Stop, WordsStop};
 ghost use Rattle.rt_input.specs.declared.part.Part.TheVariants as parts;
 ghost use Rattle.rt_input.specs.Accepted.{HasOptions, IsAccepted};
 
@@ -51,7 +52,9 @@ pub(crate) fn read_query<F: Files>(
     ensures ok { IfOk result (λ typed. IsKnown F.tells source.now → query_judged source.now (F.held files.old) (query_part part) schema.now ≡ Ok typed) }
     ensures err { IfErr result (Stops (over F.Files files.old files.new) source.now (query_judged source.now (F.held files.old) (query_part part) schema.now) (λ p. p ≡ query_part part)) }
     ensures place { IfErr result (λ o. IsKnown F.tells source.now → Placed (text_of source.now (F.held files.old)) o) }
-    ensures last { BeginsOnly F.Files files.old files.new source.now (λ p. p ≡ query_part part) }
+    ensures speaks { IfErr result (SpeaksOf (λ p. p ≡ query_part part)) }
+    ensures begun { AddsPrefix (F.begun files.old) (F.begun files.new) (part_files source.now (query_part part)) }
+    ensures begun_ok { OnOk result (F.begun files.new ≡ F.begun files.old ++ part_files source.now (query_part part)) }
     ensures made { IsMade source.now → files.new ≡ files.old }
     ensures held { F.held files.new ≡ F.held files.old }
     ensures rises { NoneFell (F.faults files.old) (F.faults files.new) }
@@ -73,7 +76,8 @@ fn read_right<F: Files>(
     ensures ok { IfOk result (λ right. IsKnown F.tells source.now → right_judged source.now (F.held files.old) schema.now left.now ≡ Ok right) }
     ensures err { IfErr result (Stops (over F.Files files.old files.new) source.now (right_judged source.now (F.held files.old) schema.now left.now) (λ p. p ≡ parts.Query2)) }
     ensures place { IfErr result (λ o. IsKnown F.tells source.now → Placed (text_of source.now (F.held files.old)) o) }
-    ensures last { BeginsOnly F.Files files.old files.new source.now (λ p. p ≡ parts.Query2) }
+    ensures begun { AddsPrefix (F.begun files.old) (F.begun files.new) (part_files source.now parts.Query2) }
+    ensures begun_ok { OnOk result (F.begun files.new ≡ F.begun files.old ++ part_files source.now parts.Query2) }
     ensures made { IsMade source.now → files.new ≡ files.old }
     ensures held { F.held files.new ≡ F.held files.old }
     ensures rises { NoneFell (F.faults files.old) (F.faults files.new) }
@@ -127,7 +131,8 @@ fn read_source<F: Files>(
     ensures ok { IfOk result (λ input. IsKnown F.tells source.now → input_judged (F.held files.old) words.now ≡ Ok input) }
     ensures err { IfErr result (Stops (over F.Files files.old files.new) source.now (input_judged (F.held files.old) words.now) (Reaches source.now (F.held files.old))) }
     ensures place { IfErr result (λ o. IsKnown F.tells source.now → Placed (text_of source.now (F.held files.old)) o) }
-    ensures last { BeginsOnly F.Files files.old files.new source.now (Reaches source.now (F.held files.old)) }
+    ensures begun { AddsSome (IsKnown F.tells source.now) (input_files source.now) (input_reached source.now (F.held files.old)) (F.begun files.old) (F.begun files.new) }
+    ensures begun_ok { OnOk result (AddsAll (IsKnown F.tells source.now) (input_files source.now) (input_reached source.now (F.held files.old)) (F.begun files.old) (F.begun files.new)) }
     ensures made { IsMade source.now → files.new ≡ files.old }
     ensures held { F.held files.new ≡ F.held files.old }
     ensures rises { NoneFell (F.faults files.old) (F.faults files.new) }
@@ -149,7 +154,8 @@ fn read_command<F: Files>(alloc: Global, words: &Words, files: &mut F) -> Result
     ensures ok { IfOk result (λ input. IsKnown F.tells (source_of words.now) → input_judged (F.held files.old) words.now ≡ Ok input) }
     ensures err { IfErr result (Stops (over F.Files files.old files.new) (source_of words.now) (input_judged (F.held files.old) words.now) (Reaches (source_of words.now) (F.held files.old))) }
     ensures place { IfErr result (λ o. IsKnown F.tells (source_of words.now) → Placed (text_of (source_of words.now) (F.held files.old)) o) }
-    ensures last { BeginsOnly F.Files files.old files.new (source_of words.now) (Reaches (source_of words.now) (F.held files.old)) }
+    ensures begun { AddsSome (IsKnown F.tells (source_of words.now)) (input_files (source_of words.now)) (input_reached (source_of words.now) (F.held files.old)) (F.begun files.old) (F.begun files.new) }
+    ensures begun_ok { OnOk result (AddsAll (IsKnown F.tells (source_of words.now)) (input_files (source_of words.now)) (input_reached (source_of words.now) (F.held files.old)) (F.begun files.old) (F.begun files.new)) }
     ensures made { IsMade (source_of words.now) → files.new ≡ files.old }
     ensures held { F.held files.new ≡ F.held files.old }
     ensures rises { NoneFell (F.faults files.old) (F.faults files.new) }
@@ -164,8 +170,10 @@ fn read_command<F: Files>(alloc: Global, words: &Words, files: &mut F) -> Result
 pub fn read_input<F: Files>(alloc: Global, words: &[Txt], files: &mut F) -> Result<Input, Outcome>
     ensures ok { IfOk result (IsRead (call F.Files words.now files.old files.new)) }
     ensures err { IfErr result (Stop (call F.Files words.now files.old files.new)) }
-    // The file that is begun last is one that the reading comes to: none is begun after a refusal.
-    ensures last { LastBegun F.Files (command words.now) files.old files.new }
+    // The files that are begun are first ones of those that the command names, and none stands behind
+    // the first refusal; where there is an input, they are all of them.
+    ensures begun { Begins F.Files (command words.now) files.old files.new }
+    ensures begun_ok { OnOk result (BeganFor F.tells (F.held files.old) (command words.now) (F.begun files.old) (F.begun files.new)) }
     // A generated input begins no file.
     ensures made { IsMadeCall (command words.now) → files.new ≡ files.old }
     ensures held { F.held files.new ≡ F.held files.old }

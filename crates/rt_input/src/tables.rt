@@ -1,12 +1,13 @@
 //! The schema of a command and the rows of its tables.
-ghost use Rattle.std.specs.Prelude.{◌≡◌, ◌≤◌, IsTrue, IfOk, IfErr, OnOk, Ok, Some, length, slice_get, slice_set};
-ghost use Rattle.rt_io.specs.Edge.{NoneFell};
+ghost use Rattle.std.specs.Prelude.{◌≡◌, ◌≤◌, ◌++◌, IsTrue, IfOk, IfErr, OnErr, OnOk, Ok, Some, length, slice_get, slice_set};
+ghost use Rattle.rt_io.specs.Edge.{AddsPrefix, NoneFell};
+ghost use Rattle.rt_input.specs.Begun.{AddsAll, AddsSome, data_files, data_reached, part_files, table_files, tables_reached};
 ghost use Rattle.rt_schema.specs.Given.{IsOf, places, rows_at, row_limit};
 ghost use Rattle.rt_input.specs.Source.{IsKnown, IsMade, tables_in};
-ghost use Rattle.rt_input.specs.Judged.{schema_of, schema_judged, table_judged, tables_judged, data_judged, no_rows, IsTableReached, Reaches};
+ghost use Rattle.rt_input.specs.Judged.{schema_of, schema_judged, table_judged, tables_judged, data_judged, no_rows, IsTableReached, ReachesFirst};
 ghost use Rattle.rt_input.specs.Held.{text_of};
 ghost use Rattle.rt_input.specs.Placed.{Placed, PlacedIn};
-ghost use Rattle.rt_input.specs.Steps.{over, BeginsOnly, Refuses, Stops};
+ghost use Rattle.rt_input.specs.Steps.{over, IsFirstPart, Refuses, SpeaksOf, Stops};
 ghost use Rattle.rt_input.specs.declared.part.Part.TheVariants as parts;
 
 use crate::faults::{load_outcome, schema_outcome};
@@ -51,6 +52,7 @@ impl Tables {
 fn schema_of(alloc: Global, text: &[u8]) -> Result<Schema, Outcome>
     ensures ok { IfOk result (λ schema. schema_of text.now ≡ Ok schema) }
     ensures err { IfErr result (Refuses (schema_of text.now)) }
+    ensures speaks { IfErr result (SpeaksOf IsFirstPart) }
     ensures place { IfErr result (PlacedIn parts.Schema text.now) }
 {
     match read_schema(alloc, text) {
@@ -64,7 +66,9 @@ fn schema_file<F: Files>(alloc: Global, files: &mut F, source: &Source) -> Resul
     ensures ok { IfOk result (λ schema. IsKnown F.tells source.now → schema_judged source.now (F.held files.old) ≡ Ok schema) }
     ensures err { IfErr result (Stops (over F.Files files.old files.new) source.now (schema_judged source.now (F.held files.old)) (λ p. p ≡ parts.Schema)) }
     ensures place { IfErr result (λ o. IsKnown F.tells source.now → Placed (text_of source.now (F.held files.old)) o) }
-    ensures last { BeginsOnly F.Files files.old files.new source.now (λ p. p ≡ parts.Schema) }
+    ensures speaks { IfErr result (SpeaksOf IsFirstPart) }
+    ensures begun { AddsPrefix (F.begun files.old) (F.begun files.new) (part_files source.now parts.Schema) }
+    ensures begun_ok { OnOk result (F.begun files.new ≡ F.begun files.old ++ part_files source.now parts.Schema) }
     ensures made { IsMade source.now → files.new ≡ files.old }
     ensures held { F.held files.new ≡ F.held files.old }
     ensures rises { NoneFell (F.faults files.old) (F.faults files.new) }
@@ -93,7 +97,9 @@ fn read_table<F: Files>(
     ensures kinds { given.new.kinds ≡ given.old.kinds }
     ensures err { IfErr result (Stops (over F.Files files.old files.new) source.now (table_judged source.now (F.held files.old) at table.now (places given.old.tables)) (λ p. p ≡ parts.Table at table.now.name)) }
     ensures place { IfErr result (λ o. IsKnown F.tells source.now → Placed (text_of source.now (F.held files.old)) o) }
-    ensures last { BeginsOnly F.Files files.old files.new source.now (λ p. p ≡ parts.Table at table.now.name) }
+    ensures speaks { IfErr result (SpeaksOf IsFirstPart) }
+    ensures begun { AddsPrefix (F.begun files.old) (F.begun files.new) (part_files source.now (parts.Table at table.now.name)) }
+    ensures begun_ok { OnOk result (F.begun files.new ≡ F.begun files.old ++ part_files source.now (parts.Table at table.now.name)) }
     ensures made { IsMade source.now → files.new ≡ files.old }
     ensures held { F.held files.new ≡ F.held files.old }
     ensures rises { NoneFell (F.faults files.old) (F.faults files.new) }
@@ -121,7 +127,10 @@ fn read_given<F: Files>(
     ensures ok { IfOk result (λ given. IsKnown F.tells source.now → tables_judged source.now (F.held files.old) 0 (no_rows schema.now) schema.now ≡ Ok given.tables) }
     ensures err { IfErr result (Stops (over F.Files files.old files.new) source.now (tables_judged source.now (F.held files.old) 0 (no_rows schema.now) schema.now) (IsTableReached source.now (F.held files.old) schema.now)) }
     ensures place { IfErr result (λ o. IsKnown F.tells source.now → Placed (text_of source.now (F.held files.old)) o) }
-    ensures last { BeginsOnly F.Files files.old files.new source.now (IsTableReached source.now (F.held files.old) schema.now) }
+    ensures speaks { IfErr result (SpeaksOf IsFirstPart) }
+    ensures begun { OnErr result (AddsPrefix (F.begun files.old) (F.begun files.new) (table_files source.now 0 schema.now)) }
+    ensures begun_ok { OnOk result (F.begun files.new ≡ F.begun files.old ++ table_files source.now 0 schema.now) }
+    ensures reached { OnErr result (IsKnown F.tells source.now → AddsPrefix (F.begun files.old) (F.begun files.new) (tables_reached source.now (F.held files.old) 0 (no_rows schema.now) schema.now)) }
     ensures made { IsMade source.now → files.new ≡ files.old }
     ensures held { F.held files.new ≡ F.held files.old }
     ensures rises { NoneFell (F.faults files.old) (F.faults files.new) }
@@ -142,9 +151,11 @@ pub(crate) fn tables_of<F: Files>(
     ensures of_schema { IfOk result (λ t. IsOf t.schema t.given) }
     ensures few { IfOk result (λ t. places t.given.tables ≤ row_limit) }
     ensures ok { IfOk result (λ t. IsKnown F.tells source.now → data_judged source.now (F.held files.old) ≡ Ok (record { schema = t.schema; given = t.given })) }
-    ensures err { IfErr result (Stops (over F.Files files.old files.new) source.now (data_judged source.now (F.held files.old)) (Reaches source.now (F.held files.old))) }
+    ensures err { IfErr result (Stops (over F.Files files.old files.new) source.now (data_judged source.now (F.held files.old)) (ReachesFirst source.now (F.held files.old))) }
     ensures place { IfErr result (λ o. IsKnown F.tells source.now → Placed (text_of source.now (F.held files.old)) o) }
-    ensures last { BeginsOnly F.Files files.old files.new source.now (Reaches source.now (F.held files.old)) }
+    ensures speaks { IfErr result (SpeaksOf IsFirstPart) }
+    ensures begun { AddsSome (IsKnown F.tells source.now) (data_files source.now) (data_reached source.now (F.held files.old)) (F.begun files.old) (F.begun files.new) }
+    ensures begun_ok { OnOk result (AddsAll (IsKnown F.tells source.now) (data_files source.now) (data_reached source.now (F.held files.old)) (F.begun files.old) (F.begun files.new)) }
     ensures made { IsMade source.now → files.new ≡ files.old }
     ensures held { F.held files.new ≡ F.held files.old }
     ensures rises { NoneFell (F.faults files.old) (F.faults files.new) }
@@ -164,9 +175,11 @@ pub fn read_tables<F: Files>(
     ensures of_schema { IfOk result (λ t. IsOf t.schema t.given) }
     ensures few { IfOk result (λ t. places t.given.tables ≤ row_limit) }
     ensures ok { IfOk result (λ t. IsTrue F.tells → data_judged (tables_in schema.now dir.now) (F.held files.old) ≡ Ok (record { schema = t.schema; given = t.given })) }
-    ensures err { IfErr result (Stops (over F.Files files.old files.new) (tables_in schema.now dir.now) (data_judged (tables_in schema.now dir.now) (F.held files.old)) (Reaches (tables_in schema.now dir.now) (F.held files.old))) }
+    ensures err { IfErr result (Stops (over F.Files files.old files.new) (tables_in schema.now dir.now) (data_judged (tables_in schema.now dir.now) (F.held files.old)) (ReachesFirst (tables_in schema.now dir.now) (F.held files.old))) }
     ensures place { IfErr result (λ o. IsTrue F.tells → Placed (text_of (tables_in schema.now dir.now) (F.held files.old)) o) }
-    ensures last { BeginsOnly F.Files files.old files.new (tables_in schema.now dir.now) (Reaches (tables_in schema.now dir.now) (F.held files.old)) }
+    ensures speaks { IfErr result (SpeaksOf IsFirstPart) }
+    ensures begun { AddsSome (IsKnown F.tells (tables_in schema.now dir.now)) (data_files (tables_in schema.now dir.now)) (data_reached (tables_in schema.now dir.now) (F.held files.old)) (F.begun files.old) (F.begun files.new) }
+    ensures begun_ok { OnOk result (AddsAll (IsKnown F.tells (tables_in schema.now dir.now)) (data_files (tables_in schema.now dir.now)) (data_reached (tables_in schema.now dir.now) (F.held files.old)) (F.begun files.old) (F.begun files.new)) }
     ensures held { F.held files.new ≡ F.held files.old }
     ensures rises { NoneFell (F.faults files.old) (F.faults files.new) }
 {

@@ -1,10 +1,12 @@
 //! The texts of a command, from its files or generated.
-ghost use Rattle.std.specs.Prelude.{◌≡◌, IsTrue, IfOk, IfErr, IfSome, Ok};
-ghost use Rattle.rt_io.specs.Edge.{NoneFell, OnlyRises};
+ghost use Rattle.std.specs.Prelude.{◌≡◌, ◌≢◌, ◌≤◌, [], ◌∷◌, ◌++◌, IsTrue, IfOk, IfErr, OnOk, Ok};
+ghost use Rattle.rt_io.specs.Edge.{AddsPrefix, NoneFell, OnlyRises};
+ghost use Rattle.rt_input.specs.Begun.{part_files};
 ghost use Rattle.rt_input.specs.Source.{IsKnown, IsMade, file_name};
-ghost use Rattle.rt_input.specs.Held.{text_read, file_text, text_of, without_mark};
+ghost use Rattle.rt_input.specs.Held.{most_bytes, text_read, file_text, text_of, without_mark};
 ghost use Rattle.rt_input.specs.Placed.{IsPlaceless};
-ghost use Rattle.rt_input.specs.Steps.{over, BeginsOnly, Stops, TextStops};
+ghost use Rattle.rt_input.specs.Steps.{over, SpeaksOf, Stops, TextStops};
+ghost use Rattle.rt_input.specs.declared.outcome.Outcome.TheVariants as outcomes;
 ghost use Rattle.rt_input.specs.declared.source.Source.TheVariants as sources;
 
 use crate::outcome::{Limit, Outcome};
@@ -26,7 +28,11 @@ pub fn read_text<F: Files>(
 ) -> Result<Bytes, Outcome>
     ensures ok { IfOk result (λ text. IsTrue F.tells → text_read part (F.held files.old name.now) ≡ Ok text) }
     ensures err { IfErr result (TextStops (over F.Files files.old files.new) name.now part) }
-    ensures last { IfSome (F.current files.new) (λ current. current ≡ name.now) }
+    // A file is too long exactly where more bytes of it were taken than it may have.
+    ensures within { OnOk result (F.taken files.new ≤ most_bytes) }
+    ensures begun { AddsPrefix (F.begun files.old) (F.begun files.new) (name.now ∷ []) }
+    ensures begun_ok { OnOk result (F.begun files.new ≡ F.begun files.old ++ name.now ∷ []) }
+    ensures begun_err { IfErr result (λ o. o ≢ outcomes.NoMemory → F.begun files.new ≡ F.begun files.old ++ name.now ∷ []) }
     ensures held { F.held files.new ≡ F.held files.old }
     ensures rises { OnlyRises name.now (F.faults files.old) (F.faults files.new) }
 {
@@ -38,7 +44,8 @@ pub fn read_text<F: Files>(
     }
 }
 
-fn without_mark(alloc: Global, bytes: Bytes) -> Result<Bytes, NoMemory>
+/// The bytes without a byte order mark at their start.
+pub fn without_mark(alloc: Global, bytes: Bytes) -> Result<Bytes, NoMemory>
     ensures { IfOk result (λ text. text ≡ without_mark bytes) }
 {
     match bytes.as_slice() {
@@ -56,7 +63,9 @@ fn file_text<F: Files>(
     ensures ok { IfOk result (λ text. IsTrue F.tells → file_text part (F.held files.old) (file_name paths.now part) ≡ Ok text) }
     ensures err { IfErr result (Stops (over F.Files files.old files.new) (sources.Files paths.now) (file_text part (F.held files.old) (file_name paths.now part)) (λ p. p ≡ part)) }
     ensures place { IfErr result IsPlaceless }
-    ensures last { BeginsOnly F.Files files.old files.new (sources.Files paths.now) (λ p. p ≡ part) }
+    ensures speaks { IfErr result (SpeaksOf (λ p. p ≡ part)) }
+    ensures begun { AddsPrefix (F.begun files.old) (F.begun files.new) (part_files (sources.Files paths.now) part) }
+    ensures begun_ok { OnOk result (F.begun files.new ≡ F.begun files.old ++ part_files (sources.Files paths.now) part) }
     ensures held { F.held files.new ≡ F.held files.old }
     ensures rises { NoneFell (F.faults files.old) (F.faults files.new) }
 {
@@ -67,7 +76,7 @@ fn file_text<F: Files>(
 }
 
 /// The text of a part: that of its file, or the generated one.
-pub fn source_text<F: Files>(
+pub(crate) fn source_text<F: Files>(
     alloc: Global,
     files: &mut F,
     source: &Source,
@@ -76,7 +85,9 @@ pub fn source_text<F: Files>(
     ensures ok { IfOk result (λ text. IsKnown F.tells source.now → text_of source.now (F.held files.old) part ≡ Ok text) }
     ensures err { IfErr result (Stops (over F.Files files.old files.new) source.now (text_of source.now (F.held files.old) part) (λ p. p ≡ part)) }
     ensures place { IfErr result IsPlaceless }
-    ensures last { BeginsOnly F.Files files.old files.new source.now (λ p. p ≡ part) }
+    ensures speaks { IfErr result (SpeaksOf (λ p. p ≡ part)) }
+    ensures begun { AddsPrefix (F.begun files.old) (F.begun files.new) (part_files source.now part) }
+    ensures begun_ok { OnOk result (F.begun files.new ≡ F.begun files.old ++ part_files source.now part) }
     ensures made { IsMade source.now → files.new ≡ files.old }
     ensures held { F.held files.new ≡ F.held files.old }
     ensures rises { NoneFell (F.faults files.old) (F.faults files.new) }

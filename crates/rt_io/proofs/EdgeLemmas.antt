@@ -1,5 +1,5 @@
 -- What calls of the outside, one after the other, do together.
-use Rattle.std.proofs.Common.{◌≡◌, ◌≢◌, ◌<◌, ◌++◌, ℕ, List, Option, Some, Bool, false, is_err, OnOk, Result, None, Ok, Err, IfSome, refl, sym, subst, ap, ◌∙◌, le_trans, le_of_eq, length, arith}
+use Rattle.std.proofs.Common.{◌≡◌, ◌≢◌, ◌<◌, ◌++◌, ℕ, List, Option, Some, Bool, false, true, is_err, OnOk, OnErr, Result, None, Ok, Err, IfSome, refl, sym, subst, ap, ◌∙◌, le_trans, le_of_eq, length, arith}
 use Rattle.std.proofs.lemmas.List.{length-append}
 use Rattle.rt_io.specs.Edge.{Rose, OnlyRises, NoneFell}
 
@@ -10,15 +10,13 @@ pub on_ok : {T E P : Type 0} (r : Result T E) (b : Bool) → b ≡ is_err r → 
 on_ok (Ok t) b is not h = h
 on_ok (Err e) b is not h = cc
 
+pub on_err : {T E P : Type 0} (r : Result T E) (b : Bool) → b ≡ is_err r → b ≡ true → OnErr r P → P
+on_err (Ok t) b is failed h = cc
+on_err (Err e) b is failed h = h
+
 -- what is said of the current file's name, where that name is known
 pub at_name : (o : Option (List ℕ)) (name : List ℕ) (P : List ℕ → Type 0) → o ≡ Some name → IfSome o P → P name
 at_name o name P is h = subst (λ x. IfSome x P) is h
-
-pub is_name : (o : Option (List ℕ)) (name : List ℕ) → o ≡ Some name → IfSome o (λ x. x ≡ name)
-is_name o name is = subst (λ o. IfSome o (λ x. x ≡ name)) (sym is) refl
-
-pub no_name : (o : Option (List ℕ)) (name : List ℕ) → o ≡ None → IfSome o (λ x. x ≡ name)
-no_name o name is = subst (λ o. IfSome o (λ x. x ≡ name)) (sym is) tt
 
 pub rose_since : (first old new : ℕ) → old ≡ first → Rose old new → Rose first new
 rose_since first old new is h = subst (λ n. Rose n new) is h

@@ -14,6 +14,6 @@ pub record OnlyRises (name : List ℕ) (old new : List ℕ → ℕ) : Type 0 whe
 abbrev pub NoneFell : (List ℕ → ℕ) → (List ℕ → ℕ) → Type 0
 NoneFell old new = (name : List ℕ) → old name ≤ new name
 
--- the new bytes are the old ones and then a prefix of these
-abbrev pub AddsPrefix : List ℕ → List ℕ → List ℕ → Type 0
-AddsPrefix old new bytes = (n : ℕ) × (n ≤ length bytes) × (new ≡ old ++ take n bytes)
+-- the new list is the old one and then a prefix of these
+abbrev pub AddsPrefix : {T : Type 0} → List T → List T → List T → Type 0
+AddsPrefix old new more = (n : ℕ) × (n ≤ length more) × (new ≡ old ++ take n more)

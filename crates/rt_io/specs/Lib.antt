@@ -5,6 +5,7 @@ pub mod Held
 pub mod Logs
 pub mod MemFiles
 pub mod MemSink
+pub mod Programs
 pub mod App
 pub mod Command
 pub mod Ranges

@@ -2,7 +2,7 @@
 -- how many bytes a read gives, and which calls fail.
 use Rattle.std.specs.Prelude.{◌≡◌, ℕ, List, [], Bool, Option, drop}
 use Rattle.std.specs.Option.{option_map, option_map_or}
-use Rattle.rt_io.specs.Counts.{count_in, name_at}
+use Rattle.rt_io.specs.Counts.{count_in, name_at, names_in}
 use Rattle.rt_io.specs.Held.{held_in, has_in}
 use Rattle.rt_io.specs.declared.mem_files.FailingRead.{FailingRead}
 use Rattle.rt_io.specs.declared.mem_files.MemFiles.{MemFiles}
@@ -24,6 +24,10 @@ taken_of f = option_map_or (λ c. c.at) f.current 0
 
 abbrev pub faults_of : MemFiles → List ℕ → ℕ
 faults_of f = count_in f.entries.items
+
+-- the names that were begun, in order
+abbrev pub begun_of : MemFiles → List (List ℕ)
+begun_of f = names_in f.entries.items
 
 -- a read gives at most so many bytes
 abbrev pub piece_of : MemFiles → ℕ
@@ -47,7 +51,7 @@ pub record SameSettings (old new : MemFiles) : Type 0 where
   pub begins : failing_begins new ≡ failing_begins old
   pub reads : failing_reads new ≡ failing_reads old
 
--- nothing changed of what the files hold, of the current one, and of the counts
+-- nothing changed of what the files hold, of the current one, of the counts, and of the names begun
 pub record SameFiles (old new : MemFiles) : Type 0 where
   pub has : has_of new ≡ has_of old
   pub held : held_of new ≡ held_of old
@@ -55,3 +59,4 @@ pub record SameFiles (old new : MemFiles) : Type 0 where
   pub left : left_of new ≡ left_of old
   pub taken : taken_of new ≡ taken_of old
   pub faults : faults_of new ≡ faults_of old
+  pub begun : begun_of new ≡ begun_of old

@@ -1,7 +1,7 @@
 //! A count of faults for each name that was begun.
-ghost use Rattle.std.specs.Prelude.{◌≡◌, ◌≢◌, ◌+◌, ◌<◌, ◌≤◌, ℕ, List, length, OnOk, OnErr, vec_len};
+ghost use Rattle.std.specs.Prelude.{◌≡◌, ◌≢◌, ◌+◌, ◌<◌, ◌≤◌, ◌++◌, ◌∷◌, ℕ, List, [], length, OnOk, OnErr, vec_len};
 ghost use Rattle.rt_io.specs.Edge.{Rose, OnlyRises};
-ghost use Rattle.rt_io.specs.Counts.{count_in, name_at};
+ghost use Rattle.rt_io.specs.Counts.{count_in, name_at, names_in};
 
 use rt_value::{NoMemory, Txt};
 use std::alloc::Global;
@@ -19,6 +19,8 @@ pub(crate) fn enter(alloc: Global, entries: &mut Vec<Entry>, name: &str) -> Resu
     ensures same { (q : List ℕ) → count_in entries.new.items q ≡ count_in entries.old.items q }
     ensures len { OnOk result (vec_len entries.new ≡ vec_len entries.old + 1) }
     ensures name { OnOk result (name_at entries.new.items (vec_len entries.old) ≡ name.now) }
+    ensures entered { OnOk result (names_in entries.new.items ≡ names_in entries.old.items ++ name.now ∷ []) }
+    ensures err { OnErr result (names_in entries.new.items ≡ names_in entries.old.items) }
 {
     let name = Txt::of(alloc, name)?;
     entries.push(Entry { name, count: 0 })?;
@@ -39,6 +41,7 @@ pub(crate) fn raise(entries: &mut Vec<Entry>, at: usize)
     ensures rose { Rose (count_in entries.old.items (name_at entries.old.items at)) (count_in entries.new.items (name_at entries.old.items at)) }
     ensures rises { OnlyRises (name_at entries.old.items at) (count_in entries.old.items) (count_in entries.new.items) }
     ensures names { (i : ℕ) → name_at entries.new.items i ≡ name_at entries.old.items i }
+    ensures all { names_in entries.new.items ≡ names_in entries.old.items }
     ensures len { vec_len entries.new ≡ vec_len entries.old }
 {
     let entry = &mut entries[at];

@@ -1,5 +1,5 @@
-ghost use Rattle.std.specs.Prelude.{◌≡◌, ◌≢◌, ◌+◌, ◌-◌, ◌^◌, min, ◌<◌, ◌≤◌, ◌++◌, ℕ, List, [], Bool, IsTrue, Option, Some, None, length, take, IfOk, OnOk, OnErr, IsErrOf, IfSome, IsOkAnd};
-ghost use Rattle.rt_io.specs.Edge.{Rose, OnlyRises, NoneFell};
+ghost use Rattle.std.specs.Prelude.{◌≡◌, ◌≢◌, ◌+◌, ◌-◌, ◌^◌, min, ◌<◌, ◌≤◌, ◌++◌, ◌∷◌, ℕ, List, [], Bool, IsTrue, Option, Some, None, length, take, IfOk, OnOk, OnErr, IsErrOf, IfSome, IsOkAnd};
+ghost use Rattle.rt_io.specs.Edge.{AddsPrefix, Rose, OnlyRises, NoneFell};
 
 use rt_value::{Bytes, List, NoMemory};
 use std::alloc::Global;
@@ -55,7 +55,11 @@ pub trait Files {
     /// How many calls on a name failed, up to the last value of its counter.
     ghost faults: { Self → List ℕ → ℕ };
 
-    /// Makes the named file the current one, at its start. After a fault no file is current.
+    /// The names that were begun, in order, with those whose begin failed.
+    ghost begun: { Self → List (List ℕ) };
+
+    /// Makes the named file the current one, at its start. After a fault no file is current. Where
+    /// memory is wanting, the name may be among those that were begun or not.
     fn begin(&mut self, name: &str) -> Result<(), BeginFail>
         ensures current { OnOk result (current self.new ≡ Some name.now) }
         ensures start { OnOk result (IsTrue tells → left self.new ≡ held self.old name.now) }
@@ -63,6 +67,9 @@ pub trait Files {
         ensures err { OnErr result (current self.new ≡ None) }
         ensures failed { IsErrOf result BeginFail.Failed → Rose (faults self.old name.now) (faults self.new name.now) }
         ensures taken { taken self.new ≡ 0 }
+        ensures begun { AddsPrefix (begun self.old) (begun self.new) (name.now ∷ []) }
+        ensures begun_ok { OnOk result (begun self.new ≡ begun self.old ++ name.now ∷ []) }
+        ensures begun_failed { IsErrOf result BeginFail.Failed → begun self.new ≡ begun self.old ++ name.now ∷ [] }
         ensures has { has self.new ≡ has self.old }
         ensures held { held self.new ≡ held self.old }
         ensures calm { OnOk result ((other : List ℕ) → faults self.new other ≡ faults self.old other) }
@@ -80,6 +87,7 @@ pub trait Files {
         ensures err_left { OnErr result (left self.new ≡ left self.old) }
         ensures err_taken { OnErr result (taken self.new ≡ taken self.old) }
         ensures current { current self.new ≡ current self.old }
+        ensures begun { begun self.new ≡ begun self.old }
         ensures has { has self.new ≡ has self.old }
         ensures held { held self.new ≡ held self.old }
         ensures calm { OnOk result ((name : List ℕ) → faults self.new name ≡ faults self.old name) }
@@ -105,8 +113,11 @@ pub fn read_file<F: Files>(
     ensures failed_within { IsErrOf result ReadFail.Failed → F.taken files.new ≤ max }
     ensures too_long { IsErrOf result ReadFail.TooLong → F.taken files.new ≡ max + 1 }
     ensures too_long_current { IsErrOf result ReadFail.TooLong → F.current files.new ≡ Some name.now }
-    // No other file is begun.
-    ensures current { IfSome (F.current files.new) (λ current. current ≡ name.now) }
+    // This file is begun, and no other one.
+    ensures begun { AddsPrefix (F.begun files.old) (F.begun files.new) (name.now ∷ []) }
+    ensures begun_ok { OnOk result (F.begun files.new ≡ F.begun files.old ++ name.now ∷ []) }
+    ensures begun_failed { IsErrOf result ReadFail.Failed → F.begun files.new ≡ F.begun files.old ++ name.now ∷ [] }
+    ensures begun_long { IsErrOf result ReadFail.TooLong → F.begun files.new ≡ F.begun files.old ++ name.now ∷ [] }
     ensures longer { IsErrOf result ReadFail.TooLong → IsTrue F.tells → max < length (F.held files.old name.now) }
     ensures has { F.has files.new ≡ F.has files.old }
     ensures held { F.held files.new ≡ F.held files.old }

@@ -8,6 +8,7 @@
 //! that names nothing of `clap`), and what the programs answer to words that can't be read.
 #![tactic(auto)]
 
+mod commands;
 mod counts;
 mod files;
 mod held;
@@ -27,6 +28,7 @@ mod word_fault;
 mod words;
 mod words_read;
 
+pub use commands::{PlusCommand, plus_command};
 pub use files::{BeginFail, Failed, Files, ReadFail, read_file};
 pub use mem_files::MemFiles;
 pub use mem_sink::MemSink;

@@ -1,6 +1,6 @@
 ghost use Rattle.std.specs.Prelude.{◌≡◌, ◌≢◌, ◌+◌, ◌-◌, ◌^◌, ◌<◌, ◌≤◌, ◌++◌, ◌∷◌, ◌↔◌, ℕ, List, [], true, false, vec_len, length, drop, take, min, Some, None, OnOk, OnErr, IfOk, IfSome, IsOkAnd, IsErr, IsErrOf, IsTrue, Contains};
 ghost use Rattle.std.specs.Option.{ForSome};
-ghost use Rattle.rt_io.specs.Edge.{Rose, OnlyRises, NoneFell};
+ghost use Rattle.rt_io.specs.Edge.{AddsPrefix, Rose, OnlyRises, NoneFell};
 ghost use Rattle.rt_io.specs.Failing.{is_named, is_failing};
 
 use crate::counts::{Entry, enter, name_at, raise};
@@ -42,13 +42,14 @@ pub struct MemFiles {
 }
 
 impl MemFiles {
-    ghost use Rattle.rt_io.specs.MemFiles.{has_of, held_of, current_of, left_of, taken_of, faults_of, piece_of, failing_begins, failing_reads, SameFiles, SameSettings};
+    ghost use Rattle.rt_io.specs.MemFiles.{has_of, held_of, current_of, left_of, taken_of, faults_of, begun_of, piece_of, failing_begins, failing_reads, SameFiles, SameSettings};
 
     pub fn new(alloc: Global) -> MemFiles
         ensures has { (name : List ℕ) → has_of result name ≡ false }
         ensures held { (name : List ℕ) → held_of result name ≡ [] }
         ensures faults { (name : List ℕ) → faults_of result name ≡ 0 }
         ensures current { current_of result ≡ None }
+        ensures begun { begun_of result ≡ [] }
         ensures begins { failing_begins result ≡ [] }
         ensures reads { failing_reads result ≡ [] }
     {
@@ -75,6 +76,7 @@ impl MemFiles {
         ensures left { left_of self.new ≡ left_of self.old }
         ensures taken { taken_of self.new ≡ taken_of self.old }
         ensures faults { faults_of self.new ≡ faults_of self.old }
+        ensures begun { begun_of self.new ≡ begun_of self.old }
         ensures settings { SameSettings self.old self.new }
     {
         put(self.alloc, &mut self.files, name, bytes)
@@ -133,7 +135,7 @@ fn is_failing(fails: &[FailingRead], name: &str, read: u64) -> bool
 }
 
 impl Files for MemFiles {
-    ghost use Rattle.rt_io.specs.MemFiles.{has_of, held_of, current_of, left_of, taken_of, faults_of, piece_of, failing_begins, failing_reads, reads_of, SameSettings};
+    ghost use Rattle.rt_io.specs.MemFiles.{has_of, held_of, current_of, left_of, taken_of, faults_of, begun_of, piece_of, failing_begins, failing_reads, reads_of, SameSettings};
 
     ghost tells = { true };
 
@@ -149,6 +151,8 @@ impl Files for MemFiles {
 
     ghost faults = { faults_of };
 
+    ghost begun = { begun_of };
+
     fn begin(&mut self, name: &str) -> Result<(), BeginFail>
         ensures reads { OnOk result (reads_of self.new ≡ 0) }
         ensures fails { IsTrue (is_named (failing_begins self.old) name.now) → IsErr result }
@@ -161,6 +165,9 @@ impl Files for MemFiles {
         ensures err { OnErr result (current_of self.new ≡ None) }
         ensures failed { IsErrOf result BeginFail.Failed → Rose (faults_of self.old name.now) (faults_of self.new name.now) }
         ensures taken { taken_of self.new ≡ 0 }
+        ensures begun { AddsPrefix (begun_of self.old) (begun_of self.new) (name.now ∷ []) }
+        ensures begun_ok { OnOk result (begun_of self.new ≡ begun_of self.old ++ name.now ∷ []) }
+        ensures begun_failed { IsErrOf result BeginFail.Failed → begun_of self.new ≡ begun_of self.old ++ name.now ∷ [] }
         ensures has { has_of self.new ≡ has_of self.old }
         ensures held { held_of self.new ≡ held_of self.old }
         ensures calm { OnOk result ((other : List ℕ) → faults_of self.new other ≡ faults_of self.old other) }
@@ -206,6 +213,7 @@ impl Files for MemFiles {
         ensures err_left { OnErr result (left_of self.new ≡ left_of self.old) }
         ensures err_taken { OnErr result (taken_of self.new ≡ taken_of self.old) }
         ensures current { current_of self.new ≡ current_of self.old }
+        ensures begun { begun_of self.new ≡ begun_of self.old }
         ensures has { has_of self.new ≡ has_of self.old }
         ensures held { held_of self.new ≡ held_of self.old }
         ensures calm { OnOk result ((name : List ℕ) → faults_of self.new name ≡ faults_of self.old name) }

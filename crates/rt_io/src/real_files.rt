@@ -1,6 +1,6 @@
 ghost use Rattle.std.specs.Prelude.{◌≡◌, ◌<◌, ◌≤◌, ℕ, List, [], false, vec_len, Some, None};
 ghost use Rattle.std.specs.Option.{option_map, option_map_or, ForSome};
-ghost use Rattle.rt_io.specs.Counts.{count_in, name_at};
+ghost use Rattle.rt_io.specs.Counts.{count_in, name_at, names_in};
 
 use crate::counts::{Entry, enter, raise};
 use crate::files::{BeginFail, Failed, Files};
@@ -53,6 +53,8 @@ impl Files for RealFiles {
     ghost taken = { λ f. option_map_or (λ c. c.taken) f.current 0 };
 
     ghost faults = { λ f. count_in f.entries.items };
+
+    ghost begun = { λ f. names_in f.entries.items };
 
     fn begin(&mut self, name: &str) -> Result<(), BeginFail> {
         self.current = None;

@@ -20,6 +20,7 @@ pub struct SureFiles {
     alloc: Global,
     files: Vec<Held>,
     current: Option<Current>,
+    begun: Vec<Txt>,
     ghost in_range: { ForSome current (λ c. c.at ≤ length c.bytes) },
 }
 
@@ -31,6 +32,7 @@ impl SureFiles {
             alloc,
             files: Vec::new(alloc),
             current: None,
+            begun: Vec::new(alloc),
         }
     }
 
@@ -69,11 +71,19 @@ impl Files for SureFiles {
 
     ghost faults = { λ _ _. 0 };
 
+    ghost begun = { λ f. f.begun.items };
+
     fn begin(&mut self, name: &str) -> Result<(), BeginFail> {
         self.current = None;
         let Ok(text) = Txt::of(self.alloc, name) else {
             return Err(BeginFail::NoMemory);
         };
+        let Ok(entry) = text.copy(self.alloc) else {
+            return Err(BeginFail::NoMemory);
+        };
+        if self.begun.push(entry).is_err() {
+            return Err(BeginFail::NoMemory);
+        }
         let Ok(bytes) = self.contents(name) else {
             return Err(BeginFail::NoMemory);
         };

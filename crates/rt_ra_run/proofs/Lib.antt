@@ -1,4 +1,5 @@
 mod AskedLemmas
+mod BegunLemmas
 mod JudgeLemmas
 mod QueryLemmas
 mod RowLemmas

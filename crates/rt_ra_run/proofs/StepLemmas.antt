@@ -95,7 +95,7 @@ limit_data s k (limit.Rules table) h = tt
 limit_data s k limit.Rows h = tt
 limit_data s k (limit.Work work) h = tt
 
-reached_data : (s : Seen) (k : RaCommand) (p : Part) → Failed s (file_of (tables_in k.schema k.dir) p) → top.Reaches (tables_in k.schema k.dir) s.held p → Reaches k s.held p
+reached_data : (s : Seen) (k : RaCommand) (p : Part) → Failed s (file_of (tables_in k.schema k.dir) p) → top.ReachesFirst (tables_in k.schema k.dir) s.held p → Reaches k s.held p
 reached_data s k parts.Schema h r = tt
 reached_data s k (parts.Table at name) h r = r
 reached_data s k parts.Query1 h r = absurd h
@@ -103,7 +103,7 @@ reached_data s k parts.Query2 h r = absurd h
 reached_data s k parts.Queries h r = absurd h
 
 -- the schema or a table
-pub stops_data : (s : Seen) (k : RaCommand) (o : Outcome) → steps.Stops s (tables_in k.schema k.dir) (top.data_judged (tables_in k.schema k.dir) s.held) (top.Reaches (tables_in k.schema k.dir) s.held) o
+pub stops_data : (s : Seen) (k : RaCommand) (o : Outcome) → steps.Stops s (tables_in k.schema k.dir) (top.data_judged (tables_in k.schema k.dir) s.held) (top.ReachesFirst (tables_in k.schema k.dir) s.held) o
     → Stops s k (data_judged k s.held) (Reaches k s.held) (Verdict o)
 stops_data s k outcome.Agree stop = stop
 stops_data s k (outcome.Witness keep) stop = stop

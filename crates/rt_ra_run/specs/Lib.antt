@@ -1,5 +1,6 @@
 pub mod Answers
 pub mod Asked
+pub mod Begun
 pub mod Faults
 pub mod Judged
 pub mod Placed

@@ -1,6 +1,8 @@
 //! The reading of what a command asks.
-ghost use Rattle.std.specs.Prelude.{◌≡◌, ◌≤◌, IsTrue, IfOk, IfErr, Ok};
-ghost use Rattle.rt_io.specs.Edge.{NoneFell};
+ghost use Rattle.std.specs.Prelude.{◌≡◌, ◌≤◌, [], ◌∷◌, ◌++◌, IsTrue, IfOk, IfErr, OnOk, Ok};
+ghost use Rattle.rt_io.specs.Edge.{AddsPrefix, NoneFell};
+ghost use Rattle.rt_input.specs.Begun.{AddsAll, AddsSome, data_files, data_reached};
+ghost use Rattle.rt_ra_run.specs.Begun.{asked_files, asked_reached, queries_reached, query_files, tables_of};
 ghost use Rattle.rt_schema.specs.Given.{IsOf, places, row_limit};
 ghost use Rattle.rt_input.specs.Accepted.{IsAccepted};
 ghost use Rattle.rt_input.specs.Source.{query_part};
@@ -10,7 +12,7 @@ ghost use Rattle.rt_ra_run.specs.Asked.{HasNumbers, IsAsked, IsLowered, IsMeant}
 ghost use Rattle.rt_ra_run.specs.Judged.{QueryReached, Reaches, asked_judged, asked_of, beside, data_in, data_judged, queries_judged, query_judged, right_judged, text_judged, within_judged};
 ghost use Rattle.rt_ra_run.specs.Placed.{Placed, IsPlaceless};
 ghost use Rattle.rt_ra_run.specs.Steps.{Refuses, Stops};
-ghost use Rattle.rt_ra_run.specs.Words.{IsInRange};
+ghost use Rattle.rt_ra_run.specs.Words.{IsInRange, query_path};
 
 use crate::asked::Asked;
 use crate::command::RaCommand;
@@ -33,6 +35,8 @@ fn read_data<F: Files>(
     ensures ok { IfOk result (λ t. IsTrue F.tells → data_judged command.now (F.held files.old) ≡ Ok (data_in t)) }
     ensures err { IfErr result (Stops (over F.Files files.old files.new) command.now (data_judged command.now (F.held files.old)) (Reaches command.now (F.held files.old))) }
     ensures place { IfErr result (λ o. IsTrue F.tells → Placed command.now (F.held files.old) o) }
+    ensures begun { AddsSome (IsTrue F.tells) (data_files (tables_of command.now)) (data_reached (tables_of command.now) (F.held files.old)) (F.begun files.old) (F.begun files.new) }
+    ensures begun_ok { OnOk result (AddsAll (IsTrue F.tells) (data_files (tables_of command.now)) (data_reached (tables_of command.now) (F.held files.old)) (F.begun files.old) (F.begun files.new)) }
     ensures held { F.held files.new ≡ F.held files.old }
     ensures rises { NoneFell (F.faults files.old) (F.faults files.new) }
 {
@@ -52,6 +56,8 @@ fn query_text<F: Files>(
     ensures ok { IfOk result (λ text. IsTrue F.tells → text_judged command.now (F.held files.old) (query_part part) ≡ Ok text) }
     ensures err { IfErr result (Stops (over F.Files files.old files.new) command.now (text_judged command.now (F.held files.old) (query_part part)) (λ p. p ≡ query_part part)) }
     ensures place { IfErr result IsPlaceless }
+    ensures begun { AddsPrefix (F.begun files.old) (F.begun files.new) (query_path command.now part ∷ []) }
+    ensures begun_ok { OnOk result (F.begun files.new ≡ F.begun files.old ++ query_path command.now part ∷ []) }
     ensures held { F.held files.new ≡ F.held files.old }
     ensures rises { NoneFell (F.faults files.old) (F.faults files.new) }
 {
@@ -73,6 +79,8 @@ fn read_query<F: Files>(
     ensures ok { IfOk result (λ q. IsTrue F.tells → query_judged command.now (F.held files.old) (query_part part) schema.now ≡ Ok q) }
     ensures err { IfErr result (Stops (over F.Files files.old files.new) command.now (query_judged command.now (F.held files.old) (query_part part) schema.now) (λ p. p ≡ query_part part)) }
     ensures place { IfErr result (λ o. IsTrue F.tells → Placed command.now (F.held files.old) o) }
+    ensures begun { AddsPrefix (F.begun files.old) (F.begun files.new) (query_path command.now part ∷ []) }
+    ensures begun_ok { OnOk result (F.begun files.new ≡ F.begun files.old ++ query_path command.now part ∷ []) }
     ensures held { F.held files.new ≡ F.held files.old }
     ensures rises { NoneFell (F.faults files.old) (F.faults files.new) }
 {
@@ -107,6 +115,7 @@ fn read_right<F: Files>(
     ensures ok { IfOk result (λ q. IsTrue F.tells → right_judged command.now (F.held files.old) schema.now left.now ≡ Ok q) }
     ensures err { IfErr result (Stops (over F.Files files.old files.new) command.now (right_judged command.now (F.held files.old) schema.now left.now) (λ p. p ≡ parts.Query2)) }
     ensures place { IfErr result (λ o. IsTrue F.tells → Placed command.now (F.held files.old) o) }
+    ensures begun { AddsPrefix (F.begun files.old) (F.begun files.new) (command.now.query2 ∷ []) }
     ensures held { F.held files.new ≡ F.held files.old }
     ensures rises { NoneFell (F.faults files.old) (F.faults files.new) }
 {
@@ -171,6 +180,8 @@ fn read_queries<F: Files>(
     ensures ok { IfOk result (λ a. IsTrue F.tells → queries_judged command.now (F.held files.old) (data_in tables) ≡ Ok a) }
     ensures err { IfErr result (Stops (over F.Files files.old files.new) command.now (queries_judged command.now (F.held files.old) (data_in tables)) (QueryReached command.now (F.held files.old) (data_in tables))) }
     ensures place { IfErr result (λ o. IsTrue F.tells → Placed command.now (F.held files.old) o) }
+    ensures begun { AddsPrefix (F.begun files.old) (F.begun files.new) (query_files command.now) }
+    ensures reached { IsTrue F.tells → AddsPrefix (F.begun files.old) (F.begun files.new) (queries_reached command.now (F.held files.old) (data_in tables)) }
     ensures held { F.held files.new ≡ F.held files.old }
     ensures rises { NoneFell (F.faults files.old) (F.faults files.new) }
 {
@@ -192,6 +203,7 @@ pub(crate) fn read_asked<F: Files>(
     ensures ok { IfOk result (λ a. IsTrue F.tells → asked_judged command.now (F.held files.old) ≡ Ok a) }
     ensures err { IfErr result (Stops (over F.Files files.old files.new) command.now (asked_judged command.now (F.held files.old)) (Reaches command.now (F.held files.old))) }
     ensures place { IfErr result (λ o. IsTrue F.tells → Placed command.now (F.held files.old) o) }
+    ensures begun { AddsSome (IsTrue F.tells) (asked_files command.now) (asked_reached command.now (F.held files.old)) (F.begun files.old) (F.begun files.new) }
     ensures held { F.held files.new ≡ F.held files.old }
     ensures rises { NoneFell (F.faults files.old) (F.faults files.new) }
 {

@@ -1,7 +1,9 @@
 ghost use Rattle.std.specs.Prelude.{◌≡◌, ◌⊎◌, List, IsTrue, IfOk, None, Some, Ok, Err};
 ghost use Rattle.rt_io.specs.Edge.{NoneFell};
 ghost use Rattle.rt_io.specs.Logs.{NoSinkRose, WritesNothing, log};
+ghost use Rattle.rt_input.specs.Begun.{AddsSome};
 ghost use Rattle.rt_input.specs.Reading.{call};
+ghost use Rattle.rt_ra_run.specs.Begun.{Begins, asked_files, asked_reached, tables_of};
 ghost use Rattle.rt_top.specs.Answers.{HasRoom, IfAgree, IfLimit, IfNoMemory, IfReadFault, IfRefused, IfSpent, IfUsage, IfWitness, IfWriteFault};
 ghost use Rattle.rt_input.specs.Source.{Text};
 ghost use Rattle.rt_ra_run.specs.declared.asked.Asked.{Asked};
@@ -35,6 +37,7 @@ fn answer<F: Files>(alloc: Global, command: &RaCommand, files: &mut F) -> Result
     requires range { IsInRange command.now }
     ensures row { IfOk result (λ a. (words : List Text) → ra_command words ≡ Some command.now → Row (call F.Files words files.old files.new) a.outcome) }
     ensures says { IfOk result (λ a. (words : List Text) → ra_command words ≡ Some command.now → IsTextOf (call F.Files words files.old files.new) a.outcome a.text) }
+    ensures begun { AddsSome (IsTrue F.tells) (asked_files command.now) (asked_reached command.now (F.held files.old)) (F.begun files.old) (F.begun files.new) }
     ensures held { F.held files.new ≡ F.held files.old }
     ensures rises { NoneFell (F.faults files.old) (F.faults files.new) }
 {
@@ -53,6 +56,7 @@ fn answer<F: Files>(alloc: Global, command: &RaCommand, files: &mut F) -> Result
 fn prepare<F: Files>(alloc: Global, words: &[Txt], files: &mut F) -> Result<RaAnswer, NoMemory>
     ensures row { IfOk result (λ a. Row (call F.Files words.now files.old files.new) a.outcome) }
     ensures says { IfOk result (λ a. IsTextOf (call F.Files words.now files.old files.new) a.outcome a.text) }
+    ensures begun { Begins F.Files (ra_command words.now) files.old files.new }
     ensures held { F.held files.new ≡ F.held files.old }
     ensures rises { NoneFell (F.faults files.old) (F.faults files.new) }
 {
@@ -116,6 +120,9 @@ pub fn ra_run<F: Files, O: Sink, E: Sink>(
     ensures complete { let c = call F.Files words.now files.old files.new in
         IsTrue F.tells → NoFileRose c → NoSinkRose (log O.Sink out.old out.new) (log E.Sink err.old err.new)
         → (asked : Asked) → ra_judged words.now (F.held files.old) ≡ Ok asked → HasRoom asked.input → IsVerdictOrMemory result }
+    // The files that are begun are first ones of those that the command names, in the order of the
+    // reading, and none stands behind the first refusal.
+    ensures begun { Begins F.Files (ra_command words.now) files.old files.new }
     ensures held { F.held files.new ≡ F.held files.old }
     ensures rises { NoneFell (F.faults files.old) (F.faults files.new) }
 {

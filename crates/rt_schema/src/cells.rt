@@ -77,7 +77,8 @@ fn same_cell(row: &Row, column: usize, other: &Row, other_column: usize) -> bool
     }
 }
 
-fn is_null(value: &Value) -> bool
+/// Whether a value is NULL.
+pub fn is_null(value: &Value) -> bool
     ensures { result ≡ is_null value.now }
 {
     matches!(value, Value::Null)

@@ -7,7 +7,7 @@
 mod capped;
 mod cells;
 mod check;
-mod check_sound;
+mod check_kinds;
 mod check_truth;
 mod given;
 mod law;
@@ -16,12 +16,12 @@ mod schema;
 mod table;
 
 pub use capped::{capped_add, capped_mul};
-pub use cells::{agree, has_null, null_at, same_in};
+pub use cells::{agree, has_null, is_null, null_at, same_in};
 pub use check::{Check, CheckAtom, CheckLeaf, CheckPart, Side};
-pub use check_sound::{check_typed, comparable};
+pub use check_kinds::{check_typed, comparable};
 pub use check_truth::passes;
-pub use given::{Given, ROW_LIMIT};
+pub use given::{Given, ROW_LIMIT, rows_at};
 pub use law::lawful;
 pub use pairs::law_work;
-pub use schema::{Schema, is_sound};
+pub use schema::Schema;
 pub use table::{ColKind, Column, Depend, Foreign, Rule, Table};

@@ -91,13 +91,24 @@ fn gates_that_are_decided(rt: HostRuntime) {
     assert!(rt; drawing.number(11) != drawing.number(13));
 }
 
+// What was drawn before is found again: rows, negations and gates.
 #[test]
-fn a_row_has_one_node(rt: HostRuntime) {
+fn an_entry_has_one_node(rt: HostRuntime) {
     let mut drawing = Drawing::new(&rt, rt.alloc(), 2);
-    let before = drawing.len();
-    drawing.draw_all(&rt, &[Step::Row(1), Step::Row(1)]);
-    assert!(rt; drawing.number(0) == drawing.number(1));
-    assert!(rt; drawing.len() <= before + 1);
+    let steps = [
+        Step::Row(0),
+        Step::Row(1),
+        Step::Not(0),
+        Step::All(&[0, 1]),
+        Step::Any(&[1, 2]),
+    ];
+    drawing.draw_all(&rt, &steps);
+    let len = drawing.len();
+    drawing.draw_all(&rt, &steps);
+    assert!(rt; drawing.len() == len);
+    for at in 0..5 {
+        assert!(rt; drawing.number(at + 5) == drawing.number(at), "{at}");
+    }
 }
 
 /// Children, the node of their gate after those that are drawn, and how many nodes there are then.

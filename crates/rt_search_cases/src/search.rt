@@ -143,6 +143,55 @@ fn a_budget_of_one(rt: HostRuntime) {
     assert!(rt; is_spent_by_one_clause(&rt, &drawing, goal));
 }
 
+// Whether the budget is spent where the last two of ten rows are known to be as few as can be.
+fn is_spent_on_the_first(rt: &impl Abort, drawing: &Drawing, goal: usize) -> bool {
+    match drawing.search(rt, goal, Some(1)).best {
+        Best::Spent(spent) => {
+            let is_best = match &spent.best {
+                Some(keep) => {
+                    keep.as_slice()
+                        == [
+                            false, false, false, false, false, false, false, false, true, true,
+                        ]
+                        .as_slice()
+                }
+                None => false,
+            };
+            is_best && spent.least && spent.nogoods.len() == 1
+        }
+        _ => false,
+    }
+}
+
+// The last two rows, or the first one with one of the next four and one of three more. That no row
+// alone will do is known without a clause to be kept; whether two rows will do, the first among them,
+// takes more than one.
+#[test]
+fn a_budget_for_the_least_size(rt: HostRuntime) {
+    let mut drawing = Drawing::new(&rt, rt.alloc(), 10);
+    let goal = drawing.draw_all(
+        &rt,
+        &[
+            Step::Row(0),
+            Step::Row(1),
+            Step::Row(2),
+            Step::Row(3),
+            Step::Row(4),
+            Step::Row(5),
+            Step::Row(6),
+            Step::Row(7),
+            Step::Row(8),
+            Step::Row(9),
+            Step::Any(&[1, 2, 3, 4]),
+            Step::Any(&[5, 6, 7]),
+            Step::All(&[0, 10, 11]),
+            Step::All(&[8, 9]),
+            Step::Any(&[12, 13]),
+        ],
+    );
+    assert!(rt; is_spent_on_the_first(&rt, &drawing, goal));
+}
+
 // Any of the five rows of a group.
 fn any_of_five(rt: &impl Abort, drawing: &mut Drawing, group: usize) -> usize
     requires { group < 20 }

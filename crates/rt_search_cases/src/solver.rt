@@ -13,11 +13,8 @@ fn solver(alloc: Global) -> Solver<Checker> {
 }
 
 // The values of both variables in the model that is found.
-fn model(rt: &impl Abort, solver: &mut Solver<Checker>) -> [bool; 2] {
-    match solver
-        .solve(None, 2, Some(4), Order::Free)
-        .expect(rt, "memory")
-    {
+fn model(rt: &impl Abort, solver: &mut Solver<Checker>, order: Order) -> [bool; 2] {
+    match solver.solve(None, 2, Some(4), order).expect(rt, "memory") {
         Found::Model(keep) => {
             assert!(rt; keep.len() == 2);
             [keep.is(0), keep.is(1)]
@@ -48,7 +45,7 @@ fn is_refuted<L: Lines + Drop>(
 fn either_of_two(rt: &impl Abort, solver: &mut Solver<Checker>) -> bool {
     let both = [Lit::of(0, true), Lit::of(1, true)];
     solver.add(&both).expect(rt, "memory");
-    let either = model(rt, solver);
+    let either = model(rt, solver, Order::Free);
     either[0] || either[1]
 }
 
@@ -58,7 +55,7 @@ fn the_first_alone(rt: &impl Abort, solver: &mut Solver<Checker>) -> bool {
     let denied = Lit::of(0, false);
     let is_refuted = is_refuted(rt, solver, Some(denied), 2, Some(4));
     let is_checked = solver.lines().refutes(Some(denied));
-    let alone = model(rt, solver);
+    let alone = model(rt, solver, Order::Free);
     is_refuted && is_checked && alone[0] && !alone[1]
 }
 
@@ -74,6 +71,15 @@ fn clauses_may_be_added_between_calls(rt: HostRuntime) {
     assert!(rt; either_of_two(&rt, &mut solver));
     assert!(rt; the_first_alone(&rt, &mut solver));
     assert!(rt; neither_of_two(&rt, &mut solver));
+}
+
+// In fixed order both are decided, and each is set to true.
+#[test]
+fn both_of_two_in_fixed_order(rt: HostRuntime) {
+    let mut solver = solver(rt.alloc());
+    let both = [Lit::of(0, true), Lit::of(1, true)];
+    solver.add(&both).expect(&rt, "memory");
+    assert!(rt; model(&rt, &mut solver, Order::Fixed) == [true, true]);
 }
 
 // The variable that puts a pigeon into a hole, of three holes or of six.

@@ -3,7 +3,7 @@ use Rattle.std.proofs.Common.{◌≡◌, ◌≢◌, ℕ, ◌<◌, ◌+◌, List,
 use Rattle.std.proofs.lemmas.Bool.{cases_eq, cases_lt, eq-eqb, ne_eqb}
 use Rattle.std.proofs.lemmas.List.{ext_get_or, length-map, get_or-map, length_push, get_or_push, get_or_append_left}
 use Rattle.std.specs.List.{SwappedAt}
-use Rattle.rt_solver.specs.Places.{exchanged, IsInverse, IsPlaced, IsAlone}
+use Rattle.rt_solver.specs.Places.{exchanged, IsInverse, IsPlaced, IsOnlyPlace}
 
 pub at_first : (i j p : ℕ) → p ≡ i → exchanged i j p ≡ j
 at_first i j p e = ap (λ b. cond b j (cond (nat_eq p j) i p)) (eq-eqb p i e)
@@ -18,7 +18,7 @@ at_second i j p e = elim (cases_eq p i) [
 ]
 
 -- the variable that stands at a place is the only one there
-pub alone : (places items : List ℕ) (v : ℕ) → IsInverse places items → v < length places → IsAlone places v
+pub alone : (places items : List ℕ) (v : ℕ) → IsInverse places items → v < length places → IsOnlyPlace places v
 alone places items v inv h k below same =
     sym (inv.there k below).1 ∙ ap (λ p. get_or items p 0) same ∙ (inv.there v h).1
 

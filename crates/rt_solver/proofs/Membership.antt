@@ -3,7 +3,7 @@ use Rattle.std.proofs.Common.{◌≡◌, ◌≢◌, ℕ, ◌<◌, ◌≤◌, ◌
 use Rattle.std.proofs.lemmas.Bool.{cases_eq, cases_lt, lt-ltb, le-ltb}
 use Rattle.std.proofs.lemmas.List.{ext_get_or, set-get_or, length-map, get_or-map, map-append, append_assoc, replicate_more}
 use Rattle.rt_solver.specs.Members.{members}
-use Rattle.rt_solver.specs.Places.{exchanged, IsAlone}
+use Rattle.rt_solver.specs.Places.{exchanged, IsOnlyPlace}
 use Rattle.rt_solver.proofs.Exchanging.{at_first, at_second, at_other}
 
 -- exchanging two members changes no membership
@@ -60,7 +60,7 @@ only_at n m v b f places h here others =
       ]
 
 -- a variable comes in at the first place behind the members
-pub members-put : (n v place : ℕ) (places : List ℕ) → v < length places → get_or places v 0 ≡ place → n ≤ place → IsAlone places v → members (n + 1) (map (exchanged place n) places) ≡ set (members n places) v true
+pub members-put : (n v place : ℕ) (places : List ℕ) → v < length places → get_or places v 0 ≡ place → n ≤ place → IsOnlyPlace places v → members (n + 1) (map (exchanged place n) places) ≡ set (members n places) v true
 members-put n v place places h is behind alone =
     only_at (n + 1) n v true (exchanged place n) places h (ap (λ p. nat_lt p (n + 1)) (at_first place n (get_or places v 0) is) ∙ lt-ltb n (n + 1) (omega arith)) others where
       others : (k : ℕ) → k < length places → k ≢ v → nat_lt (exchanged place n (get_or places k 0)) (n + 1) ≡ nat_lt (get_or places k 0) n
@@ -76,7 +76,7 @@ members-put n v place places h is behind alone =
           ]
 
 -- the first variable goes out, and the last member takes its place
-pub members-take : (n v : ℕ) (places : List ℕ) → v < length places → get_or places v 0 ≡ 0 → IsAlone places v → members n (map (exchanged 0 n) places) ≡ set (members (n + 1) places) v false
+pub members-take : (n v : ℕ) (places : List ℕ) → v < length places → get_or places v 0 ≡ 0 → IsOnlyPlace places v → members n (map (exchanged 0 n) places) ≡ set (members (n + 1) places) v false
 members-take n v places h is alone =
     only_at n (n + 1) v false (exchanged 0 n) places h (ap (λ p. nat_lt p n) (at_first 0 n (get_or places v 0) is) ∙ le-ltb n n (omega arith)) others where
       others : (k : ℕ) → k < length places → k ≢ v → nat_lt (exchanged 0 n (get_or places k 0)) n ≡ nat_lt (get_or places k 0) (n + 1)
@@ -91,7 +91,7 @@ members-take n v places h is alone =
             ]
           ]
 
-pub taken : (n v : ℕ) (places : List ℕ) (held : List Bool) → members n places ≡ held → n ≢ 0 → v < length places → get_or places v 0 ≡ 0 → IsAlone places v → (v < length held) × (get_or held v false ≡ true) × (members (n - 1) (map (exchanged 0 (n - 1)) places) ≡ set held v false)
+pub taken : (n v : ℕ) (places : List ℕ) (held : List Bool) → members n places ≡ held → n ≢ 0 → v < length places → get_or places v 0 ≡ 0 → IsOnlyPlace places v → (v < length held) × (get_or held v false ≡ true) × (members (n - 1) (map (exchanged 0 (n - 1)) places) ≡ set held v false)
 taken n v places held e some h is alone =
     let one_more : n - 1 + 1 ≡ n = omega (arith, some) in (
       subst (λ w. v < w) (sym (length-members n places) ∙ ap length e) h,

@@ -6,8 +6,8 @@ abbrev pub exchanged : ℕ → ℕ → ℕ → ℕ
 exchanged i j place = cond (nat_eq place i) j (cond (nat_eq place j) i place)
 
 -- no other variable has the place of this one
-abbrev pub IsAlone : List ℕ → ℕ → Type 0
-IsAlone places var =
+abbrev pub IsOnlyPlace : List ℕ → ℕ → Type 0
+IsOnlyPlace places var =
     (k : ℕ) → k < length places → slice_index_or places k 0 ≡ slice_index_or places var 0 → k ≡ var
 
 -- the number at k is k's place in the other list

@@ -1,7 +1,7 @@
 ghost use Rattle.std.specs.Prelude.{◌≡◌, [], ◌<◌, ◌-◌, ◌++◌, true, false, length, replicate, slice_set, slice_index_or, OnOk, OnErr, MatchOption};
 ghost use Rattle.rt_solver.specs.Members.{IsEmpty};
 
-use crate::places::Order;
+use crate::places::HeapOrder;
 use crate::sift::{sift_down, sift_up};
 use rt_value::NoMemory;
 use std::alloc::Global;
@@ -20,7 +20,7 @@ const LIMIT: u64 = 1 << 62;
 /// a variable that comes back finds a place with no memory taken.
 #[derive(Drop)]
 pub struct Heap {
-    order: Order,
+    order: HeapOrder,
     count: usize,
     // Perhaps more than variables: where `grow` lacks memory some may be there already.
     counters: Vec<u64>,
@@ -44,7 +44,7 @@ impl Heap {
         ensures { result ≡ [] }
     {
         Heap {
-            order: Order::new(alloc),
+            order: HeapOrder::new(alloc),
             count: 0,
             counters: Vec::new(alloc),
             step: FIRST_STEP,

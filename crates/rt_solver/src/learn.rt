@@ -60,7 +60,8 @@ fn latest(found: &[Lit]) -> Option<Lit>
     }
 }
 
-/// Learns from a conflict, and goes back; or it refutes, and then names no line. After an error the lines are as before.
+/// Learns from a conflict, and goes back; or it refutes, and then names no line. After an error the
+/// lines are as before.
 pub(crate) fn learn<L: Lines + Drop>(
     alloc: Global,
     base: &mut Base<L>,

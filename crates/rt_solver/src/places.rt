@@ -1,6 +1,6 @@
 ghost use Rattle.std.specs.Prelude.{◌≡◌, ℕ, [], ◌<◌, ◌≤◌, ◌-◌, ◌++◌, false, length, map, replicate, slice_index_or, OnOk, OnErr};
 ghost use Rattle.rt_solver.specs.Members.{members};
-ghost use Rattle.rt_solver.specs.Places.{exchanged, IsAlone};
+ghost use Rattle.rt_solver.specs.Places.{exchanged, IsOnlyPlace};
 
 use rt_value::NoMemory;
 use std::alloc::Global;
@@ -8,12 +8,12 @@ use std::marker::Model;
 
 /// All variables in some order, which contracts see as the place of each.
 #[derive(Drop)]
-pub(crate) struct Order {
+pub(crate) struct HeapOrder {
     items: Vec<usize>,
     places: Vec<usize>,
 }
 
-impl Model for Order {
+impl Model for HeapOrder {
     ghost use Rattle.std.specs.Prelude.{ℕ, List};
     ghost use Rattle.rt_solver.specs.Places.{IsInverse};
 
@@ -24,11 +24,11 @@ impl Model for Order {
     ghost invariant = { λ o. IsInverse o.places.items o.items.items };
 }
 
-impl Order {
-    pub(crate) fn new(alloc: Global) -> Order
+impl HeapOrder {
+    pub(crate) fn new(alloc: Global) -> HeapOrder
         ensures { result ≡ [] }
     {
-        Order {
+        HeapOrder {
             items: Vec::new(alloc),
             places: Vec::new(alloc),
         }
@@ -44,7 +44,7 @@ impl Order {
         requires { var < length self.now }
         ensures is { result ≡ slice_index_or self.now var 0 }
         ensures below { result < length self.now }
-        ensures alone { IsAlone self.now var }
+        ensures alone { IsOnlyPlace self.now var }
     {
         self.places[var]
     }
@@ -53,7 +53,7 @@ impl Order {
         requires { place < length self.now }
         ensures is { slice_index_or self.now result 0 ≡ place }
         ensures below { result < length self.now }
-        ensures alone { IsAlone self.now result }
+        ensures alone { IsOnlyPlace self.now result }
     {
         self.items[place]
     }

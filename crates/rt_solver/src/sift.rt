@@ -1,11 +1,11 @@
 ghost use Rattle.std.specs.Prelude.{◌≡◌, ℕ, ◌<◌, ◌≤◌, ◌/◌, length};
 ghost use Rattle.rt_solver.specs.Members.{members};
 
-use crate::places::Order;
+use crate::places::HeapOrder;
 
 // Whether the variable at the first place comes before that at the second: by its greater
 // counter, or as the smaller one of two with equal counters.
-fn is_before(order: &Order, counters: &[u64], i: usize, j: usize) -> bool
+fn is_before(order: &HeapOrder, counters: &[u64], i: usize, j: usize) -> bool
     requires first { i < length order.now }
     requires second { j < length order.now }
     requires counted { length order.now ≤ length counters.now }
@@ -16,7 +16,7 @@ fn is_before(order: &Order, counters: &[u64], i: usize, j: usize) -> bool
 }
 
 /// Moves the variable at a place up while it comes before the one above it.
-pub(crate) fn sift_up(order: &mut Order, counters: &[u64], start: usize)
+pub(crate) fn sift_up(order: &mut HeapOrder, counters: &[u64], start: usize)
     requires within { start < length order.old }
     requires counted { length order.old ≤ length counters.now }
     ensures { (n : ℕ) → start < n → members n order.new ≡ members n order.old }
@@ -33,7 +33,7 @@ pub(crate) fn sift_up(order: &mut Order, counters: &[u64], start: usize)
 }
 
 // The place below this one whose variable comes first.
-fn first_below(order: &Order, counters: &[u64], place: usize, count: usize) -> usize
+fn first_below(order: &HeapOrder, counters: &[u64], place: usize, count: usize) -> usize
     requires below { place < count / 2 }
     requires within { count ≤ length order.now }
     requires counted { length order.now ≤ length counters.now }
@@ -51,7 +51,7 @@ fn first_below(order: &Order, counters: &[u64], place: usize, count: usize) -> u
 
 /// Moves the first variable to where it belongs among those up to a count: down to the end of the
 /// path of those that come first, and from there up, since it mostly belongs near the end.
-pub(crate) fn sift_down(order: &mut Order, counters: &[u64], count: usize)
+pub(crate) fn sift_down(order: &mut HeapOrder, counters: &[u64], count: usize)
     requires within { count ≤ length order.old }
     requires counted { length order.old ≤ length counters.now }
     ensures { members count order.new ≡ members count order.old }

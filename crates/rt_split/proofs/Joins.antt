@@ -9,12 +9,13 @@ use Rattle.rt_value.specs.declared.value.Value.{Value}
 use Rattle.rt_schema.specs.Given.{Rows, Tables}
 use Rattle.rt_algebra.specs.Expression.{Env}
 use Rattle.rt_algebra.specs.Answer.{join_each, pairs, is_yes, pred_by}
-use Rattle.rt_split.specs.Split.{all_simple, keys_yes, members_yes, first, later, whole, Splits}
+use Rattle.rt_split.specs.Split.{all_simple, keys_yes, members_yes, first, later, whole}
 use Rattle.rt_split.specs.Join.{matched, product_rows, joined_rows, are_wide, AreSimple, EachSimple, Joins, JoinsWhole}
 use Rattle.rt_algebra.specs.declared.query.Pred.{Pred}
 use Rattle.rt_split.specs.declared.parts.KeyPair.{KeyPair}
 use Rattle.rt_split.specs.declared.parts.Split.{Split}
 use Rattle.rt_algebra.proofs.Rows.{and-left, and-right}
+use Rattle.rt_split.proofs.Splitting.{Narrows}
 
 abbrev Every : (List Value → Type 0) → Rows → Type 0
 Every P [] = Unit {0}
@@ -168,7 +169,7 @@ all_kept : (rows : Rows) → filter (λ row. true) rows ≡ rows
 all_kept [] = refl
 all_kept (row ∷ rows) = ap (λ rs. row ∷ rs) (all_kept rows)
 
-module _ (p : Pred) (widths : List ℕ) (s : Split) (law : Splits p widths s) (simple : EachSimple s.own) where
+module _ (p : Pred) (widths : List ℕ) (s : Split) (law : Narrows p widths s) (simple : EachSimple s.own) where
   abbrev tested : (ℤ → ℤ) → Tables → Env → List Value → Bool
   tested fit db env row = is_yes (pred_by fit p db (row ∷ env))
 

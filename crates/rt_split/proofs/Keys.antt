@@ -17,7 +17,8 @@ use Rattle.rt_value.specs.Order.{row_ties, row_eq_equiv, value_ties}
 use Rattle.rt_schema.specs.Given.{Rows}
 use Rattle.rt_algebra.specs.Answer.{is_yes}
 use Rattle.rt_split.specs.Index.{Placed, places_at}
-use Rattle.rt_split.specs.Join.{matches, places_where, own_key, before_key, is_null, has_null}
+use Rattle.rt_schema.specs.Cells.{is_null}
+use Rattle.rt_split.specs.Join.{matches, places_where, own_key, before_key, has_null}
 use Rattle.rt_split.specs.Split.{keys_yes}
 use Rattle.rt_split.specs.declared.parts.KeyPair.{KeyPair}
 

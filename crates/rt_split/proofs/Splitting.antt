@@ -1,7 +1,7 @@
 -- A condition over members side by side is Yes exactly where each of its parts is.
-use Rattle.std.proofs.Common.{◌≡◌, ℕ, ℤ, zero, suc, ◌+◌, ◌-◌, ◌<◌, ◌≤◌, Bool, true, false, not, ◌&&◌, ◌||◌, List, [], ◌∷◌, ◌++◌, map, length, Option, None, Some, refl, sym, subst, ap, ap₂, ◌∙◌, slice_index_or, length-append, arith}
-use Rattle.std.specs.Prelude.{nat_eq, nat_lt, is_some, if◌then◌else◌}
-use Rattle.std.specs.List.{filter_map, cons_option, list_all}
+use Rattle.std.proofs.Common.{◌≡◌, ℕ, ℤ, zero, suc, ◌+◌, ◌-◌, ◌<◌, ◌≤◌, Bool, true, false, cond, not, ◌&&◌, ◌||◌, List, [], ◌∷◌, ◌++◌, map, length, Option, None, Some, refl, sym, subst, ap, ap₂, ◌∙◌, slice_index_or, length-append, arith}
+use Rattle.std.specs.Prelude.{◌↔◌, nat_eq, nat_lt, is_some, if◌then◌else◌}
+use Rattle.std.specs.List.{filter, filter_map, cons_option, list_all}
 use Rattle.std.proofs.lemmas.Bool.Decides.{nat_tests}
 use Rattle.std.proofs.lemmas.List.{append-nil, append_assoc, get_or_append_left, get_or-append_right}
 use Rattle.std.specs.declared.cmp.Ordering.{Ordering}
@@ -18,7 +18,7 @@ use Rattle.rt_value.specs.Order.{value_cmp_total}
 use Rattle.rt_schema.specs.Given.{Rows, Tables}
 use Rattle.rt_algebra.specs.Expression.{Env, value_by, term_by, expr_step, term_step}
 use Rattle.rt_algebra.specs.Answer.{Condition, Answer, pred_by, answer_by, pred_step, query_step, is_yes, all_of}
-use Rattle.rt_split.specs.Split.{conjuncts, conjuncts_from, lies, own_of, names_pred, moved_pred, place, place_from, pair, key_from, key_of, is_taken, owns, key_lists, split_of, whole, all_yes, simple_by, all_simple, pair_yes, keys_yes, members_yes, Splits}
+use Rattle.rt_split.specs.Split.{conjuncts, conjuncts_from, lies, own_of, names_pred, moved_pred, place, place_from, pair, key_from, key_of, is_taken, owns, key_lists, split_of, whole, all_yes, simple_by, all_simple, pair_yes, keys_yes, members_yes, rest_of, Splits}
 use Rattle.rt_split.specs.Join.{EachSimple}
 use Rattle.rt_algebra.specs.declared.expr.Expr.{Expr}
 use Rattle.rt_algebra.specs.declared.expr.Term.{Term}
@@ -239,6 +239,22 @@ module _ (fit : ℤ → ℤ) (db : Tables) (env : Env) where
   rest_part taken y [] = refl
   rest_part taken y (p ∷ ps) = one_more (taken p) (y p) _ _ _ (rest_part taken y ps)
 
+  all_true_or : (y i l r : Bool) → l ≡ (i && r) → (y && l) ≡ ((y && i) && r)
+  all_true_or true i l r h = h
+  all_true_or false i l r h = refl
+
+  moved_over : (y i l r : Bool) → l ≡ (i && r) → (y && l) ≡ (i && (y && r))
+  moved_over true i l r h = h
+  moved_over false i l r h = sym (and_false i)
+
+  -- each conjunct holds exactly where the taken ones and those that are left do
+  left_part : (taken : Pred → Bool) (y : Pred → Bool) (ps : List Pred) → list_all y ps ≡ (list_all (λ p. implies (taken p) (y p)) ps && list_all y (filter (λ p. not (taken p)) ps))
+  left_part taken y [] = refl
+  left_part taken y (p ∷ ps) = go (taken p) (left_part taken y ps) where
+    go : (b : Bool) → list_all y ps ≡ (list_all (λ p. implies (taken p) (y p)) ps && list_all y (filter (λ p. not (taken p)) ps)) → (y p && list_all y ps) ≡ ((implies b (y p) && list_all (λ p. implies (taken p) (y p)) ps) && list_all y (cond (not b) (p ∷ filter (λ p. not (taken p)) ps) (filter (λ p. not (taken p)) ps)))
+    go true h = all_true_or (y p) _ _ _ h
+    go false h = moved_over (y p) _ _ _ h
+
   conjuncts_part : (y : Pred-F Pred Query) (p : Pred) (row : List Value) → pred_by fit p db (row ∷ env) ≡ pred_step fit (map-Pred Pred Query Condition Answer (pred_by fit) (answer_by fit) y) db (row ∷ env)
       → yes row p ≡ list_all (yes row) (conjuncts_from y p)
   conjuncts_part (And ps) p row h = ap is_yes h ∙ all_of_yes fit ps db (row ∷ env)
@@ -250,16 +266,47 @@ module _ (fit : ℤ → ℤ) (db : Tables) (env : Env) where
   conjuncts_part (Exists q) p row h = sym (and_true (yes row p))
   conjuncts_part (Member a q) p row h = sym (and_true (yes row p))
 
-pub split_law : (p : Pred) (widths : List ℕ) → Splits p widths (split_of p widths)
+-- the same where the whole condition is tested once more, unless the parts are all of it
+abbrev pub Narrows : Pred → List ℕ → Split → Type 0
+Narrows p widths s = (fit : ℤ → ℤ) (db : Tables) (env : Env) (rows : Rows) → map length rows ≡ widths
+    → is_yes (pred_by fit p db (whole [] rows ∷ env))
+    ≡ (members_yes fit s.own s.keys [] rows db env && (s.is_whole || is_yes (pred_by fit p db (whole [] rows ∷ env))))
+
+module _ (fit : ℤ → ℤ) (db : Tables) (env : Env) (p : Pred) (widths : List ℕ) where
+  each : (row : List Value) → yes fit db env row p ≡ list_all (yes fit db env row) (conjuncts p)
+  each row = conjuncts_part fit db env (out-Pred p) p row (ap (λ f. f db (row ∷ env)) (fold_out-Pred Condition Answer (pred_step fit) (query_step fit) p))
+
+  members : (rows : Rows) → map length rows ≡ widths
+      → list_all (λ q. implies (is_taken 0 widths q) (yes fit db env (whole [] rows) q)) (conjuncts p) ≡ members_yes fit (split_of p widths).own (split_of p widths).keys [] rows db env
+  members rows w = sym (members_part fit db env (conjuncts p) widths 0 [] rows refl w)
+
+split_law : (p : Pred) (widths : List ℕ) → Splits p widths (split_of p widths)
 split_law p widths fit db env rows w =
-    let row = whole [] rows in
-    let each : yes fit db env row p ≡ list_all (yes fit db env row) (conjuncts p) =
-    conjuncts_part fit db env (out-Pred p) p row (ap (λ f. f db (row ∷ env)) (fold_out-Pred Condition Answer (pred_step fit) (query_step fit) p)) in
-    each ∙ rest_part fit db env (is_taken 0 widths) (yes fit db env row) (conjuncts p)
-    ∙ ap₂ (λ b c. b && (list_all (is_taken 0 widths) (conjuncts p) || c)) (sym (members_part fit db env (conjuncts p) widths 0 [] rows refl w)) (sym each)
+    each fit db env p widths (whole [] rows) ∙ left_part fit db env (is_taken 0 widths) (yes fit db env (whole [] rows)) (conjuncts p)
+    ∙ ap (λ b. b && all_yes fit (rest_of p widths) db (whole [] rows ∷ env)) (members fit db env p widths rows w)
+
+narrow_law : (p : Pred) (widths : List ℕ) → Narrows p widths (split_of p widths)
+narrow_law p widths fit db env rows w =
+    let is = each fit db env p widths (whole [] rows) in
+    is ∙ rest_part fit db env (is_taken 0 widths) (yes fit db env (whole [] rows)) (conjuncts p)
+    ∙ ap₂ (λ b c. b && (list_all (is_taken 0 widths) (conjuncts p) || c)) (members fit db env p widths rows w) (sym is)
 
 pub split_at : (p : Pred) (widths : List ℕ) (s : Split) → s ≡ split_of p widths → Splits p widths s
 split_at p widths s h = let P : Split → Type 0 = Splits p widths in subst P (sym h) (split_law p widths)
+
+pub narrow_at : (p : Pred) (widths : List ℕ) (s : Split) → s ≡ split_of p widths → Narrows p widths s
+narrow_at p widths s h = let P : Split → Type 0 = Narrows p widths in subst P (sym h) (narrow_law p widths)
+
+-- the parts are all of the condition exactly where nothing is left
+none_left : {X : Type 0} (taken : X → Bool) (xs : List X) → (list_all taken xs ≡ true) ↔ (filter (λ x. not (taken x)) xs ≡ [])
+none_left taken [] = (λ h. refl, λ h. refl)
+none_left taken (x ∷ xs) = go (taken x) (none_left taken xs) where
+  go : (b : Bool) → (list_all taken xs ≡ true) ↔ (filter (λ x. not (taken x)) xs ≡ []) → ((b && list_all taken xs) ≡ true) ↔ (cond (not b) (x ∷ filter (λ x. not (taken x)) xs) (filter (λ x. not (taken x)) xs) ≡ [])
+  go true e = e
+  go false e = (λ h. absurd (cc), λ h. absurd (cc))
+
+pub whole_at : (p : Pred) (widths : List ℕ) (s : Split) → s ≡ split_of p widths → (s.is_whole ≡ true) ↔ (rest_of p widths ≡ [])
+whole_at p widths s h = let P : Split → Type 0 = λ s. (s.is_whole ≡ true) ↔ (rest_of p widths ≡ []) in subst P (sym h) (none_left (is_taken 0 widths) (conjuncts p))
 
 -- own conjuncts have no subquery
 module _ (fit : ℤ → ℤ) (db : Tables) (env : Env) (base width : ℕ) where

@@ -4,6 +4,7 @@ use Rattle.std.specs.Prelude.{◌≡◌, ℕ, ℤ, ◌+◌, Bool, IsTrue, true, 
 use Rattle.std.specs.List.{filter, list_all, list_any}
 use Rattle.rt_value.specs.declared.value.Value.{Value}
 use Rattle.rt_value.specs.declared.value.Value.TheVariants as v
+use Rattle.rt_schema.specs.Cells.{is_null}
 use Rattle.rt_schema.specs.Given.{Rows, Tables}
 use Rattle.rt_algebra.specs.Expression.{Env}
 use Rattle.rt_algebra.specs.Answer.{join_each, pairs, is_yes, pred_by}
@@ -50,11 +51,6 @@ own_key ks row = map (λ k. slice_index_or row k.own v.Null) ks
 
 abbrev pub before_key : List KeyPair → List Value → List Value
 before_key ks before = map (λ k. slice_index_or before k.before v.Null) ks
-
-abbrev pub is_null : Value → Bool
-is_null v.Null = true
-is_null (v.Int n) = false
-is_null (v.Text t) = false
 
 abbrev pub has_null : List Value → Bool
 has_null key = list_any is_null key

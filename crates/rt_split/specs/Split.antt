@@ -1,8 +1,8 @@
 -- A condition over members side by side, taken apart: what concerns one member alone, the columns
 -- of two members that have to be equal, and whether that is all of it.
-use Rattle.std.specs.Prelude.{◌≡◌, ℕ, ℤ, ◌+◌, ◌-◌, Bool, true, false, ◌&&◌, ◌||◌, nat_eq, nat_le, nat_lt, List, [], ◌∷◌, ◌++◌, map, length, Option, None, Some, is_some, if◌then◌else◌, slice_index_or}
+use Rattle.std.specs.Prelude.{◌≡◌, ℕ, ℤ, ◌+◌, ◌-◌, Bool, true, false, not, ◌&&◌, ◌||◌, nat_eq, nat_le, nat_lt, List, [], ◌∷◌, ◌++◌, map, length, Option, None, Some, is_some, if◌then◌else◌, slice_index_or}
 use Rattle.std.specs.Option.{option_map}
-use Rattle.std.specs.List.{filter_map, list_all, list_any}
+use Rattle.std.specs.List.{filter, filter_map, list_all, list_any}
 use Rattle.rt_value.specs.declared.value.Value.{Value}
 use Rattle.rt_value.specs.declared.value.Value.TheVariants as v
 use Rattle.rt_value.specs.declared.value.Op.{Op}
@@ -261,10 +261,13 @@ members_yes fit own keys before [] db env = true
 members_yes fit own keys before (row ∷ rows) db env =
     all_yes fit (first own) db (row ∷ env) && keys_yes (first keys) before row && members_yes fit (later own) (later keys) (before ++ row) rows db env
 
+-- the conjuncts that are neither own to a member nor a key of one
+abbrev pub rest_of : Pred → List ℕ → List Pred
+rest_of p widths = filter (λ q. not (is_taken 0 widths q)) (conjuncts p)
+
 -- over rows of these widths the condition is Yes on the concatenated row exactly where each own
--- conjunct is Yes on its member's row, each key pair compares Yes and, unless these are all of the
--- condition, it is Yes itself
+-- conjunct is Yes on its member's row, each key pair compares Yes, and each conjunct of the rest is
+-- Yes on the concatenated row
 abbrev pub Splits : Pred → List ℕ → Split → Type 0
 Splits p widths s = (fit : ℤ → ℤ) (db : Tables) (env : Env) (rows : Rows) → map length rows ≡ widths
-    → is_yes (pred_by fit p db (whole [] rows ∷ env))
-    ≡ (members_yes fit s.own s.keys [] rows db env && (s.is_whole || is_yes (pred_by fit p db (whole [] rows ∷ env))))
+    → is_yes (pred_by fit p db (whole [] rows ∷ env)) ≡ (members_yes fit s.own s.keys [] rows db env && all_yes fit (rest_of p widths) db (whole [] rows ∷ env))

@@ -1,8 +1,8 @@
 //! The conjuncts of a condition over members side by side.
-ghost use Rattle.std.specs.Prelude.{◌≡◌, ◌+◌, map, is_some, IfOk};
+ghost use Rattle.std.specs.Prelude.{◌≡◌, ◌↔◌, ◌+◌, [], map, is_some, IfOk, IsTrue};
 ghost use Rattle.std.specs.List.{filter_map, list_all};
 ghost use Rattle.rt_split.specs.Join.{Joins, JoinsWhole};
-ghost use Rattle.rt_split.specs.Split.{Splits, split_of, apart, conjuncts, owns, own_of, key_lists, key_of, pair, place, is_taken};
+ghost use Rattle.rt_split.specs.Split.{Splits, split_of, rest_of, apart, conjuncts, owns, own_of, key_lists, key_of, pair, place, is_taken};
 
 use crate::moved::{lies, own_of};
 use crate::parts::{KeyPair, Split};
@@ -15,6 +15,7 @@ use std::slice;
 pub fn split(alloc: Global, pred: &Pred, widths: &[usize]) -> Result<Split, NoMemory>
     ensures parts { IfOk result (λ s. s ≡ split_of pred.now widths.now) }
     ensures law { IfOk result (λ s. Splits pred.now widths.now s) }
+    ensures whole { IfOk result (λ s. IsTrue s.is_whole ↔ (rest_of pred.now widths.now ≡ [])) }
     ensures joins { IfOk result (λ s. Joins pred.now widths.now s) }
     ensures joins_whole { IfOk result (λ s. JoinsWhole pred.now widths.now s) }
 {

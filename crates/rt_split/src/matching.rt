@@ -4,10 +4,11 @@ ghost use Rattle.rt_value.specs.declared.value.Value.{Value};
 ghost use Rattle.rt_value.specs.declared.value.Value.TheVariants as v;
 ghost use Rattle.rt_value.specs.Row.{row_eq};
 ghost use Rattle.rt_split.specs.Index.{places_at};
-ghost use Rattle.rt_split.specs.Join.{matches, places_where, own_key, before_key, has_null, is_null};
+ghost use Rattle.rt_split.specs.Join.{matches, places_where, own_key, before_key, has_null};
 
 use crate::index::Index;
 use crate::parts::KeyPair;
+use rt_schema::is_null;
 use rt_value::{List, NoMemory, Row, Value};
 use std::alloc::Global;
 
@@ -76,15 +77,6 @@ fn has_null(key: &Row) -> bool
     ensures { result ≡ has_null key.now }
 {
     key.as_slice().iter().any(|value| is_null(value))
-}
-
-fn is_null(value: &Value) -> bool
-    ensures { result ≡ is_null value.now }
-{
-    match value {
-        Value::Null => true,
-        Value::Int(_) | Value::Text(_) => false,
-    }
 }
 
 fn own_key(alloc: Global, keys: &[KeyPair], row: &Row) -> Result<Row, NoMemory>

@@ -27,11 +27,11 @@ use Rattle.rt_tools.specs.Words.{IsGradeAnd, IsRowAnd, IsUsage, Tool, grade, row
 
 -- ---- the words
 
-row_words : (first text : Text) (args : List Text) → bytes_eq first (codes "row") ≡ true → tool_of (first ∷ text ∷ args) ≡ row text args
+pub row_words : (first text : Text) (args : List Text) → bytes_eq first (codes "row") ≡ true → tool_of (first ∷ text ∷ args) ≡ row text args
 row_words first text args is = rw is refl
 
 -- the first word is `grade`
-grade_words : (first : Text) (args : List Text) → bytes_eq first (codes "grade") ≡ true → tool_of (first ∷ args) ≡ grade args
+pub grade_words : (first : Text) (args : List Text) → bytes_eq first (codes "grade") ≡ true → tool_of (first ∷ args) ≡ grade args
 grade_words first args is =
     let same : first ≡ codes "grade" = (bytes_eq-Decides first (codes "grade")).0 is in
     ap (λ (name : Text). tool_of (name ∷ args)) same

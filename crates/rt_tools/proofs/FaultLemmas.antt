@@ -10,11 +10,11 @@ use Rattle.rt_input.specs.declared.outcome.Outcome.TheVariants as outcome
 use Rattle.rt_input.specs.declared.part.Part.TheVariants.{Query2}
 use Rattle.rt_input.specs.Reading.{Call}
 use Rattle.rt_input.specs.First.{first_judged}
-use Rattle.rt_input.specs.Judged.{Reaches}
+use Rattle.rt_input.specs.Judged.{ReachesFirst}
 use Rattle.rt_input.specs.Held.{Holding, text_of, text_read}
 use Rattle.rt_input.specs.Placed.{Placed}
 use Rattle.rt_input.specs.Source.{IsKnown, Text, source_of}
-use Rattle.rt_input.specs.Steps.{Seen, Stops as StopsReading, TextStops, seen}
+use Rattle.rt_input.specs.Steps.{IsFirstPart, Seen, SpeaksOf, Stops as StopsReading, TextStops, seen}
 use Rattle.rt_io.specs.Ranges.{Command}
 use Rattle.rt_tools.specs.Grades.{IsGrade, IsPlacedIn, candidate_judged, outcome_of}
 use Rattle.rt_tools.specs.declared.grade.Grade.{Grade}
@@ -87,17 +87,17 @@ words_stop c outcome.NoMemory stop = tt
 
 -- of words that are read
 pub first_stops : (s : Seen) (w : GradeWords) (o : Outcome)
-    → StopsReading s (source_of w.command) (first_judged (source_of w.command) s.held) (Reaches (source_of w.command) s.held) o
+    → StopsReading s (source_of w.command) (first_judged (source_of w.command) s.held) (ReachesFirst (source_of w.command) s.held) o → SpeaksOf IsFirstPart o
     → (IsKnown s.tells (source_of w.command) → Placed (text_of (source_of w.command) s.held) o) → StopsOf s (Verdict o) w
-first_stops s w outcome.Agree stop placed = stop
-first_stops s w (outcome.Witness keep) stop placed = stop
-first_stops s w outcome.Usage stop placed = stop
-first_stops s w (outcome.Refused part fault) stop placed = record { stops = stop; placed = placed }
-first_stops s w (outcome.Spent spent) stop placed = stop
-first_stops s w (outcome.Limit l) stop placed = record { stops = stop; placed = placed }
-first_stops s w (outcome.ReadFault part) stop placed = record { stops = stop; placed = placed }
-first_stops s w outcome.WriteFault stop placed = stop
-first_stops s w outcome.NoMemory stop placed = tt
+first_stops s w outcome.Agree stop speaks placed = stop
+first_stops s w (outcome.Witness keep) stop speaks placed = stop
+first_stops s w outcome.Usage stop speaks placed = stop
+first_stops s w (outcome.Refused part fault) stop speaks placed = record { stops = stop; speaks = speaks; placed = placed }
+first_stops s w (outcome.Spent spent) stop speaks placed = stop
+first_stops s w (outcome.Limit l) stop speaks placed = record { stops = stop; speaks = speaks; placed = placed }
+first_stops s w (outcome.ReadFault part) stop speaks placed = record { stops = stop; speaks = speaks; placed = placed }
+first_stops s w outcome.WriteFault stop speaks placed = stop
+first_stops s w outcome.NoMemory stop speaks placed = tt
 
 memory_of : (s : Seen) (w : GradeWords) (o : Outcome) → o ≡ outcome.NoMemory → StopsOf s (Verdict o) w
 memory_of s w o e = subst (λ (x : Outcome). StopsOf s (Verdict x) w) (sym e) tt

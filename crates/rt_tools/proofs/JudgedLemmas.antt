@@ -1,7 +1,7 @@
 -- The outcome of a tool is the one that is judged, and over files and sinks that don't fail there is
 -- no fault.
 use Rattle.std.proofs.Common.{◌≡◌, ◌∙◌, Bool, List, Result, Ok, Err, refl, sym, ap, subst, inl, inr, arith}
-use Rattle.std.specs.Prelude.{◌<◌, ◌≤◌, ◌^◌, ℕ, IsOk, IsSome, IsSomeAnd, IsTrue, Option, None, Some}
+use Rattle.std.specs.Prelude.{◌<◌, ◌≤◌, ◌^◌, ℕ, IsOk, IsSome, IsSomeAnd, IsTrue, Option, None, Some, ⊤}
 use Rattle.std.specs.Option.{ForSome}
 use Rattle.rt_io.specs.Logs.{Broke, Log, NoSinkRose, at_place}
 use Rattle.rt_io.specs.declared.place.Place.{Place}
@@ -20,9 +20,14 @@ use Rattle.rt_input.specs.declared.part.Part.{Part}
 use Rattle.rt_input.specs.Accepted.{Accepted, HasOptions}
 use Rattle.rt_input.specs.Reading.{Call, ReadFaultAt}
 use Rattle.rt_input.specs.Faults.{placeless}
-use Rattle.rt_input.specs.Judged.{command_judged, judged}
+use Rattle.rt_input.specs.declared.part.Part.TheVariants as parts
+use Rattle.rt_input.specs.declared.source.Source.{Source}
+use Rattle.rt_input.specs.Held.{Holding}
+use Rattle.rt_input.specs.Judged.{Reaches, ReachesFirst, command_judged, judged}
+use Rattle.rt_input.proofs.RowLemmas.{named_from_reached}
+use Rattle.rt_io.specs.Edge.{Rose}
 use Rattle.rt_input.specs.Source.{IsKnown, Text, file_of, source_from, source_of}
-use Rattle.rt_input.specs.Steps.{Failed, Seen}
+use Rattle.rt_input.specs.Steps.{Failed, IsFirstPart, Seen}
 use Rattle.rt_tools.specs.RowVerdicts.{IsRowAnswer, Judges}
 use Rattle.rt_tools.specs.declared.row_outcome.RowVerdict.{RowVerdict}
 use Rattle.rt_tools.specs.declared.row_outcome.RowVerdict.TheVariants as rows
@@ -35,7 +40,7 @@ use Rattle.rt_tools.specs.declared.grade_words.GradeWords.{GradeWords}
 use Rattle.rt_tools.specs.declared.outcome.ToolOutcome.{ToolOutcome}
 use Rattle.rt_tools.specs.declared.outcome.ToolOutcome.TheVariants.{RowWitness, RowNever, RowSpent, RowRefused, BadList, TooManyPaths, ListLong, FileRead, Grades, Verdict}
 use Rattle.rt_tools.specs.Answers.{Ends, EndsGrades, StopsTool, WritesTo, with_words}
-use Rattle.rt_tools.specs.Judged.{HasRoomFor, IsAsJudged, IsNoFault, IsToldTool, IsUsageOrFault, NoCountRose, cells_refusal, grade_refusal, list_refusal, paths_refusal, refusal_of, row_refusal}
+use Rattle.rt_tools.specs.Judged.{HasRoomFor, IsAsJudged, IsNoFault, IsToldTool, IsUsageOrFault, NamesPart, NoNamedRose, IsGradeFile, cells_refusal, grade_refusal, list_refusal, paths_refusal, refusal_of, row_refusal}
 use Rattle.rt_tools.specs.Outcomes.{of_fault}
 use Rattle.rt_tools.specs.Texts.{fault_line, place}
 use Rattle.rt_tools.specs.Words.{IsGradeAnd, IsRowAnd, IsUsage, Tool, grade, neither, row, tool_of}
@@ -238,27 +243,50 @@ not_spent c (row text args) s said answer room =
 not_spent c (grade args) s said answer room = answer
 not_spent c neither s said answer room = answer
 
-no_rise : (c : Call) (name : Option Text) → NoCountRose c → Failed c.files name → ⊥
-no_rise c None calm failed = failed
-no_rise c (Some name) calm failed = calm name failed
+-- the file of a part that the reading comes to is one that is named
+names_part : (s : Seen) (source : Source) (Among : Part → Type 0) (part : Part) → Among part → (IsKnown s.tells source → Reaches source s.held part)
+    → ((name : Text) → NamesPart s source Among name → Rose (s.before name) (s.after name) → ⊥) → Failed s (file_of source part) → ⊥
+names_part s source Among part among reached calm failed = by_name (file_of source part) refl failed
+  where
+    by_name : (o : Option Text) → file_of source part ≡ o → Failed s o → ⊥
+    by_name None is rose = rose
+    by_name (Some name) is rose = calm name (record { part = part; among = among; file = is; named = λ k. named_from_reached source s.held part (reached k) }) rose
 
-some_case : {T : Type 0} (P : T → Type 0) (Q : Type 0) (o : Option T) → ((x : T) → P x → Q) → IsSomeAnd o P → Q
-some_case P Q None f is = absurd is
-some_case P Q (Some x) f is = f x is
+first_is_reached : (source : Source) (held : Holding) (part : Part) → ReachesFirst source held part → Reaches source held part
+first_is_reached source held parts.Schema reached = tt
+first_is_reached source held (parts.Table at name) reached = reached
+first_is_reached source held parts.Query1 reached = reached
+first_is_reached source held parts.Query2 reached = absurd reached
+first_is_reached source held parts.Queries reached = absurd reached
 
-not_failed : (c : Call) (part : Part) (said : Text) (t : Tool) → StopsTool c (outcome.ReadFault part) said t → NoCountRose c → ⊥
-not_failed c part said (row text args) stops calm = some_case (ReadFaultAt c.files part) ⊥ (command args) (λ k at. no_rise c (file_of (source_of k) part) calm at.failed) stops.0
-not_failed c part said (grade args) stops calm = some_case (StopsFirst c.files (outcome.ReadFault part)) ⊥ (grade_words args)
-    (λ w at. no_rise c (file_of (source_of w.command) part) calm at.stops.0) stops.0
+row_calm : (c : Call) (part : Part) (o : Option Command) → IsSomeAnd o (ReadFaultAt c.files part)
+    → ((name : Text) → IsSomeAnd o (λ k. NamesPart c.files (source_of k) (λ p. ⊤) name) → Rose (c.files.before name) (c.files.after name) → ⊥) → ⊥
+row_calm c part None at calm = at
+row_calm c part (Some k) at calm = names_part c.files (source_of k) (λ p. ⊤) part tt at.reached calm at.failed
+
+grade_calm : (c : Call) (part : Part) (o : Option GradeWords) → IsSomeAnd o (StopsFirst c.files (outcome.ReadFault part))
+    → ((name : Text) → IsSomeAnd o (IsGradeFile c.files name) → Rose (c.files.before name) (c.files.after name) → ⊥) → ⊥
+grade_calm c part None at calm = at
+grade_calm c part (Some w) at calm =
+    names_part c.files (source_of w.command) IsFirstPart part at.speaks (λ k. first_is_reached (source_of w.command) c.files.held part (at.stops.1 k)) (λ name named. calm name (inl named)) at.stops.0
+
+not_failed : (c : Call) (part : Part) (said : Text) (t : Tool) → StopsTool c (outcome.ReadFault part) said t → NoNamedRose c t → ⊥
+not_failed c part said (row text args) stops calm = row_calm c part (command args) stops.0 calm
+not_failed c part said (grade args) stops calm = grade_calm c part (grade_words args) stops.0 calm
 not_failed c part said neither stops calm = stops
 
+list_calm : (c : Call) (name : Text) (o : Option GradeWords) → IsSomeAnd o (FailsToRead c.files name)
+    → ((name : Text) → IsSomeAnd o (IsGradeFile c.files name) → Rose (c.files.before name) (c.files.after name) → ⊥) → ⊥
+list_calm c name None fails calm = fails
+list_calm c name (Some w) fails calm = calm name (inr fails.named) fails.rose
+
 not_unread : (c : Call) (name : Text) (said : Text) (t : Tool) → IsGradeAnd t (λ args. IsSomeAnd (grade_words args) (StopsOf c.files (faults.FileRead name)) × (said ≡ fault_line (faults.FileRead name)))
-    → NoCountRose c → ⊥
+    → NoNamedRose c t → ⊥
 not_unread c name said (row text args) ends calm = ends
-not_unread c name said (grade args) ends calm = some_case (FailsToRead c.files name) ⊥ (grade_words args) (λ w fails. calm name fails.rose) ends.0
+not_unread c name said (grade args) ends calm = list_calm c name (grade_words args) ends.0 calm
 not_unread c name said neither ends calm = ends
 
-no_fault : (c : Call) (o : ToolOutcome) (said : Text) → Ends c o said → NoCountRose c → HasRoomFor c (tool_of c.words) → IsNoFault o
+no_fault : (c : Call) (o : ToolOutcome) (said : Text) → Ends c o said → NoNamedRose c (tool_of c.words) → HasRoomFor c (tool_of c.words) → IsNoFault o
 no_fault c (RowWitness keep) said ends calm room = tt
 no_fault c RowNever said ends calm room = tt
 no_fault c (RowSpent s) said ends calm room = not_spent c _ s said ends room
@@ -303,7 +331,7 @@ module _ (c : Call) (out err : Log) (o : ToolOutcome) (said : Text) (result : To
     ]
   ]
 
-  pub written_complete : NoCountRose c → NoSinkRose out err → HasRoomFor c (tool_of c.words) → IsNoFault result
+  pub written_complete : NoNamedRose c (tool_of c.words) → NoSinkRose out err → HasRoomFor c (tool_of c.words) → IsNoFault result
   written_complete calm sinks room = elim wrote [
     | inl h ↦ subst IsNoFault (sym h.0) (no_fault c o said ends calm room)
     | inr h ↦ elim h [

@@ -1,3 +1,4 @@
+mod BegunLemmas
 mod BesideLemmas
 mod EndLemmas
 mod JudgedLemmas

@@ -12,11 +12,11 @@ use Rattle.rt_input.specs.declared.part.Part.TheVariants.{Query2}
 use Rattle.rt_input.specs.Reading.{Call, IsTold, RefusedRow}
 use Rattle.rt_top.specs.Answers.{AgreeRow, SpentRow, WitnessRow}
 use Rattle.rt_input.specs.First.{first_judged}
-use Rattle.rt_input.specs.Judged.{Reaches, judged}
+use Rattle.rt_input.specs.Judged.{ReachesFirst, judged}
 use Rattle.rt_input.specs.Held.{text_of}
 use Rattle.rt_input.specs.Placed.{Placed}
 use Rattle.rt_input.specs.Source.{IsKnown, Text, source_of}
-use Rattle.rt_input.specs.Steps.{IsLong, Seen, Stops as StopsReading}
+use Rattle.rt_input.specs.Steps.{IsFirstPart, IsLong, Seen, SpeaksOf, Stops as StopsReading}
 use Rattle.rt_input.specs.declared.first.First.{First}
 use Rattle.rt_tools.specs.declared.grade.Grade.{Grade}
 use Rattle.rt_tools.specs.declared.grade.Grade.TheVariants.{Agree, Witness, Undecided, Refused, Work, TooLong}
@@ -59,9 +59,10 @@ AreGraded c g = IsSomeAnd (grade_words c.words) (AreGradedBy c.files g)
 
 -- ---- why there are none
 
--- what stops the reading of the schema, the tables and the reference
+-- what stops the reading of the schema, the tables and the reference, and speaks of these alone
 pub record StopsFirst (s : Seen) (o : Outcome) (w : GradeWords) : Type 0 where
-  pub stops : StopsReading s (source_of w.command) (first_judged (source_of w.command) s.held) (Reaches (source_of w.command) s.held) o
+  pub stops : StopsReading s (source_of w.command) (first_judged (source_of w.command) s.held) (ReachesFirst (source_of w.command) s.held) o
+  pub speaks : SpeaksOf IsFirstPart o
   pub placed : IsKnown s.tells (source_of w.command) → Placed (text_of (source_of w.command) s.held) o
 
 -- the reference is accepted, and the list is refused as judged

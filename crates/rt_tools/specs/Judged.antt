@@ -1,5 +1,5 @@
 -- What is judged of the words of a tool over files of known contents: its first refusal, or none.
-use Rattle.std.specs.Prelude.{◌≡◌, IsTrue, List, Option, None, Some, Result, Ok, Err, ⊤}
+use Rattle.std.specs.Prelude.{◌≡◌, ◌⊎◌, IsSomeAnd, IsTrue, List, Option, None, Some, Result, Ok, Err, ⊤}
 use Rattle.rt_value.specs.declared.value.Value.{Value}
 use Rattle.rt_io.specs.Edge.{Rose}
 use Rattle.rt_tools.specs.Rows.{row_read}
@@ -12,9 +12,14 @@ use Rattle.rt_input.specs.Reading.{Call, IsRead, IsTold}
 use Rattle.rt_top.specs.Answers.{HasRoom}
 use Rattle.rt_input.specs.Faults.{placeless}
 use Rattle.rt_input.specs.First.{first_judged}
-use Rattle.rt_input.specs.Judged.{judged}
+use Rattle.rt_io.specs.Command.{command}
+use Rattle.rt_input.specs.declared.part.Part.{Part}
+use Rattle.rt_input.specs.declared.source.Source.{Source}
+use Rattle.rt_input.specs.Judged.{IsNamed, judged}
 use Rattle.rt_input.specs.Held.{Holding}
-use Rattle.rt_input.specs.Source.{Text, source_of}
+use Rattle.rt_input.specs.Source.{IsKnown, Text, file_of, source_of}
+use Rattle.rt_input.specs.Steps.{IsFirstPart, Seen}
+use Rattle.rt_tools.specs.GradeAnswers.{IsNamedIn}
 use Rattle.rt_tools.specs.Listing.{list_judged}
 use Rattle.rt_tools.specs.GradeWords.{grade_words}
 use Rattle.rt_tools.specs.declared.grade_fault.GradeFault.{GradeFault}
@@ -97,9 +102,26 @@ IsUsageOrFault _ = ⊥
 
 -- ---- where nothing fails
 
--- no count of a file rose
-abbrev pub NoCountRose : Call → Type 0
-NoCountRose c = (name : Text) → Rose (c.files.before name) (c.files.after name) → ⊥
+-- the name is that of a part's file
+pub record NamesPart (s : Seen) (source : Source) (Among : Part → Type 0) (name : Text) : Type 0 where
+  pub part : Part
+  pub among : Among part
+  pub file : file_of source part ≡ Some name
+  pub named : IsKnown s.tells source → IsNamed source s.held part
+
+-- that of the schema, a table or the reference, of the list, or of a path of it
+abbrev pub IsGradeFile : Seen → Text → GradeWords → Type 0
+IsGradeFile s name w = NamesPart s (source_of w.command) IsFirstPart name ⊎ IsNamedIn s w name
+
+-- the tool names a file of this name
+abbrev pub NamesFile : Seen → Tool → Text → Type 0
+NamesFile s (row text args) name = IsSomeAnd (command args) (λ k. NamesPart s (source_of k) (λ part. ⊤) name)
+NamesFile s (grade args) name = IsSomeAnd (grade_words args) (IsGradeFile s name)
+NamesFile s neither name = ⊥
+
+-- no count of a file that the tool names rose
+abbrev pub NoNamedRose : Call → Tool → Type 0
+NoNamedRose c tool = (name : Text) → NamesFile c.files tool name → Rose (c.files.before name) (c.files.after name) → ⊥
 
 -- there is no budget of conflicts for a row, or one that no search can spend
 abbrev pub HasRoomFor : Call → Tool → Type 0

@@ -1,4 +1,5 @@
 pub mod Answers
+pub mod Begun
 pub mod Judged
 pub mod Outcomes
 pub mod Texts

@@ -1,6 +1,6 @@
-ghost use Rattle.std.specs.Prelude.{◌≡◌, IfOk, IfErr};
+ghost use Rattle.std.specs.Prelude.{◌≡◌, [], ◌∷◌, ◌++◌, IfOk, IfErr, OnOk};
 ghost use Rattle.std.specs.List.{AllZip};
-ghost use Rattle.rt_io.specs.Edge.{NoneFell, OnlyRises};
+ghost use Rattle.rt_io.specs.Edge.{AddsPrefix, NoneFell, OnlyRises};
 ghost use Rattle.rt_input.specs.First.{IsFirst};
 ghost use Rattle.rt_input.specs.Steps.{over};
 ghost use Rattle.rt_tools.specs.Review.{IsReviewOf};
@@ -28,6 +28,8 @@ fn grade_file<F: Files>(
     ensures review { IsReviewOf words.now first.now review.new }
     ensures ok { IfOk result (IsGradeOf F.tells (F.held files.old) words.now first.now path.now) }
     ensures err { IfErr result (CandidateStops (over F.Files files.old files.new) path.now) }
+    ensures begun { AddsPrefix (F.begun files.old) (F.begun files.new) (path.now ∷ []) }
+    ensures begun_ok { OnOk result (F.begun files.new ≡ F.begun files.old ++ path.now ∷ []) }
     ensures held { F.held files.new ≡ F.held files.old }
     ensures rises { OnlyRises path.now (F.faults files.old) (F.faults files.new) }
 {
@@ -52,6 +54,7 @@ fn grade_each<F: Files>(
     requires review { IsReviewOf words.now first.now review.old }
     ensures ok { IfOk result (AllZip (IsGradeOf F.tells (F.held files.old) words.now first.now) paths.now) }
     ensures err { IfErr result (CandidatesStop (over F.Files files.old files.new) paths.now) }
+    ensures begun { AddsPrefix (F.begun files.old) (F.begun files.new) paths.now }
     ensures held { F.held files.new ≡ F.held files.old }
     ensures rises { NoneFell (F.faults files.old) (F.faults files.new) }
 {
@@ -75,6 +78,7 @@ pub(crate) fn grade_files<F: Files>(
     requires { IsFirst first.now }
     ensures ok { IfOk result (AllZip (IsGradeOf F.tells (F.held files.old) words.now first.now) paths.now) }
     ensures err { IfErr result (CandidatesStop (over F.Files files.old files.new) paths.now) }
+    ensures begun { AddsPrefix (F.begun files.old) (F.begun files.new) paths.now }
     ensures held { F.held files.new ≡ F.held files.old }
     ensures rises { NoneFell (F.faults files.old) (F.faults files.new) }
 {

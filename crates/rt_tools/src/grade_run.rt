@@ -1,9 +1,10 @@
-ghost use Rattle.std.specs.Prelude.{◌≡◌, IfOk, IfErr};
+ghost use Rattle.std.specs.Prelude.{◌≡◌, IfOk, IfErr, Some};
 ghost use Rattle.rt_io.specs.Edge.{NoneFell};
 ghost use Rattle.rt_input.specs.Reading.{call};
 ghost use Rattle.rt_input.specs.First.{IsFirst};
 ghost use Rattle.rt_input.specs.Steps.{over};
-ghost use Rattle.rt_tools.specs.GradeWords.{IsSpelled};
+ghost use Rattle.rt_tools.specs.Begun.{GradesFor, ListAdds};
+ghost use Rattle.rt_tools.specs.GradeWords.{IsSpelled, grade_words};
 ghost use Rattle.rt_tools.specs.GradeAnswers.{AreGraded, AreGradedBeside, AreGradedBy, Stops, StopsBeside, StopsOf};
 
 use crate::candidates::grade_files;
@@ -33,6 +34,7 @@ fn grades_beside<F: Files>(
     requires { IsFirst first.now }
     ensures ok { IfOk result (AreGradedBeside (over F.Files files.old files.new) words.now first.now) }
     ensures err { IfErr result (StopsBeside (over F.Files files.old files.new) words.now) }
+    ensures begun { ListAdds F.tells words.now (F.held files.old) (F.begun files.old) (F.begun files.new) }
     ensures held { F.held files.new ≡ F.held files.old }
     ensures rises { NoneFell (F.faults files.old) (F.faults files.new) }
 {
@@ -50,6 +52,7 @@ fn grades_of<F: Files>(
     requires { IsSpelled words.now }
     ensures ok { IfOk result (λ graded. AreGradedBy (over F.Files files.old files.new) graded words.now) }
     ensures err { IfErr result (λ fault. StopsOf (over F.Files files.old files.new) fault words.now) }
+    ensures begun { GradesFor F.tells (F.held files.old) (Some words.now) (F.begun files.old) (F.begun files.new) }
     ensures held { F.held files.new ≡ F.held files.old }
     ensures rises { NoneFell (F.faults files.old) (F.faults files.new) }
 {
@@ -67,6 +70,9 @@ fn grades_of<F: Files>(
 pub fn grades<F: Files>(alloc: Global, words: &[Txt], files: &mut F) -> Result<Graded, GradeFault>
     ensures ok { IfOk result (AreGraded (call F.Files words.now files.old files.new)) }
     ensures err { IfErr result (Stops (call F.Files words.now files.old files.new)) }
+    // The files that are begun are first ones of those that the words name, in the order of the reading,
+    // and none stands behind the first refusal.
+    ensures begun { GradesFor F.tells (F.held files.old) (grade_words words.now) (F.begun files.old) (F.begun files.new) }
     ensures held { F.held files.new ≡ F.held files.old }
     ensures rises { NoneFell (F.faults files.old) (F.faults files.new) }
 {

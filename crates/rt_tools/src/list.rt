@@ -1,5 +1,5 @@
-ghost use Rattle.std.specs.Prelude.{◌≡◌, IsTrue, IfOk, IfErr, Ok};
-ghost use Rattle.rt_io.specs.Edge.{OnlyRises};
+ghost use Rattle.std.specs.Prelude.{◌≡◌, [], ◌∷◌, ◌++◌, IsTrue, IfOk, IfErr, OnOk, Ok};
+ghost use Rattle.rt_io.specs.Edge.{AddsPrefix, OnlyRises};
 ghost use Rattle.rt_input.specs.Steps.{over};
 ghost use Rattle.rt_tools.specs.Listing.{ListStops, PathsStop, list_judged, paths_judged};
 
@@ -31,6 +31,8 @@ pub(crate) fn read_list<F: Files>(
 ) -> Result<List<Txt>, GradeFault>
     ensures ok { IfOk result (λ paths. IsTrue F.tells → list_judged (F.held files.old list.now) ≡ Ok paths) }
     ensures err { IfErr result (ListStops (over F.Files files.old files.new) list.now) }
+    ensures begun { AddsPrefix (F.begun files.old) (F.begun files.new) (list.now ∷ []) }
+    ensures begun_ok { OnOk result (F.begun files.new ≡ F.begun files.old ++ list.now ∷ []) }
     ensures held { F.held files.new ≡ F.held files.old }
     ensures rises { OnlyRises list.now (F.faults files.old) (F.faults files.new) }
 {

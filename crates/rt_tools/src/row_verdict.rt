@@ -3,6 +3,8 @@ ghost use Rattle.rt_io.specs.Edge.{NoneFell};
 ghost use Rattle.rt_tools.specs.Holds.{IsRowVerdict};
 ghost use Rattle.rt_schema.specs.Given.{places};
 ghost use Rattle.rt_search.specs.Least.{IsSpentBest};
+ghost use Rattle.rt_io.specs.Command.{command};
+ghost use Rattle.rt_input.specs.Begun.{Begins};
 ghost use Rattle.rt_input.specs.Reading.{call, Stop};
 ghost use Rattle.rt_tools.specs.RowVerdicts.{Finds, HoldsIn, IsRowAnswer, Judges};
 ghost use Rattle.rt_tools.specs.Said.{fault_line, row_text};
@@ -115,6 +117,7 @@ pub fn row_answer<F: Files>(
 ) -> Result<RowAnswer, Outcome>
     ensures ok { IfOk result (IsRowAnswer (call F.Files words.now files.old files.new) row.now) }
     ensures err { IfErr result (Stop (call F.Files words.now files.old files.new)) }
+    ensures begun { Begins F.Files (command words.now) files.old files.new }
     ensures held { F.held files.new ≡ F.held files.old }
     ensures rises { NoneFell (F.faults files.old) (F.faults files.new) }
 {

@@ -1,11 +1,14 @@
 ghost use Rattle.std.specs.Prelude.{◌≡◌, ◌⊎◌, IfOk};
 ghost use Rattle.rt_io.specs.Edge.{NoneFell};
 ghost use Rattle.rt_io.specs.Logs.{Broke, Grew, GrewPartly, IsKept, NoSinkRose, WritesNothing, at_place, log, other_place};
+ghost use Rattle.rt_input.specs.Begun.{BeginsFor};
 ghost use Rattle.rt_input.specs.Reading.{Stop, call, limit_of};
 ghost use Rattle.rt_io.specs.Command.{command};
 ghost use Rattle.rt_tools.specs.RowVerdicts.{IsRowAnswer};
 ghost use Rattle.rt_tools.specs.Answers.{Ends, EndsBegun, EndsBroken, EndsWritten, IfNoMemory, IfText, IfWriteFault, SaysGrade, SaysRow, SaysVerdict, WritesTo};
-ghost use Rattle.rt_tools.specs.Judged.{HasRoomFor, IsAsJudged, IsNoFault, IsToldTool, IsUsageOrFault, NoCountRose, refusal_of};
+ghost use Rattle.rt_tools.specs.Begun.{Begins, GradesFor};
+ghost use Rattle.rt_tools.specs.GradeWords.{grade_words};
+ghost use Rattle.rt_tools.specs.Judged.{HasRoomFor, IsAsJudged, IsNoFault, IsToldTool, IsUsageOrFault, NoNamedRose, refusal_of};
 ghost use Rattle.rt_tools.specs.Texts.{place};
 ghost use Rattle.rt_tools.specs.Words.{IsUsage, tool_of};
 ghost use Rattle.rt_tools.specs.declared.outcome.ToolOutcome.{ToolOutcome};
@@ -48,6 +51,7 @@ fn row_tool<F: Files>(
     files: &mut F,
 ) -> Result<ToolAnswer, NoMemory>
     ensures says { IfOk result (λ a. SaysRow (call F.Files words.now files.old files.new) row.now a.outcome a.text) }
+    ensures begun { BeginsFor F.tells (F.held files.old) (command words.now) (F.begun files.old) (F.begun files.new) }
     ensures held { F.held files.new ≡ F.held files.old }
     ensures rises { NoneFell (F.faults files.old) (F.faults files.new) }
 {
@@ -62,6 +66,7 @@ fn row_tool<F: Files>(
 
 fn grade_tool<F: Files>(alloc: Global, words: &[Txt], files: &mut F) -> Result<ToolAnswer, NoMemory>
     ensures says { IfOk result (λ a. SaysGrade (call F.Files words.now files.old files.new) a.outcome a.text) }
+    ensures begun { GradesFor F.tells (F.held files.old) (grade_words words.now) (F.begun files.old) (F.begun files.new) }
     ensures held { F.held files.new ≡ F.held files.old }
     ensures rises { NoneFell (F.faults files.old) (F.faults files.new) }
 {
@@ -83,6 +88,7 @@ fn grade_tool<F: Files>(alloc: Global, words: &[Txt], files: &mut F) -> Result<T
 /// What is to be said of the words of a tool.
 fn prepare<F: Files>(alloc: Global, words: &[Txt], files: &mut F) -> Result<ToolAnswer, NoMemory>
     ensures ends { IfOk result (λ a. Ends (call F.Files words.now files.old files.new) a.outcome a.text) }
+    ensures begun { Begins F.Files (tool_of words.now) files.old files.new }
     ensures held { F.held files.new ≡ F.held files.old }
     ensures rises { NoneFell (F.faults files.old) (F.faults files.new) }
 {
@@ -124,15 +130,18 @@ pub fn tool_run<F: Files, O: Sink, E: Sink>(
     ensures exact { let c = call F.Files words.now files.old files.new in IsToldTool c (tool_of words.now) → IsAsJudged (refusal_of (tool_of words.now) (F.held files.old)) result }
     // The usage text exactly where the words are those of no tool.
     ensures usage_exact { IsUsage (tool_of words.now) → IsUsageOrFault result }
-    // Over files and sinks that don't fail, and without a budget for a row that a search can spend,
-    // the answer comes, or the first refusal.
+    // Where no file that the tool names fails, and no sink, and without a budget for a row that a search
+    // can spend, the answer comes, or the first refusal.
     ensures complete { let c = call F.Files words.now files.old files.new in
-        NoCountRose c → NoSinkRose (log O.Sink out.old out.new) (log E.Sink err.old err.new) → HasRoomFor c (tool_of words.now) → IsNoFault result }
+        NoNamedRose c (tool_of words.now) → NoSinkRose (log O.Sink out.old out.new) (log E.Sink err.old err.new) → HasRoomFor c (tool_of words.now) → IsNoFault result }
     // Only where the sink of an outcome that may come failed in this call.
     ensures write_fault { IfWriteFault result ((allowed : ToolOutcome) × EndsBroken (call F.Files words.now files.old files.new) (log O.Sink out.old out.new) (log E.Sink err.old err.new) allowed) }
     // Want of memory may come anywhere; at most a prefix of such a text was written.
     ensures no_memory { let o = log O.Sink out.old out.new in let e = log E.Sink err.old err.new in
         IfNoMemory result (WritesNothing o e ⊎ ((allowed : ToolOutcome) × EndsBegun (call F.Files words.now files.old files.new) o e allowed)) }
+    // The files that are begun are first ones of those that the tool names, in the order of the reading,
+    // and none stands behind the first refusal.
+    ensures begun { Begins F.Files (tool_of words.now) files.old files.new }
     ensures held { F.held files.new ≡ F.held files.old }
     ensures rises { NoneFell (F.faults files.old) (F.faults files.new) }
 {

@@ -1,9 +1,11 @@
-//! The tests of the commands of the second program but those on algebra texts: one named row, the
+//! The tests of the commands of the second program but those on algebra texts alone: one named row, the
 //! grades of many candidates, and certificates.
 //!
 //! They stand in a crate of their own, since a crate with tests is proved twice.
 #![tactic(auto)]
 
+#[cfg(test)]
+mod calls;
 #[cfg(test)]
 mod cert_changed;
 #[cfg(test)]
@@ -12,6 +14,8 @@ mod cert_held;
 mod cert_refused;
 #[cfg(test)]
 mod cert_written;
+#[cfg(test)]
+mod five;
 #[cfg(test)]
 mod grades;
 #[cfg(test)]

@@ -4,7 +4,8 @@ ghost use Rattle.rt_io.specs.Command.{command};
 ghost use Rattle.rt_input.specs.Judged.{judged};
 ghost use Rattle.rt_input.specs.Accepted.{Accepted};
 ghost use Rattle.rt_io.specs.Logs.{log, NoSinkRose, WritesNothing};
-ghost use Rattle.rt_input.specs.Reading.{call, limit_of, LastBegun, IsTold, IsMadeCall, UsageRow, RefusedRow, LimitRow, ReadFaultRow};
+ghost use Rattle.rt_input.specs.Begun.{Begins};
+ghost use Rattle.rt_input.specs.Reading.{call, limit_of, IsTold, IsMadeCall, UsageRow, RefusedRow, LimitRow, ReadFaultRow};
 ghost use Rattle.rt_top.specs.Answers.{Row, AgreeRow, WitnessRow, SpentRow, HasRoom, IfAgree, IfWitness, IfUsage, IfRefused, IfSpent, IfLimit, IfReadFault, IfWriteFault, IfNoMemory, IfText, YieldsTo, YieldsToWrite, IsVerdictOrMemory, NoFileRose, IsTextOf, Writes, WritesAll, WritesPart, WritesUntilFault};
 ghost use Rattle.rt_input.specs.Steps.{is_memory};
 ghost use Rattle.rt_top.specs.Texts.{refusal_text};
@@ -52,7 +53,7 @@ fn refused(alloc: Global, words: &[Txt], outcome: Outcome) -> Result<Answer, NoM
 fn prepare<F: Files>(alloc: Global, words: &[Txt], files: &mut F) -> Result<Answer, NoMemory>
     ensures row { IfOk result (λ a. Row (call F.Files words.now files.old files.new) a.outcome) }
     ensures says { IfOk result (λ a. IsTextOf (call F.Files words.now files.old files.new) a.outcome a.text) }
-    ensures last { LastBegun F.Files (command words.now) files.old files.new }
+    ensures begun { Begins F.Files (command words.now) files.old files.new }
     ensures made { IsMadeCall (command words.now) → files.new ≡ files.old }
     ensures held { F.held files.new ≡ F.held files.old }
     ensures rises { NoneFell (F.faults files.old) (F.faults files.new) }
@@ -123,8 +124,9 @@ pub fn ratest<F: Files, O: Sink, E: Sink>(
     ensures complete { let c = call F.Files words.now files.old files.new in
         IsTold c → NoFileRose c → NoSinkRose (log O.Sink out.old out.new) (log E.Sink err.old err.new)
         → (input : Accepted) → judged words.now (F.held files.old) ≡ Ok input → HasRoom input → IsVerdictOrMemory result }
-    // The file that is begun last is one that the reading comes to: none is begun after a refusal.
-    ensures last { LastBegun F.Files (command words.now) files.old files.new }
+    // The files that are begun are first ones of those that the command names, in the order of the
+    // reading, and none stands behind the first refusal.
+    ensures begun { Begins F.Files (command words.now) files.old files.new }
     // A generated input begins no file.
     ensures made { IsMadeCall (command words.now) → files.new ≡ files.old }
     ensures held { F.held files.new ≡ F.held files.old }

@@ -53,27 +53,39 @@ fn ends_with_room(rt: &impl Abort, alloc: Global, room: usize, wanted: u8) -> bo
         && err.bytes().is_empty()
 }
 
-/// Whether a refusal is cut off where its sink takes four bytes.
-fn is_refusal_cut(rt: &impl Abort, alloc: Global) -> bool {
-    let mut files = school(rt, alloc, "SELECT");
+const REFUSAL: &str = "ratest: query 1: unknown table: y\n";
+
+/// The same of a refusal.
+fn is_refused_with_room(rt: &impl Abort, alloc: Global, room: usize, wanted: u8) -> bool {
+    let mut files = school(rt, alloc, "SELECT x FROM y");
     let command = words(alloc, &FOUR).expect(rt, "memory");
     let (mut out, mut err) = (MemSink::new(alloc), MemSink::new(alloc));
-    err.room(4);
+    err.room(room);
     let outcome = ratest(alloc, command.as_slice(), &mut files, &mut out, &mut err);
     drop(command);
     drop(files);
     let status = status_of(outcome);
-    status == 6 && out.bytes().is_empty() && err.bytes() == b"rate".as_slice()
+    let held = err.bytes();
+    status == wanted
+        && held.len() == room
+        && REFUSAL.as_bytes().starts_with(held)
+        && out.bytes().is_empty()
 }
 
 #[test]
 fn pieces_and_full_sinks(rt: HostRuntime) {
     assert!(rt; is_answered_bytewise(&rt, rt.alloc()));
-    assert!(rt; is_refusal_cut(&rt, rt.alloc()));
     for room in 0..143usize {
         assert!(rt; ends_with_room(&rt, rt.alloc(), room, 6), "{room} bytes");
     }
     assert!(rt; ends_with_room(&rt, rt.alloc(), 143, 1));
+    for room in 0..34usize {
+        assert!(rt;
+            is_refused_with_room(&rt, rt.alloc(), room, 6),
+            "{room} bytes"
+        );
+    }
+    assert!(rt; is_refused_with_room(&rt, rt.alloc(), 34, 3));
 }
 
 /// Whether the row ends so over these files, which are let go of here.
@@ -90,10 +102,18 @@ fn all_end(
     found
 }
 
-/// Whether the part is named where a read of its file fails or, at the read 0, where it can't be begun.
-fn is_named(rt: &impl Abort, alloc: Global, name: &str, part: &str, read: u64) -> bool {
+/// Whether the part is named where a read of so many bytes of its file fails or, at the read 0, where it
+/// can't be begun.
+fn is_named(
+    rt: &impl Abort,
+    alloc: Global,
+    name: &str,
+    part: &str,
+    piece: usize,
+    read: u64,
+) -> bool {
     let mut files = school(rt, alloc, ONE);
-    files.piece(7);
+    files.piece(piece.max(1));
     if read == 0 {
         files.fail_begin(name).expect(rt, "memory");
     } else {
@@ -140,10 +160,28 @@ fn files_that_fail(rt: HostRuntime) {
     for (name, part) in &PARTS {
         for read in 0..4u64 {
             assert!(rt;
-                is_named(&rt, rt.alloc(), name, part, read),
+                is_named(&rt, rt.alloc(), name, part, 7, read),
                 "{part}, read {read}"
             );
         }
+    }
+}
+
+/// Whether each read fails, a byte at a time: one for each byte of the text, and one for its end.
+fn all_are_named(rt: &impl Abort, alloc: Global, name: &str, part: &str, text: &str) -> bool {
+    for read in 1..=text.len() as u64 + 1 {
+        if !is_named(rt, alloc, name, part, 1, read) {
+            return false;
+        }
+    }
+    true
+}
+
+#[test]
+fn bytes_that_fail(rt: HostRuntime) {
+    let texts = &[SCHOOL, STUDENT.1, REG.1, ONE, SOME];
+    for ((name, part), text) in PARTS.iter().zip(texts.iter()) {
+        assert!(rt; all_are_named(&rt, rt.alloc(), name, part, text), "{part}");
     }
 }
 

@@ -1,10 +1,13 @@
 //! The parts of a command that other commands stand on, each called by itself.
-use rt_cases::{SCHEMA, TABLE, files, words};
+use rt_cases::{ALL, SCHEMA, TABLE, files, words};
 use rt_input::{
-    Fault, Outcome, Part, Tables, fault_text, read_tables, read_text, read_words, refusal_line,
+    Fault, First, Limit, Outcome, Part, Tables, fault_text, query_of, read_first, read_tables,
+    read_text, read_words, refusal_line, stopped_text,
 };
+use rt_io::{MemSink, Place, Words, write_at};
 use rt_load::LoadFault;
 use rt_resolve::NameFault;
+use rt_schema::Schema;
 use rt_value::{Bytes, Txt};
 use std::alloc::Global;
 use std::process::Abort;
@@ -123,4 +126,83 @@ fn texts_of_faults(rt: HostRuntime) {
     assert!(rt; is_said(&rt, alloc, Fault::Name(NameFault::NoMemory), ""));
     let usage = refusal_line(alloc, &Outcome::Usage, 1).expect(&rt, "memory");
     assert!(rt; usage.is_empty());
+}
+
+/// Whether a query's text is refused for an unknown column, over a schema.
+fn is_column_unknown(alloc: Global, schema: &Schema, text: &str) -> bool {
+    match query_of(alloc, Part::Query2, schema, text.as_bytes()) {
+        Ok(query) => {
+            drop(query);
+            false
+        }
+        Err(outcome) => {
+            let found = matches!(
+                &outcome,
+                Outcome::Refused(Part::Query2, Fault::Name(NameFault::UnknownColumn(_)))
+            );
+            drop(outcome);
+            found
+        }
+    }
+}
+
+fn first_is_read(alloc: Global, read: Result<First, Outcome>) -> bool {
+    match read {
+        Ok(first) => {
+            let found = first.given.total() == 3
+                && !is_column_unknown(alloc, &first.schema, ALL)
+                && is_column_unknown(alloc, &first.schema, "SELECT c FROM t");
+            drop(first);
+            found
+        }
+        Err(outcome) => {
+            drop(outcome);
+            false
+        }
+    }
+}
+
+/// The second query's file is not there.
+fn first_of_words(rt: &impl Abort, alloc: Global, words: &Words) -> bool {
+    let mut held = files(alloc, SCHEMA, &[TABLE], ALL, "").expect(rt, "memory");
+    let read = read_first(alloc, words, &mut held);
+    drop(held);
+    first_is_read(alloc, read)
+}
+
+#[test]
+fn what_comes_before_a_second_query(rt: HostRuntime) {
+    let alloc = rt.alloc();
+    let command = words(alloc, &["s", "d", "p", "x"]).expect(&rt, "memory");
+    let read = rt_io::read_words(alloc, command.as_slice());
+    drop(command);
+    let words = read.expect(&rt, "words");
+    assert!(rt; first_of_words(&rt, alloc, &words));
+    drop(words);
+}
+
+fn is_stopped(rt: &impl Abort, alloc: Global, outcome: Outcome, wanted: &str) -> bool {
+    let command = words(alloc, &["made", "3", "--work=5"]).expect(rt, "memory");
+    let text = stopped_text(alloc, "usage\n", command.as_slice(), &outcome).expect(rt, "memory");
+    drop(command);
+    drop(outcome);
+    let found = text.as_slice() == wanted.as_bytes();
+    drop(text);
+    found
+}
+
+#[test]
+fn texts_of_what_stops(rt: HostRuntime) {
+    let alloc = rt.alloc();
+    let past = "ratest: limit: work 7 is above 5\n";
+    assert!(rt; is_stopped(&rt, alloc, Outcome::Limit(Limit::Work(7)), past));
+    assert!(rt; is_stopped(&rt, alloc, Outcome::Usage, "usage\n"));
+}
+
+#[test]
+fn one_of_two_sinks(rt: HostRuntime) {
+    let (mut out, mut err) = (MemSink::new(rt.alloc()), MemSink::new(rt.alloc()));
+    write_at(&mut out, &mut err, Place::Err, b"no".as_slice()).expect(&rt, "memory");
+    write_at(&mut out, &mut err, Place::Out, b"yes".as_slice()).expect(&rt, "memory");
+    assert!(rt; out.bytes() == b"yes".as_slice() && err.bytes() == b"no".as_slice());
 }

@@ -1,6 +1,7 @@
 //! The refusals, one line each, in memory.
 use rt_cases::{ABC, ALL, FOUR, ONES, REG, SCHEMA, SCHOOL, STUDENT, TABLE, ends, files};
 use std::alloc::Global;
+use std::fmt::Write;
 use std::process::Abort;
 
 /// A table with 65 columns.
@@ -76,6 +77,60 @@ fn schemas(rt: HostRuntime) {
             "{line}"
         );
     }
+}
+
+/// A foreign key whose type differs, and one of an unknown table.
+const TYPES: &str = "CREATE TABLE u (x TEXT PRIMARY KEY); CREATE TABLE r (a INTEGER REFERENCES u);";
+
+const UNKNOWN: &str = "CREATE TABLE w (a INTEGER REFERENCES v);";
+
+/// Whether a schema of these texts, one behind the other, is refused so.
+fn is_schema_refused(
+    rt: &impl Abort,
+    alloc: Global,
+    texts: [&str; 3],
+    refusal: (u8, &str),
+) -> bool {
+    let [first, second, third] = texts;
+    let schema = format!(in alloc; "{first} {second} {third}").expect(rt, "memory");
+    let found = is_refused(rt, alloc, schema.as_str(), &[TABLE], [ALL, ALL], refusal);
+    drop(schema);
+    found
+}
+
+/// Unknown names come before key types, and those before what is too many, wherever each stands.
+#[test]
+fn faults_in_their_order(rt: HostRuntime) {
+    let unknown = (3, "schema: unknown name: v");
+    assert!(rt; is_schema_refused(&rt, rt.alloc(), [TYPES, UNKNOWN, ""], unknown));
+    assert!(rt; is_schema_refused(&rt, rt.alloc(), [WIDE, ";", UNKNOWN], unknown));
+    let types = (3, "schema: foreign key of r does not match");
+    assert!(rt; is_schema_refused(&rt, rt.alloc(), [WIDE, ";", TYPES], types));
+}
+
+/// A schema of so many tables.
+fn many_tables(rt: &impl Abort, alloc: Global, count: usize) -> String {
+    let mut schema = String::new(alloc);
+    for n in 1..=count {
+        write!(schema, "CREATE TABLE t{n} (a INTEGER);").expect(rt, "memory");
+    }
+    schema
+}
+
+/// Whether a schema of so many tables is refused so.
+fn are_refused(rt: &impl Abort, alloc: Global, count: usize, refusal: (u8, &str)) -> bool {
+    let schema = many_tables(rt, alloc, count);
+    let found = is_refused(rt, alloc, schema.as_str(), &[], [ALL, ALL], refusal);
+    drop(schema);
+    found
+}
+
+/// The 65th table is one too many; of 64 the first file is looked for.
+#[test]
+fn number_of_tables(rt: HostRuntime) {
+    let many = (5, "limit: more than 64 tables");
+    assert!(rt; are_refused(&rt, rt.alloc(), 65, many));
+    assert!(rt; are_refused(&rt, rt.alloc(), 64, (6, "cannot read table t1")));
 }
 
 /// A table is refused before the first query, which is none.

@@ -1,7 +1,7 @@
 //! Of several smallest witnesses the first in the order of rows is printed.
 use super::worked::all_end;
 use super::{files_end, numbers};
-use rt_cases::{ALL, FOUR, LOOSE, REG, SCHEMA, STUDENT, TABLE, files, words};
+use rt_cases::{ALL, LOOSE, REG, SCHEMA, STUDENT, TABLE, files, words};
 use rt_input::Outcome;
 use rt_io::{MemFiles, MemSink};
 use rt_top::ratest;
@@ -94,16 +94,46 @@ fn first_of_the_generated(rt: HostRuntime) {
     }
 }
 
-/// Each row is joined with itself; of the thousand smallest witnesses the first row is printed.
-#[test]
-fn first_of_a_thousand(rt: HostRuntime) {
-    let alloc = rt.alloc();
+/// Whether these words end so over two tables of a thousand rows, each row joined with itself.
+fn thousand_ends(
+    rt: &impl Abort,
+    alloc: Global,
+    command: &[&str],
+    status: u8,
+    out: &str,
+    err: &str,
+) -> bool {
     let schema = "CREATE TABLE x (a INTEGER); CREATE TABLE y (a INTEGER);";
     let (left, right) = ("SELECT x.a FROM x, y WHERE x.a = y.a", "SELECT a FROM x");
-    let rows = numbers(&rt, alloc, "a", 1000);
+    let rows = numbers(rt, alloc, "a", 1000);
     let tables = [("d/x.csv", rows.as_str()), ("d/y.csv", rows.as_str())];
-    let files = files(alloc, schema, &tables, left, right).expect(&rt, "memory");
+    let files = files(alloc, schema, &tables, left, right).expect(rt, "memory");
     drop(rows);
-    let out = "witness: 1\nx 1: 1\nonly query 1: 0\nonly query 2: 1\n  1\nboth: 0\n";
-    assert!(rt; files_end(&rt, alloc, files, &FOUR, 1, out, ""));
+    files_end(rt, alloc, files, command, status, out, err)
+}
+
+const OF_A_THOUSAND: [(&[&str], u8, &str, &str); 2] = [
+    (
+        &["s", "d", "p", "q", "--work=5004000"],
+        1,
+        "witness: 1\nx 1: 1\nonly query 1: 0\nonly query 2: 1\n  1\nboth: 0\n",
+        "",
+    ),
+    (
+        &["s", "d", "p", "q", "--work=5003999"],
+        5,
+        "",
+        "ratest: limit: work 5004000 is above 5003999\n",
+    ),
+];
+
+/// Of the thousand smallest witnesses the first row is printed; the work is 5,004,000.
+#[test]
+fn first_of_a_thousand(rt: HostRuntime) {
+    for (command, status, out, err) in &OF_A_THOUSAND {
+        assert!(rt;
+            thousand_ends(&rt, rt.alloc(), command, *status, out, err),
+            "{command:?}"
+        );
+    }
 }

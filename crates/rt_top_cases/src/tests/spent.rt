@@ -4,7 +4,7 @@ use super::worked::{MEET, MEETS};
 use rt_cases::{ABC, MARY, ONE, ONES, REG, SCHOOL, SOME, STUDENT, TWOS, files, words};
 use rt_input::{Input, Outcome, read_input};
 use rt_io::MemSink;
-use rt_top::{Best, decide, ratest};
+use rt_top::{Best, decide, given_up, ratest, verdict};
 use std::alloc::Global;
 use std::process::Abort;
 
@@ -64,6 +64,50 @@ fn is_told_spent(rt: &impl Abort, alloc: Global) -> bool {
     };
     drop(outcome);
     found
+}
+
+/// What a spent budget of one clause says of an input, and of the outcome whether it has a choice.
+fn is_given_up(rt: &impl Abort, alloc: Global, input: &Input) -> bool {
+    let (Best::Spent(found), Some(budget)) = (
+        decide(alloc, input).expect(rt, "memory"),
+        input.conflicts(),
+    ) else {
+        return false;
+    };
+    let told = given_up(alloc, input, budget, found).expect(rt, "memory");
+    let is_said = told.text.as_slice() == b"undecided: 1 conflicts\n".as_slice()
+        && told.spent.best.is_none();
+    drop(told);
+    is_said
+}
+
+/// Whether the verdict on an input, by itself, says the same.
+fn is_verdict(rt: &impl Abort, alloc: Global, input: &Input) -> bool {
+    let answer = verdict(alloc, input).expect(rt, "memory");
+    let found = matches!(answer.outcome, Outcome::Spent(_))
+        && answer.text.as_slice() == b"undecided: 1 conflicts\n".as_slice();
+    drop(answer);
+    found
+}
+
+fn are_told(rt: &impl Abort, alloc: Global, read: Result<Input, Outcome>) -> bool {
+    match read {
+        Ok(input) => {
+            let found = is_given_up(rt, alloc, &input) && is_verdict(rt, alloc, &input);
+            drop(input);
+            found
+        }
+        Err(outcome) => {
+            drop(outcome);
+            false
+        }
+    }
+}
+
+#[test]
+fn verdicts_by_themselves(rt: HostRuntime) {
+    let read = read(&rt, rt.alloc());
+    assert!(rt; are_told(&rt, rt.alloc(), read));
 }
 
 #[test]

@@ -4,7 +4,7 @@ use Rattle.rt_input.specs.Accepted.{Accepted}
 use Rattle.rt_input.specs.Judged.{Reaches, input_judged, within_limit}
 use Rattle.rt_input.specs.Source.{IsKnown}
 use Rattle.rt_input.specs.Steps.{Refuses, Stops, seen}
-use Rattle.rt_input.proofs.LastLemmas.{right_last}
+use Rattle.rt_input.proofs.BegunLemmas.{input_begun, right_begun, right_stops as first_stops_begun, when_ok}
 use Rattle.rt_input.proofs.StepLemmas.{first_stops, if_err, judged_all, right_stops, stops_refused}
 use Rattle.rt_input.proofs.RowLemmas.{if_ok}
 use Rattle.rt_input.proofs.read.read_source.Goals as goal
@@ -43,10 +43,9 @@ returns-in-Ok-clause-err g c =
     (c.in_ok-first.ensures.ok t) (c.in-Ok.ensures.ok t) ∙ ap within_limit (sym c.input_of.ensures.same) ∙ err) refuses)
     c.within_limit.ensures.err
 
-pub returns-in-Ok-clause-last : goal.returns-in-Ok-clause-last
-returns-in-Ok-clause-last g c =
-    right_last g.F.Files.tells (g.F.Files.current c.args.files.now) (g.F.Files.current c.first_of.new.files) (g.F.Files.current c.read_right.new.files)
-    c.args.source.now (g.F.Files.held c.args.files.now) c.in_ok-first.first c.in_ok-first.ensures.ok c.in_ok-first.ensures.last c.in-Ok.ensures.last
+pub returns-in-Ok-clause-begun : goal.returns-in-Ok-clause-begun
+returns-in-Ok-clause-begun g c =
+    right_begun g.F.Files.tells c.args.source.now (g.F.Files.held c.args.files.now) _ _ _ c.in_ok-first.first c.in_ok-first.ensures.ok c.in_ok-first.ensures.begun_ok c.read_right.ensures.begun
 
 pub returns-in-Err-clause-err : goal.returns-in-Err-clause-err
 returns-in-Err-clause-err g c =
@@ -56,7 +55,14 @@ returns-in-Err-clause-err g c =
     right_stops g.F.Files.tells (g.F.Files.held start) (g.F.Files.held mid) (g.F.Files.faults start) (g.F.Files.faults mid) (g.F.Files.faults end) (g.F.Files.current end) (g.F.Files.taken end)
     c.args.source.now c.args.words.now c.in_ok-first.first c.in-Err.outcome c.requires c.in_ok-first.ensures.held c.in_ok-first.ensures.rises c.in_ok-first.ensures.ok c.in-Err.ensures.err
 
-pub returns-in-Err-clause-last : goal.returns-in-Err-clause-last
-returns-in-Err-clause-last g c =
-    right_last g.F.Files.tells (g.F.Files.current c.args.files.now) (g.F.Files.current c.first_of.new.files) (g.F.Files.current c.read_right.new.files)
-    c.args.source.now (g.F.Files.held c.args.files.now) c.in_ok-first.first c.in_ok-first.ensures.ok c.in_ok-first.ensures.last c.in-Err.ensures.last
+pub returns-in-Err-clause-begun : goal.returns-in-Err-clause-begun
+returns-in-Err-clause-begun g c =
+    right_begun g.F.Files.tells c.args.source.now (g.F.Files.held c.args.files.now) _ _ _ c.in_ok-first.first c.in_ok-first.ensures.ok c.in_ok-first.ensures.begun_ok c.read_right.ensures.begun
+
+pub returns-in_err-first-clause-begun : goal.returns-in_err-first-clause-begun
+returns-in_err-first-clause-begun g c =
+    first_stops_begun g.F.Files.tells c.args.source.now (g.F.Files.held c.args.files.now) (g.F.Files.begun c.args.files.now) (g.F.Files.begun c.args.files.now) _ c.first_of.ensures.begun
+
+pub returns-in-Ok-clause-begun_ok : goal.returns-in-Ok-clause-begun_ok
+returns-in-Ok-clause-begun_ok g c = when_ok c.within_limit.result
+    (input_begun g.F.Files.tells c.args.source.now (g.F.Files.held c.args.files.now) _ _ _ c.in_ok-first.first c.in_ok-first.ensures.ok c.in_ok-first.ensures.begun_ok c.in-Ok.ensures.begun_ok)

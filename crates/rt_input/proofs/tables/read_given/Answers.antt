@@ -1,4 +1,4 @@
-use Rattle.std.proofs.Common.{◌≡◌, ◌<◌, ℕ, Bool, take, arith, ◌∙◌, sym, ap, refl, subst, Ok, Result, List, length, get_or}
+use Rattle.std.proofs.Common.{◌≡◌, ◌<◌, ℕ, Bool, take, arith, ◌∙◌, sym, ap, refl, subst, Ok, Result, List, ◌++◌, append-nil, length, get_or}
 use Rattle.std.specs.Prelude.{Option, Some, IsOk, slice_get}
 use Rattle.std.specs.Option.{option_map}
 use Rattle.std.proofs.lemmas.Option.{slice_get-get_or}
@@ -12,8 +12,8 @@ use Rattle.rt_input.specs.Judged.{IsTableReached, no_rows, table_judged, tables_
 use Rattle.rt_input.specs.Held.{Holding}
 use Rattle.rt_input.specs.declared.source.Source.{Source}
 use Rattle.rt_input.specs.Source.{IsKnown}
-use Rattle.rt_input.specs.Steps.{LastIs}
-use Rattle.rt_input.proofs.LastLemmas.{last_on, last_same, last_then}
+use Rattle.rt_io.proofs.AddLemmas.{all_then}
+use Rattle.rt_input.proofs.BegunLemmas.{files-from, files-more, reached-from, table_begun, when_err}
 use Rattle.rt_input.proofs.StepLemmas.{stops_on}
 use Rattle.rt_input.proofs.TableLemmas.{no_rows-at, rows_at-set_other, tables_judged-more, tables_judged-stops}
 use Rattle.rt_input.proofs.tables.read_given.Goals as goal
@@ -24,7 +24,7 @@ tables-init g c = record {
   empty = λ k h. rw c.in_ok-given.ensures.no_rows (no_rows-at (length c.args.schema.now) k);
   few = rw c.in_ok-given.ensures.no_rows (omega (arith, no_rows-places (length c.args.schema.now)));
   told = λ t. ap Ok (sym c.in_ok-given.ensures.no_rows);
-  last = last_same g.F.Files.tells (g.F.Files.current c.args.files.now) c.args.source.now (IsTableReached c.args.source.now (g.F.Files.held c.args.files.now) c.args.schema.now);
+  begun = sym (append-nil (g.F.Files.begun c.args.files.now));
   made = λ m. refl;
   held = refl;
   rises = λ name. omega arith;
@@ -59,28 +59,28 @@ returns-in_err-read_table-clause-err g c =
     ))
     c.in_err-read_table.ensures.err)
 
--- a table's file is begun where the reading comes to it
-begun : (tells : Bool) (source : Source) (held : Holding) (schema : List Table) (at : ℕ) (table : Table) (tables : Tables) (before mid after : Option (List ℕ))
-    → at < length schema → table ≡ get_or schema at table → (IsKnown tells source → tables_judged source held 0 (no_rows schema) (take at schema) ≡ Ok tables)
-    → LastIs tells before mid source (IsTableReached source held schema) → LastIs tells mid after source (λ q. q ≡ part.Table at table.name)
-    → LastIs tells before after source (IsTableReached source held schema)
-begun tells source held schema at table tables before mid after within is told first last =
-    last_then tells before mid after source (IsTableReached source held schema) first
-    (last_on tells mid after source (λ q. q ≡ part.Table at table.name) (IsTableReached source held schema)
-    (λ t q named. subst (IsTableReached source held schema) (sym named) (
-      ap (option_map (λ x. x.name)) (slice_get-get_or schema at table within ∙ ap Some (sym is)),
-      subst (λ (r : Result Tables Outcome). IsOk r) (sym (told t)) refl,
-    )) last)
-
-pub returns-in_err-read_table-clause-last : goal.returns-in_err-read_table-clause-last
-returns-in_err-read_table-clause-last g c =
+pub returns-in_err-read_table-clause-begun : goal.returns-in_err-read_table-clause-begun
+returns-in_err-read_table-clause-begun g c =
     let schema = c.args.schema.now in
     let table = c.table-item.result in
     let at = c.tables.at in
     let within : at < length schema = subst (λ (ts : List Table). at < length ts) c.tables-table-items.ensures.same c.tables-test.true in
     let is : table ≡ get_or schema at table = subst (λ (ts : List Table). table ≡ get_or ts at table) c.tables-table-items.ensures.same c.table-item.is in
-    begun g.F.Files.tells c.args.source.now (g.F.Files.held c.args.files.now) schema at table c.tables.given.tables (g.F.Files.current c.args.files.now)
-    (g.F.Files.current c.tables.files) (g.F.Files.current c.read_table.new.files) within is c.tables.invariant.told c.tables.invariant.last c.in_err-read_table.ensures.last
+    when_err c.from_residual-in_err-read_table.result
+    (table_begun (g.F.Files.begun c.args.files.now) (g.F.Files.begun c.tables.files) (g.F.Files.begun c.read_table.new.files) _ _ _ _
+    (files-from c.args.source.now schema at table within is) c.tables.invariant.begun c.read_table.ensures.begun)
+
+pub returns-in_err-read_table-clause-reached : goal.returns-in_err-read_table-clause-reached
+returns-in_err-read_table-clause-reached g c =
+    let schema = c.args.schema.now in
+    let table = c.table-item.result in
+    let at = c.tables.at in
+    let within : at < length schema = subst (λ (ts : List Table). at < length ts) c.tables-table-items.ensures.same c.tables-test.true in
+    let is : table ≡ get_or schema at table = subst (λ (ts : List Table). table ≡ get_or ts at table) c.tables-table-items.ensures.same c.table-item.is in
+    when_err c.from_residual-in_err-read_table.result (λ t.
+    table_begun (g.F.Files.begun c.args.files.now) (g.F.Files.begun c.tables.files) (g.F.Files.begun c.read_table.new.files) _ _ _ _
+    (reached-from c.args.source.now schema at table within is (g.F.Files.held c.args.files.now) (no_rows schema) c.tables.given.tables (c.tables.invariant.told t))
+    c.tables.invariant.begun c.read_table.ensures.begun)
 
 pub tables-preserved : goal.tables-preserved
 tables-preserved g c =
@@ -100,8 +100,7 @@ tables-preserved g c =
       told = λ t. tables_judged-more source held (no_rows schema) schema at c.tables.given.tables table rows within is (c.tables.invariant.told t)
           (ap (λ h. table_judged source h at table (places c.tables.given.tables)) (sym c.tables.invariant.held) ∙ c.in_ok-read_table.ensures.ok t)
           ∙ ap Ok (sym c.in_ok-read_table.ensures.tables);
-      last = begun g.F.Files.tells source held schema at table c.tables.given.tables (g.F.Files.current c.args.files.now) (g.F.Files.current c.tables.files)
-          (g.F.Files.current c.read_table.new.files) within is c.tables.invariant.told c.tables.invariant.last c.in_ok-read_table.ensures.last;
+      begun = all_then _ _ _ _ _ c.tables.invariant.begun c.in_ok-read_table.ensures.begun_ok ∙ ap (λ fs. g.F.Files.begun c.args.files.now ++ fs) (sym (files-more source schema at table within is));
       made = λ m. c.in_ok-read_table.ensures.made m ∙ c.tables.invariant.made m;
       held = c.in_ok-read_table.ensures.held ∙ c.tables.invariant.held;
       rises = λ name. let a = c.tables.invariant.rises name in let b = c.in_ok-read_table.ensures.rises name in omega (arith, a, b);

@@ -1,9 +1,9 @@
-use Rattle.std.proofs.Common.{◌≡◌, ◌≤◌, ℕ, take, Ok, length}
+use Rattle.std.proofs.Common.{◌≡◌, ◌≤◌, ◌++◌, ℕ, take, Ok, length}
 use Rattle.rt_io.specs.Edge.{NoneFell}
 use Rattle.rt_schema.specs.Given.{IsOf, places, rows_at, row_limit}
-use Rattle.rt_input.specs.Judged.{IsTableReached, no_rows, tables_judged}
+use Rattle.rt_input.specs.Begun.{table_files}
+use Rattle.rt_input.specs.Judged.{no_rows, tables_judged}
 use Rattle.rt_input.specs.Source.{IsKnown, IsMade}
-use Rattle.rt_input.specs.Steps.{BeginsOnly}
 use Rattle.rt_input.proofs.tables.read_given.Given as goal
 
 abbrev pub invariant-tables : goal.invariant-tables
@@ -12,7 +12,7 @@ invariant-tables g l = record {
   empty : (k : ℕ) → l.at ≤ k → length (rows_at l.given.tables k) ≡ 0;
   few : places l.given.tables ≤ row_limit;
   told : IsKnown g.F.Files.tells l.source → tables_judged l.source (g.F.Files.held l.fn.files) 0 (no_rows l.schema) (take l.at l.schema) ≡ Ok l.given.tables;
-  last : BeginsOnly g.F.Files l.fn.files l.files l.source (IsTableReached l.source (g.F.Files.held l.fn.files) l.schema);
+  begun : g.F.Files.begun l.files ≡ g.F.Files.begun l.fn.files ++ table_files l.source 0 (take l.at l.schema);
   made : IsMade l.source → l.files ≡ l.fn.files;
   held : g.F.Files.held l.files ≡ g.F.Files.held l.fn.files;
   rises : NoneFell (g.F.Files.faults l.fn.files) (g.F.Files.faults l.files);

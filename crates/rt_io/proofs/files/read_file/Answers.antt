@@ -1,7 +1,8 @@
 use Rattle.std.proofs.Common.{◌≡◌, ◌≢◌, ◌+◌, ◌-◌, ◌^◌, min, take, append_assoc, append-nil, ◌<◌, ◌≤◌, ◌++◌, ℕ, List, [], Err, IsErrOf, length, sym, ap, ◌∙◌, arith}
 use Rattle.std.proofs.lemmas.List.{length-append, length-take, take-append-le}
 use Rattle.rt_io.specs.declared.files.ReadFail.TheVariants.{Failed, TooLong, NoMemory}
-use Rattle.rt_io.proofs.EdgeLemmas.{never, on_ok, at_name, is_name, no_name, rose_since, rises_on, longer}
+use Rattle.rt_io.proofs.AddLemmas.{adds_all}
+use Rattle.rt_io.proofs.EdgeLemmas.{never, on_ok, at_name, rose_since, rises_on, longer}
 use Rattle.rt_io.proofs.files.read_file.Goals as goal
 
 failed_not_long : {T X : Type 0} → IsErrOf {T = T} (Err Failed) TooLong → X
@@ -29,7 +30,10 @@ returns-in-Err-Failed g c = record {
   failed_within = λ _. none_within _ _ c.begin.ensures.taken;
   too_long = failed_not_long;
   too_long_current = failed_not_long;
-  current = no_name _ _ c.in-Err-Failed.ensures.err;
+  begun = c.begin.ensures.begun;
+  begun_ok = tt;
+  begun_failed = λ _. c.in-Err-Failed.ensures.begun_failed (ap Err c.in-Err-Failed.field-0-is);
+  begun_long = failed_not_long;
   longer = failed_not_long;
   has = c.begin.ensures.has;
   held = c.begin.ensures.held;
@@ -47,7 +51,10 @@ returns-in-Err-NoMemory g c = record {
   failed_within = memory_not_failed;
   too_long = memory_not_long;
   too_long_current = memory_not_long;
-  current = no_name _ _ c.in-Err-NoMemory.ensures.err;
+  begun = c.begin.ensures.begun;
+  begun_ok = tt;
+  begun_failed = memory_not_failed;
+  begun_long = memory_not_long;
   longer = memory_not_long;
   has = c.begin.ensures.has;
   held = c.begin.ensures.held;
@@ -64,6 +71,7 @@ empty_within bytes max empty = omega (arith, ap length empty)
 pub reads-init : goal.reads-init
 reads-init g c = record {
   current = c.in-Ok.ensures.current;
+  begun = c.in-Ok.ensures.begun_ok;
   told = λ tells. empty_told _ _ _ (c.in-Ok.ensures.start tells) c.new-bytes.ensures;
   there = c.in-Ok.ensures.there;
   taken = c.begin.ensures.taken ∙ sym (ap length c.new-bytes.ensures);
@@ -87,7 +95,10 @@ returns-in-Err g c = record {
   failed_within = λ _. still_within _ _ _ _ _ c.len.ensures c.reads-test.true c.in-Err.ensures.err_taken c.reads.invariant.taken;
   too_long = failed_not_long;
   too_long_current = failed_not_long;
-  current = is_name _ _ (c.read.ensures.current ∙ c.reads.invariant.current);
+  begun = adds_all _ _ _ (c.read.ensures.begun ∙ c.reads.invariant.begun);
+  begun_ok = tt;
+  begun_failed = λ _. c.read.ensures.begun ∙ c.reads.invariant.begun;
+  begun_long = failed_not_long;
   longer = failed_not_long;
   has = c.read.ensures.has ∙ c.reads.invariant.has;
   held = c.read.ensures.held ∙ c.reads.invariant.held;
@@ -114,7 +125,10 @@ returns-then-n-eq0 g c = record {
   failed_within = never _ _;
   too_long = never _ _;
   too_long_current = never _ _;
-  current = is_name _ _ (c.read.ensures.current ∙ c.reads.invariant.current);
+  begun = adds_all _ _ _ (c.read.ensures.begun ∙ c.reads.invariant.begun);
+  begun_ok = c.read.ensures.begun ∙ c.reads.invariant.begun;
+  begun_failed = never _ _;
+  begun_long = never _ _;
   longer = never _ _;
   has = c.read.ensures.has ∙ c.reads.invariant.has;
   held = c.read.ensures.held ∙ c.reads.invariant.held;
@@ -132,7 +146,10 @@ returns-then-is_err g c = record {
   failed_within = memory_not_failed;
   too_long = memory_not_long;
   too_long_current = memory_not_long;
-  current = is_name _ _ (c.read.ensures.current ∙ c.reads.invariant.current);
+  begun = adds_all _ _ _ (c.read.ensures.begun ∙ c.reads.invariant.begun);
+  begun_ok = tt;
+  begun_failed = memory_not_failed;
+  begun_long = memory_not_long;
   longer = memory_not_long;
   has = c.read.ensures.has ∙ c.reads.invariant.has;
   held = c.read.ensures.held ∙ c.reads.invariant.held;
@@ -153,6 +170,7 @@ more_taken taken old n max bytes new bound is was long within = omega arith
 pub reads-preserved : goal.reads-preserved
 reads-preserved g c = let grown = on_ok c.extend.result _ c.is_err.ensures.value c.if-is_err.false c.extend.ensures.ok in let long = longer_by _ _ _ _ _ c.in-Ok-read.ensures.bound grown in let within : length c.extend.new.self ≤ c.args.max + 1 = omega (arith, c.in-Ok-read.ensures.bound, length-take c.min-want.result c.reads.buf) in record {
   current = c.read.ensures.current ∙ c.reads.invariant.current;
+  begun = c.read.ensures.begun ∙ c.reads.invariant.begun;
   told = λ tells. more_told _ _ _ _ _ _ _ _ (c.reads.invariant.told tells) (c.in-Ok-read.ensures.next tells) c.in-Ok-read.ensures.bound grown;
   there = c.reads.invariant.there;
   taken = more_taken _ _ _ _ _ _ c.requires c.in-Ok-read.ensures.taken c.reads.invariant.taken long within;
@@ -185,7 +203,10 @@ returns g c = record {
   failed_within = long_not_failed;
   too_long = λ _. one_above _ _ _ _ c.len.ensures c.reads-test.false c.reads.invariant.taken c.reads.invariant.within;
   too_long_current = λ _. c.reads.invariant.current;
-  current = is_name _ _ c.reads.invariant.current;
+  begun = adds_all _ _ _ c.reads.invariant.begun;
+  begun_ok = tt;
+  begun_failed = long_not_failed;
+  begun_long = λ _. c.reads.invariant.begun;
   longer = λ _ tells. longer _ _ _ _ (above _ _ _ c.len.ensures c.reads-test.false) (c.reads.invariant.told tells);
   has = c.reads.invariant.has;
   held = c.reads.invariant.held;

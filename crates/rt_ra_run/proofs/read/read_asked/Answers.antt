@@ -1,6 +1,7 @@
 use Rattle.std.proofs.lemmas.Result.{err_from_is_err_and}
 use Rattle.rt_input.specs.Steps.{seen}
 use Rattle.rt_ra_run.specs.Judged.{Reaches, data_in, data_judged, queries_judged}
+use Rattle.rt_ra_run.proofs.BegunLemmas.{data_begun, queries_begun}
 use Rattle.rt_ra_run.proofs.StepLemmas.{asked_stops, asked_told, if_placed_later, stops_first}
 use Rattle.rt_ra_run.proofs.read.read_asked.Goals as goal
 
@@ -32,3 +33,11 @@ returns-clause-err g c =
 
 pub returns-clause-place : goal.returns-clause-place
 returns-clause-place g c = if_placed_later g.F.Files.tells c.args.command.now (g.F.Files.held c.args.files.now) (g.F.Files.held c.read_data.new.files) c.read_queries.result c.in_ok-tables.ensures.held c.read_queries.ensures.place
+
+pub returns-in_err-tables-clause-begun : goal.returns-in_err-tables-clause-begun
+returns-in_err-tables-clause-begun g c = data_begun g.F.Files.tells c.args.command.now (g.F.Files.held c.args.files.now) (g.F.Files.held c.read_data.new.files) _ (g.F.Files.begun c.args.files.now) _ c.read_data.ensures.begun
+
+pub returns-clause-begun : goal.returns-clause-begun
+returns-clause-begun g c =
+    queries_begun g.F.Files.tells c.args.command.now (g.F.Files.held c.args.files.now) (g.F.Files.held c.read_data.new.files) _ _ _ (data_in c.in_ok-tables.tables) c.in_ok-tables.ensures.held c.in_ok-tables.ensures.ok
+    c.in_ok-tables.ensures.begun_ok c.read_queries.ensures.begun c.read_queries.ensures.reached

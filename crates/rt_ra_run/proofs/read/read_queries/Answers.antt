@@ -1,10 +1,12 @@
-use Rattle.std.proofs.Common.{◌≡◌, Ok}
+use Rattle.std.proofs.Common.{◌≡◌, ◌∷◌, [], Ok}
 use Rattle.std.proofs.lemmas.Result.{err_from_is_err_and}
 use Rattle.rt_input.specs.Steps.{seen}
 use Rattle.rt_ra_run.specs.Asked.{HasNumbers, IsAsked, IsMeant}
 use Rattle.rt_ra_run.specs.Judged.{data_in, within_judged}
 use Rattle.rt_ra_run.specs.declared.asked.Asked.{Asked}
+use Rattle.rt_io.proofs.AddLemmas.{adds_first, adds_then}
 use Rattle.rt_ra_run.proofs.AskedLemmas.{asked_numbers}
+use Rattle.rt_ra_run.proofs.BegunLemmas.{right_reached}
 use Rattle.rt_ra_run.proofs.StepLemmas.{if_placeless, left_stops, placed_later, right_stops, same_holds, within_stops, within_told}
 use Rattle.rt_ra_run.proofs.read.read_queries.Goals as goal
 
@@ -59,3 +61,23 @@ returns-clause-err g c =
 
 pub returns-clause-place : goal.returns-clause-place
 returns-clause-place g c = if_placeless g.F.Files.tells c.args.command.now (g.F.Files.held c.args.files.now) c.within.result c.within.ensures.place
+
+pub returns-in_err-left-clause-begun : goal.returns-in_err-left-clause-begun
+returns-in_err-left-clause-begun g c = adds_first _ _ (c.args.command.now.query1 ∷ []) (c.args.command.now.query2 ∷ []) c.read_query.ensures.begun
+
+pub returns-in_err-left-clause-reached : goal.returns-in_err-left-clause-reached
+returns-in_err-left-clause-reached g c = λ t. adds_first _ _ (c.args.command.now.query1 ∷ []) _ c.read_query.ensures.begun
+
+pub returns-in_err-right-clause-begun : goal.returns-in_err-right-clause-begun
+returns-in_err-right-clause-begun g c = adds_then _ _ _ (c.args.command.now.query1 ∷ []) (c.args.command.now.query2 ∷ []) c.in_ok-left.ensures.begun_ok c.read_right.ensures.begun
+
+pub returns-in_err-right-clause-reached : goal.returns-in_err-right-clause-reached
+returns-in_err-right-clause-reached g c = λ t.
+    right_reached c.args.command.now (g.F.Files.held c.args.files.now) (data_in c.args.tables) c.in_ok-left.left _ _ _ (c.in_ok-left.ensures.ok t) c.in_ok-left.ensures.begun_ok c.read_right.ensures.begun
+
+pub returns-clause-begun : goal.returns-clause-begun
+returns-clause-begun g c = adds_then _ _ _ (c.args.command.now.query1 ∷ []) (c.args.command.now.query2 ∷ []) c.in_ok-left.ensures.begun_ok c.read_right.ensures.begun
+
+pub returns-clause-reached : goal.returns-clause-reached
+returns-clause-reached g c = λ t.
+    right_reached c.args.command.now (g.F.Files.held c.args.files.now) (data_in c.args.tables) c.in_ok-left.left _ _ _ (c.in_ok-left.ensures.ok t) c.in_ok-left.ensures.begun_ok c.read_right.ensures.begun

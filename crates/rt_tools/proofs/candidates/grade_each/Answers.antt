@@ -1,6 +1,7 @@
 use Rattle.std.proofs.Common.{◌∙◌, subst, arith}
 use Rattle.rt_input.specs.Held.{Holding}
 use Rattle.rt_tools.specs.Candidates.{IsGradeOf}
+use Rattle.rt_tools.proofs.BegunLemmas.{path_begun, path_read}
 use Rattle.rt_tools.proofs.GradeLemmas.{one_more}
 use Rattle.rt_tools.proofs.candidates.grade_each.Goals as goal
 
@@ -14,6 +15,11 @@ paths-preserved g c =
           c.paths-test.true c.path-item.is c.in_ok-push.ensures.ok c.paths.invariant.graded
           (subst (λ (h : Holding). IsGradeOf tells h w first c.path-item.result c.in_ok-grade.grade) c.paths.invariant.held c.in_ok-grade.ensures.ok);
       review = c.in_ok-grade.ensures.review;
+      begun = path_read c.args.paths.now c.paths.path-index c.path-item.result c.paths-test.true c.path-item.is _ _ _ c.paths.invariant.begun c.in_ok-grade.ensures.begun_ok;
       held = c.in_ok-grade.ensures.held ∙ c.paths.invariant.held;
       rises = λ name. let a = c.paths.invariant.rises name in let b = c.in_ok-grade.ensures.rises.rises name in omega (arith, a, b);
     }
+
+pub returns-in_err-grade-clause-begun : goal.returns-in_err-grade-clause-begun
+returns-in_err-grade-clause-begun g c =
+    path_begun c.args.paths.now c.paths.path-index c.path-item.result c.paths-test.true c.path-item.is _ _ _ c.paths.invariant.begun c.in_err-grade.ensures.begun

@@ -1,4 +1,5 @@
 use Rattle.rt_input.specs.Steps.{over}
+use Rattle.rt_tools.proofs.BegunLemmas.{beside_begun, first_begun}
 use Rattle.rt_tools.proofs.FaultLemmas.{beside_fault, beside_result, first_stops}
 use Rattle.rt_tools.proofs.grade_run.grades_of.Goals as goal
 
@@ -14,4 +15,12 @@ returns-in-Ok-clause-err g c =
 
 pub returns-in-Err-clause-err : goal.returns-in-Err-clause-err
 returns-in-Err-clause-err g c =
-    first_stops (over g.F.Files c.args.files.now c.read_first.new.files) c.args.words.now c.in-Err.outcome c.in-Err.ensures.err c.in-Err.ensures.place
+    first_stops (over g.F.Files c.args.files.now c.read_first.new.files) c.args.words.now c.in-Err.outcome c.in-Err.ensures.err c.in-Err.ensures.speaks c.in-Err.ensures.place
+
+pub returns-in-Ok-clause-begun : goal.returns-in-Ok-clause-begun
+returns-in-Ok-clause-begun g c =
+    beside_begun g.F.Files.tells c.args.words.now (g.F.Files.held c.args.files.now) _ _ _ c.in-Ok.first (g.F.Files.held c.read_first.new.files) c.in-Ok.ensures.held c.in-Ok.ensures.ok
+    c.in-Ok.ensures.begun_ok c.grades_beside-graded.ensures.begun
+
+pub returns-in-Err-clause-begun : goal.returns-in-Err-clause-begun
+returns-in-Err-clause-begun g c = first_begun g.F.Files.tells c.args.words.now (g.F.Files.held c.args.files.now) _ (g.F.Files.begun c.args.files.now) _ c.in-Err.ensures.begun

@@ -3,7 +3,8 @@ use Rattle.rt_io.specs.Counts.{count_in, name_at}
 use Rattle.rt_io.specs.Failing.{is_named}
 use Rattle.rt_io.specs.Held.{held_in, has_in}
 use Rattle.rt_io.specs.declared.files.BeginFail.TheVariants.{Failed, NoMemory}
-use Rattle.rt_io.proofs.EdgeLemmas.{never, on_ok, unchanged, rose_after, rises_after}
+use Rattle.rt_io.proofs.AddLemmas.{adds_all, adds_none}
+use Rattle.rt_io.proofs.EdgeLemmas.{never, on_err, on_ok, unchanged, rose_after, rises_after}
 use Rattle.rt_io.proofs.mem_files.MemFilesFiles.begin.Goals as goal
 
 memory_not_failed : {T X : Type 0} → IsErrOf {T = T} (Err NoMemory) Failed → X
@@ -26,6 +27,9 @@ returns c =
       err = tt;
       failed = never _ _;
       taken = refl;
+      begun = adds_all _ _ _ (on_ok c.enter.result _ c.is_err.ensures.value c.if-is_err.false c.enter.ensures.entered);
+      begun_ok = on_ok c.enter.result _ c.is_err.ensures.value c.if-is_err.false c.enter.ensures.entered;
+      begun_failed = never _ _;
       has = refl;
       held = refl;
       calm = c.enter.ensures.same;
@@ -44,6 +48,9 @@ returns-then-is_err c = record {
   err = refl;
   failed = memory_not_failed;
   taken = refl;
+  begun = adds_none _ _ _ (on_err c.enter.result _ c.is_err.ensures.value c.if-is_err.true c.enter.ensures.err);
+  begun_ok = tt;
+  begun_failed = memory_not_failed;
   has = refl;
   held = refl;
   calm = tt;
@@ -65,6 +72,9 @@ returns-then-is_named c =
       err = refl;
       failed = λ _. rose_after _ _ (count_in c.args.self.now.entries.items) (count_in c.enter.new.entries.items) (count_in c.raise.new.entries.items) named c.enter.ensures.same c.raise.ensures.rose;
       taken = refl;
+      begun = adds_all _ _ _ (c.raise.ensures.all ∙ on_ok c.enter.result _ c.is_err.ensures.value c.if-is_err.false c.enter.ensures.entered);
+      begun_ok = tt;
+      begun_failed = λ _. c.raise.ensures.all ∙ on_ok c.enter.result _ c.is_err.ensures.value c.if-is_err.false c.enter.ensures.entered;
       has = refl;
       held = refl;
       calm = tt;
@@ -86,6 +96,9 @@ returns-in_default c =
       err = refl;
       failed = λ _. rose_after _ _ (count_in c.args.self.now.entries.items) (count_in c.enter.new.entries.items) (count_in c.raise-in_default.new.entries.items) named c.enter.ensures.same c.raise-in_default.ensures.rose;
       taken = refl;
+      begun = adds_all _ _ _ (c.raise-in_default.ensures.all ∙ on_ok c.enter.result _ c.is_err.ensures.value c.if-is_err.false c.enter.ensures.entered);
+      begun_ok = tt;
+      begun_failed = λ _. c.raise-in_default.ensures.all ∙ on_ok c.enter.result _ c.is_err.ensures.value c.if-is_err.false c.enter.ensures.entered;
       has = refl;
       held = refl;
       calm = tt;
@@ -104,6 +117,9 @@ returns-in_default-from_slice c = record {
   err = refl;
   failed = memory_not_failed;
   taken = refl;
+  begun = adds_all _ _ _ (on_ok c.enter.result _ c.is_err.ensures.value c.if-is_err.false c.enter.ensures.entered);
+  begun_ok = tt;
+  begun_failed = memory_not_failed;
   has = refl;
   held = refl;
   calm = tt;

@@ -1,0 +1,21 @@
+use Rattle.rt_input.proofs.BegunLemmas.{data_begun, schema_begun, some_of_all, tables_begun}
+use Rattle.rt_input.proofs.tables.tables_of.Goals as goal
+
+pub returns-in_err-schema-clause-begun : goal.returns-in_err-schema-clause-begun
+returns-in_err-schema-clause-begun g c =
+    schema_begun g.F.Files.tells c.args.source.now (g.F.Files.held c.args.files.now) (g.F.Files.begun c.args.files.now) (g.F.Files.begun c.args.files.now) _ c.schema_file.ensures.begun
+
+pub returns-in_err-given-clause-begun : goal.returns-in_err-given-clause-begun
+returns-in_err-given-clause-begun g c =
+    tables_begun g.F.Files.tells c.args.source.now (g.F.Files.held c.args.files.now) _ _ _ c.in_ok-schema.schema c.in_ok-schema.ensures.begun_ok c.in_ok-schema.ensures.ok
+    (g.F.Files.held c.schema_file.new.files) c.in_ok-schema.ensures.held c.in_err-given.ensures.begun c.in_err-given.ensures.reached
+
+pub returns-clause-begun : goal.returns-clause-begun
+returns-clause-begun g c = some_of_all _ _ _ _ _
+    (data_begun g.F.Files.tells c.args.source.now (g.F.Files.held c.args.files.now) _ _ _ c.in_ok-schema.schema c.in_ok-schema.ensures.begun_ok c.in_ok-schema.ensures.ok
+    (g.F.Files.held c.schema_file.new.files) c.in_ok-given.given.tables c.in_ok-schema.ensures.held c.in_ok-given.ensures.begun_ok c.in_ok-given.ensures.ok)
+
+pub returns-clause-begun_ok : goal.returns-clause-begun_ok
+returns-clause-begun_ok g c =
+    data_begun g.F.Files.tells c.args.source.now (g.F.Files.held c.args.files.now) _ _ _ c.in_ok-schema.schema c.in_ok-schema.ensures.begun_ok c.in_ok-schema.ensures.ok
+    (g.F.Files.held c.schema_file.new.files) c.in_ok-given.given.tables c.in_ok-schema.ensures.held c.in_ok-given.ensures.begun_ok c.in_ok-given.ensures.ok

@@ -1,0 +1,1 @@
+"""From a school's database to a graded class: what `./classroom` is made of."""

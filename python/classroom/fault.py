@@ -1,0 +1,47 @@
+"""What stops a command: one line that names it."""
+from __future__ import annotations
+
+import importlib
+import os
+import shutil
+from types import ModuleType
+
+
+class Fault(Exception):
+    """Why a command can't go on, in one line."""
+
+
+class Missing(Fault):
+    """A library that is not there, with the line that installs it."""
+
+
+def shown(*names: str) -> str:
+    """Names in a message, which has one line whatever stands in them."""
+    return ", ".join(name if name.isprintable() else ascii(name) for name in map(visible, names))
+
+
+def visible(name: str) -> str:
+    """The name of a file, in which bytes that aren't UTF-8 are written as `\\xNN`."""
+    return os.fsencode(name).decode("utf-8", "backslashreplace")
+
+
+def told(fault: OSError) -> str:
+    """A fault of the operating system in one line, with the file where there is one."""
+    reason = fault.strerror or str(fault)
+    return f"{shown(os.fsdecode(fault.filename))}: {reason}" if fault.filename else reason
+
+
+def library(name: str, package: str) -> ModuleType:
+    """A library that one subcommand needs; where it is missing, the line that installs it."""
+    try:
+        return importlib.import_module(name)
+    except ImportError:
+        raise Missing(f"the library {name} is not there: apt-get install {package}") from None
+
+
+def tool(name: str, package: str) -> str:
+    """The path of a program that one subcommand needs; where it is missing, the line that installs it."""
+    path = shutil.which(name)
+    if path is None:
+        raise Fault(f"the program {name} is not there: apt-get install {package}")
+    return path

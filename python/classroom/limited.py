@@ -1,0 +1,69 @@
+"""One run of a program within limits of time, memory and output.
+
+It stands alone, on the standard library of Python 3.8, since it is sent to the hosts that grade.
+"""
+from __future__ import annotations
+
+import os
+import signal
+import subprocess
+import tempfile
+import time
+from typing import NamedTuple, Optional, Sequence
+
+WANTED_MEMORY = 7
+MEGABYTE = 1_000_000
+
+
+class Limits(NamedTuple):
+    """What one run may take."""
+
+    seconds: float = 60.0
+    megabytes: int = 2000    # of address space
+    output: float = 64       # megabytes in each of the two outputs
+
+
+class Ran(NamedTuple):
+    """How one run went."""
+
+    status: int       # the exit status, or minus the signal that ended it
+    stdout: bytes
+    stderr: bytes
+    seconds: float
+    passed: str       # the limit that it passed: "time", "memory" or "output"; "" where it passed none
+
+
+def run(words: Sequence[str], limits: Limits, folder: Optional[str] = None) -> Ran:
+    """Runs a program in a folder, with nothing on its standard input and no environment but a PATH.
+
+    The first word is the program's path. A program that doesn't start raises OSError. Where the caller is
+    stopped, so is the program.
+    """
+    if not os.access(words[0], os.X_OK):
+        raise FileNotFoundError(2, "no program", words[0])
+    most = round(limits.output * MEGABYTE)
+    wrapped = ["prlimit", f"--as={limits.megabytes * MEGABYTE}", f"--fsize={most + 1}", "--core=0", "--", *words]
+    with tempfile.TemporaryFile() as out, tempfile.TemporaryFile() as err:
+        begun = time.monotonic()
+        process = subprocess.Popen(
+            wrapped, stdin=subprocess.DEVNULL, stdout=out, stderr=err, cwd=folder,
+            env={"PATH": os.defpath, "LC_ALL": "C.UTF-8"}, start_new_session=True)
+        passed = ""
+        try:
+            status = process.wait(limits.seconds)
+        except subprocess.TimeoutExpired:
+            passed = "time"
+        finally:
+            if process.returncode is None:
+                os.killpg(process.pid, signal.SIGKILL)
+                status = process.wait()
+        seconds = time.monotonic() - begun
+        texts = []
+        for file in (out, err):
+            file.seek(0)
+            texts.append(file.read(most + 1))
+    if not passed and max(map(len, texts)) > most:
+        passed = "output"
+    elif not passed and status == WANTED_MEMORY:
+        passed = "memory"
+    return Ran(status, texts[0][:most], texts[1][:most], round(seconds, 3), passed)

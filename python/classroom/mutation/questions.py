@@ -1,0 +1,59 @@
+"""What an exercise is asked about: the mutants of each reference, and the answers that are there."""
+from __future__ import annotations
+
+from collections.abc import Sequence
+from dataclasses import dataclass
+
+from classroom import exercise
+from classroom.exercise import Task
+from classroom.fault import Fault, shown
+from classroom.mutation.mutants import mutants, plain
+from classroom.schema import Table
+
+
+@dataclass(frozen=True)
+class Question:
+    """A query that is compared with the reference of its task."""
+
+    task: str          # the name of the task
+    reference: bytes
+    text: bytes
+    mistake: str       # empty of an answer
+    name: str          # of an answer; of a mutant its number in its task, from 1
+
+    @property
+    def label(self) -> str:
+        """As `3: < for =` or `3: the answer anna`."""
+        return f"{self.task}: {self.mistake}" if self.mistake else f"{self.task}: the answer {self.name}"
+
+
+def of_mutants(task: Task, tables: Sequence[Table]) -> list[Question]:
+    """The mutants of a task's reference; a Fault where they can't be made."""
+    reference = exercise.read(task.reference)
+    try:
+        made = mutants(text_of(reference), tables)
+    except Fault as fault:
+        raise Fault(f"task {shown(task.name)}: reference.sql: {fault}") from None
+    return [Question(task.label, reference, mutant.text.encode(), mutant.mistake, str(number))
+            for number, mutant in enumerate(made, 1)]
+
+
+def written_back(task: Task) -> Question:
+    """The reference as it stands in the mutants, which has to mean the same."""
+    reference = exercise.read(task.reference)
+    return Question(task.label, reference, plain(text_of(reference)).encode(), "as it is written back", "0")
+
+
+def of_answers(task: Task) -> list[Question]:
+    """The answers of a task that can be read."""
+    found = []
+    for answer in task.answers:
+        try:
+            found.append(Question(task.label, exercise.read(task.reference), answer.read(), "", answer.label))
+        except OSError:
+            continue
+    return found
+
+
+def text_of(query: bytes) -> str:
+    return query.decode("utf-8", "replace").removeprefix("\ufeff").strip().removesuffix(";")

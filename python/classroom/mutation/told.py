@@ -1,0 +1,75 @@
+"""What is told of mutants and their verdicts."""
+from __future__ import annotations
+
+import csv
+import io
+from collections.abc import Iterator, Mapping, Sequence
+from dataclasses import dataclass
+
+from classroom.fault import Fault, shown
+from classroom.grades import counted
+from classroom.mutation.grading import OPEN, REFUSED, TOLD, Verdict
+from classroom.mutation.questions import Question
+
+
+@dataclass(frozen=True)
+class Told:
+    """A query with its verdict."""
+
+    of: Question
+    verdict: Verdict
+
+
+def check_written_back(back: Sequence[Question], verdicts: Sequence[Verdict]) -> None:
+    """A Fault where sqlglot doesn't write a reference back as it means: its mutants would be others."""
+    for of, verdict in zip(back, verdicts):
+        if verdict.kind in (TOLD, REFUSED):
+            raise Fault(f"task {shown(of.task)}: sqlglot writes reference.sql back as another query")
+
+
+def csv_of(made: Sequence[Told]) -> bytes:
+    text = io.StringIO(newline="")
+    lines = csv.writer(text, lineterminator="\n")
+    lines.writerow(("task", "mutant", "mistake", "verdict", "rows", "why", "query"))
+    for one in kept(made):
+        lines.writerow((one.of.task, one.of.name, one.of.mistake, one.verdict.kind, one.verdict.rows or "",
+                        one.verdict.why, one.of.text.decode("utf-8", "replace")))
+    return text.getvalue().encode("utf-8", "replace")
+
+
+def lines(tasks: Sequence[str], made: Sequence[Told]) -> Iterator[str]:
+    """For each task how many are told, and those that aren't."""
+    for task in tasks:
+        group = [one for one in made if one.of.task == task]
+        yield f"task {shown(task)}: {summary(group)}"
+        yield from untold(group)
+
+
+def untold(made: Sequence[Told]) -> Iterator[str]:
+    """Two lines for each that the rows don't tell: its mistake and its text."""
+    for one in kept(made):
+        if one.verdict.kind != TOLD:
+            why = f", {shown(one.verdict.why)}" if one.verdict.why else ""
+            yield f"  {one.verdict.kind}{why}: {shown(one.of.mistake or f'the answer {one.of.name}')}"
+            yield f"    {shown(' '.join(one.of.text.decode('utf-8', 'replace').split()))}"
+
+
+def summary(made: Sequence[Told], noun: str = "mutant") -> str:
+    """As `46 of 48 mutants told`."""
+    read = kept(made)
+    return f"{sum(one.verdict.kind == TOLD for one in read)} of {counted(len(read), noun)} told"
+
+
+def kept(made: Sequence[Told]) -> list[Told]:
+    """Those that `ratest` reads."""
+    return [one for one in made if one.verdict.kind != REFUSED]
+
+
+def open_ones(made: Sequence[Told]) -> int:
+    return sum(one.verdict.kind == OPEN for one in made)
+
+
+def rows_of(files: Mapping[str, bytes]) -> int:
+    """How many rows the tables have."""
+    texts = [text.decode("utf-8", "replace") for name, text in files.items() if name != "schema.sql"]
+    return sum(sum(1 for line in csv.reader(io.StringIO(text, newline="")) if line) - 1 for text in texts)

@@ -1,0 +1,77 @@
+"""Asks `ratest` over some rows, many queries at once or one after another, and keeps what it printed."""
+from __future__ import annotations
+
+import tempfile
+from collections.abc import Collection, Iterator, Mapping, Sequence
+from concurrent.futures import ThreadPoolExecutor
+from dataclasses import dataclass
+from pathlib import Path
+
+from classroom import parallel, program, witness
+from classroom.exercise import digest
+from classroom.limited import Ran
+from classroom.mutation.questions import Question
+from classroom.picking.pool import Pool, Row
+from classroom.results import Results
+from classroom.witness import Outcome
+
+FEW_ROWS, FEW_CALLS = 200, 4
+# Over few rows a search may go on for longer.
+FEW_OPTIONS = ("--conflicts", "20000")
+
+
+@dataclass(frozen=True)
+class Asking:
+    """Over what and with what is asked."""
+
+    pool: Pool
+    results: Results
+    means: parallel.Means
+    work: Path
+    options: tuple[str, ...]
+    ratest: Path
+    threads: ThreadPoolExecutor
+    used: set[str]      # the keys of the records that this run needed
+
+    def key(self, common: str, of: Question) -> str:
+        return digest(common.encode(), of.reference, of.text)
+
+    def common(self, files: Mapping[str, bytes], options: Sequence[str]) -> str:
+        return digest(b"pick 1", self.ratest.read_bytes(), *(word.encode() for word in options), *(
+            part for name, text in files.items() for part in (name.encode("utf-8", "surrogateescape"), text)))
+
+    def over(self, rows: Collection[Row], asked: Sequence[Question]) -> dict[Question, Outcome]:
+        """The outcomes over some rows. Many calls are spread as those of `classroom grade` are; few or short
+        ones end before GNU parallel would have begun."""
+        files = self.pool.files(rows)
+        options = FEW_OPTIONS if len(rows) <= FEW_ROWS else self.options
+        common = self.common(files, options)
+        keys = {self.key(common, of): of for of in asked}
+        self.used.update(keys)
+        left = {key: of for key, of in keys.items() if not self.results.is_final(key, self.means.limits)}
+        texts = {f"{digest(of.reference)}.reference": of.reference for of in left.values()}
+        texts.update({f"{key}.answer": of.text for key, of in left.items()})
+        jobs = []
+        for key, of in left.items():
+            names = (f"{digest(of.reference)}.reference", f"{key}.answer")
+            jobs.append(parallel.Job(key, ("schema.sql", ".", *names, *options), names))
+        is_short = len(rows) <= FEW_ROWS or len(jobs) <= FEW_CALLS
+        runs = self.directly(jobs, {**files, **texts}) if is_short else parallel.run(
+            jobs, {"ratest": self.ratest}, files, texts, self.means, self.work)
+        for key, ran in runs:
+            self.results.keep(key, ran, self.means.limits)
+        return {of: self.outcome(self.key(common, of)) for of in asked}
+
+    def directly(self, jobs: Sequence[parallel.Job], files: Mapping[str, bytes]) -> Iterator[tuple[str, Ran]]:
+        with tempfile.TemporaryDirectory(dir=self.work) as name:
+            for file, text in files.items():
+                (Path(name) / file).write_bytes(text)
+
+            def one(job: parallel.Job) -> tuple[str, Ran]:
+                return job.key, program.run(self.ratest, job.words, self.means.limits, Path(name))
+
+            yield from self.threads.map(one, jobs)
+
+    def outcome(self, key: str) -> Outcome:
+        ran = self.results.run(key)
+        return witness.read(ran, [held.table for held in self.pool.held]) if ran else witness.NoVerdict("it was not run")

@@ -1,0 +1,84 @@
+"""The programs and databases that the tests of `classroom` stand on."""
+from __future__ import annotations
+
+import os
+import shutil
+import sys
+import tempfile
+from collections.abc import Iterator
+from pathlib import Path
+from typing import Any
+
+import pytest
+
+BROWSERS = ("chromium", "chromium-browser", "google-chrome")
+TOP = Path(__file__).resolve().parents[2]
+sys.path[:0] = [str(TOP / "python")]
+
+import products  # noqa: E402
+
+
+@pytest.fixture(scope="session")
+def ratest(ratest: Path) -> Path:
+    """The program, of which `classroom` is told too."""
+    os.environ["RATEST"] = str(ratest.absolute())
+    return ratest.absolute()
+
+
+@pytest.fixture(scope="session")
+def server() -> Iterator[products.Postgres | None]:
+    # A path of a socket has at most 107 bytes.
+    with tempfile.TemporaryDirectory(prefix="pg") as work, products.server(Path(work)) as made:
+        yield made
+
+
+@pytest.fixture(params=["sqlite", "postgres"])
+def product(request: pytest.FixtureRequest) -> products.Product:
+    if request.param == "sqlite":
+        if not shutil.which("sqlite3"):
+            pytest.skip("no program sqlite3: apt-get install sqlite3")
+        return products.Sqlite()
+    made: products.Postgres | None = request.getfixturevalue("server")
+    if made is None:
+        pytest.skip("no psql or initdb: apt-get install postgresql")
+    return made
+
+
+@pytest.fixture(scope="session")
+def graded_once(ratest: Path, tmp_path_factory: pytest.TempPathFactory) -> Path:
+    folder = tmp_path_factory.mktemp("graded") / "beers"
+    shutil.copytree(TOP / "examples/beers", folder, ignore=shutil.ignore_patterns("results"))
+    assert products.classroom("grade", folder).returncode == 0
+    return folder
+
+
+@pytest.fixture
+def graded(graded_once: Path, tmp_path: Path) -> Path:
+    """A copy of the exercise of the examples with its results."""
+    return Path(shutil.copytree(graded_once, tmp_path / "beers"))
+
+
+@pytest.fixture
+def beers(tmp_path: Path) -> Path:
+    """A copy of the exercise of the examples, without results."""
+    folder = tmp_path / "beers"
+    shutil.copytree(TOP / "examples/beers", folder, ignore=shutil.ignore_patterns("results"))
+    return folder
+
+
+@pytest.fixture(scope="session")
+def browser() -> Iterator[Any]:
+    """A chromium without a window."""
+    webdriver = pytest.importorskip("selenium.webdriver")
+    path = next(filter(None, map(shutil.which, BROWSERS)), None)
+    driver = shutil.which("chromedriver")
+    if not path or not driver:
+        pytest.skip("no chromium or chromedriver: apt-get install chromium chromium-driver")
+    options = webdriver.ChromeOptions()
+    options.binary_location = path
+    for word in ("--headless=new", "--no-sandbox", "--disable-gpu", "--hide-scrollbars", "--disable-dev-shm-usage"):
+        options.add_argument(word)
+    service = __import__("selenium.webdriver.chrome.service", fromlist=["Service"]).Service(driver)
+    opened = webdriver.Chrome(options=options, service=service)
+    yield opened
+    opened.quit()

@@ -1,0 +1,5 @@
+"""The folder's own modules can be imported."""
+import sys
+from pathlib import Path
+
+sys.path.insert(0, str(Path(__file__).resolve().parent))

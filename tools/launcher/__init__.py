@@ -1,0 +1,1 @@
+"""The launcher of the repository's programs: which build answers, and how each is made."""
