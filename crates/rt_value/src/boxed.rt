@@ -1,3 +1,6 @@
+//! A box for trees: a tree that holds `Boxed` subtrees is, in contracts, the plain tree.
+//! That there is a `Box` inside is private.
+
 ghost use Rattle.std.specs.Prelude.{◌≡◌, IfOk};
 
 use crate::no_memory::NoMemory;

@@ -1,3 +1,6 @@
+//! Which rows of the data a sub-instance keeps. How the Bools are held is private: packed bits
+//! would change no proof of a crate above.
+
 ghost use Rattle.std.specs.Prelude.{◌≡◌, ◌<◌, ◌++◌, ◌∷◌, [], IfOk, OnOk, OnErr, false, length, replicate, slice_index_or, slice_set};
 ghost use Rattle.rt_value.specs.Keep.{size};
 ghost use Rattle.std.specs.Cmp.Rules.{comparing};
@@ -32,12 +35,14 @@ impl Keep {
         Ok(Keep { on })
     }
 
+    /// How many places there are, kept or not.
     pub fn len(&self) -> usize
         ensures { result ≡ length self.now }
     {
         self.on.len()
     }
 
+    /// Whether the place is kept.
     pub fn is(&self, place: usize) -> bool
         requires { place < length self.now }
         ensures { result ≡ slice_index_or self.now place false }
@@ -83,6 +88,7 @@ impl Keep {
         Ok(more)
     }
 
+    /// The same choice in memory of its own.
     pub fn copy(&self, alloc: Global) -> Result<Keep, NoMemory>
         ensures { IfOk result (λ k. k ≡ self.now) }
     {

@@ -1,3 +1,6 @@
+//! The vector that the public types of all crates are made of, and `Bytes`, a list of `u8`.
+//! The private field is seen through `as_slice` only.
+
 ghost use Rattle.std.specs.Prelude.{◌≡◌, ◌<◌, ◌↔◌, [], ◌∷◌, ◌++◌, IfOk, IsTrue, MatchOption, OnOk, OnErr, length, slice_set};
 ghost use Rattle.std.specs.Cmp.Rules.{comparing};
 ghost use Rattle.std.proofs.Common.{rules};
@@ -80,6 +83,7 @@ impl<T> List<T> {
 }
 
 impl<T: Drop> List<T> {
+    /// Adds an element at the end, or changes nothing when out of memory.
     pub fn push(&mut self, item: T) -> Result<(), NoMemory>
         ensures ok { OnOk result (self.new ≡ self.old ++ item ∷ []) }
         ensures err { OnErr result (self.new ≡ self.old) }

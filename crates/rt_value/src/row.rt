@@ -1,3 +1,6 @@
+//! Rows of a table or of an answer. Their order is the one in which answers and witnesses are
+//! sorted.
+
 ghost use Rattle.std.specs.Prelude.{◌≡◌, ◌++◌, ◌∷◌, [], IfOk, OnOk, OnErr, length};
 ghost use Rattle.rt_value.specs.Row.{row_cmp, row_eq};
 ghost use Rattle.std.specs.Cmp.{partial_order_from_own_ties};

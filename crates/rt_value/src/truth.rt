@@ -1,3 +1,5 @@
+//! Three-valued logic: AND, OR and NOT as in the truth tables of the standard.
+
 ghost use Rattle.std.specs.Prelude.{◌≡◌};
 ghost use Rattle.rt_value.specs.Truth.{truth_and, truth_or, truth_not};
 
