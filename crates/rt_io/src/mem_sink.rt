@@ -1,3 +1,5 @@
+//! A sink for tests: what it can hold and how much one write takes is set beforehand.
+
 ghost use Rattle.std.specs.Prelude.{◌≡◌, ◌<◌, ◌≤◌, ◌-◌, ◌^◌, ◌++◌, [], true, min, length, take, Some, None, IfOk, OnOk, OnErr, IsErrOf, IsTrue};
 ghost use Rattle.rt_io.specs.Edge.{Rose};
 
@@ -56,7 +58,7 @@ impl MemSink {
         self.held.as_slice()
     }
 
-    /// How many of `n` bytes it takes.
+    // How many of `n` bytes it takes.
     fn takes(&self, n: usize) -> usize
         ensures { result ≡ takes self.now n }
     {
@@ -83,7 +85,7 @@ impl Sink for MemSink {
         ensures full { IsErrOf result SinkFail.Failed → (takes self.old (length bytes.now) ≡ 0) × (0 < length bytes.now) }
         ensures room { room_of self.new ≡ room_of self.old }
         ensures piece { piece_of self.new ≡ piece_of self.old }
-        // The clauses of `Sink`.
+        // The contract of `Sink`.
         ensures bound { IfOk result (λ n. n ≤ length bytes.now) }
         ensures ok { IfOk result (λ n. IsTrue true → held_of self.new ≡ held_of self.old ++ take n bytes.now) }
         ensures err { OnErr result (IsTrue true → held_of self.new ≡ held_of self.old) }

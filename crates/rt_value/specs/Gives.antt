@@ -1,4 +1,4 @@
--- A result that is the defined one, unless memory was wanting.
+-- A result that is the defined one, unless out of memory.
 use Rattle.std.specs.Prelude.{◌≡◌, Bool, Result, Ok, Err, MatchBool}
 
 -- `is_memory` picks the error that says out of memory: that one may come anywhere, all else is
