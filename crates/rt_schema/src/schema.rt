@@ -1,3 +1,5 @@
+//! Sound schemas: the type that all later crates take, so that none looks for a missing column.
+
 ghost use Rattle.std.specs.Prelude.{◌≡◌, IsTrue};
 ghost use Rattle.rt_schema.specs.Schema.{is_sound};
 
@@ -5,8 +7,8 @@ use crate::table::Table;
 use rt_value::List;
 use std::marker::Model;
 
-/// A list of tables whose rules name only columns and tables that are there, each foreign key with
-/// columns of the same kinds on both sides and no check comparing a whole number with a text.
+/// A list of tables whose rules name only columns and tables that are there. Each foreign key has
+/// columns of the same kinds on both sides, and no check compares a whole number with a text.
 /// Contracts see the list of the tables.
 pub struct Schema {
     tables: List<Table>,
