@@ -1,3 +1,6 @@
+//! A reference-counted value: a CHECK's condition is in the tree and in the table's parts, and is
+//! never copied.
+
 ghost use Rattle.std.specs.Prelude.{◌≡◌, IfOk};
 
 use rt_value::NoMemory;
@@ -5,7 +8,7 @@ use std::alloc::Global;
 use std::marker::Model;
 use std::rc::Rc;
 
-/// A value with several owners, that contracts see as the value.
+/// A value with several owners, which contracts see as the value.
 pub struct Shared<T> {
     owner: Rc<T>,
 }
