@@ -1,3 +1,6 @@
+//! A table's text with what the later passes look up, computed once. Contracts see the text alone,
+//! so what is kept for speed may change.
+
 ghost use Rattle.std.specs.Prelude.{◌≡◌, IfOk, map, option_map, slice_get};
 ghost use Rattle.rt_ddl.specs.Meaning as spec;
 
@@ -8,7 +11,7 @@ use rt_value::{List, NoMemory, Txt};
 use std::alloc::Global;
 use std::marker::Model;
 
-/// A table's text. To find a column takes time in the logarithm of their number.
+/// A table's text. Finding a column takes time in the logarithm of their number.
 pub struct KnownTable {
     text: TableText,
     columns: List<Column>,
@@ -140,7 +143,7 @@ impl KnownTable {
         self.names.has(name)
     }
 
-    /// The column of this name.
+    /// The first column of this name.
     pub fn column(&self, name: &Txt) -> Option<&Column>
         ensures { option_map (λ column. column.now) result ≡ slice_get (spec.columns_of self.now.parts) (spec.column_at (spec.columns_of self.now.parts) name.now) }
     {
@@ -148,7 +151,7 @@ impl KnownTable {
         self.columns.as_slice().get(place)
     }
 
-    /// The place of the column of this name, or the number of columns.
+    /// The place, from 0, of the first column of this name, or the number of columns.
     pub fn column_at(&self, name: &Txt) -> usize
         ensures { result ≡ spec.column_at (spec.columns_of self.now.parts) name.now }
     {
@@ -164,7 +167,7 @@ impl KnownTable {
         self.has_primary
     }
 
-    /// The columns of the primary key.
+    /// The columns of the first primary key, or none without one.
     pub fn primary(&self) -> &[Txt]
         ensures { result.now ≡ spec.primary_of self.now.parts }
     {
