@@ -1,5 +1,5 @@
--- What a text makes, as a value. By the law `read_is_tree` the tree that is read here is just the one
--- formed tree that the tokens have.
+-- What a text makes, as a value. By the law `read_is_tree` the tree that is read here is just the
+-- one formed tree that the tokens have.
 use Rattle.std.specs.Prelude.{List, Option, Some, None, Result, Ok, Err}
 use Rattle.rt_token.specs.Lexed.{Text, lexed}
 use Rattle.rt_token.specs.declared.fault.LexFault.{LexFault}

@@ -108,6 +108,7 @@ fn copied(alloc: Global, names: &[Txt]) -> Result<List<Txt>, NoMemory>
 }
 
 impl KnownTable {
+    /// The table of a text, with what is looked up in it.
     pub fn of(alloc: Global, text: TableText) -> Result<KnownTable, NoMemory>
         ensures { IfOk result (λ table. table ≡ text) }
     {
@@ -137,6 +138,7 @@ impl KnownTable {
         self.text.parts.as_slice()
     }
 
+    /// Whether a column has this name.
     pub fn has_column(&self, name: &Txt) -> bool
         ensures { result ≡ spec.has_column self.now.parts name.now }
     {

@@ -46,6 +46,7 @@ impl KnownTables {
         }
     }
 
+    /// The tables in text order.
     pub fn as_slice(&self) -> &[KnownTable]
         ensures { result.now ≡ self.now }
     {

@@ -60,12 +60,14 @@ impl NameList {
         }
     }
 
+    /// Whether the name is among these.
     pub fn has(&self, name: &Txt) -> bool
         ensures { result ≡ has_name self.now name.now }
     {
         self.places.contains_key(name)
     }
 
+    /// How many names there are, repeated ones counted each time.
     pub fn len(&self) -> usize
         ensures { result ≡ length self.now }
     {

@@ -223,6 +223,7 @@ fn column_constraints<'t>(
     Ok((items, rest))
 }
 
+/// The column at the front, with its rules, and what follows it.
 #[tactic(auto, unfolding(crate::specs::Reads::read_column))]
 pub fn column<'t>(
     alloc: Global,

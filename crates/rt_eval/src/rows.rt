@@ -42,6 +42,7 @@ impl Rows {
         Ok(Rows { rows: items })
     }
 
+    /// The rows in their order, each once.
     pub fn as_slice(&self) -> &[Row]
         ensures rows { result.now ≡ self.now }
         ensures sorted { IsStrictlySortedBy row_cmp self.now }

@@ -47,6 +47,7 @@ pub struct MemFiles {
 impl MemFiles {
     ghost use Rattle.rt_io.specs.MemFiles.{has_of, held_of, current_of, left_of, taken_of, faults_of, begun_of, piece_of, failing_begins, failing_reads, SameFiles, SameSettings};
 
+    /// No files. Reads give as much as fits, and no call is set to fail.
     pub fn new(alloc: Global) -> MemFiles
         ensures has { (name : List ℕ) → has_of result name ≡ false }
         ensures held { (name : List ℕ) → held_of result name ≡ [] }

@@ -18,6 +18,7 @@ pub struct MemSink {
 impl MemSink {
     ghost use Rattle.rt_io.specs.MemSink.{held_of, faults_of, room_of, piece_of, takes, SameSink};
 
+    /// A sink without bytes and without limits.
     pub fn new(alloc: Global) -> MemSink
         ensures contents { held_of result ≡ [] }
         ensures faults { faults_of result ≡ 0 }
@@ -52,6 +53,7 @@ impl MemSink {
         self.piece = n;
     }
 
+    /// What was written so far.
     pub fn bytes(&self) -> &[u8]
         ensures { result.now ≡ held_of self.now }
     {

@@ -29,6 +29,7 @@ pub struct RealFiles {
 }
 
 impl RealFiles {
+    /// The files that the process may open. No file is current.
     pub fn new(rt: HostRuntime) -> RealFiles
         ensures { (name : List ℕ) → ⟦<RealFiles as Files>⟧.faults result name ≡ 0 }
     {

@@ -27,6 +27,7 @@ pub struct SureFiles {
 }
 
 impl SureFiles {
+    /// No file holds anything, and no file is current.
     pub fn new(alloc: Global) -> SureFiles
         ensures { (name : List ℕ) → ⟦<SureFiles as Files>⟧.held result name ≡ [] }
     {

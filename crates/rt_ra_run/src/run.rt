@@ -118,8 +118,8 @@ pub fn ra_run<F: Files, O: Sink, E: Sink>(
         IfVerdict result (λ r. IfNoMemory r (WritesNothing o e ⊎ ((allowed : RaOutcome) × WritesPart (call F.Files words.now files.old files.new) o e allowed))) }
     // The whole text went to its sink, and nothing to the other.
     ensures said { IfSaid result (WritesAll (call F.Files words.now files.old files.new) result (log O.Sink out.old out.new) (log E.Sink err.old err.new)) }
-    // An accepted command without a budget, or with one that no search can spend, gets a verdict over
-    // files and sinks that don't fail.
+    // An accepted command without a budget, or with one that no search can spend, gets a verdict
+    // over files and sinks that don't fail.
     ensures complete { let c = call F.Files words.now files.old files.new in
         IsTrue F.tells → NoFileRose c → NoSinkRose (log O.Sink out.old out.new) (log E.Sink err.old err.new)
         → (asked : Asked) → ra_judged words.now (F.held files.old) ≡ Ok asked → HasRoom asked.input → IsVerdictOrMemory result }

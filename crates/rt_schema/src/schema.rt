@@ -33,6 +33,7 @@ impl Model for Schema {
 }
 
 impl Schema {
+    /// The schema of these tables, which have to be sound.
     pub fn new(tables: List<Table>) -> Schema
         requires { IsTrue (is_sound tables) }
         ensures { result ≡ tables }
@@ -40,6 +41,7 @@ impl Schema {
         Schema { tables }
     }
 
+    /// The tables, in the order in which they were given.
     pub fn tables(&self) -> &[Table]
         ensures same { result.now ≡ self.now }
         ensures sound { IsTrue (is_sound self.now) }

@@ -319,7 +319,7 @@ fn sixty(rt: &impl Abort, alloc: Global, front: &str, back: &str) -> String {
     text
 }
 
-// The parentheses are those of a sum, as the comparison behind the last one says.
+// The parentheses are those of a sum, as the comparison after the last one says.
 #[test]
 fn reads_a_sum_in_sixty_parentheses(rt: HostRuntime) {
     let alloc = rt.alloc();

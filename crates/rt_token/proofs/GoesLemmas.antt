@@ -37,7 +37,7 @@ inside-drop zero at z h = ap (λ (k : ℕ). lexed_from 0 k z) (omega arith)
 inside-drop (suc n) at [] h = absurd (omega arith)
 inside-drop (suc n) at (b ∷ z) h = inside-drop n (at + 1) z (omega arith) ∙ ap (λ (k : ℕ). lexed_from 0 k (drop n z)) (omega arith)
 
--- a lexeme at the front, and the rest behind it
+-- a lexeme at the front, and the rest after it
 turn : (at n : ℕ) (z : Text) → 0 < n → n ≤ length z → lexed_from (n - 1) (at + 1) (drop 1 z) ≡ lexed_from 0 (at + n) (drop n z)
 turn at n [] p h = absurd (omega arith)
 turn at zero (b ∷ z) p h = absurd (omega arith)

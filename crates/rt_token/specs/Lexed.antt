@@ -1,6 +1,6 @@
 -- The tokens of a text, or its first error: ISO/IEC 9075-2, 5.2 <token> and <separator> and 5.3
 -- <literal>. Words, white space and digits are ASCII, bracketed comments don't nest, and numbers
--- are whole. Bytes are written as their codes: 95 is `_`, 10 ends a line, 39 is ', 34 is ", 45 is -.
+-- are whole. Bytes are written as codes: 95 is `_`, 10 ends a line, 39 is ', 34 is ", 45 is -.
 use Rattle.std.specs.Prelude.{ℕ, zero, suc, ◌+◌, ◌-◌, ◌^◌, pos, Bool, not, ◌&&◌, ◌||◌, if◌then◌else◌, ◌==◌, nat_lt, List, [], ◌∷◌, take, drop, map, slice_index, Option, Some, None, option_map, Result, Ok, Err}
 use Rattle.std.specs.Char.{is_ascii_digit, is_ascii_alphabetic, is_ascii_alphanumeric, to_ascii_lowercase}
 use Rattle.std.specs.List.{prefix_len}

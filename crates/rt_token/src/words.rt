@@ -1,5 +1,5 @@
-//! The keywords of the grammars, looked up in three runs by the alphabet; `specs/Words.antt` has the
-//! same three lists.
+//! The keywords of the grammars, looked up in three runs by the alphabet; `specs/Words.antt` has
+//! the same three lists.
 
 ghost use Rattle.std.specs.Prelude.{◌≡◌, bytes_eq};
 ghost use Rattle.rt_token.specs.Words as spec;

@@ -28,6 +28,7 @@ impl<T> Boxed<T> {
         &self.inner
     }
 
+    /// Moves the value out, and frees the box.
     pub fn into_inner(self) -> T
         ensures { result ≡ self }
     {
@@ -37,6 +38,7 @@ impl<T> Boxed<T> {
 }
 
 impl<T: Drop> Boxed<T> {
+    /// Moves the value into a box.
     pub fn new(alloc: Global, value: T) -> Result<Boxed<T>, NoMemory>
         ensures { IfOk result (λ b. b ≡ value) }
     {

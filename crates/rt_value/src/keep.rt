@@ -50,6 +50,7 @@ impl Keep {
         self.on[place]
     }
 
+    /// Keeps the place, or leaves it out.
     pub fn set(&mut self, place: usize, on: bool)
         requires { place < length self.old }
         ensures { self.new ≡ slice_set self.old place on }
@@ -64,6 +65,7 @@ impl Keep {
         self.on.iter().filter(|b| **b).count()
     }
 
+    /// One Bool for each place, in order.
     pub fn as_slice(&self) -> &[bool]
         ensures { result.now ≡ self.now }
     {

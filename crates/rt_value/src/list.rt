@@ -43,12 +43,14 @@ impl<T> List<T> {
         }
     }
 
+    /// The list of the same elements, without a copy.
     pub fn from_vec(items: Vec<T>) -> List<T>
         ensures { result ≡ items.items }
     {
         List { items }
     }
 
+    /// The vector of the same elements, without a copy.
     pub fn into_vec(self) -> Vec<T>
         ensures { result.items ≡ self }
     {
@@ -92,6 +94,7 @@ impl<T: Drop> List<T> {
         Ok(())
     }
 
+    /// Replaces the element at a place, counted from 0.
     pub fn set(&mut self, at: usize, item: T)
         requires { at < length self.old }
         ensures { self.new ≡ slice_set self.old at item }
@@ -101,6 +104,7 @@ impl<T: Drop> List<T> {
 }
 
 impl<T: Copy> List<T> {
+    /// A list of copies of the items.
     pub fn from_slice(alloc: Global, items: &[T]) -> Result<List<T>, NoMemory>
         ensures { IfOk result (λ l. l ≡ items.now) }
     {

@@ -12,6 +12,7 @@ pub enum Truth {
 }
 
 impl Truth {
+    /// AND: No if either is No, else Unknown if either is Unknown.
     pub fn and(self, other: Truth) -> Truth
         ensures { result ≡ truth_and self other }
     {
@@ -22,6 +23,7 @@ impl Truth {
         }
     }
 
+    /// OR: Yes if either is Yes, else Unknown if either is Unknown.
     pub fn or(self, other: Truth) -> Truth
         ensures { result ≡ truth_or self other }
     {
@@ -32,6 +34,7 @@ impl Truth {
         }
     }
 
+    /// NOT: what is unknown stays unknown.
     pub fn not(self) -> Truth
         ensures { result ≡ truth_not self }
     {

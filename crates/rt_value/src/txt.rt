@@ -39,12 +39,14 @@ impl Model for Txt {
 }
 
 impl Txt {
+    /// A text with a copy of these bytes.
     pub fn of(alloc: Global, text: &str) -> Result<Txt, NoMemory>
         ensures { IfOk result (λ t. t ≡ text.now) }
     {
         Txt::from_string(alloc, String::from_str(alloc, text)?)
     }
 
+    /// The text that the string is, without a copy of its bytes.
     pub fn from_string(alloc: Global, text: String) -> Result<Txt, NoMemory>
         ensures { IfOk result (λ t. t ≡ string_bytes text) }
     {

@@ -80,6 +80,7 @@ pub fn null_truth(value: &Value) -> Truth
 }
 
 impl Value {
+    /// The same value; a text shares its bytes.
     pub fn copy(&self, alloc: Global) -> Result<Value, NoMemory>
         ensures { IfOk result (λ v. v ≡ self.now) }
     {
