@@ -1,4 +1,4 @@
-//! Reading lists, once for each kind of member. The loop is proved here alone.
+//! Reading lists with separators: one loop, proved once, for every kind of member.
 
 ghost use Rattle.rt_ddl_tree.specs.Members.{IsShort};
 ghost use Rattle.rt_token.specs.Readers.{Parser, both, list_of, paren, step_after};

@@ -1,5 +1,5 @@
-//! The answer of a query as the other crates ask for it: a set, on the kept rows. Everything else
-//! in this crate is private and may be rearranged as long as this call's contract is proved.
+//! The answer of a query as the other crates ask for it: a set, on the kept rows. But for `Rows`
+//! the rest of this crate is private, and may be rearranged as long as this contract is proved.
 
 ghost use Rattle.std.specs.Prelude.{◌≡◌, [], List, length, IfOk};
 ghost use Rattle.rt_value.specs.declared.value.Value.{Value};

@@ -1,5 +1,5 @@
-//! The files of the system. This is trusted: no contract says what bytes the system gives, only
-//! what was begun, how much was read and which calls failed.
+//! The files of the system. Which bytes they give is outside of every contract; proved is which
+//! were begun, how much was read and which calls failed.
 
 ghost use Rattle.std.specs.Prelude.{◌≡◌, ◌<◌, ◌≤◌, ℕ, List, [], false, vec_len, Some, None};
 ghost use Rattle.std.specs.Option.{option_map, option_map_or, ForSome};

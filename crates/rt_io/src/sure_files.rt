@@ -1,4 +1,4 @@
-//! Files in memory without settings: all that is set of them is what they hold.
+//! Files in memory that hold what they are given, and have nothing else to set.
 
 ghost use Rattle.std.specs.Prelude.{◌≡◌, ◌≢◌, ◌<◌, ◌≤◌, ℕ, List, [], true, vec_len, length, drop, Some, None, OnOk, OnErr, IfOk};
 ghost use Rattle.std.specs.Option.{option_map, option_map_or, ForSome};

@@ -1,5 +1,5 @@
-//! The command `ra` from arguments to exit status. The contract of `ra_run` is what the second
-//! program guarantees of it; everything else in this crate is private.
+//! The command `ra`, from arguments to the text that is written. The contract of `ra_run` is what
+//! the second program guarantees of this command.
 
 ghost use Rattle.std.specs.Prelude.{◌≡◌, ◌⊎◌, List, IsTrue, IfOk, None, Some, Ok, Err};
 ghost use Rattle.rt_io.specs.Edge.{NoneFell};

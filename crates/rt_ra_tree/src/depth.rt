@@ -1,5 +1,5 @@
 //! Tokens that are nested too deep: limits of our own. LEFTJOIN and DIVIDE become queries that have
-//! an operand more than once, so nesting them doubles the size each time.
+//! an operand more than once, so that nesting them multiplies the size each time.
 
 ghost use Rattle.std.specs.Prelude.{◌≡◌};
 ghost use Rattle.rt_token.specs.Words.{kinds};

@@ -1,4 +1,4 @@
-//! Operators and their operands, with at most `depth` of them in one another.
+//! Operators and their operands, by recursive descent with a bound on depth that is never met.
 
 ghost use Rattle.std.specs.Prelude.{◌≡◌};
 ghost use Rattle.rt_token.specs.Reads.{Reads};

@@ -1,4 +1,4 @@
-//! Sound schemas: the type that all later crates take, so that none looks for a missing column.
+//! Sound schemas: whoever has a `Schema` need not test that a column or a table is there.
 
 ghost use Rattle.std.specs.Prelude.{◌≡◌, IsTrue};
 ghost use Rattle.rt_schema.specs.Schema.{is_sound};

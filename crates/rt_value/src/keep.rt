@@ -1,5 +1,5 @@
-//! Which rows of the data a sub-instance keeps. How the Bools are held is private: packed bits
-//! would change no proof of a crate above.
+//! Sub-instances, as choices of places. Crates above use the contracts alone, so the body of each
+//! method may change.
 
 ghost use Rattle.std.specs.Prelude.{◌≡◌, ◌<◌, ◌++◌, ◌∷◌, [], IfOk, OnOk, OnErr, false, length, replicate, slice_index_or, slice_set};
 ghost use Rattle.rt_value.specs.Keep.{size};

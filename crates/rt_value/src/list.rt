@@ -1,5 +1,5 @@
 //! The vector that the public types of all crates are made of, and `Bytes`, a list of `u8`.
-//! The private field is seen through `as_slice` only.
+//! Contracts speak of the elements, and never of capacity or memory.
 
 ghost use Rattle.std.specs.Prelude.{◌≡◌, ◌<◌, ◌↔◌, [], ◌∷◌, ◌++◌, IfOk, IsTrue, MatchOption, OnOk, OnErr, length, slice_set};
 ghost use Rattle.std.specs.Cmp.Rules.{comparing};

@@ -1,4 +1,4 @@
-//! The error of whatever allocates. Each crate's own error type has one case made from it.
+//! The error of whatever allocates. The error types of the crates above have a case made from it.
 
 use std::alloc::{AllocError, AllocFailed};
 use std::error::Error;

@@ -1,5 +1,4 @@
-//! Rows of a table or of an answer. Their order is the one in which answers and witnesses are
-//! sorted.
+//! Rows of a table or of an answer. Their order is the one in which answers are sorted.
 
 ghost use Rattle.std.specs.Prelude.{◌≡◌, ◌++◌, ◌∷◌, [], IfOk, OnOk, OnErr, length};
 ghost use Rattle.rt_value.specs.Row.{row_cmp, row_eq};
