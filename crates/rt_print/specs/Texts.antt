@@ -1,5 +1,5 @@
 -- The texts that are printed: bytes, in lines that end with LF, with decimal numbers without
--- leading zeros. Texts stand between quotes as in ISO/IEC 9075-2, 5.3 <character string literal>.
+-- leading zeros. Texts are put in quotes as in ISO/IEC 9075-2, 5.3 <character string literal>.
 use Rattle.std.specs.Prelude.{ℕ, ◌+◌, Bool, true, false, if◌then◌else◌, ◌==◌, List, [], ◌∷◌, ◌++◌, length, drop, filter, Option, Some, None, codes}
 use Rattle.std.specs.Bool.{beq}
 use Rattle.std.specs.Fmt.{decimal, signed_decimal}

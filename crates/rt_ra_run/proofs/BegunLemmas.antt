@@ -37,7 +37,7 @@ module _ (tells : Bool) (k : RaCommand) (held later : Holding) (old mid new : Li
       some_then (IsTrue tells) (data_files (tables_of k)) (data_reached (tables_of k) held) (query_files k) (then_files (data_judged k held) (queries_reached k held)) old mid new all adds
       (λ t. when_reached (data_judged k held) d (queries_reached k held) mid new (told t) (subst (λ (h : Holding). AddsPrefix mid new (queries_reached k h d)) same (reached t)))
 
--- of the words that spell the command
+-- of the arguments that mean the command
 pub spelled_begun : (tells : Bool) (held : Holding) (o : Option RaCommand) (k : RaCommand) (old new : List Text) → o ≡ Some k
     → AddsSome (IsTrue tells) (asked_files k) (asked_reached k held) old new → BeginsFor tells held o old new
 spelled_begun tells held o k old new is some = subst (λ (p : Option RaCommand). BeginsFor tells held p old new) (sym is) some

@@ -1,4 +1,4 @@
--- A text that is no query: what is judged of it, and where its syntax fault stands.
+-- A text that is no query: what is judged of it, and the place of its syntax error.
 use Rattle.std.proofs.Common.{◌≡◌, Bool, false, IsTrue, List, Result, Ok, Err, refl, sym, ap, subst, MatchBool}
 use Rattle.std.specs.Prelude.{IsOkAnd, ⊤}
 use Rattle.rt_value.specs.Gives.{Gives}
@@ -74,7 +74,7 @@ gives_tokens tokens fault.NoMemory g m = cc m
 pub refuses_tokens : (p : Part) (tables : List Table) (tokens : List Token) (f : RaFault) → Gives is_memory (placeless_answer (Err f)) (ra_read tokens) → Refuses (query_of_tokens p tables tokens) (fault_outcome p f)
 refuses_tokens p tables tokens f g = refuses_fault p (query_of_tokens p tables tokens) f (λ m. then_err _ _ _ (ap (or_outcome (fault_outcome p)) (gives_tokens tokens f g m)))
 
--- ---- where a syntax fault stands
+-- ---- the place of a syntax error
 
 ok_and : {T E : Type 0} (P : T → Type 0) (r : Result T E) (x : T) → r ≡ Ok x → P x → IsOkAnd r P
 ok_and {T = T} {E = E} P r x is p = subst (λ (q : Result T E). IsOkAnd q P) (sym is) p

@@ -1,6 +1,6 @@
--- The tokens of a text, or its first fault: ISO/IEC 9075-2, 5.2 <token> and <separator> and 5.3
--- <literal>, with words, white space and digits in ASCII, bracketed comments that don't nest, and
--- numbers that are whole.
+-- The tokens of a text, or its first error: ISO/IEC 9075-2, 5.2 <token> and <separator> and 5.3
+-- <literal>. Words, white space and digits are ASCII, bracketed comments don't nest, and numbers
+-- are whole. Bytes are written as codes: 95 is `_`, 10 ends a line, 39 is ', 34 is ", 45 is -.
 use Rattle.std.specs.Prelude.{ℕ, zero, suc, ◌+◌, ◌-◌, ◌^◌, pos, Bool, not, ◌&&◌, ◌||◌, if◌then◌else◌, ◌==◌, nat_lt, List, [], ◌∷◌, take, drop, map, slice_index, Option, Some, None, option_map, Result, Ok, Err}
 use Rattle.std.specs.Char.{is_ascii_digit, is_ascii_alphabetic, is_ascii_alphanumeric, to_ascii_lowercase}
 use Rattle.std.specs.List.{prefix_len}
@@ -34,8 +34,8 @@ is_word_byte b = is_ascii_alphanumeric b || b == 95
 abbrev pub is_before_line_end : ℕ → Bool
 is_before_line_end b = not (b == 10)
 
--- ---- what stands at the front of a text that begins at `at`: a token of so many bytes, or so
--- many bytes to pass over, or a fault
+-- ---- what is at the front of a text that begins at `at`: a token of so many bytes, or so many
+-- bytes to pass over, or an error
 
 abbrev pub Front : Type 0
 Front = Result Lexeme LexFault
@@ -58,7 +58,7 @@ number at z =
     if nat_lt largest (decimal (take n z)) then Err (BigNumber at)
     else (if is_letter (slice_index z n) then Err (BadByte (at + n)) else token (kind.Number (pos (decimal (take n z)))) n)
 
--- what stands before the closing quote, each doubled quote read as one, and the number of bytes up
+-- what comes before the closing quote, each doubled quote read as one, and the number of bytes up
 -- to and with that quote
 abbrev pub closing : ℕ → Text → Option (Text × ℕ)
 closing q [] = None
@@ -132,7 +132,8 @@ abbrev pub then_lexed : ℕ → Front → (ℕ → Tokens) → Tokens
 then_lexed at (Ok l) more = go_on at l.kind l.len (more l.len)
 then_lexed at (Err e) more = Err e
 
--- the tokens of a text that begins at `at`, whose first `inside` bytes belong to what was read before
+-- the tokens of a text that begins at `at`, whose first `inside` bytes belong to what was read
+-- before
 unfoldable pub lexed_from : ℕ → ℕ → Text → Tokens
 lexed_from inside at [] = Ok []
 lexed_from (suc inside) at (b ∷ z) = lexed_from inside (at + 1) z
