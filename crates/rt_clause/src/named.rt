@@ -6,8 +6,8 @@ ghost use Rattle.std.specs.Prelude.{◌≡◌, ◌≤◌};
 use crate::lit::Lit;
 use std::marker::Model;
 
-/// How the variables of a formula are numbered: those below `rows` are the rows, those from there
-/// to `next` are the formula's own, and `goal` is the literal of the whole formula.
+/// How the variables of a formula are numbered. Those below `rows` are the rows, and those from
+/// there to `next` are the formula's own. `goal` is the literal of the whole formula.
 #[derive(Clone, Copy)]
 pub struct Named {
     rows: usize,
