@@ -1,4 +1,6 @@
-//! Laws on growth, as the contracts of functions.
+//! Laws on growth, as the contracts of functions with no code, so that a test or a crate above can
+//! cite them.
+
 ghost use Rattle.rt_formula.specs.Laws.{OlderStay, TakenBack};
 
 /// A node stays a node, and keeps its value, as entries are added.
