@@ -89,7 +89,7 @@ fn read_right<F: Files>(
 }
 
 /// The work of two queries over given rows and of the rules of the schema, in the unit of `work`.
-/// It stays at the greatest u128 once it would pass it.
+/// It stops at 2^127 - 1.
 pub fn work_between(schema: &Schema, given: &Given, left: &Typed, right: &Typed) -> u128
     requires { IsOf schema.now given.now }
     ensures { result ≡ work_between schema.now given.now left.now right.now }
