@@ -149,7 +149,8 @@ pub record Along (old now : Shared) (out : List Noted) (rest whole : List Entry)
 abbrev pub noted_in : List Value → List Noted → Bool
 noted_in r ns = list_any (λ n. row_eq r n.row) ns
 
--- the noted rows are those of the entries, each once, and each node says where its row is there
+-- the noted rows are those of the entries, each once, and each node says at which choices its row
+-- is there
 pub record AreMerged (d : Shared) (out : List Noted) (es : List Entry) : Type 0 where
   pub below : AreNoted d out
   pub same : (r : List Value) (s : List Bool) → stands (entries_of d out) r s ≡ stands es r s

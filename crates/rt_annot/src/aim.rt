@@ -28,8 +28,8 @@ pub struct Aim {
     pub goal: Node,
 }
 
-/// The goal of two queries: true at just the lawful choices of the given rows at which they answer
-/// differently. And the part of it that leaves the law out.
+/// The goal of two queries: true at just the lawful choices of the given rows at which they
+/// answer differently. Also the part of it without the law.
 pub fn goal(
     alloc: Global,
     dag: &mut Dag,

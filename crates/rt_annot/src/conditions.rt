@@ -1,6 +1,6 @@
-//! The evaluation of conditions over all given rows: of comparisons at once, and of EXISTS and IN
-//! by the nodes of their query's rows. A query that names no row outside of it is evaluated once,
-//! and kept.
+//! The evaluation of conditions over all given rows. A comparison has its value at once; EXISTS
+//! and IN get theirs from the nodes of their query's rows. A query that names no row outside of
+//! it is evaluated once.
 
 ghost use Rattle.std.specs.Prelude.{◌≡◌, ◌<◌, [], length, map, slice_index_or, IfOk, IfSome};
 ghost use Rattle.rt_value.specs.Value.{null_truth, value_truth};

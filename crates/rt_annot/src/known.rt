@@ -75,7 +75,7 @@ fn by_first(alloc: Global, rows: &[Noted]) -> Result<Groups, NoMemory>
 }
 
 impl Found {
-    /// What they need of these rows.
+    /// What EXISTS and IN need of these rows.
     pub fn of(alloc: Global, dag: &mut Dag, rows: &[Noted]) -> Result<Found, NoMemory>
         requires { AreNoted dag.old rows.now }
         ensures grown { IsGrown dag.old dag.new }

@@ -64,8 +64,8 @@ impl Lit {
         self.word % 2 == 1
     }
 
-    /// The literal's place in a list with one entry for each literal: the two of a variable are
-    /// neighbours, the negated one first.
+    /// The literal's place in a list with one entry for each literal. The two of a variable are
+    /// neighbours, first the one that is true at false.
     pub fn index(self) -> usize
         ensures is { result ≡ packed self }
         ensures small { result < 2 ^ 63 }

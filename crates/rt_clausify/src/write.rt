@@ -160,8 +160,8 @@ fn write_marked<A: Adds>(
     Ok(Named::of(dag.rows(), next, lit))
 }
 
-/// Adds the clauses of each gate under the goal, and the goal as a unit clause. It answers with the
-/// numbering of the variables: row r is variable r, and the gates follow. After an error some
+/// Adds the clauses of each gate under the goal, and the goal as a unit clause. It answers with
+/// the numbering of the variables: row r is variable r, and the gates follow. After an error some
 /// clauses may have been added.
 ///
 /// `any` over rows 0 and 1, whose variable is 2, as the goal:

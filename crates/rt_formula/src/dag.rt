@@ -1,4 +1,4 @@
-//! The shared formula: nodes are added here, and simplified as they are. Which simplifications are
+//! The shared formula: nodes are added here, and simplified on the way. Which simplifications are
 //! made is private; contracts give the value of each node and nothing about its entry.
 
 ghost use Rattle.std.specs.Prelude.{◌≡◌, ℕ, List, [], ◌∷◌, ◌++◌, ◌<◌, ◌≤◌, ◌^◌, Bool, true, false, not, IsTrue, ◌↔◌, IfOk, OnErr, OnOk, length, slice_get};

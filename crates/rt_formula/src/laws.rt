@@ -1,5 +1,4 @@
-//! Laws on growth, as the contracts of functions with no code, so that a test or a crate above can
-//! cite them.
+//! Laws on growth, as the contracts of functions without code.
 
 ghost use Rattle.rt_formula.specs.Laws.{OlderStay, TakenBack};
 

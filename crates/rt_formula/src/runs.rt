@@ -1,6 +1,5 @@
 //! Children of an `any` that come one after another and are an `all` over the same first child.
-//! Such a run, of three or more, is written as one child: `a&b | a&c | a&d` becomes `a & (b | c |
-//! d)`.
+//! Such a run, of three or more, is one child: `ab | ac | ad` becomes `a(b|c|d)`.
 
 ghost use Rattle.std.specs.Prelude.{◌≡◌, ℕ, List, [], ◌<◌, ◌≤◌, Bool, ◌&&◌, IfOk, IfSome, OnOk, length, take};
 ghost use Rattle.std.specs.List.{list_all, list_any, All as Each};

@@ -1,5 +1,5 @@
-//! The clauses of one rule, one for each row, from the last row to the first. So a row is compared
-//! with the group of the rows after it, and not with each of them.
+//! The clauses of one rule, one for each row, from the last row to the first. For a key, a row
+//! meets the group of the rows after it, and not each of them.
 
 ghost use Rattle.std.specs.Prelude.{◌≡◌, ◌<◌, ◌≤◌, ◌+◌, length, drop, IfOk};
 ghost use Rattle.rt_schema.specs.Kept.{kept_rows};

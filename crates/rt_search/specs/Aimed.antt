@@ -10,8 +10,8 @@ use Rattle.rt_totalizer.specs.Outputs.{output_at, CountsFirst, CountsRows}
 use Rattle.rt_totalizer.specs.declared.counter.Outputs.{Outputs}
 use Rattle.rt_search.specs.Sought.{IsSought, IsWithin, not_kept}
 
--- The lines have a model over a choice exactly where it is sought, and the rows determine the other
--- variables. Propagation gives that no row outside of the cone is kept.
+-- The lines have a model over a choice exactly where it is sought, and the rows determine the
+-- other variables. Propagation gives that no row outside of the cone is kept.
 pub record IsAimed (d : Shared) (goal : ℕ) (cone : List Bool) (lines : List (List Literal)) (next : ℕ) : Type 0 where
   pub wide : d.rows ≤ next
   pub below : AreBelow next lines

@@ -18,8 +18,8 @@ pub(crate) fn is_small(budget: Option<u64>, rows: usize) -> bool {
 }
 
 /// Searches with clauses over all variables. If that spends the budget, it searches once more,
-/// from the lines so far, with clauses over the rows. A budget that can't be spent over the rows is
-/// left out.
+/// from the lines so far, with clauses over the rows. A budget that can't be spent over the rows
+/// is left out.
 pub(crate) fn attempt(
     solver: &mut Solver<Counted>,
     assume: &Option<Lit>,

@@ -64,13 +64,13 @@ fn ask(
 }
 
 /// Goes on from a choice of the fewest rows to the first of them in the order of rows. Every row
-/// below `place` is settled, and `kept` of them are kept. `held` says so, and that no more rows are
-/// kept than in the best choice.
+/// below `place` is settled, and `kept` of them are kept. `held` says so, and that no more rows
+/// are kept than in the best choice.
 ///
-/// Each round asks for a choice that keeps one more of the rows before `end`, which is at most `row`,
-/// the next one that the best keeps. A model is the best from then on, and half of the rows before
-/// its next one are asked about. A refutation settles the rows before `end`. Then all up to `row` are
-/// asked about, since mostly there is no other choice.
+/// Each round asks for a choice that keeps one more of the rows before `end`, which is at most
+/// `row`, the next one that the best keeps. A model is the best from then on, and half of the
+/// rows before its next one are asked about. A refutation settles the rows before `end`. Then all
+/// up to `row` are asked about, since mostly there is no other choice.
 ///
 /// Of six rows with the best {2, 5}, where the first of the smallest is {1, 4}:
 ///     is row 0 or 1 kept?              yes, by {1, 4}, which is the best now
