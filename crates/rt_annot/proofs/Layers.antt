@@ -1,4 +1,4 @@
--- The nodes of one layer of a query or condition, against its answer at every Keep.
+-- The nodes of one layer of a query or condition, against its answer at every choice of rows.
 use Rattle.std.proofs.Common.{◌≡◌, ℕ, ◌+◌, ◌<◌, Bool, true, false, cond, not, ◌&&◌, ◌||◌, List, [], ◌∷◌, zero, suc, ◌++◌, Some, length, map, take, get_or, refl, sym, subst, ap, ap₂, arith, ◌∙◌}
 use Rattle.std.proofs.lemmas.List.{take_more, map-append, append_assoc}
 use Rattle.std.proofs.lemmas.List.Elements.{All-append}
@@ -122,7 +122,7 @@ module _ (given : Tables) (env : Env) where
     any_formulas d [] = refl
     any_formulas d (n ∷ ns) = ap (λ b. val d s n || b) (any_formulas d ns)
 
-  -- a condition with this outcome at every Keep
+  -- a condition with this outcome at every choice of rows
   pub outcome : {d : Shared} {g : Gate} {u : Test} (p : Pred) (t : List Bool → Truth) → ((s : List Bool) → pred_by wrapped p (kept given s) env ≡ t s)
       → ((s : List Bool) → u.0 s ≡ is_yes (t s)) → ((s : List Bool) → u.1 s ≡ is_no (t s)) → IsGate d g u → IsGate d g (yes_when p given env, no_when p given env)
   outcome p t e y n i = gate_as (yes_when p given env, no_when p given env) (λ s. y s ∙ ap is_yes (sym (e s))) (λ s. n s ∙ ap is_no (sym (e s))) i
@@ -232,7 +232,7 @@ pub gives_sifted : (side : Side) {d now : Shared} {ms ns out : List Noted} {f h 
 gives_sifted Standing i j k = gives_intersect i j k
 gives_sifted Missing i j k = gives_except i j k
 
--- the node of a side, of a gate that says where a row stands
+-- the node of a side, of a gate that says where a row is
 pub side_is : (side : Side) (es : List Entry) (r : List Value) {d : Shared} {g : Gate} → IsGate d g (stands es r, λ s. not (stands es r s)) → IsNode d (side_node side g) (side_test side es r).0
 side_is Standing es r i = i.yes
 side_is Missing es r i = i.no

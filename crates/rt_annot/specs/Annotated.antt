@@ -1,4 +1,4 @@
--- What nodes and noted rows mean: formulas on the Keep.
+-- What nodes and noted rows mean: formulas on the choice of rows.
 use Rattle.std.specs.Prelude.{◌≡◌, ℕ, ◌<◌, ◌+◌, nat_eq, Bool, false, not, List, [], ◌∷◌, ◌++◌, Option, None, Some, map, length}
 use Rattle.std.specs.List.{All as Each, IsDistinct, filter, list_all, list_any}
 use Rattle.rt_schema.specs.Kept.{kept}
@@ -61,7 +61,7 @@ abbrev pub side_test : Side → List Entry → List Value → Test
 side_test Standing es r = (stands es r, λ s. false)
 side_test Missing es r = (λ s. not (stands es r s), λ s. false)
 
--- the node of that, of a gate that says where a row stands among them
+-- the node of that, of a gate that says where a row is among them
 abbrev pub side_node : Side → Gate → ℕ
 side_node Standing g = g.yes
 side_node Missing g = g.no
@@ -91,7 +91,7 @@ yes_of ps given env = map (λ p. yes_when p given env) ps
 abbrev pub no_of : List Pred → Tables → Env → List Formula
 no_of ps given env = map (λ p. no_when p given env) ps
 
--- each row of either list stands in the other
+-- each row of either list is in the other
 abbrev pub SameRows : Rows → Rows → Type 0
 SameRows xs ys = (r : List Value) → has_row xs r ≡ has_row ys r
 
@@ -149,7 +149,8 @@ pub record Along (old now : Shared) (out : List Noted) (rest whole : List Entry)
 abbrev pub noted_in : List Value → List Noted → Bool
 noted_in r ns = list_any (λ n. row_eq r n.row) ns
 
--- the noted rows are those of the entries, each once, and each node says where its row stands
+-- the noted rows are those of the entries, each once, and each node says at which choices its row
+-- is there
 pub record AreMerged (d : Shared) (out : List Noted) (es : List Entry) : Type 0 where
   pub below : AreNoted d out
   pub same : (r : List Value) (s : List Bool) → stands (entries_of d out) r s ≡ stands es r s

@@ -1,4 +1,5 @@
-//! The nodes of conditions.
+//! The two nodes of a condition, and how conditions are put together (three-valued logic).
+
 ghost use Rattle.std.specs.Prelude.{◌≡◌, ◌<◌, ◌++◌, ◌∷◌, [], List, Bool, true, false, not, ◌&&◌, IfOk, OnOk, length};
 ghost use Rattle.std.specs.List.{list_all, list_any};
 ghost use Rattle.rt_formula.specs.Shared.{val, IsGrown};
@@ -72,6 +73,7 @@ pub fn is_always(dag: &Dag, node: Node) -> bool
     node == dag.yes()
 }
 
+/// The node that is true where both are.
 pub fn both(dag: &mut Dag, a: Node, b: Node) -> Result<Node, NoMemory>
     requires a { a < length dag.old.entries }
     requires b { b < length dag.old.entries }
@@ -81,8 +83,8 @@ pub fn both(dag: &mut Dag, a: Node, b: Node) -> Result<Node, NoMemory>
     dag.all(&[a, b])
 }
 
-/// How conditions are put together: true where all are true and false where one is false, or true
-/// where one is true and false where all are false.
+/// How conditions are put together. `All` (AND) is true where all are true and false where one is
+/// false. `Any` (OR) is true where one is true and false where all are false.
 #[derive(Clone, Copy)]
 pub enum Junction {
     All,
@@ -90,7 +92,8 @@ pub enum Junction {
 }
 
 impl Junction {
-    /// The node of a condition that decides all of them where it is always true.
+    /// The node of a condition that decides all of them if it is always true: for AND the one that
+    /// says that the condition is false.
     pub fn deciding(&self, gate: &Gate) -> Node
         ensures { result ≡ deciding self.now gate.now }
     {
@@ -114,7 +117,7 @@ impl Junction {
     }
 }
 
-/// True where all are true, false where one is false.
+// True where all are true, false where one is false.
 fn all(dag: &mut Dag, gates: &Gates) -> Result<Gate, NoMemory>
     requires yes { AreNodes dag.old gates.now.yes }
     requires no { AreNodes dag.old gates.now.no }
@@ -126,7 +129,7 @@ fn all(dag: &mut Dag, gates: &Gates) -> Result<Gate, NoMemory>
     Ok(Gate { yes, no })
 }
 
-/// True where one is true, false where all are false.
+// True where one is true, false where all are false.
 fn any(dag: &mut Dag, gates: &Gates) -> Result<Gate, NoMemory>
     requires yes { AreNodes dag.old gates.now.yes }
     requires no { AreNodes dag.old gates.now.no }

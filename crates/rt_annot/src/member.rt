@@ -1,4 +1,5 @@
-//! EXISTS, and IN with a query.
+//! EXISTS, and IN with a query, for a query that is evaluated anew for each row.
+
 ghost use Rattle.std.specs.Prelude.{◌≡◌, List, Bool, not, IfOk};
 ghost use Rattle.rt_schema.specs.Given.{Rows};
 ghost use Rattle.rt_formula.specs.Shared.{IsGrown};
@@ -32,7 +33,7 @@ pub fn exists(alloc: Global, dag: &mut Dag, rows: &[Noted]) -> Result<Gate, NoMe
     either(dag, nodes.as_slice())
 }
 
-/// The nodes of the rows to whose first value `x` compares equal.
+// The nodes of the rows to whose first value `x` compares equal.
 fn sure(alloc: Global, x: &Value, rows: &[Noted]) -> Result<List<Node>, NoMemory>
     ensures { IfOk result (λ out. out ≡ sure x.now rows.now) }
 {
@@ -45,7 +46,7 @@ fn sure(alloc: Global, x: &Value, rows: &[Noted]) -> Result<List<Node>, NoMemory
     Ok(out)
 }
 
-/// The nodes of the rows to whose first value `x` compares equal or unknown.
+// The nodes of the rows to whose first value `x` compares equal or unknown.
 fn possible(alloc: Global, x: &Value, rows: &[Noted]) -> Result<List<Node>, NoMemory>
     ensures { IfOk result (λ out. out ≡ possible x.now rows.now) }
 {
@@ -58,7 +59,7 @@ fn possible(alloc: Global, x: &Value, rows: &[Noted]) -> Result<List<Node>, NoMe
     Ok(out)
 }
 
-/// Whether there is a row, or whether the value that is sought is among the rows.
+/// Whether there is a row, or, where a value is sought, whether it is among the rows.
 pub fn among(
     alloc: Global,
     dag: &mut Dag,

@@ -217,7 +217,7 @@ pub none_for : (tells : Bool) (held : Holding) (o : Option Command) (old new : L
 none_for tells held None old new same = same
 none_for tells held (Some k) old new same = none_begun (IsKnown tells (source_of k)) (input_files (source_of k)) (input_reached (source_of k) held) old new same
 
--- a call on words that are read
+-- a call on arguments that are read
 pub begins_for : (tells : Bool) (held : Holding) (o : Option Command) (k : Command) (old new : List Text) → o ≡ Some k
     → AddsSome (IsKnown tells (source_of k)) (input_files (source_of k)) (input_reached (source_of k) held) old new → BeginsFor tells held o old new
 begins_for tells held o k old new is some = subst (λ (p : Option Command). BeginsFor tells held p old new) (sym is) some

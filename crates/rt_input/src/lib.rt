@@ -1,5 +1,5 @@
-//! What the words and the files of a command say: where the texts of its parts stand, an accepted
-//! input, or the outcome that stops the reading, and its text.
+//! From the arguments and files of a command to an accepted input, or to the outcome that stops
+//! the reading. Also the text of each outcome that is no verdict.
 #![tactic(auto)]
 
 mod faults;

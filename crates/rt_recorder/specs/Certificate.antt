@@ -14,7 +14,7 @@ Text = List ℕ
 
 -- ---- pieces
 
--- each piece behind a space
+-- each piece after a space, which is byte 32
 abbrev pub spaced : {X : Type 0} → (X → Text) → List X → Text
 spaced spell [] = []
 spaced spell (x ∷ xs) = 32 ∷ (spell x ++ spaced spell xs)

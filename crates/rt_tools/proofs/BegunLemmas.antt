@@ -87,7 +87,7 @@ module _ (tells : Bool) (w : GradeWords) (held : Holding) (old mid new : List Te
         (subst (λ (h : Holding). AddsPrefix mid new (list_reached w h)) same (adds.told t))),
   )
 
--- ---- the words
+-- ---- the arguments
 
 pub graded_begun : (tells : Bool) (held : Holding) (o : Option GradeWords) (w : GradeWords) (old new : List Text) → o ≡ Some w → GradesFor tells held (Some w) old new → GradesFor tells held o old new
 graded_begun tells held o w old new is begins = subst (λ (p : Option GradeWords). GradesFor tells held p old new) (sym is) begins
@@ -102,7 +102,7 @@ no_tool tells held (row text args) old new same = none_for tells held (command a
 no_tool tells held (grade args) old new same = none_graded tells held (grade_words args) old new same
 no_tool tells held neither old new same = same
 
--- the words behind the name of the tool
+-- the arguments after the name of the tool
 pub row_begun : (tells : Bool) (held : Holding) (words : List Text) (old new : List Text) (name text word : Text) (b : Bool) → 2 ≤ length words → name ≡ get_or words 0 name
     → b ≡ true → b ≡ bytes_eq word (codes "row") → word ≡ name
     → BeginsFor tells held (command (take (length words - 2) (drop 2 words))) old new → ToolBegins tells held (tool_of words) old new

@@ -17,7 +17,8 @@ lines text = slice_split (λ b. b == 10) text
 abbrev pub is_path : Text → Bool
 is_path line = nat_le 1 (length line)
 
--- the paths of these lines: each line without one carriage return (13) at its end, and no empty one
+-- the paths of these lines: each line without one carriage return (13) at its end, and no empty
+-- one
 abbrev pub paths_in : List Text → List Text
 paths_in lines = filter is_path (map strip_carriage_return lines)
 
