@@ -1,7 +1,8 @@
--- How the arguments of the command are read. 45 is a minus sign, and 61 an equals sign.
+-- How the arguments of the command are read.
 use Rattle.std.specs.Prelude.{ℕ, ◌==◌, List, [], ◌∷◌, ◌++◌, Option, Some, None, codes, if◌then◌else◌}
 use Rattle.std.specs.List.{before_first, after_first, list_any}
 use Rattle.std.specs.Str.{bytes_eq}
+use Rattle.rt_value.specs.Bytes.{equals, minus_sign}
 
 abbrev pub Text : Type 0
 Text = List ℕ
@@ -45,7 +46,7 @@ pub data Word : Type 0 where
 -- an option, with what follows its first `=` if it has one
 abbrev pub option_or_setting : Setting → Text → Word
 option_or_setting o text =
-    if list_any (λ x. x == 61) text then setting o (after_first (λ x. x == 61) text)
+    if list_any (λ x. x == equals) text then setting o (after_first (λ x. x == equals) text)
     else option o
 
 -- what follows `--`, by the name before its first `=`
@@ -57,15 +58,15 @@ named name text =
 
 abbrev pub after_dashes : Text → Word
 after_dashes [] = dashes
-after_dashes (x ∷ rest) = named (before_first (λ x. x == 61) (x ∷ rest)) (x ∷ rest)
+after_dashes (x ∷ rest) = named (before_first (λ x. x == equals) (x ∷ rest)) (x ∷ rest)
 
 abbrev pub after_dash : Text → Word
 after_dash [] = plain
-after_dash (x ∷ rest) = if x == 45 then after_dashes rest else unknown
+after_dash (x ∷ rest) = if x == minus_sign then after_dashes rest else unknown
 
 abbrev pub word_of : Text → Word
 word_of [] = plain
-word_of (x ∷ rest) = if x == 45 then after_dash rest else plain
+word_of (x ∷ rest) = if x == minus_sign then after_dash rest else plain
 
 -- what the next argument is read as: any one, the value of an option, or a plain one after `--`
 pub data Mode : Type 0 where

@@ -1,13 +1,13 @@
 -- Whole numbers as the fields of INTEGER columns write them: an optional sign and digits, with
 -- spaces and tabs around them (ISO/IEC 9075-2, 5.3 <signed numeric literal>).
 use Rattle.std.specs.Prelude.{ℕ, ◌-◌, ◌^◌, ◌==◌, ◌||◌, Bool, true, false, if◌then◌else◌, List, [], ◌∷◌, reverse, Option, None, option_map, ℤ, pos, ◌-ℤ◌}
+use Rattle.rt_value.specs.Bytes.{space, tab, plus_sign, minus_sign}
 use Rattle.rt_value.specs.Numeral.{all_digits, decimal, decimal_to}
 
 -- ---- blanks
 
--- a space or a tab
 abbrev pub is_blank : ℕ → Bool
-is_blank b = b == 32 || b == 9
+is_blank b = b == space || b == tab
 
 -- what follows the blanks at the front
 abbrev pub without_blanks : List ℕ → List ℕ
@@ -34,4 +34,4 @@ signed minus (d ∷ ds) = if all_digits (d ∷ ds) then with_sign minus (decimal
 
 abbrev pub integer : List ℕ → Option ℤ
 integer [] = None
-integer (b ∷ bs) = if b == 45 then signed true bs else (if b == 43 then signed false bs else signed false (b ∷ bs))
+integer (b ∷ bs) = if b == minus_sign then signed true bs else (if b == plus_sign then signed false bs else signed false (b ∷ bs))

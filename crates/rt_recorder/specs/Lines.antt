@@ -1,6 +1,7 @@
 -- Which line of a text is the first that no certificate has there.
 use Rattle.std.specs.Prelude.{◌≡◌, ◌≢◌, ℕ, ◌+◌, List, [], ◌∷◌, ◌++◌, length, Result, Ok, Err}
 use Rattle.std.specs.List.{AllByRecursion as Each}
+use Rattle.rt_value.specs.Bytes.{line_feed}
 use Rattle.rt_recorder.specs.Certificate.{Text, IsCert, cert_lines, cert_text, text_of}
 use Rattle.rt_recorder.specs.declared.cert.Cert.{Cert}
 use Rattle.rt_recorder.specs.declared.fault.CertFault.{CertFault}
@@ -10,7 +11,7 @@ use Rattle.rt_recorder.specs.declared.fault.CertFault.TheVariants.{BadLine, NoMe
 abbrev pub Begins : List Text → Type 0
 Begins lines = (c : Cert) × IsCert c × (more : List Text) × (cert_lines c ≡ lines ++ more)
 
--- one line, without its LF, which is byte 10
+-- one line, without its LF
 abbrev pub IsLine : Text → Type 0
 IsLine line = Each (λ b. b ≢ 10) line
 
@@ -24,7 +25,7 @@ pub record IsFirstBad (text : Text) (n : ℕ) : Type 0 where
   pub number : n ≡ length before + 1
   pub are_lines : Each IsLine before
   pub begins : Begins before
-  pub ends : (line more : Text) → IsLine line → rest ≡ line ++ 10 ∷ more → Begins (before ++ line ∷ []) → ⊥
+  pub ends : (line more : Text) → IsLine line → rest ≡ line ++ line_feed ∷ more → Begins (before ++ line ∷ []) → ⊥
   pub other : (c : Cert) → IsCert c → text ≡ cert_text c → ⊥
 
 -- what the reading of a text gives
