@@ -7,7 +7,7 @@ use rt_value::NoMemory;
 use std::alloc::Global;
 use std::marker::Model;
 
-// Large enough that a thirty-second part of it counts.
+// Large enough that a sixty-fourth part of it counts.
 const FIRST_STEP: u64 = 64;
 
 // No counter and no step grows past this number.
@@ -128,14 +128,14 @@ impl Heap {
         }
     }
 
-    /// Lets the step grow by a thirty-second part, so that later raises count for more.
+    /// Lets the step grow by a sixty-fourth part, so that later raises count for more.
     pub fn age(&mut self)
         ensures { self.new ≡ self.old }
     {
         if self.step > LIMIT / 2 {
             self.halve();
         }
-        self.step = self.step.saturating_add(self.step / 32 + 1);
+        self.step = self.step.saturating_add(self.step / 64 + 1);
     }
 
     // Halves the step and all counters. Where two counters become equal, the greater variable may
