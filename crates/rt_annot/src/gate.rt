@@ -1,4 +1,5 @@
-//! The two nodes of a condition, and how conditions are put together (three-valued logic).
+//! The two nodes of a condition, and how conditions are put together in three-valued logic
+//! (ISO/IEC 9075-2, boolean value expression).
 
 ghost use Rattle.std.specs.Prelude.{◌≡◌, ◌<◌, ◌++◌, ◌∷◌, [], List, Bool, true, false, not, ◌&&◌, IfOk, OnOk, length};
 ghost use Rattle.std.specs.List.{list_all, list_any};

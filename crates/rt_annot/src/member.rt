@@ -1,4 +1,5 @@
-//! EXISTS, and IN with a query, for a query that is evaluated anew for each row.
+//! EXISTS, and IN with a query, for a query that is evaluated anew for each row (ISO/IEC 9075-2,
+//! exists predicate, in predicate).
 
 ghost use Rattle.std.specs.Prelude.{◌≡◌, List, Bool, not, IfOk};
 ghost use Rattle.rt_schema.specs.Given.{Rows};

@@ -1,4 +1,4 @@
-//! The texts of outcomes, byte by byte as the specification has them.
+//! The texts of outcomes. `specs/Texts.antt` has them byte by byte.
 
 ghost use Rattle.std.specs.Prelude.{◌≡◌, IfOk, string_bytes};
 ghost use Rattle.rt_cert.specs.Texts as spec;

@@ -1,4 +1,4 @@
-//! The texts of refusals and errors, byte by byte as the specification has them.
+//! The texts of refusals and errors. `specs/Texts.antt` has them byte by byte.
 
 ghost use Rattle.std.specs.Prelude.{◌≡◌, ◌++◌, IfOk, codes, decimal, string_bytes};
 ghost use Rattle.rt_input.specs.Texts.{part_text, fault_text, lex_text, limit_text, load_text, name_text, refusal_line, schema_text, sql_text, syntax_text};

@@ -49,7 +49,7 @@ fn filled(dag: &mut Dag, column: usize, row: &Row, place: usize) -> Result<Node,
 }
 
 /// That no kept row fails the check, `base` being the place of the first row. A check that is
-/// unknown passes.
+/// unknown passes (ISO/IEC 9075-2, check constraint definition).
 pub(crate) fn check(
     alloc: Global,
     dag: &mut Dag,
@@ -85,7 +85,7 @@ fn allowed(dag: &mut Dag, check: &Check, row: &Row, place: usize) -> Result<Node
 }
 
 /// That no two kept rows agree on the columns of a key, `base` being the place of the first row.
-/// Rows with NULL there agree with none.
+/// Rows with NULL there agree with none (ISO/IEC 9075-2, unique constraint definition).
 pub(crate) fn key(
     alloc: Global,
     dag: &mut Dag,
@@ -152,9 +152,10 @@ fn apart(
     Ok(clause)
 }
 
-/// That each kept row has NULL in a referencing column or agrees with a kept one of `others`.
-/// `base` and `others_base` are the places of the first rows. `groups` has the others by their
-/// values in the referenced columns.
+/// That each kept row has NULL in a referencing column or agrees with a kept one of `others`
+/// (ISO/IEC 9075-2, referential constraint definition, MATCH SIMPLE). `base` and `others_base`
+/// are the places of the first rows. `groups` has the others by their values in the referenced
+/// columns.
 pub(crate) fn foreign(
     alloc: Global,
     dag: &mut Dag,

@@ -70,7 +70,7 @@ fn grade_each<F: Files>(
 }
 
 /// The grades of the candidates in the files of these names, in order. The reference is prepared
-/// once, and queries that are the same are decided once.
+/// once. A query that was decided before isn't decided again, if its grade was kept.
 pub(crate) fn grade_files<F: Files>(
     alloc: Global,
     words: &Words,

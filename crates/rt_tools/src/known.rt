@@ -1,4 +1,4 @@
-//! The queries of candidates that were graded before, so that equal ones are decided once.
+//! The queries of candidates that were graded before, with the grades that can be kept.
 
 ghost use Rattle.std.specs.Prelude.{IfOk, IfSome};
 ghost use Rattle.rt_io.specs.Ranges.{Command};

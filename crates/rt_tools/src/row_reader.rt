@@ -67,9 +67,8 @@ fn row_of(alloc: Global, tokens: &[Token], kinds: &[ColKind]) -> Result<Row, Row
     Ok(row)
 }
 
-/// The row of a query's columns that a text is. Its cells are NULL, whole numbers with one minus
-/// sign at most, and texts in quotes, as they are printed. For an integer and a text: `-3,
-/// 'it''s'`.
+/// The row of a query's columns that a text is, such as `-3, 'it''s'`. Its cells are NULL, whole
+/// numbers with one minus sign at most, and texts in quotes, as they are printed.
 pub fn read_row(alloc: Global, text: &[u8], typed: &Typed) -> Result<Row, RowFault>
     ensures { Gives spec.is_memory result (spec.row_read text.now typed.now.kinds) }
 {

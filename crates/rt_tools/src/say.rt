@@ -1,4 +1,4 @@
-//! The texts of grades and of what stops a call, byte by byte as the specification has them.
+//! The texts of grades and of what stops a call. `specs/Texts.antt` has them byte by byte.
 
 ghost use Rattle.std.specs.Prelude.{◌≡◌, ◌++◌, IfOk, OnOk};
 ghost use Rattle.rt_tools.specs.Texts as spec;
