@@ -1,0 +1,87 @@
+"""Questions for the program: those of the examples, random ones, and hostile ones."""
+from __future__ import annotations
+
+import itertools
+import os
+import subprocess
+import tempfile
+from collections.abc import Iterator
+from dataclasses import dataclass
+from pathlib import Path
+from random import Random
+
+from compare.by_broken import broken
+from compare.command import case_of
+from compare.draw import Limits
+from compare.model import csv_text, schema
+from compare.program import query_text
+
+TOP = Path(__file__).resolve().parents[2]
+WORDS = ("schema.sql", "data", "1.sql", "2.sql")
+# Arguments of which some are wrong.
+ARGUMENTS: tuple[tuple[str, ...], ...] = (
+    (), ("made",), ("made", "0"), ("made", "1"), ("made", "20"), ("made", "401"), ("made", "60", "--conflicts", "3"), ("nothing",),
+    WORDS[:3], (*WORDS, "more"), (*WORDS, "--work", "1"), (*WORDS, "--work", "0"), (*WORDS, "--conflicts", "1"),
+    (*WORDS, "--conflicts", "10000001"), ("schema.sql", "data", "1.sql", "none.sql"), ("none.sql", "data", "1.sql", "2.sql"),
+    ("schema.sql", "elsewhere", "1.sql", "2.sql"), ("schema.sql", "data", "größe", "☃"))
+SECONDS = 60.0
+
+
+@dataclass(frozen=True)
+class Question:
+    words: tuple[str, ...]
+    files: dict[str, bytes]
+
+
+@dataclass(frozen=True)
+class Reply:
+    status: int
+    out: bytes
+    err: bytes
+
+
+def questions(count: int) -> list[Question]:
+    """So many, half of the random ones with broken texts."""
+    found = list(itertools.islice(examples(), count // 3))
+    odd = [Question(words, found[0].files) for words in ARGUMENTS]
+    return found + odd + list(itertools.islice(random_ones(), count - len(found) - len(odd)))
+
+
+def examples() -> Iterator[Question]:
+    """Each two of the queries of an exercise, those of different exercises in turn."""
+    yield from itertools.chain(*itertools.zip_longest(*map(pairs, sorted((TOP / "examples").glob("*/schema.sql")))))
+
+
+def pairs(path: Path) -> list[Question]:
+    folder = path.parent
+    texts = {"schema.sql": path.read_bytes(), **{f"data/{it.name}": it.read_bytes() for it in folder.glob("*.csv")}}
+    found = [it.read_bytes() for it in sorted(folder.rglob("*.sql")) if it != path]
+    return [Question(WORDS, {**texts, "1.sql": first, "2.sql": second}) for first, second in itertools.product(found, found)]
+
+
+def random_ones() -> Iterator[Question]:
+    for seed in itertools.count():
+        question = of_seed(seed, Limits(rows=20 if seed % 4 == 0 else 7))
+        yield question
+        random = Random(seed)
+        name = random.choice(sorted(question.files))
+        yield Question(question.words, {**question.files, name: broken(question.files[name], random)})
+
+
+def of_seed(seed: int, limits: Limits) -> Question:
+    case = case_of(seed, limits)
+    texts = {"schema.sql": schema(case, "ratest"), "1.sql": query_text(case.first), "2.sql": query_text(case.second),
+             **{f"data/{table.name}.csv": csv_text(table, case.rows[table.name]) for table in case.tables}}
+    return Question(WORDS, {name: text.encode() for name, text in texts.items()})
+
+
+def native(program: Path, question: Question) -> Reply:
+    """What the native program answers."""
+    with tempfile.TemporaryDirectory(prefix="ratest-web-") as folder:
+        for name, content in question.files.items():
+            path = Path(folder) / name
+            path.parent.mkdir(exist_ok=True)
+            path.write_bytes(content)
+        ran = subprocess.run([program.absolute(), *question.words], cwd=folder, stdin=subprocess.DEVNULL, capture_output=True,
+                             timeout=SECONDS, check=False, env={"PATH": os.defpath})
+    return Reply(ran.returncode, ran.stdout, ran.stderr)
