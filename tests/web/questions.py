@@ -49,7 +49,8 @@ def questions(count: int) -> list[Question]:
 
 def examples() -> Iterator[Question]:
     """Each two of the queries of an exercise, those of different exercises in turn."""
-    yield from itertools.chain(*itertools.zip_longest(*map(pairs, sorted((TOP / "examples").glob("*/schema.sql")))))
+    for questions_of_each in itertools.zip_longest(*map(pairs, sorted((TOP / "examples").glob("*/schema.sql")))):
+        yield from filter(None, questions_of_each)
 
 
 def pairs(path: Path) -> list[Question]:

@@ -2,6 +2,7 @@
 from __future__ import annotations
 
 import os
+import shutil
 import subprocess
 from pathlib import Path
 
@@ -9,7 +10,8 @@ import pytest
 
 from web import module, retarget, webassembly
 from web.failed import Changed, Failed
-from web.kit import Kit
+from web.kit import Kit, kit_here, run
+from web.narrow import narrowed
 from web.page import exercises, page_of
 
 MODULE = b"""source_filename = "rattle"
@@ -65,8 +67,73 @@ def test_a_linked_module_that_has_changed(content: bytes, told: str) -> None:
         webassembly.check(content)
 
 
-def test_widths() -> None:
-    assert not webassembly.is_wide(EMPTY + b"\5\3\1\0\1") and webassembly.is_wide(EMPTY + b"\5\3\1\4\1")
+@pytest.mark.parametrize("content, told", [
+    (b"\4\4\1\x70\0\1", "a memory or a table without 64 bits"),
+    (b"\5\3\1\0\1", "a memory or a table without 64 bits"),
+    (b"\1\2\1\x5f", "a type that is no function's"),
+    (b"\x0b\7\1\0\x41\0\x0b\1\0", "begins at no constant"),
+    (b"\x0b\7\1\1\x42\0\x0b\1\0", "data of another form"),
+    (b"\1\4\1\x60\0\0\3\2\1\0\x0a\5\1\3\0\xfd\x0b", "has the instruction 0xfd"),
+    (b"\1\4\1\x60\0\0\3\2\1\0\x0a\6\1\4\0\xfc\x0c\x0b", "has the instruction 0xfc 0x0c")])
+def test_a_module_of_another_form_is_not_narrowed(content: bytes, told: str) -> None:
+    with pytest.raises(Changed, match=told):
+        narrowed(EMPTY + content)
+
+
+IN_C = """
+#define EXPORT(name) __attribute__((export_name(#name))) name
+typedef long (*function)(long);
+static unsigned char room[4096];
+static long twice(long it) { return 2 * it; }
+static long square(long it) { return it * it; }
+static function volatile functions[] = {twice, square};
+
+long EXPORT(widths)(long value) {
+    volatile unsigned char *byte = room + 1;
+    volatile short *two = (volatile short *)(room + 8);
+    volatile int *four = (volatile int *)(room + 16);
+    volatile long *eight = (volatile long *)(room + 24);
+    volatile float *single = (volatile float *)(room + 32);
+    volatile double *wide = (volatile double *)(room + 40);
+    *byte = value; *two = value; *four = value; *eight = value; *single = value; *wide = value;
+    return *byte + *two + *four + *eight + (long)*single + (long)*wide;
+}
+
+long EXPORT(filled)(long size) {
+    __builtin_memset(room, 7, size);
+    __builtin_memcpy(room + 100, room, size);
+    return room[100 + size - 1] * 1000 + room[100 + size];
+}
+
+long EXPORT(called)(long which) { return functions[which](9); }
+
+long EXPORT(grown)(long pages) { return __builtin_wasm_memory_grow(0, pages); }
+
+long EXPORT(size)(long unit) { return __builtin_wasm_memory_size(0) * unit; }
+"""
+IN_NODE = """
+const module = new WebAssembly.Module(require("node:fs").readFileSync(0));
+const it = new WebAssembly.Instance(module, {}).exports;
+const size = it.size(1n);
+console.log(String([it.widths(-3n), it.filled(50n), it.called(0n), it.called(1n), it.grown(2n) - size, it.size(1n) - size, it.grown(1n << 20n)]));
+"""
+
+
+def test_a_narrowed_module_does_the_same(top: Path, tmp_path: Path) -> None:
+    """Accesses of each width, blocks that are filled and copied, calls by a table, and a memory that grows."""
+    if not shutil.which("rt"):
+        pytest.skip("there is no toolchain")
+    if not shutil.which("node"):
+        pytest.skip("there is no node: apt-get install nodejs")
+    kit = kit_here(top)
+    (tmp_path / "it.c").write_text(IN_C)
+    run([kit.clang, *webassembly.TARGET, "-O1", "-ffreestanding", "-nostdinc", "-c", tmp_path / "it.c", "-o", tmp_path / "it.o"], 60)
+    run([kit.archiver, "--format=gnu", "rcsD", tmp_path / "it.a", tmp_path / "it.o"], 60)
+    run([kit.linker, "--target", "wasm64-unknown-unknown", "--toolchain", kit.llvm, "-o", tmp_path / "it.wasm", tmp_path / "it.a"], 60)
+    made = narrowed((tmp_path / "it.wasm").read_bytes())
+    ran = subprocess.run(["node", "-e", IN_NODE], input=made, capture_output=True, check=False)
+    # The sum of 253 and five times -3, a byte that was copied and one that was not, and so on by hand.
+    assert (ran.stdout, ran.stderr) == (b"238,7000,18,81,0,2,-1\n", b"")
 
 
 def test_a_toolchain_that_keeps_no_module(tmp_path: Path) -> None:
