@@ -1,0 +1,38 @@
+//! The bytes of a reply.
+ghost use Rattle.std.specs.Prelude.{◌≡◌, ◌<◌, ◌≤◌, ◌^◌, length, take, pos};
+
+use crate::fault::Fault;
+use crate::told::Told;
+use rt_value::{Bytes, List};
+use std::alloc::Global;
+
+fn framed(alloc: Global, status: u8, out: &[u8], err: &[u8]) -> Result<Bytes, Fault> {
+    let Ok(length) = u32::try_from(out.len()) else {
+        return Err(Fault::NoMemory);
+    };
+    let mut bytes = List::new(alloc);
+    bytes.push(status)?;
+    bytes.extend(&length.to_le_bytes())?;
+    bytes.extend(out)?;
+    bytes.extend(err)?;
+    Ok(bytes)
+}
+
+/// The reply of what a command ended with.
+pub(crate) fn reply_of(alloc: Global, told: &Told) -> Result<Bytes, Fault> {
+    framed(alloc, told.status, told.out.bytes(), told.err.bytes())
+}
+
+/// Puts the bytes in front if there is room, and gives their length, or else minus that.
+pub(crate) fn put(bytes: &[u8], reply: &mut [u8]) -> i64
+    requires { length bytes.now < 2 ^ 63 }
+    ensures fits { length bytes.now ≤ length reply.old → result ≡ pos (length bytes.now) }
+    ensures put { length bytes.now ≤ length reply.old → take (length bytes.now) reply.new ≡ bytes.now }
+{
+    let length = bytes.len();
+    if length > reply.len() {
+        return -(length as i64);
+    }
+    reply[..length].copy_from_slice(bytes);
+    length as i64
+}
