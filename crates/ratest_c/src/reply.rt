@@ -1,12 +1,15 @@
 //! The bytes of a reply.
-ghost use Rattle.std.specs.Prelude.{◌≡◌, ◌<◌, ◌≤◌, ◌^◌, length, take, pos};
+ghost use Rattle.std.specs.Prelude.{◌≡◌, ◌<◌, ◌≤◌, ◌^◌, length, take, drop, pos, neg_ℤ, IfOk};
+ghost use Rattle.ratest_c.specs.Replies.{framed};
 
 use crate::fault::Fault;
 use crate::told::Told;
 use rt_value::{Bytes, List};
 use std::alloc::Global;
 
-fn framed(alloc: Global, status: u8, out: &[u8], err: &[u8]) -> Result<Bytes, Fault> {
+fn framed(alloc: Global, status: u8, out: &[u8], err: &[u8]) -> Result<Bytes, Fault>
+    ensures { IfOk result (λ bytes. bytes ≡ framed status out.now err.now) }
+{
     let Ok(length) = u32::try_from(out.len()) else {
         return Err(Fault::NoMemory);
     };
@@ -28,6 +31,9 @@ pub(crate) fn put(bytes: &[u8], reply: &mut [u8]) -> i64
     requires { length bytes.now < 2 ^ 63 }
     ensures fits { length bytes.now ≤ length reply.old → result ≡ pos (length bytes.now) }
     ensures put { length bytes.now ≤ length reply.old → take (length bytes.now) reply.new ≡ bytes.now }
+    ensures rest { length bytes.now ≤ length reply.old → drop (length bytes.now) reply.new ≡ drop (length bytes.now) reply.old }
+    ensures wants { length reply.old < length bytes.now → result ≡ neg_ℤ (pos (length bytes.now)) }
+    ensures kept { length reply.old < length bytes.now → reply.new ≡ reply.old }
 {
     let length = bytes.len();
     if length > reply.len() {
