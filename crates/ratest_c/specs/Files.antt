@@ -18,3 +18,6 @@ has_in (f ∷ fs) name = if bytes_eq f.name name then true else has_in fs name
 abbrev pub count_of : List ℕ → ℕ
 count_of [] = 2 ^ 64 - 1
 count_of (b ∷ bs) = 0
+
+abbrev pub counts_in : List File → List ℕ → ℕ
+counts_in files name = count_of (held_in files name)

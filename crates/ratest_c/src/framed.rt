@@ -1,6 +1,6 @@
 ghost use Rattle.std.specs.Prelude.{◌≡◌, ◌≤◌, ℕ, List, [], true, length, drop, min, take};
 ghost use Rattle.std.specs.Option.{option_map, option_map_or, ForSome};
-ghost use Rattle.ratest_c.specs.Files.{held_in, has_in, count_of};
+ghost use Rattle.ratest_c.specs.Files.{held_in, has_in, counts_in};
 
 use crate::file::{File, find};
 use rt_io::{BeginFail, Failed, Files};
@@ -25,7 +25,9 @@ pub(crate) struct Framed {
 }
 
 impl Framed {
-    pub(crate) fn new(alloc: Global, files: List<File>) -> Framed {
+    pub(crate) fn new(alloc: Global, files: List<File>) -> Framed
+        ensures { result.files ≡ files }
+    {
         Framed {
             alloc,
             files,
@@ -59,7 +61,7 @@ impl Files for Framed {
     ghost taken = { λ f. option_map_or (λ c. c.at) f.current 0 };
 
     // A file with bytes never fails.
-    ghost faults = { λ f name. count_of (held_in f.files name) };
+    ghost faults = { λ f. counts_in f.files };
 
     ghost begun = { λ f. f.begun.items };
 

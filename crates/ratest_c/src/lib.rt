@@ -1,6 +1,9 @@
 //! RATest as one call for C: a command and its files go in as bytes, and the status and both texts come
 //! back as bytes.
 #![tactic(auto)]
+ghost use Rattle.std.specs.Prelude.{◌≡◌, None, IfOk, IsErrOf};
+ghost use Rattle.ratest_c.specs.Answers.{IsReply, Says};
+ghost use Rattle.ratest_c.specs.Frames.{request_of};
 
 mod fault;
 mod file;
@@ -24,7 +27,10 @@ const MALFORMED: i64 = -1;
 const NO_MEMORY: i64 = -2;
 
 /// The bytes of the reply to a request.
-fn answered(alloc: Global, request: &[u8]) -> Result<Bytes, Fault> {
+fn answered(alloc: Global, request: &[u8]) -> Result<Bytes, Fault>
+    ensures ok { IfOk result (λ bytes. IsReply request.now bytes) }
+    ensures err { IsErrOf result Fault.Malformed → request_of request.now ≡ None }
+{
     let request = request::read_request(alloc, request)?;
     let told = run::run(alloc, request);
     reply::reply_of(alloc, &told)
@@ -41,7 +47,9 @@ fn answered(alloc: Global, request: &[u8]) -> Result<Bytes, Fault> {
 /// The result is the length of the reply; `MALFORMED` or `NO_MEMORY`; or minus the length of the reply,
 /// at most -5, where `reply` has no room for it.
 #[unsafe(no_mangle)]
-pub extern "C" fn ratest_ask(alloc: Global, request: &[u8], reply: &mut [u8]) -> i64 {
+pub extern "C" fn ratest_ask(alloc: Global, request: &[u8], reply: &mut [u8]) -> i64
+    ensures { Says request.now reply.old reply.new result }
+{
     match answered(alloc, request) {
         Ok(bytes) => reply::put(bytes.as_slice(), reply),
         Err(Fault::Malformed) => MALFORMED,

@@ -1,5 +1,5 @@
 //! The bytes of a reply.
-ghost use Rattle.std.specs.Prelude.{◌≡◌, ◌<◌, ◌≤◌, ◌^◌, length, take, drop, pos, neg_ℤ, IfOk};
+ghost use Rattle.std.specs.Prelude.{◌≡◌, ◌<◌, ◌≤◌, ◌^◌, length, take, drop, pos, neg_ℤ, IfOk, IsErrOf};
 ghost use Rattle.ratest_c.specs.Replies.{framed};
 
 use crate::fault::Fault;
@@ -8,7 +8,8 @@ use rt_value::{Bytes, List};
 use std::alloc::Global;
 
 fn framed(alloc: Global, status: u8, out: &[u8], err: &[u8]) -> Result<Bytes, Fault>
-    ensures { IfOk result (λ bytes. bytes ≡ framed status out.now err.now) }
+    ensures ok { IfOk result (λ bytes. bytes ≡ framed status out.now err.now) }
+    ensures err { IsErrOf result Fault.Malformed → ⊥ }
 {
     let Ok(length) = u32::try_from(out.len()) else {
         return Err(Fault::NoMemory);
@@ -22,7 +23,10 @@ fn framed(alloc: Global, status: u8, out: &[u8], err: &[u8]) -> Result<Bytes, Fa
 }
 
 /// The reply of what a command ended with.
-pub(crate) fn reply_of(alloc: Global, told: &Told) -> Result<Bytes, Fault> {
+pub(crate) fn reply_of(alloc: Global, told: &Told) -> Result<Bytes, Fault>
+    ensures ok { IfOk result (λ bytes. bytes ≡ framed told.now.status told.now.out.held.items told.now.err.held.items) }
+    ensures err { IsErrOf result Fault.Malformed → ⊥ }
+{
     framed(alloc, told.status, told.out.bytes(), told.err.bytes())
 }
 

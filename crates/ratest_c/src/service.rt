@@ -1,3 +1,6 @@
+ghost use Rattle.std.specs.Prelude.{◌≡◌};
+ghost use Rattle.ratest_c.specs.Services.{service_of};
+
 use rt_io::{PlusCommand, plus_command};
 use rt_value::Txt;
 
@@ -12,7 +15,9 @@ pub(crate) enum Service {
 
 /// By the first word: those of the second program's commands go where that program sends them, all
 /// others to `ratest`.
-pub(crate) fn service_of(words: &[Txt]) -> Service {
+pub(crate) fn service_of(words: &[Txt]) -> Service
+    ensures { result ≡ service_of words.now }
+{
     match plus_command(words) {
         PlusCommand::Ra => match words {
             [first, ..] if first.as_str() == "ra" => Service::Algebra,
