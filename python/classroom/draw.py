@@ -10,7 +10,8 @@ from typing import TYPE_CHECKING, Any
 
 from classroom.fault import library
 from ratest.draw import (STYLES, AnswerRow, Cell, Drawing, KeptTable, Line, cell, cells, counted, drawing, drawn,
-                         kept_tables, pictures, quoted, sql)
+                         kept_tables, pictures, sql)
+from ratest.schema import quoted
 
 if TYPE_CHECKING:
     import jinja2
