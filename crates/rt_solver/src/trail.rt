@@ -1,3 +1,5 @@
+//! The trail: the literals that are true, and why each is.
+
 ghost use Rattle.std.specs.Prelude.{◌≡◌, ◌<◌, ◌≤◌, [], ◌∷◌, length, None, IfOk, IsTrue, MatchOption, ◌↔◌};
 ghost use Rattle.rt_solver.specs.declared.trail.Why.TheVariants.{Decided};
 
