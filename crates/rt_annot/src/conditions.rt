@@ -15,7 +15,7 @@ ghost use Rattle.rt_annot.specs.Known.{AreKnown, Tells, TellsOf, sought_test};
 ghost use Rattle.rt_annot.specs.declared.subquery.Subquery.{Subquery};
 
 use crate::evaluate::annotated;
-use crate::gate::{TruthNodes, TruthLists, Junction, constant, is_always};
+use crate::gate::{Junction, TruthLists, TruthNodes, constant, is_always};
 use crate::known::Found;
 use crate::member::among;
 use crate::subquery::{Subquery, place_of};
