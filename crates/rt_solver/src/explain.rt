@@ -7,7 +7,7 @@
 //! first unique implication point). -3 -5 is learned, and after x1, x2 and x3 it gives -5.
 
 ghost use Rattle.std.specs.Prelude.{◌≡◌, ℕ, ◌<◌, ◌≤◌, ◌+◌, List, ◌∷◌, [], length, true, false, IfOk, IfSome, OnOk, Option, MatchOption, IsTrue, ◌↔◌, ◌⊎◌};
-ghost use Rattle.rt_clause.specs.Lists.{has, line_at};
+ghost use Rattle.rt_clause.specs.Lists.{line_at};
 ghost use Rattle.rt_clause.specs.Literal.{Literal};
 ghost use Rattle.rt_solver.specs.declared.trail.Step.{Step};
 ghost use Rattle.rt_solver.specs.declared.trail.Why.TheVariants.{Decided};

@@ -4,7 +4,7 @@
 //! x5 the walk looks down over x4 to x3, a decision that is not marked. So x5 is the only marked literal
 //! since the newest decision, and two steps are below that decision: the answer is 2.
 
-ghost use Rattle.std.specs.Prelude.{◌≡◌, ◌<◌, ◌≤◌, ◌+◌, true, length, MatchOption};
+ghost use Rattle.std.specs.Prelude.{◌≡◌, ◌<◌, ◌≤◌, length, MatchOption};
 ghost use Rattle.rt_solver.specs.declared.trail.Why.TheVariants.{Decided};
 ghost use Rattle.rt_solver.specs.Marking.{marked_by};
 ghost use Rattle.rt_solver.specs.Analysis.{IsLeadAt, IsUnder, IsUnled};

@@ -5,7 +5,6 @@ ghost use Rattle.rt_clause.specs.Lists.{line_at};
 ghost use Rattle.rt_solver.specs.Trail.{lits, IsApart, oldest};
 ghost use Rattle.rt_solver.specs.Looking.{IsBelow, AreBelow};
 ghost use Rattle.rt_solver.specs.Same.{AreSame};
-ghost use Rattle.rt_solver.specs.Watching.{list_at};
 ghost use Rattle.rt_solver.specs.Propagating.{IsWatched, AreWatchedBefore, IsQueued, IsPropagated, AreListed, AreShort, IsConflict, IsTakenStep, IsShortAs};
 
 use crate::clause::Clause;

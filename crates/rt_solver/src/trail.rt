@@ -56,7 +56,7 @@ impl Model for Trail {
 }
 
 impl Trail {
-    ghost use Rattle.std.specs.Prelude.{◌≡◌, ℕ, [], ◌∷◌, ◌<◌, ◌≤◌, length, Some, None, IfOk, MatchOption};
+    ghost use Rattle.std.specs.Prelude.{◌≡◌, [], ◌∷◌, ◌<◌, ◌≤◌, length, Some, None, IfOk, MatchOption};
     ghost use Rattle.std.specs.Prelude.{◌+◌};
     ghost use Rattle.rt_clause.specs.Lists.{is_false};
     ghost use Rattle.rt_solver.specs.Trail.{value_in, IsApart, lits, oldest};

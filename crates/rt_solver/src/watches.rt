@@ -1,6 +1,6 @@
 //! The lists of watches.
 
-ghost use Rattle.std.specs.Prelude.{◌≡◌, ◌≢◌, ℕ, ◌<◌, ◌≤◌, [], ◌∷◌, length, true, false, None, MatchOption, OnOk};
+ghost use Rattle.std.specs.Prelude.{◌≡◌, ◌≢◌, ℕ, ◌<◌, ◌≤◌, [], length, true, false, None, MatchOption, OnOk};
 ghost use Rattle.rt_solver.specs.Watching.{list_at, stands, IsJoined, IsTaken, slot};
 
 use crate::watch::Watch;
