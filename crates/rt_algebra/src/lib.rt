@@ -8,6 +8,7 @@
 //! relational algebra, are in the algebra.
 #![tactic(auto)]
 
+mod alone;
 mod closed;
 mod column;
 mod column_types;
@@ -15,9 +16,11 @@ mod cost;
 mod evaluate;
 mod expr;
 mod laws;
+mod parts;
 mod predicate;
 mod query;
 mod same;
+mod set_op;
 mod table;
 mod typed;
 mod united;
@@ -29,9 +32,11 @@ pub use cost::work;
 pub use evaluate::{row, scope, value};
 pub use expr::{Expr, Term};
 pub use laws::{stays_bounded, wrapped_is_exact};
+pub use parts::{all_of, any_of, product_of, selected};
 pub use predicate::{cell_truth, one_of_truth};
 pub use query::{Pred, Query};
 pub use same::same_query;
+pub use set_op::{SetOp, combined};
 pub use table::table_columns;
 pub use typed::Typed;
 pub use united::{same_kinds, widened};

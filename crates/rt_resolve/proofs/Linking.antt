@@ -3,7 +3,8 @@ use Rattle.std.proofs.Common.{◌≡◌, ◌∙◌, ℕ, ◌+◌, ◌<◌, Bool,
 use Rattle.std.proofs.Math.Seq.{drop-cons}
 use Rattle.std.proofs.lemmas.Result.{err_from_is_err_and}
 use Rattle.std.specs.Prelude.{IsErrAnd, MatchBool}
-use Rattle.rt_scope.specs.Conditions.{all_of, any_of, one_more, only}
+use Rattle.rt_algebra.specs.Parts.{all_of, any_of}
+use Rattle.rt_scope.specs.Conditions.{one_more, only}
 use Rattle.rt_scope.specs.Relations.{Tables, intersected, united}
 use Rattle.rt_scope.specs.Sources.{no_sources, select_of}
 use Rattle.rt_scope.specs.declared.condition.Members.{Members}

@@ -7,7 +7,8 @@ use Rattle.std.specs.Prelude.{ℕ, Bool, length, drop, List, [], ◌∷◌, Opti
 use Rattle.rt_algebra.specs.declared.query.Pred.{Pred}
 use Rattle.rt_algebra.specs.declared.query.Pred.TheVariants as p
 use Rattle.rt_algebra.specs.declared.typed.Typed.{Typed}
-use Rattle.rt_scope.specs.Conditions.{all_of, any_of, between_test, comparison, list_test, member, null_test, one_more, only}
+use Rattle.rt_algebra.specs.Parts.{all_of, any_of}
+use Rattle.rt_scope.specs.Conditions.{between_test, comparison, list_test, member, null_test, one_more, only}
 use Rattle.rt_scope.specs.Relations.{Tables, alias_or, intersected, table_named, typed_of, united}
 use Rattle.rt_scope.specs.Sources.{no_sources, select_of, with_base, with_cond}
 use Rattle.rt_scope.specs.declared.condition.Members.{Members}

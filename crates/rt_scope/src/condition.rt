@@ -6,7 +6,6 @@ ghost use Rattle.rt_scope.specs.Fault.{is_memory};
 ghost use Rattle.rt_scope.specs.Sums as sums;
 ghost use Rattle.rt_value.specs.Gives.{Gives};
 
-use crate::alone::alone;
 use crate::compare::{compared, list_items, negated};
 use crate::fault::NameFault;
 use crate::relation::Relation;
@@ -41,28 +40,6 @@ pub fn only(alloc: Global, cond: Pred) -> Result<Members, NoMemory>
     let mut conds = List::new(alloc);
     conds.push(cond)?;
     Ok(Members { conds })
-}
-
-/// One condition itself, or AND of more.
-#[tactic(auto, using(crate::proofs::Longer::all_of_more))]
-pub fn all_of(conds: List<Pred>) -> Pred
-    ensures { result ≡ spec.all_of conds }
-{
-    match alone(conds) {
-        Ok(cond) => cond,
-        Err(conds) => Pred::And(conds),
-    }
-}
-
-/// One condition itself, or OR of more.
-#[tactic(auto, using(crate::proofs::Longer::any_of_more))]
-pub fn any_of(conds: List<Pred>) -> Pred
-    ensures { result ≡ spec.any_of conds }
-{
-    match alone(conds) {
-        Ok(cond) => cond,
-        Err(conds) => Pred::Or(conds),
-    }
 }
 
 fn op_of(op: OpTree) -> Op

@@ -7,7 +7,6 @@
 //! known, or which fault it has.
 #![tactic(auto)]
 
-mod alone;
 mod block;
 mod column;
 mod compare;
@@ -28,8 +27,7 @@ pub use block::select_of;
 pub use column::Column;
 pub use compare::{compared, list_items, negated};
 pub use condition::{
-    Members, all_of, any_of, between_test, boxed_sum, comparison, list_test, member, null_test,
-    one_more, only,
+    Members, between_test, boxed_sum, comparison, list_test, member, null_test, one_more, only,
 };
 pub use fault::NameFault;
 pub use from::{FromClause, inner, no_sources, visible, with_base, with_cond};
