@@ -3,6 +3,7 @@ use Rattle.std.proofs.Common.{◌≡◌, ◌∙◌, ℕ, zero, suc, ℤ, ◌+◌
 use Rattle.std.specs.Prelude.{IfOk, bytes_eq, if◌then◌else◌, slice_index_or}
 use Rattle.std.specs.List.{filter, list_any}
 use Rattle.rt_algebra.specs.Answer.{all_of as all_true, answer, is_yes, pred}
+use Rattle.rt_algebra.specs.Parts.{all_of, selected}
 use Rattle.rt_algebra.specs.Expression.{Env, cell_of, row_of, value_of}
 use Rattle.rt_algebra.specs.declared.expr.Expr.{Expr}
 use Rattle.rt_algebra.specs.declared.expr.Expr.TheVariants as expr
@@ -25,7 +26,7 @@ use Rattle.rt_ra.specs.OperatorAnswers as answers
 use Rattle.rt_ra.specs.Columns.{Text, column_at, has, names, place}
 use Rattle.rt_ra.specs.Fault.{◌>>=◌}
 use Rattle.rt_ra.specs.Operators.{matching}
-use Rattle.rt_ra.specs.Tests.{all_of, column_scalar, compared, negated, number, selected, side, test, tests}
+use Rattle.rt_ra.specs.Tests.{column_scalar, compared, negated, number, side, test, tests}
 use Rattle.rt_ra.specs.declared.column.Column.{Column}
 use Rattle.rt_ra.specs.declared.scalar.Scalar.{Scalar}
 use Rattle.rt_ra_tree.specs.declared.fault.RaFault.{RaFault}

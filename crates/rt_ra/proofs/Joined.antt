@@ -20,7 +20,7 @@ use Rattle.rt_ra.specs.OperatorAnswers as answers
 use Rattle.rt_ra.specs.Columns.{Text, further_columns, further_names, has, names, place}
 use Rattle.rt_ra.specs.OperatorMeaning.{Has, Wide}
 use Rattle.rt_ra.specs.Operators.{anti, filled, further, joined, matched, matching, own, placed, product, semi}
-use Rattle.rt_ra.specs.Tests.{selected}
+use Rattle.rt_algebra.specs.Parts.{selected}
 use Rattle.rt_ra.specs.declared.column.Column.{Column}
 use Rattle.rt_ra.specs.declared.relation.Relation.{Relation}
 use Rattle.rt_ra.proofs.ConditionLaws.{all_hold, answer-selected, filter-same, index-at, long, matching-meets, shift}

@@ -17,9 +17,9 @@ use crate::relation::Relation;
 use crate::renaming::rename;
 use crate::selections::select;
 use crate::semijoins::{anti_join, semi_join};
-use crate::set_operators::{except, intersect, union};
+use crate::set_operators::united;
 use crate::table::table_named;
-use rt_algebra::Query;
+use rt_algebra::{Query, SetOp};
 use rt_ra_tree::{Ra, RaFault, RaNames, RaOp, RaTests};
 use rt_schema::Table;
 use rt_value::{Boxed, NoMemory};
@@ -137,9 +137,9 @@ pub fn relation(alloc: Global, tables: &[Table], of: &Ra) -> Result<Relation, Ra
                     left_join(alloc, first, second)
                 }
                 RaOp::Divide => divided(alloc, tables, left.get(), first, second),
-                RaOp::Union => union(alloc, first, second),
-                RaOp::Except => except(alloc, first, second),
-                RaOp::Intersect => intersect(alloc, first, second),
+                RaOp::Union => united(alloc, SetOp::Union, first, second),
+                RaOp::Except => united(alloc, SetOp::Except, first, second),
+                RaOp::Intersect => united(alloc, SetOp::Intersect, first, second),
             }
         }
     }

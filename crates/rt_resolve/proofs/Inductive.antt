@@ -5,7 +5,7 @@ use Rattle.std.proofs.lemmas.List.{append-nil}
 use Rattle.rt_algebra.specs.Columns as algebra
 use Rattle.rt_algebra.specs.declared.query.Pred.{Pred}
 use Rattle.rt_algebra.specs.declared.query.Pred.TheVariants as pred
-use Rattle.rt_algebra.specs.declared.set_op.SetOp.TheVariants as set
+use Rattle.rt_algebra.specs.declared.set_op.SetOp.TheVariants as sets
 use Rattle.rt_algebra.proofs.Combining.{all-of-typed, any-of-typed}
 use Rattle.rt_scope.specs.Sources.{no_sources, select_of, with_base, with_cond}
 use Rattle.rt_resolve.specs.Chains.{BaseOf, Condition, JoinOf, LinkOf, Meaning, SourceOf, atom, atom_step, base, base_step, based, chain, chain_link, chain_link_step, chain_step, cond, cond_step, conj, conj_step, gathered, join, join_step, joined_all, linked_all, meet, meet_link, meet_link_step, meet_step, member_test, neg, neg_step, pick, pick_step, primary, primary_step, source_of, source_step, sources_all, where_on, with_on}
@@ -388,7 +388,7 @@ module _ (db : Tables) where
 
   meet-link-layer : (y : MeetLink-F SuchAtom SuchBase SuchJoin SuchPrimary SuchChain SuchChainLink SuchCond SuchConj SuchMeet SuchMeetLink SuchNeg SuchPick SuchSource) → IsTypedLink (meet_link_step (map-MeetLink Atom Base Join Primary Chain ChainLink Cond Conj Meet MeetLink Neg Pick Source Condition BaseOf JoinOf Meaning Meaning LinkOf Condition Condition Meaning LinkOf Condition Meaning SourceOf atom base join primary chain chain_link cond conj meet meet_link neg pick source_of (below_meet_link y)))
   meet-link-layer y t scopes rows s h =
-      then-ok (IsTypedRelation tables rows) (IsTypedRelation tables rows) (primary y.of.0 db scopes) (λ u. intersected t u) (y.of.1 scopes rows s) (λ u k. related-typed tables rows set.Intersect t u h k)
+      then-ok (IsTypedRelation tables rows) (IsTypedRelation tables rows) (primary y.of.0 db scopes) (λ u. intersected t u) (y.of.1 scopes rows s) (λ u k. related-typed tables rows sets.Intersect t u h k)
 
   such-meet-links : (ts : List SuchMeetLink) → AreTypedLinks (map meet_link (map (λ t. t.0) ts))
   such-meet-links [] = tt

@@ -25,18 +25,16 @@ mod table;
 
 pub use block::select_of;
 pub use column::Column;
-pub use compare::{compared, list_items, negated};
+pub use compare::negated;
 pub use condition::{
     Members, between_test, boxed_sum, comparison, list_test, member, null_test, one_more, only,
 };
 pub use fault::NameFault;
 pub use from::{FromClause, inner, no_sources, visible, with_base, with_cond};
-pub use lookup::{Found, Seen, after, find_column, find_qualified};
 pub use relation::{Relation, TableRef, typed_of};
 pub use scalar::Scalar;
 pub use select::{SelectList, select_list};
 pub use set::{intersected, united};
-pub use source::{Source, source_named};
+pub use source::Source;
 pub use sources::Sources;
-pub use sums::{Factors, Terms, sum};
 pub use table::{alias_or, table_named};
