@@ -1,4 +1,4 @@
--- Lists of other lengths than one.
+-- Of any other number of parts than one, AND, OR or a product is made.
 use Rattle.std.proofs.Common.{◌≡◌, List, [], ◌∷◌, refl, length}
 use Rattle.rt_algebra.specs.declared.query.Pred.{Pred}
 use Rattle.rt_algebra.specs.declared.query.Pred.TheVariants as p

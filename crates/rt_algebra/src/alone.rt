@@ -1,4 +1,4 @@
-//! The list of one item, told from all other lists.
+//! The list of one item, apart from all other lists.
 
 ghost use Rattle.rt_algebra.specs.Alone.{IsAlone};
 

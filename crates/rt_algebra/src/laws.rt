@@ -1,4 +1,5 @@
-//! Laws of the algebra, each the contract of a function that does nothing.
+//! Laws of the algebra, each the contract of a function that does nothing. A caller of one has the
+//! law as a fact about its own query and rows.
 
 ghost use Rattle.std.specs.Prelude.{◌≡◌, [], IsTrue};
 ghost use Rattle.rt_schema.specs.Kept.{kept};

@@ -3,9 +3,9 @@
 //!
 //! Meaning follows SQL under set semantics (ISO/IEC 9075-2, query expression); `specs/` has it.
 //!
-//! Besides, what is asked of queries wherever they come from: whether two are the same, part for
-//! part, whether one names a row outside of it, and what the columns of a text's query, in SQL or in
-//! relational algebra, are in the algebra.
+//! Questions about queries wherever they come from are answered here too: whether two are the same,
+//! part for part, and whether one names a row outside of it. So is what SQL and relational algebra
+//! share on their way here: columns, set operators, and lists of parts.
 #![tactic(auto)]
 
 mod alone;

@@ -169,11 +169,11 @@ module _ (db : Tables) where
 
   -- ---- common columns
 
-  -- the first row stands `up` rows outward with its cells from `at` on, and the other's from `start`
+  -- the first row is `up` rows outward with its cells from `at` on, and the other's from `start`
   abbrev pub Stands : ℕ → ℕ → Env → List Value → List Value → Type 0
   Stands up start env r s = ((k : ℕ) → k < length r → cell_of env up k ≡ slice_index_or r k v.Null) × ((k : ℕ) → cell_of env 0 (start + k) ≡ slice_index_or s k v.Null)
 
-  -- the conditions on the columns from `at` on, before which `front` stands
+  -- the conditions on the columns from `at` on, before which `front` comes
   matching-from : (up start at : ℕ) (cs os : List Column) (front r s : List Value) (env : Env) → length front ≡ at → length cs ≡ length r → Stands up start env (front ++ r) s
       → all_hold (matching up start at cs os) env ≡ meets (names cs) (names os) r s
   matching-from up start at [] os front r s env f l h = refl

@@ -80,7 +80,7 @@ all-has : (all xs : Rows) → AllIn all xs → list_all (has_row all) xs ≡ tru
 all-has all [] h = refl
 all-has all (x ∷ xs) h = ap₂ ◌&&◌ h.0 (all-has all xs h.1)
 
--- each of the rows stands among them
+-- each of the rows is among them
 pub all-own : (xs : Rows) → list_all (has_row xs) xs ≡ true
 all-own xs = all-has xs xs (all-in [] xs)
 
@@ -165,7 +165,7 @@ module _ (db : Tables) (t u : Relation) (L R : Rows) (h : Has db t L) (k : Has d
       (λ r l. row-append (further 0 t.columns u.columns) (placed (names u.columns) t.columns) (r ∷ env)
       ∙ ap₂ (λ (y : List Value) (z : List Value). y ++ z) (further-row t.columns u.columns [] r env l) (placed-row (names u.columns) t.columns r env)) h.wide
 
-  -- a row of both parts stands among the whole ones where the two are paired
+  -- a row of both parts is among the whole ones where the two are paired
   whole-paired : (x y : List Value) → length x ≡ length (further_columns t.columns u.columns) → has_row (map (λ r. further_cells (names t.columns) (names u.columns) r ++ cells (names t.columns) (names u.columns) r) L) (x ++ y)
       ≡ paired (under t.columns L) (under u.columns R) x y
   whole-paired x y l = go L h.wide

@@ -1,4 +1,4 @@
--- A text's lowering has no fault but those of the walk, by induction over the tree.
+-- A text's lowering has no error but those of the walk, by induction over the tree.
 use Rattle.std.proofs.Common.{◌≡◌, ℕ, ◌+◌, Bool, true, false, List, [], ◌∷◌, ◌++◌, length, Option, Some, None, Result, Ok, Err, sym, subst, slice_get, ◌==◌}
 use Rattle.std.specs.Prelude.{IfErr, bytes_eq, if◌then◌else◌}
 use Rattle.rt_algebra.specs.declared.expr.Expr.TheVariants as expr

@@ -27,7 +27,7 @@ use Rattle.rt_ra.proofs.Typing.{Stand, first-stands, found, further-typed, items
 module _ (tables : List algebra.Columns) where
   -- ---- conditions
 
-  -- the first row stands `up` rows outward, the other innermost from `start` on
+  -- the first row is `up` rows outward, the other innermost from `start` on
   pub matching-typed : (up start at : ℕ) (cs os : List Column) (outer row : algebra.Columns) (scopes : algebra.Scopes) → slice_get scopes up ≡ Some outer → slice_get scopes 0 ≡ Some row
       → Stand at cs outer → Stand start os row → common_fit cs os ≡ true → all_typed (map pred_typed (matching up start at cs os)) tables scopes ≡ true
   matching-typed up start at [] os outer row scopes u z s t f = refl

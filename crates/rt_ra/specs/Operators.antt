@@ -1,4 +1,4 @@
--- What each operator becomes in the algebra over its operands, or its first fault (Codd 1970; the
+-- What each operator becomes in the algebra over its operands, or its first error (Codd 1970; the
 -- division and the semijoin as in Ramakrishnan and Gehrke 2003).
 use Rattle.std.specs.Prelude.{ℕ, ◌+◌, ◌-◌, if◌then◌else◌, map, List, [], ◌∷◌, ◌++◌, length, Option, Some, None, Result, Ok, Err, replicate, ◌==◌, bytes_eq}
 use Rattle.rt_algebra.specs.Parts.{combined, selected}
@@ -68,7 +68,7 @@ abbrev pub further : ℕ → List Column → List Column → List Expr
 further at [] others = []
 further at (c ∷ cs) others = if has c.name (names others) then further (at + 1) cs others else expr.Col 0 at ∷ further (at + 1) cs others
 
--- the common columns are equal, in the order of the first: its row stands `up` rows outward, and the
+-- the common columns are equal, in the order of the first: its row is `up` rows outward, and the
 -- others' columns begin at number `start`
 abbrev pub matching : ℕ → ℕ → ℕ → List Column → List Column → List Pred
 matching up start at [] others = []

@@ -1,4 +1,4 @@
--- Tests of rows: what they become in the algebra, or their first fault.
+-- Tests of rows: what they become in the algebra, or their first error.
 use Rattle.std.specs.Prelude.{ℕ, ℤ, Bool, true, false, if◌then◌else◌, List, [], ◌∷◌, ◌++◌, Result, Ok, Err}
 use Rattle.rt_algebra.specs.declared.expr.Expr.{Expr}
 use Rattle.rt_algebra.specs.declared.expr.Expr.TheVariants as expr

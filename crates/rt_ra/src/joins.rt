@@ -1,4 +1,4 @@
-//! JOIN.
+//! JOIN: the pairs that agree on all common columns, which come once.
 
 ghost use Rattle.std.specs.Prelude.{◌≡◌, ◌++◌, IfOk, length};
 ghost use Rattle.rt_algebra.specs.Parts as parts;

@@ -2,12 +2,12 @@
 //! queries.
 //!
 //! `specs/Answer.antt` says what a text answers on the rows of the tables, over plain lists;
-//! `specs/Lowered.antt` says which query it becomes, or its first fault in the walk from the left.
+//! `specs/Lowered.antt` says which query it becomes, or its first error in the walk from the left.
 //!
-//! Each operator stands over relations: `specs/Operators.antt` says which query and which columns it
-//! becomes, or its first fault, `specs/OperatorAnswers.antt` what it answers, over plain lists, and
-//! `specs/OperatorMeaning.antt` how the one is tied to the other. The laws say that what an operator
-//! becomes answers just the rows that it means.
+//! An operator works on relations. `specs/Operators.antt` says which query and which columns it
+//! becomes, or its first error; `specs/OperatorAnswers.antt` has what it answers, over plain lists.
+//! `specs/OperatorMeaning.antt` ties the two together: what an operator becomes answers just the
+//! rows that it means, and the laws say so of each.
 #![tactic(auto)]
 
 mod column;

@@ -1,4 +1,4 @@
-//! SELECT.
+//! SELECT: the rows that meet all tests.
 
 ghost use Rattle.rt_ra.specs.Operators as spec;
 ghost use Rattle.rt_ra_tree.specs.Refusals.{is_memory};

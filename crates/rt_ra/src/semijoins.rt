@@ -1,4 +1,4 @@
-//! SEMI and ANTI.
+//! SEMI and ANTI: the rows of the first that meet a row of the second, or none.
 
 ghost use Rattle.std.specs.Prelude.{◌≡◌, IfOk};
 ghost use Rattle.rt_ra.specs.Operators as spec;

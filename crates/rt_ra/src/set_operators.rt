@@ -1,4 +1,4 @@
-//! UNION, EXCEPT and INTERSECT.
+//! UNION, EXCEPT and INTERSECT, over operands whose columns fit.
 
 ghost use Rattle.rt_ra.specs.Columns as columns_spec;
 ghost use Rattle.rt_ra.specs.Operators as spec;

@@ -1,4 +1,5 @@
-//! The walk over a tree: the operands from the left, then the operator.
+//! The walk over a tree: the operands from the left, then the operator. A query is never copied:
+//! where an operand comes more than once, its tree is walked again.
 
 ghost use Rattle.std.specs.Prelude.{◌≡◌, IfOk, Ok};
 ghost use Rattle.rt_ra.specs.Operators as operators;
@@ -25,7 +26,7 @@ use rt_schema::Table;
 use rt_value::{Boxed, NoMemory};
 use std::alloc::Global;
 
-// The query once more, of a tree that has one: there is no fault then but want of memory.
+// The query once more, of a tree that has one: there is no error then but out of memory.
 #[cycle(walk)]
 fn again(alloc: Global, tables: &[Table], of: &Ra) -> Result<Boxed<Query>, NoMemory>
     ensures { IfOk result (λ q. IfOk (spec.relation of.now tables.now) (λ r. q ≡ r.query)) }
@@ -113,7 +114,7 @@ fn renamed(alloc: Global, tables: &[Table], of: &Ra, names: &RaNames) -> Result<
     rename(alloc, rows, names.as_slice())
 }
 
-/// The query of the tree, with its columns, or its first fault.
+/// The query of the tree, with its columns, or its first error.
 #[cycle(walk)]
 pub fn relation(alloc: Global, tables: &[Table], of: &Ra) -> Result<Relation, RaFault>
     ensures { Gives is_memory result (spec.relation of.now tables.now) }

@@ -449,7 +449,7 @@ module _ (db : Tables) where
   source-rolls : (x : Source-F Atom Base Join Primary Chain ChainLink Cond Conj Meet MeetLink Neg Pick Source) → IsTypedSource (source_step (map-Source Atom Base Join Primary Chain ChainLink Cond Conj Meet MeetLink Neg Pick Source Condition BaseOf JoinOf Meaning Meaning LinkOf Condition Condition Meaning LinkOf Condition Meaning SourceOf atom base join primary chain chain_link cond conj meet meet_link neg pick source_of x)) → SourceLaw (roll-Source x)
   source-rolls x h = subst IsTypedSource (sym (fold-roll-Source Condition BaseOf JoinOf Meaning Meaning LinkOf Condition Condition Meaning LinkOf Condition Meaning SourceOf atom_step base_step join_step primary_step chain_step chain_link_step cond_step conj_step meet_step meet_link_step neg_step pick_step source_step x)) h
 
-  -- a query over sources that stand in the rows has its columns under the rows
+  -- a query over sources that are in the rows has its columns under the rows
   pub chain-typed : (t : Chain) → IsTypedMeaning (chain t)
   chain-typed = ind-Chain AtomLaw BaseLaw JoinLaw PrimaryLaw ChainLaw ChainLinkLaw CondLaw ConjLaw MeetLaw MeetLinkLaw NegLaw PickLaw SourceLaw
       (λ x y is. subst (λ z. AtomLaw (roll-Atom z)) is (atom-rolls (below_atom y) (atom-layer y)))

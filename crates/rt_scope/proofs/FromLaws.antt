@@ -1,4 +1,4 @@
--- The columns of the sources of a SELECT stand in its row, under which its conditions are typed.
+-- The columns of the sources of a SELECT are in its row, under which its conditions are typed.
 use Rattle.std.proofs.Common.{◌≡◌, ◌∙◌, ℕ, zero, suc, ◌+◌, List, [], ◌∷◌, ◌++◌, map, length, drop, Option, None, Some, Ok, Err, refl, sym, ap, subst, arith, slice_get, append_assoc, length-append}
 use Rattle.std.specs.Prelude.{IfOk, is_some}
 use Rattle.std.specs.Option.{option_and_then}
@@ -78,7 +78,7 @@ drop-stands (suc n) [] row h = tt
 drop-stands (suc n) (x ∷ xs) row h = drop-stands n xs row h.1
 
 module _ (tables : List algebra.Columns) (rows : algebra.Scopes) where
-  -- the sources have this row, in which their columns stand, also where more columns follow
+  -- the sources have this row, in which their columns are, also where more columns follow
   pub record HasRow (from : FromClause) (row : algebra.Columns) : Type 0 where
     pub queries : product_columns [] (map query_columns from.queries) tables rows ≡ Some row
     pub width : from.width ≡ length row

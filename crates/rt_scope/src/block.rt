@@ -1,4 +1,4 @@
-//! One SELECT.
+//! One SELECT as a query: sources, then conditions, then items.
 
 ghost use Rattle.std.specs.Prelude.{◌≡◌, IfOk, Ok};
 ghost use Rattle.rt_scope.specs.Sources as spec;

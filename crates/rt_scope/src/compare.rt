@@ -1,4 +1,4 @@
-//! Comparisons, tests for NULL and lists, without subqueries.
+//! Comparisons, negations and lists of IN, with the tests of their kinds.
 
 ghost use Rattle.std.specs.Prelude.{◌≡◌, ◌∷◌, [], Ok, map};
 ghost use Rattle.rt_scope.specs.Compare as spec;

@@ -1,4 +1,5 @@
-//! Conditions without a subquery, and lists of conditions.
+//! Conditions without a subquery, and lists of conditions. What has a subquery is in `rt_resolve`,
+//! where conditions and queries call one another.
 
 ghost use Rattle.std.specs.Prelude.{◌≡◌, Ok, map, IfOk};
 ghost use Rattle.rt_scope.specs.Conditions as spec;
@@ -126,7 +127,7 @@ fn between(
     Ok(both(alloc, low.into_inner(), high)?)
 }
 
-/// BETWEEN. The first sum stands in both comparisons, so it is lowered twice.
+/// BETWEEN. The first sum is part of both comparisons, so it is lowered twice.
 pub fn between_test(
     alloc: Global,
     a: &Sum,

@@ -1,10 +1,10 @@
-//! Names in scope, and what stands between them means in the algebra: expressions, comparisons,
-//! select items, tables, set operators, the sources of a SELECT, and conditions without a subquery
+//! Names in scope, and the parts of a query that need no subquery. These are expressions,
+//! comparisons, select items, tables, set operators, the sources of a SELECT, and conditions
 //! (ISO/IEC 9075-2, column reference, table reference, query expression, from clause, search
 //! condition).
 //!
-//! `specs/` says which column a name means, and what each of these becomes where its parts are
-//! known, or which fault it has.
+//! `specs/` says which column a name means, and what each part becomes in the algebra where its own
+//! parts are known, or which error it has.
 #![tactic(auto)]
 
 mod block;

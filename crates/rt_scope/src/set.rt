@@ -1,4 +1,4 @@
-//! Set operators.
+//! Set operators over operands whose columns fit.
 
 ghost use Rattle.rt_scope.specs.Relations as spec;
 ghost use Rattle.rt_scope.specs.Fault.{is_memory};
