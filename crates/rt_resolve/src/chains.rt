@@ -10,10 +10,9 @@ ghost use Rattle.rt_value.specs.Gives.{Gives};
 use rt_algebra::{Pred, all_of, any_of};
 use rt_schema::Table;
 use rt_scope::{
-    FromClause, Members, NameFault, Relation, SelectList, Source, TableRef, alias_or,
-    between_test, boxed_sum, comparison, inner, intersected, list_test, member, negated,
-    no_sources, null_test, one_more, only, select_list, select_of, table_named, united, visible,
-    with_base, with_cond,
+    FromClause, Members, NameFault, Relation, SelectList, Source, TableRef, alias_or, between_test,
+    boxed_sum, comparison, inner, intersected, list_test, member, negated, no_sources, null_test,
+    one_more, only, select_list, select_of, table_named, united, visible, with_base, with_cond,
 };
 use rt_tree::{
     Atom, Base, Chain, ChainLink, Cond, Conj, Items, Join, Meet, MeetLink, Neg, Pick, Primary,
