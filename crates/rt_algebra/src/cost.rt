@@ -1,8 +1,7 @@
 //! How much work a query is counted as. All numbers stop at the cap of `rt_schema`, so no step can
 //! overflow; only `work` is seen from outside.
 
-ghost use Rattle.std.specs.Prelude.{◌≡◌, ◌+◌, ◌*◌, None, map};
-ghost use Rattle.rt_schema.specs.Capped.{capped};
+ghost use Rattle.std.specs.Prelude.{◌≡◌, ◌*◌, None, map};
 ghost use Rattle.rt_algebra.specs.Work.{sum_from, expr_size, term_size, pred_work, query_cost, product_from, table_cost, after, joined, set_work, each_row, work};
 
 use crate::expr::{Expr, Term};

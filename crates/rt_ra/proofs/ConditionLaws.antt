@@ -1,16 +1,14 @@
 -- Tests and conditions on common columns mean in the algebra what they mean on rows.
-use Rattle.std.proofs.Common.{◌≡◌, ◌∙◌, ℕ, zero, suc, ℤ, ◌+◌, ◌<◌, Bool, true, false, ◌&&◌, not, cond, List, [], ◌∷◌, ◌++◌, map, length, Option, Some, None, Result, Ok, Err, refl, sym, ap, ap₂, subst, arith, slice_get}
-use Rattle.std.specs.Prelude.{IfOk, bytes_eq, if◌then◌else◌, slice_index_or}
-use Rattle.std.specs.List.{filter, list_any}
+use Rattle.std.proofs.Common.{◌≡◌, ◌∙◌, ℕ, zero, suc, ℤ, ◌+◌, ◌<◌, Bool, true, false, ◌&&◌, List, [], ◌∷◌, ◌++◌, map, length, Result, Ok, Err, refl, sym, ap, ap₂, subst, arith}
+use Rattle.std.specs.Prelude.{IfOk, if◌then◌else◌, slice_index_or}
+use Rattle.std.specs.List.{filter}
 use Rattle.rt_algebra.specs.Answer.{all_of as all_true, answer, is_yes, pred}
 use Rattle.rt_algebra.specs.Parts.{all_of, selected}
-use Rattle.rt_algebra.specs.Expression.{Env, cell_of, row_of, value_of}
-use Rattle.rt_algebra.specs.declared.expr.Expr.{Expr}
+use Rattle.rt_algebra.specs.Expression.{Env, cell_of, value_of}
 use Rattle.rt_algebra.specs.declared.expr.Expr.TheVariants as expr
 use Rattle.rt_algebra.specs.declared.query.Pred.{Pred}
 use Rattle.rt_algebra.specs.declared.query.Pred.TheVariants as p
 use Rattle.rt_algebra.specs.declared.query.Query.{Query}
-use Rattle.rt_algebra.specs.declared.query.Query.TheVariants as q
 use Rattle.rt_schema.specs.Given.{Rows, Tables}
 use Rattle.rt_schema.specs.Schema.{kind_eq}
 use Rattle.rt_value.specs.Truth.{truth_and, truth_not}

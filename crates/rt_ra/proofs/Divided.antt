@@ -1,21 +1,17 @@
 -- Division means in the algebra what it means on rows.
-use Rattle.std.proofs.Common.{◌≡◌, ◌∙◌, ℕ, zero, suc, ◌+◌, Bool, true, false, not, cond, ◌&&◌, ◌||◌, List, [], ◌∷◌, ◌++◌, map, length, refl, sym, ap, ap₂, subst, arith, append_assoc}
-use Rattle.std.specs.Prelude.{bytes_eq}
+use Rattle.std.proofs.Common.{◌≡◌, ◌∙◌, ℕ, ◌+◌, Bool, true, false, not, cond, ◌&&◌, ◌||◌, List, [], ◌∷◌, ◌++◌, map, length, refl, sym, ap, ap₂, subst, arith}
 use Rattle.std.specs.List.{filter, flat_map, list_all, list_any}
-use Rattle.std.specs.Ordering.{int_eq}
 use Rattle.std.proofs.lemmas.Bool.Decides.{Decides-int_eq}
-use Rattle.std.proofs.lemmas.Slice.Eq.{bytes_eq-Decides, slice_eq-Decides}
-use Rattle.std.specs.Cmp.{signed_Decides, unsigned_Decides}
+use Rattle.std.proofs.lemmas.Slice.Eq.{bytes_eq-Decides}
 use Rattle.rt_algebra.specs.Answer.{answer, has_row, pairs}
 use Rattle.rt_algebra.specs.Expression.{Env, row_of}
-use Rattle.rt_algebra.specs.declared.query.Query.{Query}
 use Rattle.rt_schema.specs.Given.{Rows, Tables}
 use Rattle.rt_value.specs.Order.{row_eq_equiv}
 use Rattle.rt_value.specs.Row.{row_eq}
 use Rattle.rt_value.specs.Value.{value_eq}
 use Rattle.rt_value.specs.declared.value.Value.{Value}
 use Rattle.rt_value.specs.declared.value.Value.TheVariants as v
-use Rattle.rt_ra.specs.OperatorAnswers.{Named, cells, divided, further_cells, paired}
+use Rattle.rt_ra.specs.OperatorAnswers.{cells, divided, further_cells, paired}
 use Rattle.rt_ra.specs.Columns.{Text, further_columns, names}
 use Rattle.rt_ra.specs.OperatorMeaning.{Has, Wide}
 use Rattle.rt_ra.specs.Operators.{further, missing, own, pairs_of, placed, product, quotient, rest_of}

@@ -4,7 +4,7 @@ use Rattle.std.specs.Prelude.{IfOk, bytes_eq, if◌then◌else◌, is_some, unsi
 use Rattle.std.proofs.lemmas.List.{append-nil}
 use Rattle.rt_algebra.specs.Parts.{combined, selected}
 use Rattle.rt_algebra.specs.Columns as algebra
-use Rattle.rt_algebra.specs.Columns.{all_typed, column, column_of, comparable, item_columns, merged_columns, pred_typed, query_columns, set_columns, with_column}
+use Rattle.rt_algebra.specs.Columns.{all_typed, column, column_of, comparable, item_columns, merged_columns, pred_typed, set_columns, with_column}
 use Rattle.rt_algebra.specs.declared.expr.Expr.TheVariants as expr
 use Rattle.rt_algebra.specs.declared.query.Pred.{Pred}
 use Rattle.rt_algebra.specs.declared.query.Pred.TheVariants as p

@@ -1,7 +1,7 @@
 //! All that leads to a subquery: conditions, sources, SELECT and set operators. These functions
 //! call one another and are proved as one, so what needs no subquery is kept below, in `rt_scope`.
 
-ghost use Rattle.std.specs.Prelude.{◌≡◌, ◌∷◌, map, option_map};
+ghost use Rattle.std.specs.Prelude.{◌∷◌, map, option_map};
 ghost use Rattle.rt_resolve.specs.Chains as spec;
 ghost use Rattle.rt_scope.specs.Fault.{is_memory};
 ghost use Rattle.rt_scope.specs.Select as select_spec;

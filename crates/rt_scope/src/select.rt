@@ -1,6 +1,6 @@
 //! The items of a SELECT, their types and their names.
 
-ghost use Rattle.std.specs.Prelude.{◌≡◌, ◌∷◌, IfOk, Ok, map};
+ghost use Rattle.std.specs.Prelude.{◌≡◌, IfOk, Ok, map};
 ghost use Rattle.rt_scope.specs.Fault.{is_memory};
 ghost use Rattle.rt_scope.specs.Select as spec;
 ghost use Rattle.rt_value.specs.Gives.{Gives};
