@@ -18,6 +18,7 @@ BEERS = ["examples/beers/schema.sql", "examples/beers", "examples/beers/3/refere
 SECONDS = 1200
 FASTEST_OF = 5
 BEFORE_INTERRUPT = 12
+SECONDS_TO_START = 120
 # Words of which the copy's main makes an index past the end of an array, which no word of the program does.
 HEAD = "    let alloc = rt.alloc();\n"
 FAULT = """    if words.as_slice().len() == 1 {
@@ -130,13 +131,19 @@ def test_interrupt_leaves_nothing_behind(top: Path, tmp_path: Path, words: list[
         pytest.skip("there is no command rt on the PATH")
     place, temporary, home = tmp_path / "repository", tmp_path / "temporary", tmp_path / "home"
     shutil.copytree(top, place, ignore=shutil.ignore_patterns("out", ".git", ".*_cache", "__pycache__"), symlinks=True)
+    # Sources that were never proved, so that no proof kept on this machine ends the build at once.
+    with (place / "crates/rt_value/src/lib.rt").open("a") as lowest:
+        lowest.write(f"\n// Only in {place}.\n")
     temporary.mkdir()
     home.mkdir()
     files = sorted(place.rglob("*"))
     started = subprocess.Popen(["./ratest", *words], cwd=place, stdin=subprocess.DEVNULL, stderr=subprocess.PIPE,
                                text=True, env={"PATH": os.environ["PATH"], "HOME": str(home), "TMPDIR": str(temporary)})
     time.sleep(BEFORE_INTERRUPT)
-    assert len(running_in(str(temporary))) > 2
+    begun = time.monotonic()
+    while len(running_in(str(temporary))) <= 2:
+        assert started.poll() is None and time.monotonic() < begun + SECONDS_TO_START
+        time.sleep(0.1)
     started.send_signal(signal.SIGINT)
     _, told = started.communicate(timeout=60)
     assert started.returncode == -signal.SIGINT

@@ -1,6 +1,7 @@
-//! The clauses that a certificate stands on, for checkers of proofs that others wrote: a line a clause, with
-//! the literals as certificates have them, and a last line with the literal that is assumed.
-ghost use Rattle.std.specs.Prelude.{◌≡◌};
+//! The clauses that a certificate goes on from, for checkers of proofs that others wrote. A
+//! clause is a line, with the literals as certificates have them; a last line has the literal
+//! that is assumed.
+
 ghost use Rattle.rt_cert.specs.Least.{IsSmallestOrNone};
 
 use crate::say::say_text;
@@ -50,8 +51,8 @@ fn say_encoding<S: Sink>(
     say_text(out, b"\n")
 }
 
-/// Says the clauses that a certificate of the verdict on an input stands on; nothing where a budget is
-/// spent.
+/// Prints the clauses that a certificate of the verdict on an input goes on from, and nothing if
+/// a budget is spent.
 pub fn measure_encoding<S: Sink>(alloc: Global, input: &Input, out: &mut S) -> Result<(), Outcome> {
     match decide(alloc, input)? {
         Best::Never => say_encoding(alloc, input, &None, out),

@@ -1,9 +1,11 @@
-//! Measures a search: how many rows each query answers with over all given rows, how many nodes the
-//! formula of the counterexamples has, how many rows can matter to it, into how many clauses it is
-//! written, and how many conflicts the search has. A line comes as soon as its part is done, so that
-//! a reader of the lines can take the times. The words are those of
-//! `ratest`, and so is the status where an input is refused. With the word `clauses` before them it
-//! says the clauses that a certificate of the verdict stands on.
+//! Measures a search, a line for each number. First come the rows that each query answers with,
+//! the nodes of the formula, and the rows that can matter to it. Then come its clauses and the
+//! conflicts of the search. A line comes as soon as its part is done, so that a reader of the
+//! lines can take the times.
+//!
+//! The arguments are those of `ratest`, and so is the status if an input is refused. With the
+//! argument `clauses` before them it prints the clauses that a certificate of the verdict goes on
+//! from.
 #![tactic(auto)]
 
 mod encoding;
@@ -30,7 +32,7 @@ use rt_value::{Keep, Txt};
 use std::alloc::Global;
 use std::process::ExitCode;
 
-/// How many rows a query answers with.
+// The number of rows that a query answers with.
 fn rows_of(alloc: Global, query: &Typed, given: &Given, all: &Keep) -> Result<u64, Outcome>
     requires typed { IsTyped given.now.kinds query.now }
     requires places { places given.now.tables ≡ length all.now }
@@ -41,7 +43,7 @@ fn rows_of(alloc: Global, query: &Typed, given: &Given, all: &Keep) -> Result<u6
     Ok(number)
 }
 
-/// Says with how many rows each query answers.
+// Prints with how many rows each query answers.
 fn measure_answers<S: Sink>(alloc: Global, input: &Input, out: &mut S) -> Result<(), Outcome> {
     // An accepted input has typed queries: the contract of `schema` says so.
     let _schema = input.schema();
@@ -54,7 +56,7 @@ fn measure_answers<S: Sink>(alloc: Global, input: &Input, out: &mut S) -> Result
     say(alloc, out, "right", right)
 }
 
-/// Searches within the cone, and says into how many clauses and after how many conflicts.
+// Searches within the cone, and prints into how many clauses and after how many conflicts.
 fn search_within<S: Sink>(
     alloc: Global,
     dag: &Dag,
@@ -75,7 +77,7 @@ fn search_within<S: Sink>(
     say(alloc, out, "conflicts", conflicts)
 }
 
-/// Searches as the program does, and says how large each part is.
+// Searches as the program does, and prints how large each part is.
 fn measure_search<S: Sink>(alloc: Global, input: &Input, out: &mut S) -> Result<(), Outcome> {
     let schema = input.schema();
     let given = input.given();

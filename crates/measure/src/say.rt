@@ -1,8 +1,10 @@
-//! What is written of a measurement.
+//! The writing of measurements.
+
 use rt_input::Outcome;
 use rt_io::{Sink, SinkFail, write_text};
 use std::alloc::Global;
 
+/// Writes a text; an error of the sink is the outcome.
 pub fn say_text<S: Sink>(out: &mut S, text: &[u8]) -> Result<(), Outcome> {
     match write_text(out, text) {
         Ok(()) => Ok(()),
@@ -11,7 +13,7 @@ pub fn say_text<S: Sink>(out: &mut S, text: &[u8]) -> Result<(), Outcome> {
     }
 }
 
-/// A line of a name and a number.
+/// Writes a line of a name and a number.
 pub fn say<S: Sink>(alloc: Global, out: &mut S, name: &str, number: u64) -> Result<(), Outcome> {
     let Ok(line) = format!(in alloc; "{name} {number}\n") else {
         return Err(Outcome::NoMemory);

@@ -1,4 +1,4 @@
-//! Explains why two queries differ by the smallest counterexample, on the files of the system.
+//! The program `ratest`: the command of `rt_top` over the files and sinks of the system.
 #![tactic(auto)]
 
 use rt_io::{RealFiles, RealSink, given_words, refuse};

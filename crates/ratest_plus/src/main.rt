@@ -1,4 +1,5 @@
-//! Commands beside `ratest`, on the files of the system; the first word says which (`plus_command`).
+//! The program `ratest_plus`: five more commands, over the files and sinks of the system. The
+//! first argument says which (`plus_command`).
 #![tactic(auto)]
 
 use rt_cert::cert_run;
@@ -9,7 +10,7 @@ use rt_value::Txt;
 use std::alloc::Global;
 use std::process::ExitCode;
 
-/// Runs a command of certificates, and gives its status.
+// Runs a command of certificates, and gives its status.
 fn run_certs<F: Files, O: Sink, E: Sink>(
     alloc: Global,
     words: &[Txt],
@@ -23,7 +24,7 @@ fn run_certs<F: Files, O: Sink, E: Sink>(
     status
 }
 
-/// Runs a command of the tools, and gives its status.
+// Runs a command of the tools, and gives its status.
 fn run_tool<F: Files, O: Sink, E: Sink>(
     alloc: Global,
     words: &[Txt],
@@ -37,7 +38,7 @@ fn run_tool<F: Files, O: Sink, E: Sink>(
     status
 }
 
-/// Runs a command on algebra texts, and gives its status.
+// Runs a command on algebra texts, and gives its status.
 fn run_ra<F: Files, O: Sink, E: Sink>(
     alloc: Global,
     words: &[Txt],
@@ -51,7 +52,7 @@ fn run_ra<F: Files, O: Sink, E: Sink>(
     status
 }
 
-/// Runs the command that the words are, and gives its status.
+// Runs the command of these arguments, and gives its status.
 fn run<F: Files, O: Sink, E: Sink>(
     alloc: Global,
     words: &[Txt],

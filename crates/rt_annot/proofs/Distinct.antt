@@ -112,7 +112,7 @@ collect_at {old} {x} {y} {g} {h} {a} {b} {ns} {seen} p q e m =
     let R : List Noted → Type 0 = λ c. Collecting old x g c ns seen in
     subst P (sym p) (subst Q (sym q) (subst R (sym e) m))
 
--- where a row stands among the merged
+-- where a row is among the merged
 absorbs : (v b : Bool) → (v || (b && v)) ≡ v
 absorbs true b = refl
 absorbs false true = refl

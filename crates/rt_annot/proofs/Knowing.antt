@@ -54,7 +54,8 @@ known_stay g a = record { each = λ i k l env. tells_stay g (a.each i k l env) }
 pub none_known : (d : Shared) (given : Tables) {ks : List Subquery} → ks ≡ [] → AreKnown d given ks
 none_known d given e = let P : List Subquery → Type 0 = AreKnown d given in subst P (sym e) (record { each = λ i k l. absurd (omega arith) })
 
--- what a query that names no row outside of it comes to with no rows in scope, it comes to under any
+-- what a query that names no row outside of it comes to with no rows in scope, it comes to under
+-- any
 pub tells_under : {d : Shared} (given : Tables) {f : Found} (q : Query) → StaysQuery 0 q → Tells d f (λ s. answer_by wrapped q (kept given s) []) → TellsOf d given q f
 tells_under given q h t env = tells_as (λ s. answer_by wrapped q (kept given s) env) (λ s. sym (h (kept given s) [] env refl)) t
 

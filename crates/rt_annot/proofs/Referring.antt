@@ -1,4 +1,4 @@
--- What the goals of a reference beside other queries mean.
+-- What the goals of a reference and other queries mean.
 use Rattle.std.proofs.Common.{◌≡◌, ◌∙◌, Bool, not, ◌&&◌, List, length, refl, ap}
 use Rattle.rt_schema.specs.declared.table.Table.{Table}
 use Rattle.rt_schema.specs.Given.{Instance, Rows}
@@ -25,7 +25,7 @@ reference_stays schema given query r old new g is = record {
   answer = λ keep row. ap (λ rows. has_row rows row) (rows_stay g keep r.rows is.stands.rows) ∙ is.answer keep row;
 }
 
--- the goal beside a query, where the reference is that of a schema and a query
+-- the goal of the reference and a query, where the reference is that of a schema and a query
 module _ (schema : List Table) (given : Instance) (left : Typed) (old : Shared) (r : Reference) (is : IsReference schema given left old r) (keep : List Bool) (l : length keep ≡ old.rows) where
   pub goal_parts : (goal differs : Bool) → goal ≡ (val old keep r.lawful && differs) → goal ≡ (lawful schema (kept given.tables keep) && differs)
   goal_parts goal differs e = e ∙ ap (λ b. b && differs) (is.law keep l)

@@ -113,7 +113,7 @@ reads_projected {d} {ns} es env i = record {
   same = projected_same d ns es env ∙ ap (λ xs. projected xs (λ r. row_by wrapped es (r ∷ env))) i.same;
 }
 
--- the rows of a table stand at its places
+-- the rows of a table are at its places
 head_drop : (b : ℕ) (s : List Bool) → head (drop b s) ≡ bool_at s b
 head_drop zero [] = refl
 head_drop zero (x ∷ s) = refl

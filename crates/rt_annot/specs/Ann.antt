@@ -1,4 +1,4 @@
--- Maps from rows to nodes, and what they say at a Keep.
+-- Maps from rows to nodes, and what they say at a choice of rows.
 use Rattle.std.specs.Prelude.{◌≡◌, ℕ, ◌<◌, Bool, false, cond, not, ◌&&◌, ◌||◌, List, [], ◌∷◌, length, Option, None, Some}
 use Rattle.std.specs.List.{All as Each, list_any}
 use Rattle.std.specs.Option.{is_some}
@@ -34,7 +34,7 @@ abbrev pub rows_of : Shared → List Bool → Mapped → Rows
 rows_of d s [] = []
 rows_of d s (p ∷ a) = cond (val d s p.1) (p.0 ∷ rows_of d s a) (rows_of d s a)
 
--- a row has a node where it stands among the entries, and the node says when
+-- a row has a node where it is among the entries, and the node says when
 pub record IsMerged (d : Shared) (a : Mapped) (es : List Entry) : Type 0 where
   pub found : (r : List Value) (n : ℕ) → node_at a r ≡ Some n → IsNode d n (stands es r)
   pub absent : (r : List Value) → node_at a r ≡ None → (s : List Bool) → stands es r s ≡ false

@@ -1,4 +1,4 @@
--- What nodes and noted rows mean: formulas on the Keep.
+-- What nodes and noted rows mean: formulas on the choice of rows.
 use Rattle.std.specs.Prelude.{◌≡◌, ℕ, ◌<◌, ◌+◌, nat_eq, Bool, false, not, List, [], ◌∷◌, ◌++◌, Option, None, Some, map, length}
 use Rattle.std.specs.List.{All as Each, IsDistinct, filter, list_all, list_any}
 use Rattle.rt_schema.specs.Kept.{kept}
@@ -13,8 +13,8 @@ use Rattle.rt_formula.specs.Shared.{Shared, IsGrown, val, bool_at}
 use Rattle.rt_formula.specs.Groups.{Grouped, group_at, nodes_where}
 use Rattle.rt_annot.specs.Entries.{Formula, Test, Entry, is_no, rows_at, stands}
 use Rattle.rt_formula.specs.declared.noted.Noted.{Noted}
-use Rattle.rt_annot.specs.declared.gate.Gate.{Gate}
-use Rattle.rt_annot.specs.declared.gate.Gates.{Gates}
+use Rattle.rt_annot.specs.declared.gate.TruthNodes.{TruthNodes}
+use Rattle.rt_annot.specs.declared.gate.TruthLists.{TruthLists}
 use Rattle.rt_annot.specs.declared.gate.Junction.{Junction}
 use Rattle.rt_annot.specs.declared.gate.Junction.TheVariants.{All, Any}
 use Rattle.rt_annot.specs.declared.sets.Side.{Side}
@@ -42,7 +42,7 @@ pub record IsNode (d : Shared) (n : ℕ) (f : Formula) : Type 0 where
   pub below : n < length d.entries
   pub same : (s : List Bool) → val d s n ≡ f s
 
-pub record IsGate (d : Shared) (g : Gate) (t : Test) : Type 0 where
+pub record IsGate (d : Shared) (g : TruthNodes) (t : Test) : Type 0 where
   pub yes : IsNode d g.yes t.0
   pub no : IsNode d g.no t.1
 
@@ -61,8 +61,8 @@ abbrev pub side_test : Side → List Entry → List Value → Test
 side_test Standing es r = (stands es r, λ s. false)
 side_test Missing es r = (λ s. not (stands es r s), λ s. false)
 
--- the node of that, of a gate that says where a row stands among them
-abbrev pub side_node : Side → Gate → ℕ
+-- the node of that, of a gate that says where a row is among them
+abbrev pub side_node : Side → TruthNodes → ℕ
 side_node Standing g = g.yes
 side_node Missing g = g.no
 
@@ -91,7 +91,7 @@ yes_of ps given env = map (λ p. yes_when p given env) ps
 abbrev pub no_of : List Pred → Tables → Env → List Formula
 no_of ps given env = map (λ p. no_when p given env) ps
 
--- each row of either list stands in the other
+-- each row of either list is in the other
 abbrev pub SameRows : Rows → Rows → Type 0
 SameRows xs ys = (r : List Value) → has_row xs r ≡ has_row ys r
 
@@ -118,12 +118,12 @@ test_joined Any ps given env =
     (λ s. is_yes (any_of (map (pred_by wrapped) ps) (kept given s) env), λ s. is_no (any_of (map (pred_by wrapped) ps) (kept given s) env))
 
 -- the nodes of conditions together
-abbrev pub gates_joined : Junction → Shared → Gates → Test
+abbrev pub gates_joined : Junction → Shared → TruthLists → Test
 gates_joined All d gates = (λ s. list_all (val d s) gates.yes, λ s. list_any (val d s) gates.no)
 gates_joined Any d gates = (λ s. list_any (val d s) gates.yes, λ s. list_all (val d s) gates.no)
 
 -- the node of a condition that decides these, where it is true at every choice
-abbrev pub deciding : Junction → Gate → ℕ
+abbrev pub deciding : Junction → TruthNodes → ℕ
 deciding All g = g.no
 deciding Any g = g.yes
 
@@ -149,7 +149,8 @@ pub record Along (old now : Shared) (out : List Noted) (rest whole : List Entry)
 abbrev pub noted_in : List Value → List Noted → Bool
 noted_in r ns = list_any (λ n. row_eq r n.row) ns
 
--- the noted rows are those of the entries, each once, and each node says where its row stands
+-- the noted rows are those of the entries, each once, and each node says at which choices its row
+-- is there
 pub record AreMerged (d : Shared) (out : List Noted) (es : List Entry) : Type 0 where
   pub below : AreNoted d out
   pub same : (r : List Value) (s : List Bool) → stands (entries_of d out) r s ≡ stands es r s

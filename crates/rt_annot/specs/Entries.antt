@@ -72,7 +72,7 @@ abbrev pub paired : List Entry → List Entry → List Entry
 paired [] ds = []
 paired (e ∷ es) ds = join_entry e ds ++ paired es ds
 
--- whether a row stands among the entries
+-- whether a row is among the entries
 abbrev pub stands : List Entry → List Value → Formula
 stands [] r s = false
 stands (d ∷ ds) r s = (row_eq r d.0 && d.1 s) || stands ds r s

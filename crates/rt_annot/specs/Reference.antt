@@ -1,4 +1,4 @@
--- A query whose goals beside other queries are looked for.
+-- A query that is compared with others: what all these goals share.
 use Rattle.std.specs.Prelude.{◌≡◌, ◌<◌, Bool, List, length}
 use Rattle.rt_schema.specs.declared.table.Table.{Table}
 use Rattle.rt_schema.specs.Given.{Instance}
@@ -16,7 +16,8 @@ pub record StandsOn (d : Shared) (r : Reference) : Type 0 where
   pub lawful : r.lawful < length d.entries
   pub rows : AreOf d r.rows
 
--- at every choice of rows its node says whether they are lawful, and its rows are the query's answer
+-- at every choice of rows its node says whether they are lawful, and its rows are the query's
+-- answer
 pub record IsReference (schema : List Table) (given : Instance) (query : Typed) (d : Shared) (r : Reference) : Type 0 where
   pub stands : StandsOn d r
   pub law : (keep : List Bool) → length keep ≡ d.rows → val d keep r.lawful ≡ lawful schema (kept given.tables keep)

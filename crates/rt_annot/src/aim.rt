@@ -1,3 +1,6 @@
+//! The goal of a search: the law of the schema, and that two queries answer differently, as one
+//! node.
+
 ghost use Rattle.std.specs.Prelude.{◌≡◌, ◌<◌, ◌&&◌, List, Bool, not, IfOk, length};
 ghost use Rattle.rt_schema.specs.Given.{IsOf, places};
 ghost use Rattle.rt_schema.specs.Kept.{kept};
@@ -17,16 +20,16 @@ use rt_schema::{Given, Schema};
 use rt_value::NoMemory;
 use std::alloc::Global;
 
-/// The node that says that two queries answer differently, and the one that says that the choice of
-/// rows is lawful too: the choices that are looked for.
+/// The node that says that two queries answer differently, and the one that says that the choice
+/// of rows is lawful too. The choices at which the second is true are the ones looked for.
 #[derive(Clone, Copy)]
 pub struct Aim {
     pub differs: Node,
     pub goal: Node,
 }
 
-/// The node that is true at just the lawful choices of the given rows at which the two queries
-/// answer differently, and the part of it that leaves the law out.
+/// The goal of two queries: true at just the lawful choices of the given rows at which they
+/// answer differently. Also the part of it without the law.
 pub fn goal(
     alloc: Global,
     dag: &mut Dag,
@@ -49,7 +52,8 @@ pub fn goal(
     goal_beside(alloc, dag, given, &reference, right)
 }
 
-/// The same of a query that stands on the Dag and another one beside it.
+/// The same for a reference, whose law and rows are on the Dag already, and a second query. So one
+/// reference serves for many queries.
 pub fn goal_beside(
     alloc: Global,
     dag: &mut Dag,

@@ -1,4 +1,7 @@
-ghost use Rattle.std.specs.Prelude.{◌≡◌, List, Bool, not, IfOk, length};
+//! The answer of a query at all choices at once: a map from rows to nodes. That it is a BTreeMap
+//! is private; contracts see rows in order, each with its node.
+
+ghost use Rattle.std.specs.Prelude.{◌≡◌, not, IfOk, length};
 ghost use Rattle.std.specs.List.Sorted.{IsStrictlySortedBy};
 ghost use Rattle.std.specs.Map.{keys_of};
 ghost use Rattle.rt_value.specs.Row.{row_cmp};
@@ -45,7 +48,7 @@ impl Ann {
         self.nodes.get(row).copied()
     }
 
-    /// How many rows have a node.
+    /// The number of rows that have a node.
     pub fn len(&self) -> usize
         ensures len { result ≡ length self.now }
         ensures sorted { IsStrictlySortedBy row_cmp (keys_of self.now) }
@@ -72,7 +75,7 @@ impl Ann {
         Ok(Ann { nodes })
     }
 
-    /// Where the row is not there.
+    /// The node that is true where the row is not in the answer.
     pub(crate) fn lacks(&self, dag: &mut Dag, row: &Row) -> Result<Node, NoMemory>
         requires { AreOf dag.old self.now }
         ensures grown { IsGrown dag.old dag.new }

@@ -1,3 +1,5 @@
+//! The top of annotated evaluation: a typed query to its `Ann`.
+
 ghost use Rattle.std.specs.Prelude.{◌≡◌, List, Bool, [], IfOk};
 ghost use Rattle.rt_value.specs.declared.value.Value.{Value};
 ghost use Rattle.rt_schema.specs.Given.{places};
@@ -17,7 +19,7 @@ use rt_schema::Given;
 use rt_value::{List, NoMemory, Row};
 use std::alloc::Global;
 
-/// The rows that may come out of the query, with nodes over the places of the given rows: at every
+/// The rows that may come out of the query, with nodes over the places of the given rows. At every
 /// choice of them the rows whose node is true are those of the answer on the kept rows.
 pub fn annotate(alloc: Global, dag: &mut Dag, typed: &Typed, given: &Given) -> Result<Ann, NoMemory>
     requires rows { dag.old.rows ≡ places given.now.tables }
@@ -30,7 +32,8 @@ pub fn annotate(alloc: Global, dag: &mut Dag, typed: &Typed, given: &Given) -> R
     wrapped_annotation(alloc, dag, typed.query.get(), given.tables())
 }
 
-/// The answer with arithmetic modulo 2^128, which asks for no bounds.
+// The answer with arithmetic modulo 2^128, so that no bounds are needed. For a typed query that is
+// the plain answer.
 fn wrapped_annotation(
     alloc: Global,
     dag: &mut Dag,
@@ -49,7 +52,7 @@ fn wrapped_annotation(
     Ok(ann)
 }
 
-/// The rows that may come out, each with its node.
+// The rows that may come out, each with its node.
 fn noted_rows(
     alloc: Global,
     dag: &mut Dag,

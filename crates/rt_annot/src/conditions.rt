@@ -1,4 +1,7 @@
-//! The evaluation of conditions over all given rows.
+//! The evaluation of conditions over all given rows. A comparison has its value at once; EXISTS
+//! and IN get theirs from the nodes of their query's rows. A query that names no row outside of
+//! it is evaluated once.
+
 ghost use Rattle.std.specs.Prelude.{◌≡◌, ◌<◌, [], length, map, slice_index_or, IfOk, IfSome};
 ghost use Rattle.rt_value.specs.Value.{null_truth, value_truth};
 ghost use Rattle.rt_algebra.specs.Answer.{answer_by, one_of_truth};
@@ -12,7 +15,7 @@ ghost use Rattle.rt_annot.specs.Known.{AreKnown, Tells, TellsOf, sought_test};
 ghost use Rattle.rt_annot.specs.declared.subquery.Subquery.{Subquery};
 
 use crate::evaluate::annotated;
-use crate::gate::{Gate, Gates, Junction, constant, is_always};
+use crate::gate::{Junction, TruthLists, TruthNodes, constant, is_always};
 use crate::known::Found;
 use crate::member::among;
 use crate::subquery::{Subquery, place_of};
@@ -30,7 +33,7 @@ pub fn test<'q>(
     known: &mut List<Subquery<'q>>,
     p: &'q Pred,
     env: &[&Row],
-) -> Result<Gate, NoMemory>
+) -> Result<TruthNodes, NoMemory>
     requires places { dag.old.rows ≡ places tables.now }
     requires known { AreKnown dag.old tables.now known.old }
     ensures grown { IsGrown dag.old dag.new }
@@ -51,7 +54,7 @@ pub fn test<'q>(
         }
         Pred::Not(p) => {
             let gate = test(alloc, dag, tables, known, p.get(), env)?;
-            Ok(Gate {
+            Ok(TruthNodes {
                 yes: gate.no,
                 no: gate.yes,
             })
@@ -64,7 +67,7 @@ pub fn test<'q>(
     }
 }
 
-/// A comparison, which no choice of rows changes.
+// A comparison, which no choice of rows changes.
 fn compared(
     alloc: Global,
     dag: &Dag,
@@ -72,7 +75,7 @@ fn compared(
     a: &Expr,
     b: &Expr,
     env: &[&Row],
-) -> Result<Gate, NoMemory>
+) -> Result<TruthNodes, NoMemory>
     ensures { IfOk result (λ g. IsGate dag.now g (constant (value_truth op (value_by wrapped a.now (map (λ r. r.now) env.now)) (value_by wrapped b.now (map (λ r. r.now) env.now))))) }
 {
     let x = value(alloc, a, env)?;
@@ -80,22 +83,22 @@ fn compared(
     Ok(constant(dag, compare(&x, &y, op)))
 }
 
-/// The test for NULL, which no choice of rows changes.
-fn missing(alloc: Global, dag: &Dag, e: &Expr, env: &[&Row]) -> Result<Gate, NoMemory>
+// The test for NULL, which no choice of rows changes.
+fn missing(alloc: Global, dag: &Dag, e: &Expr, env: &[&Row]) -> Result<TruthNodes, NoMemory>
     ensures { IfOk result (λ g. IsGate dag.now g (constant (null_truth (value_by wrapped e.now (map (λ r. r.now) env.now))))) }
 {
     let x = value(alloc, e, env)?;
     Ok(constant(dag, null_truth(&x)))
 }
 
-/// Whether a value is in a list, which no choice of rows changes.
+// Whether a value is in a list, which no choice of rows changes.
 fn listed(
     alloc: Global,
     dag: &Dag,
     e: &Expr,
     items: &[Expr],
     env: &[&Row],
-) -> Result<Gate, NoMemory>
+) -> Result<TruthNodes, NoMemory>
     ensures { IfOk result (λ g. IsGate dag.now g (constant (one_of_truth wrapped (value_by wrapped e.now (map (λ r. r.now) env.now)) items.now (map (λ r. r.now) env.now)))) }
 {
     let x = value(alloc, e, env)?;
@@ -103,7 +106,7 @@ fn listed(
     Ok(constant(dag, truth))
 }
 
-/// Where the query has a row, or where the value that is sought is among its rows.
+// Where the query has a row (EXISTS), or where the value that is sought is among its rows (IN).
 #[cycle(annotate)]
 fn asked<'q>(
     alloc: Global,
@@ -113,7 +116,7 @@ fn asked<'q>(
     sought: Option<&Value>,
     q: &'q Query,
     env: &[&Row],
-) -> Result<Gate, NoMemory>
+) -> Result<TruthNodes, NoMemory>
     requires places { dag.old.rows ≡ places tables.now }
     requires known { AreKnown dag.old tables.now known.old }
     ensures grown { IsGrown dag.old dag.new }
@@ -129,8 +132,8 @@ fn asked<'q>(
     }
 }
 
-/// The place of a query that names no row outside of it; what its rows come to is known from then
-/// on.
+// The place among the known subqueries of a query that names no row outside of it. A new one is
+// evaluated, and known from then on. There is no place for a query that names such a row.
 #[cycle(annotate)]
 fn looked_up<'q>(
     alloc: Global,
@@ -156,7 +159,7 @@ fn looked_up<'q>(
     Ok(Some(at))
 }
 
-/// What the rows of a query come to with no rows in scope.
+// What the rows of a query come to with no rows in scope.
 #[cycle(annotate)]
 fn newly<'q>(
     alloc: Global,
@@ -175,8 +178,8 @@ fn newly<'q>(
     Found::of(alloc, dag, rows.as_slice())
 }
 
-/// Where the conditions together are true and where they are false. One that decides them at every
-/// choice is the last that is looked at.
+// Where the conditions together are true and where they are false. No condition is evaluated after
+// one that decides them at every choice.
 #[cycle(annotate)]
 fn together<'q>(
     alloc: Global,
@@ -186,14 +189,14 @@ fn together<'q>(
     junction: &Junction,
     ps: &'q [Pred],
     env: &[&Row],
-) -> Result<Gate, NoMemory>
+) -> Result<TruthNodes, NoMemory>
     requires places { dag.old.rows ≡ places tables.now }
     requires known { AreKnown dag.old tables.now known.old }
     ensures grown { IsGrown dag.old dag.new }
     ensures known { AreKnown dag.new tables.now known.new }
     ensures gate { IfOk result (λ g. IsGate dag.new g (test_joined junction.now ps.now tables.now (map (λ r. r.now) env.now))) }
 {
-    let mut gates = Gates {
+    let mut gates = TruthLists {
         yes: List::new(alloc),
         no: List::new(alloc),
     };
@@ -217,7 +220,7 @@ pub fn test_row<'q, 'a>(
     p: &'q Pred,
     row: &'a Row,
     env: &[&'a Row],
-) -> Result<Gate, NoMemory>
+) -> Result<TruthNodes, NoMemory>
     requires places { dag.old.rows ≡ places tables.now }
     requires known { AreKnown dag.old tables.now known.old }
     ensures grown { IsGrown dag.old dag.new }

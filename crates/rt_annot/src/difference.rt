@@ -1,3 +1,5 @@
+//! Where two answers differ: some row of the one is not in the other.
+
 ghost use Rattle.std.specs.Prelude.{◌≡◌, ◌<◌, List, Bool, not, IfOk, length};
 ghost use Rattle.rt_algebra.specs.Answer.{same_rows};
 ghost use Rattle.rt_formula.specs.Shared.{val, IsGrown};
@@ -10,7 +12,7 @@ use rt_formula::{Dag, Node};
 use rt_value::{List, NoMemory};
 use std::alloc::Global;
 
-/// Where some row of `a` is not in `b`.
+// Where some row of `a` is not in `b`.
 fn missing(alloc: Global, dag: &mut Dag, a: &Ann, b: &Ann) -> Result<Node, NoMemory>
     requires a { AreOf dag.old a.now }
     requires b { AreOf dag.old b.now }
@@ -28,7 +30,7 @@ fn missing(alloc: Global, dag: &mut Dag, a: &Ann, b: &Ann) -> Result<Node, NoMem
 }
 
 /// The node that is true at just the choices of rows at which the two sets of rows differ. Both
-/// were made over this Dag.
+/// have their nodes on this Dag.
 pub fn differ(alloc: Global, dag: &mut Dag, a: &Ann, b: &Ann) -> Result<Node, NoMemory>
     requires a { AreOf dag.old a.now }
     requires b { AreOf dag.old b.now }

@@ -1,4 +1,6 @@
-//! The evaluation of queries over all given rows.
+//! The evaluation of queries over all given rows, operator by operator. For a join, rows are
+//! chosen before they get a node.
+
 ghost use Rattle.std.specs.Prelude.{◌≡◌, List, Bool, [], map, IfOk};
 ghost use Rattle.rt_algebra.specs.Answer.{answer_by};
 ghost use Rattle.rt_algebra.specs.Expression.{wrapped};
@@ -23,8 +25,8 @@ use rt_formula::{Dag, Noted};
 use rt_value::{List, NoMemory, Row};
 use std::alloc::Global;
 
-/// The rows whose condition may be true, each with the node that says where it is there and the
-/// condition is true. A row gets a node only once its condition is known.
+// The rows whose condition may be true, each with the node that says where it is there and the
+// condition is true. A row gets a node only once its condition is known.
 #[cycle(annotate)]
 fn chosen<'q>(
     alloc: Global,
@@ -53,7 +55,7 @@ fn chosen<'q>(
     Ok(out)
 }
 
-/// The rows of each of the queries.
+// The rows of each of the queries.
 #[cycle(annotate)]
 fn members<'q>(
     alloc: Global,
@@ -77,7 +79,7 @@ fn members<'q>(
     Ok(out)
 }
 
-/// The rows of the members of a product, and of another query those of the query alone.
+// The rows of each member of a product; another query is its own only member.
 #[cycle(annotate)]
 fn source<'q>(
     alloc: Global,
@@ -149,7 +151,7 @@ pub fn annotated<'q>(
     }
 }
 
-/// The rows of a query among which are all on which a condition is true.
+// The rows of a query among which are all on which a condition is true.
 #[cycle(annotate)]
 fn joints<'q>(
     alloc: Global,
@@ -171,7 +173,7 @@ fn joints<'q>(
     narrowed(alloc, parts.as_slice(), p, env)
 }
 
-/// The rows, and those of a query, put together by a set operator.
+// The rows, and those of a query, put together by a set operator.
 #[cycle(annotate)]
 fn combined<'q>(
     alloc: Global,

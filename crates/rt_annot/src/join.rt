@@ -1,5 +1,6 @@
 //! The rows of a product that a condition may choose: each member's rows are narrowed by its own
 //! conjuncts, and joined by its keys.
+
 ghost use Rattle.std.specs.Prelude.{◌≡◌, ◌++◌, ◌∷◌, [], length, map, nat_eq, slice_get, IfOk, OnOk};
 ghost use Rattle.std.specs.List.{cons_option, filter_map, list_all};
 ghost use Rattle.rt_algebra.specs.Expression.{wrapped};
@@ -16,8 +17,8 @@ use rt_split::{KeyPair, Split, all_true, matches, split};
 use rt_value::{List, NoMemory, Row};
 use std::alloc::Global;
 
-/// Rows of the product, and among them at every choice each on which the condition is true. A
-/// condition is long beside a product without rows, and stays as it is there.
+/// Rows of the product, and among them at every choice each on which the condition is true. The
+/// condition is not split if a member has no rows: that would cost more than the product.
 pub fn narrowed(
     alloc: Global,
     members: &[List<Noted>],
@@ -38,7 +39,11 @@ pub fn narrowed(
     }
 }
 
-/// The concatenations on which each member's own conditions and keys hold.
+// The concatenations on which each member's own conditions and keys hold. Of members R(a, b) and
+// S(c, d), with the condition `b > 3 AND a = c AND d = 1`:
+//     own of R     b > 3: the join begins with these rows of R
+//     own of S     d = 1: only these rows of S are joined
+//     keys of S    a = c: each row before gets the rows of S with its value
 fn chosen(
     alloc: Global,
     members: &[List<Noted>],
@@ -55,7 +60,7 @@ fn chosen(
     Ok(out)
 }
 
-/// The rows on which the conditions are true, each as the innermost in scope.
+// The rows on which the conditions are true, each as the innermost in scope.
 fn own_rows(
     alloc: Global,
     rows: &[Noted],
@@ -81,7 +86,7 @@ fn is_own(alloc: Global, row: &Row, conditions: &[Pred], env: &[&Row]) -> Result
     all_true(alloc, conditions, inner.as_slice())
 }
 
-/// Each of the rows before each row of the member that matches it by the keys.
+// Each of the rows before each row of the member that matches it by the keys.
 fn matched(
     alloc: Global,
     keys: &[KeyPair],
@@ -104,7 +109,8 @@ fn matched(
     Ok(out)
 }
 
-/// For each of the rows before, the places of the member's rows that match it by the keys.
+// For each of the rows before, in order, the places of the member's rows that match it by the
+// keys.
 fn places_of(
     alloc: Global,
     keys: &[KeyPair],
@@ -138,7 +144,7 @@ fn noted_rows<'a>(alloc: Global, rows: &'a [Noted]) -> Result<List<&'a Row>, NoM
     Ok(out)
 }
 
-/// Puts the row before each of the rows at the places at the end.
+// Puts the row before each of the rows at the places at the end.
 fn picked_each(
     alloc: Global,
     out: &mut List<Joint>,
@@ -154,7 +160,7 @@ fn picked_each(
     Ok(())
 }
 
-/// Puts the row before the one at the place at the end, where there is one.
+// Puts the row before the one at the place at the end, where there is one.
 fn with_picked(
     alloc: Global,
     out: &mut List<Joint>,
@@ -170,7 +176,7 @@ fn with_picked(
     }
 }
 
-/// How many values each row of a member has, where all have as many.
+// The number of values of each member's first row, 0 for a member without rows.
 fn widths(alloc: Global, members: &[List<Noted>]) -> Result<List<usize>, NoMemory>
     ensures { IfOk result (λ out. length out ≡ length members.now) }
 {
@@ -185,7 +191,7 @@ fn widths(alloc: Global, members: &[List<Noted>]) -> Result<List<usize>, NoMemor
     Ok(out)
 }
 
-/// Whether each row of each member has as many values as the width says.
+// Whether each row of each member has as many values as the width says.
 fn are_long(widths: &[usize], members: &[List<Noted>]) -> bool
     ensures { result ≡ are_long widths.now members.now }
 {

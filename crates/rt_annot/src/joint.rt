@@ -1,4 +1,5 @@
 //! Products: rows put together from the rows of several queries.
+
 ghost use Rattle.std.specs.Prelude.{◌≡◌, ◌++◌, ◌∷◌, [], ◌<◌, ◌&&◌, length, nat_eq, IfOk, OnOk};
 ghost use Rattle.std.specs.List.{list_all, list_any};
 ghost use Rattle.rt_formula.specs.Shared.{val, IsGrown};
@@ -11,8 +12,8 @@ use rt_formula::{Dag, Node, Noted};
 use rt_value::{List, NoMemory, Row};
 use std::alloc::Global;
 
-/// A row of a product: it is there where all of the nodes are true. It has no node of its own yet,
-/// so that one is made only for the rows that stay.
+/// A row of a product, which is there where all of the nodes are true. It has no node of its own
+/// yet, so that one is made only for the rows that are chosen.
 pub struct Joint {
     pub row: Row,
     pub nodes: List<Node>,
@@ -35,7 +36,7 @@ pub fn unit(alloc: Global) -> Result<List<Joint>, NoMemory>
     Ok(out)
 }
 
-/// The nodes, and one more after them.
+// The nodes, and one more after them.
 fn with_node(alloc: Global, nodes: &[Node], node: Node) -> Result<List<Node>, NoMemory>
     ensures { IfOk result (λ out. out ≡ nodes.now ++ node ∷ []) }
 {
@@ -53,7 +54,7 @@ pub fn joined_one(alloc: Global, first: &Joint, rest: &Noted) -> Result<Joint, N
     Ok(Joint { row, nodes })
 }
 
-/// Puts `first` before each row of `rests` at the end.
+// Puts `first` before each row of `rests` at the end.
 fn joined_each(
     alloc: Global,
     joints: &mut List<Joint>,
@@ -68,7 +69,7 @@ fn joined_each(
     Ok(())
 }
 
-/// Each row of `firsts` before each row of `rests`.
+// Each row of `firsts` before each row of `rests`.
 fn joined(alloc: Global, firsts: &[Joint], rests: &[Noted]) -> Result<List<Joint>, NoMemory>
     ensures { IfOk result (λ out. out ≡ pair_joints firsts.now rests.now) }
 {
@@ -114,7 +115,7 @@ pub fn lacks_rows(members: &[List<Noted>]) -> bool
     members.iter().any(|rows| rows.len() == 0)
 }
 
-/// The rows, each with one node.
+// The rows, each with one node.
 fn noted(alloc: Global, dag: &mut Dag, joints: &[Joint]) -> Result<List<Noted>, NoMemory>
     requires { AreJoints dag.old joints.now }
     ensures grown { IsGrown dag.old dag.new }
@@ -128,7 +129,7 @@ fn noted(alloc: Global, dag: &mut Dag, joints: &[Joint]) -> Result<List<Noted>, 
     Ok(out)
 }
 
-/// Where all of these are true. A condition that is never true makes no node.
+/// The node that is true where all of these are. A condition that is never true makes no new node.
 pub fn meeting(
     alloc: Global,
     dag: &mut Dag,

@@ -1,3 +1,6 @@
+//! What is kept of a subquery's rows for all its uses: whether there are any, and their first
+//! values. EXISTS and IN read no more.
+
 ghost use Rattle.std.specs.Prelude.{◌≡◌, ◌∷◌, [], IfOk, List, Bool};
 ghost use Rattle.rt_value.specs.declared.value.Value.{Value};
 ghost use Rattle.rt_value.specs.Value.{value_eq, null_truth};
@@ -9,16 +12,17 @@ ghost use Rattle.rt_annot.specs.Entries.{rows_at};
 ghost use Rattle.rt_annot.specs.Annotated.{AreNoted, IsGate, entries_of};
 ghost use Rattle.rt_annot.specs.Known.{first_of, among_test, sought_test, IsOver, Tells};
 
-use crate::gate::Gate;
+use crate::gate::TruthNodes;
 use crate::member::exists;
 use rt_formula::{Dag, Groups, Node, Noted};
 use rt_value::{NoMemory, Row, Value};
 use std::alloc::Global;
 
-/// What the annotated rows of a query come to: whether there is one, whether the first value of
-/// one is NULL, and the nodes of the rows by their first value.
+/// What EXISTS and IN need of the annotated rows of a query. `some` says whether there is a row,
+/// `null` whether one begins with NULL, and `groups` has the nodes of the rows by their first
+/// value.
 pub struct Found {
-    pub some: Gate,
+    pub some: TruthNodes,
     pub null: Node,
     pub groups: Groups,
 }
@@ -47,7 +51,7 @@ fn single(alloc: Global, value: &Value) -> Result<Row, NoMemory>
     Ok(row)
 }
 
-/// The first value of a row alone, NULL where it has none.
+// The first value of a row alone, NULL where it has none.
 fn first(alloc: Global, row: &Row) -> Result<Row, NoMemory>
     ensures { IfOk result (λ r. r ≡ first_of row.now ∷ []) }
 {
@@ -57,7 +61,7 @@ fn first(alloc: Global, row: &Row) -> Result<Row, NoMemory>
     }
 }
 
-/// The nodes of the rows by their first value.
+// The nodes of the rows by their first value.
 fn by_first(alloc: Global, rows: &[Noted]) -> Result<Groups, NoMemory>
     ensures { IfOk result (λ g. (x : Value) → group_at g (x ∷ []) ≡ nodes_where (λ r. value_eq x (first_of r)) rows.now) }
 {
@@ -71,7 +75,7 @@ fn by_first(alloc: Global, rows: &[Noted]) -> Result<Groups, NoMemory>
 }
 
 impl Found {
-    /// What these rows come to.
+    /// What EXISTS and IN need of these rows.
     pub fn of(alloc: Global, dag: &mut Dag, rows: &[Noted]) -> Result<Found, NoMemory>
         requires { AreNoted dag.old rows.now }
         ensures grown { IsGrown dag.old dag.new }
@@ -90,7 +94,7 @@ impl Found {
         alloc: Global,
         dag: &mut Dag,
         sought: Option<&Value>,
-    ) -> Result<Gate, NoMemory>
+    ) -> Result<TruthNodes, NoMemory>
         requires { IsOver dag.old self.now }
         ensures grown { IsGrown dag.old dag.new }
         ensures gate { IfOk result (λ g. (answer : List Bool → Rows) → Tells dag.old self.now answer → IsGate dag.new g (sought_test sought.entry answer)) }
@@ -101,7 +105,7 @@ impl Found {
         }
     }
 
-    fn member(&self, alloc: Global, dag: &mut Dag, x: &Value) -> Result<Gate, NoMemory>
+    fn member(&self, alloc: Global, dag: &mut Dag, x: &Value) -> Result<TruthNodes, NoMemory>
         requires { IsOver dag.old self.now }
         ensures grown { IsGrown dag.old dag.new }
         ensures gate { IfOk result (λ g. (answer : List Bool → Rows) → Tells dag.old self.now answer → IsGate dag.new g (among_test x.now answer)) }
@@ -109,13 +113,13 @@ impl Found {
         if is_null(x) {
             let yes = dag.no();
             let no = self.some.no;
-            return Ok(Gate { yes, no });
+            return Ok(TruthNodes { yes, no });
         }
         let row = single(alloc, x)?;
         let yes = dag.any(self.groups.get(&row))?;
         drop(row);
         let some = dag.any(&[yes, self.null])?;
         let no = dag.not(some)?;
-        Ok(Gate { yes, no })
+        Ok(TruthNodes { yes, no })
     }
 }

@@ -1,4 +1,6 @@
-//! EXISTS, and IN with a query.
+//! EXISTS, and IN with a query, for a query that is evaluated anew for each row (ISO/IEC 9075-2,
+//! exists predicate, in predicate).
+
 ghost use Rattle.std.specs.Prelude.{◌≡◌, List, Bool, not, IfOk};
 ghost use Rattle.rt_schema.specs.Given.{Rows};
 ghost use Rattle.rt_formula.specs.Shared.{IsGrown};
@@ -6,7 +8,7 @@ ghost use Rattle.rt_annot.specs.Entries.{any_entry, member_test};
 ghost use Rattle.rt_annot.specs.Annotated.{AreNoted, Gives, IsGate, entries_of, nodes_of, sure, possible};
 ghost use Rattle.rt_annot.specs.Known.{sought_test};
 
-use crate::gate::{Gate, either};
+use crate::gate::{TruthNodes, either};
 use rt_algebra::cell_truth;
 use rt_formula::{Dag, Node, Noted};
 use rt_value::{List, NoMemory, Truth, Value};
@@ -23,7 +25,7 @@ fn nodes_of(alloc: Global, rows: &[Noted]) -> Result<List<Node>, NoMemory>
 }
 
 /// Whether there is a row.
-pub fn exists(alloc: Global, dag: &mut Dag, rows: &[Noted]) -> Result<Gate, NoMemory>
+pub fn exists(alloc: Global, dag: &mut Dag, rows: &[Noted]) -> Result<TruthNodes, NoMemory>
     requires { AreNoted dag.old rows.now }
     ensures grown { IsGrown dag.old dag.new }
     ensures gate { IfOk result (λ g. IsGate dag.new g (any_entry (entries_of dag.old rows.now), λ s. not (any_entry (entries_of dag.old rows.now) s))) }
@@ -32,7 +34,7 @@ pub fn exists(alloc: Global, dag: &mut Dag, rows: &[Noted]) -> Result<Gate, NoMe
     either(dag, nodes.as_slice())
 }
 
-/// The nodes of the rows to whose first value `x` compares equal.
+// The nodes of the rows to whose first value `x` compares equal.
 fn sure(alloc: Global, x: &Value, rows: &[Noted]) -> Result<List<Node>, NoMemory>
     ensures { IfOk result (λ out. out ≡ sure x.now rows.now) }
 {
@@ -45,7 +47,7 @@ fn sure(alloc: Global, x: &Value, rows: &[Noted]) -> Result<List<Node>, NoMemory
     Ok(out)
 }
 
-/// The nodes of the rows to whose first value `x` compares equal or unknown.
+// The nodes of the rows to whose first value `x` compares equal or unknown.
 fn possible(alloc: Global, x: &Value, rows: &[Noted]) -> Result<List<Node>, NoMemory>
     ensures { IfOk result (λ out. out ≡ possible x.now rows.now) }
 {
@@ -58,13 +60,13 @@ fn possible(alloc: Global, x: &Value, rows: &[Noted]) -> Result<List<Node>, NoMe
     Ok(out)
 }
 
-/// Whether there is a row, or whether the value that is sought is among the rows.
+/// Whether there is a row, or, where a value is sought, whether it is among the rows.
 pub fn among(
     alloc: Global,
     dag: &mut Dag,
     sought: Option<&Value>,
     rows: &[Noted],
-) -> Result<Gate, NoMemory>
+) -> Result<TruthNodes, NoMemory>
     requires { AreNoted dag.old rows.now }
     ensures grown { IsGrown dag.old dag.new }
     ensures gate { IfOk result (λ g. (answer : List Bool → Rows) → Gives dag.old rows.now answer → IsGate dag.new g (sought_test sought.entry answer)) }
@@ -75,7 +77,7 @@ pub fn among(
     }
 }
 
-fn member(alloc: Global, dag: &mut Dag, x: &Value, rows: &[Noted]) -> Result<Gate, NoMemory>
+fn member(alloc: Global, dag: &mut Dag, x: &Value, rows: &[Noted]) -> Result<TruthNodes, NoMemory>
     requires { AreNoted dag.old rows.now }
     ensures grown { IsGrown dag.old dag.new }
     ensures gate { IfOk result (λ g. IsGate dag.new g (member_test x.now (entries_of dag.old rows.now))) }
@@ -87,5 +89,5 @@ fn member(alloc: Global, dag: &mut Dag, x: &Value, rows: &[Noted]) -> Result<Gat
     let some = dag.any(possible.as_slice())?;
     drop(possible);
     let no = dag.not(some)?;
-    Ok(Gate { yes, no })
+    Ok(TruthNodes { yes, no })
 }

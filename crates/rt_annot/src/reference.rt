@@ -1,3 +1,5 @@
+//! The part of a goal that doesn't rest on the second query, made once for many of them.
+
 ghost use Rattle.std.specs.Prelude.{◌≡◌, IfOk};
 ghost use Rattle.rt_schema.specs.Given.{IsOf, places};
 ghost use Rattle.rt_algebra.specs.Typed.{IsTyped};
@@ -13,7 +15,7 @@ use rt_schema::{Given, Schema};
 use rt_value::NoMemory;
 use std::alloc::Global;
 
-/// What the goals of one query beside any others have in common: the node of the law, and the
+/// What the goals of one query with any others have in common: the node of the law, and the
 /// query's rows. It stays that of the query as the Dag grows.
 pub struct Reference {
     pub lawful: Node,
@@ -27,7 +29,7 @@ impl Drop for Reference {
 }
 
 impl Reference {
-    /// The reference that a query is, over the places of the given rows.
+    /// The reference of a query, over the places of the given rows.
     pub fn of(
         alloc: Global,
         dag: &mut Dag,

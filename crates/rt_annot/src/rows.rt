@@ -1,4 +1,5 @@
 //! Rows with their nodes: tables, unions, projections.
+
 ghost use Rattle.std.specs.Prelude.{◌≡◌, ◌∷◌, ◌++◌, ◌+◌, ◌<◌, ◌≤◌, [], map, length, slice_index_or, IfOk, OnOk, ◌^◌};
 ghost use Rattle.rt_algebra.specs.Expression.{wrapped, row_by};
 ghost use Rattle.rt_schema.specs.Given.{places, base_of};
@@ -27,7 +28,7 @@ pub fn alone(alloc: Global, rows: List<Noted>) -> Result<List<List<Noted>>, NoMe
     Ok(out)
 }
 
-/// Each row of a table whose first place is `base`, where its place is kept.
+// Each row of a table whose first place is `base`, where its place is kept.
 fn placed(alloc: Global, dag: &mut Dag, rows: &[Row], base: usize) -> Result<List<Noted>, NoMemory>
     requires { base + length rows.now ≤ dag.old.rows }
     ensures grown { IsGrown dag.old dag.new }
@@ -42,7 +43,7 @@ fn placed(alloc: Global, dag: &mut Dag, rows: &[Row], base: usize) -> Result<Lis
     Ok(out)
 }
 
-/// The place of the first row of a table.
+// The place of the first row of a table.
 fn first_place(given: &[List<Row>], number: usize) -> usize
     requires { places given.now < 2 ^ 64 }
     ensures { result ≡ base_of number given.now }
@@ -91,7 +92,7 @@ pub fn appended(alloc: Global, rows: List<Noted>, more: &[Noted]) -> Result<List
     Ok(out)
 }
 
-/// The values of the items with `source` as the innermost row in scope.
+// The values of the items with `source` as the innermost row in scope.
 fn values_under<'a>(
     alloc: Global,
     source: &'a Row,
@@ -104,7 +105,7 @@ fn values_under<'a>(
     row(alloc, items, inner.as_slice())
 }
 
-/// The values of the items for each row as the innermost in scope.
+// The values of the items for each row as the innermost in scope.
 fn projected(
     alloc: Global,
     from: &[Noted],
@@ -138,7 +139,8 @@ pub fn projection(
     merged(alloc, dag, rows.as_slice())
 }
 
-/// Each row once, in the order of their first coming, where one of its nodes is true.
+// Each row once, in the order in which rows first come, with a node that is true where one of its
+// nodes is.
 fn merged(alloc: Global, dag: &mut Dag, rows: &[Noted]) -> Result<List<Noted>, NoMemory>
     requires { AreNoted dag.old rows.now }
     ensures grown { IsGrown dag.old dag.new }

@@ -1,17 +1,19 @@
-//! Set operators: the nodes of rows beside those of the rows that are the same as they.
+//! Set operators: a row of the first query is kept or dropped by the nodes of the same rows of the
+//! second, which are found by an index.
+
 ghost use Rattle.std.specs.Prelude.{◌≡◌, List, Bool, IfOk};
 ghost use Rattle.rt_schema.specs.Given.{Rows};
 ghost use Rattle.rt_formula.specs.Shared.{IsGrown};
 ghost use Rattle.rt_annot.specs.Entries.{selected};
 ghost use Rattle.rt_annot.specs.Annotated.{AreNoted, Gives, Reads, entries_of, set_rows, side_node, side_test};
 
-use crate::gate::{Gate, both, either};
+use crate::gate::{TruthNodes, both, either};
 use crate::rows::{appended, note};
 use rt_formula::{Dag, Groups, Node, Noted};
 use rt_value::{List, NoMemory};
 use std::alloc::Global;
 
-/// Which rows are taken: those that stand among others, or those that do not.
+/// Which rows are taken: those that are among others (INTERSECT), or those that are not (EXCEPT).
 #[derive(Clone, Copy)]
 pub enum Side {
     Standing,
@@ -19,7 +21,7 @@ pub enum Side {
 }
 
 impl Side {
-    fn node(self, gate: Gate) -> Node
+    fn node(self, gate: TruthNodes) -> Node
         ensures { result ≡ side_node self gate }
     {
         match self {
@@ -29,8 +31,8 @@ impl Side {
     }
 }
 
-/// The rows of a set operator: those of `first` on a side of `second`, or all of both where there
-/// is no side.
+/// The rows of a set operator: those of `first` on a side of `second`, or all of both if there is
+/// no side (UNION).
 pub fn set_rows(
     alloc: Global,
     dag: &mut Dag,
@@ -49,7 +51,7 @@ pub fn set_rows(
     }
 }
 
-/// The rows of `from` on this side of `others`.
+// The rows of `from` on this side of `others`.
 fn sifted(
     alloc: Global,
     dag: &mut Dag,

@@ -1,4 +1,5 @@
-//! The nodes of annotated evaluation beside the answers of plain evaluation.
+//! The nodes of annotated evaluation, compared with the answers of plain evaluation.
+
 ghost use Rattle.std.specs.Prelude.{◌≡◌, length};
 ghost use Rattle.rt_schema.specs.Given.{places};
 
@@ -19,7 +20,7 @@ const TEN: [(&str, &str); 2] = [
     ("d/u.csv", "b,c\n1,2\n2,2\n,1\n3,\n1,2\n"),
 ];
 
-/// NULL, and then the whole numbers from -4 on.
+// NULL, and then the whole numbers from -4 on.
 fn value(digit: usize) -> Value {
     match digit {
         0 => Value::Null,
@@ -27,7 +28,7 @@ fn value(digit: usize) -> Value {
     }
 }
 
-/// How many rows of one value there are, or of two.
+// How many rows of one value there are, or of two.
 fn rows(width: usize) -> usize {
     match width {
         1 => 16,
@@ -35,7 +36,7 @@ fn rows(width: usize) -> usize {
     }
 }
 
-/// The row of a number's digits to the base 16.
+// The row of a number's digits to the base 16.
 fn row(rt: &impl Abort, alloc: Global, width: usize, number: usize) -> Row {
     let mut row = Row::new(alloc);
     let mut digits = number;
@@ -46,7 +47,7 @@ fn row(rt: &impl Abort, alloc: Global, width: usize, number: usize) -> Row {
     row
 }
 
-/// The rows of an annotation with their nodes, among all rows of at most two small values.
+// The rows of an annotation with their nodes, among all rows of at most two small values.
 fn noted(rt: &impl Abort, alloc: Global, ann: &Ann, width: usize) -> List<Noted> {
     let mut found = List::new(alloc);
     for number in 0..rows(width) {
@@ -65,7 +66,7 @@ pub(crate) fn holds(rt: &impl Abort, dag: &Dag, node: Node, keep: &Keep) -> bool
         && dag.value(node, keep).expect(rt, "memory")
 }
 
-/// Whether the rows whose node is true are just those of the answer.
+// Whether the rows whose node is true are just those of the answer.
 fn are_answer(rt: &impl Abort, dag: &Dag, noted: &[Noted], keep: &Keep, answer: &Rows) -> bool {
     let mut answered: usize = 0;
     for Noted { row, node } in noted {
@@ -87,7 +88,7 @@ pub(crate) fn answer(rt: &impl Abort, alloc: Global, input: &Input, keep: &Keep)
     answers(alloc, input.left(), input.given(), keep).expect(rt, "memory")
 }
 
-/// Whether these are the rows of the answer at the choice of a number, of ten rows.
+// Whether these are the rows of the answer at the choice of a number, of ten rows.
 fn agree_at(
     rt: &impl Abort,
     alloc: Global,
@@ -104,7 +105,7 @@ fn agree_at(
     found
 }
 
-/// Whether these are the rows of the answer at each of the 1,024 choices of ten rows.
+// Whether these are the rows of the answer at each of the 1,024 choices of ten rows.
 fn agree_everywhere(
     rt: &impl Abort,
     alloc: Global,
@@ -135,7 +136,7 @@ fn agree_with(rt: &impl Abort, alloc: Global, input: &Input, dag: &Dag, ann: &An
     found
 }
 
-/// Whether annotation and evaluation agree on the first query of an input of ten rows.
+// Whether annotation and evaluation agree on the first query of an input of ten rows.
 fn agree(rt: &impl Abort, alloc: Global, input: &Input) -> bool {
     let mut dag = Dag::new(alloc, input.given().total()).expect(rt, "memory");
     let ann = annotated(rt, alloc, input, &mut dag);
@@ -156,7 +157,7 @@ fn input_agrees(rt: &impl Abort, alloc: Global, input: Option<Input>) -> bool {
     }
 }
 
-/// Whether they agree on a query over the ten rows.
+// Whether they agree on a query over the ten rows.
 fn query_agrees(rt: &impl Abort, alloc: Global, query: &str) -> bool {
     let files = files(alloc, SCHEMA, &TEN, query, query).expect(rt, "memory");
     let input = input(rt, alloc, files);

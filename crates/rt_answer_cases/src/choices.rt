@@ -1,4 +1,5 @@
 //! Choices of rows, and the inputs that they are of.
+
 ghost use Rattle.std.specs.Prelude.{◌≡◌, length};
 
 use rt_cases::{FOUR, words};
@@ -21,7 +22,7 @@ pub(crate) fn choice(rt: &impl Abort, alloc: Global, places: usize, number: usiz
     keep
 }
 
-/// The input of four files, if it is accepted. The files are let go of here.
+/// The input of four files, if it is accepted. The files are dropped here.
 pub(crate) fn input(rt: &impl Abort, alloc: Global, mut files: MemFiles) -> Option<Input> {
     let command = words(alloc, &FOUR).expect(rt, "memory");
     let read = read_input(alloc, command.as_slice(), &mut files);

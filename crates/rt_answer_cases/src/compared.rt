@@ -1,4 +1,6 @@
-//! The search beside a trial of every choice of rows.
+//! The search, compared with a trial of every choice of rows. The trial evaluates both queries on
+//! each choice, and uses nothing of the search.
+
 ghost use Rattle.std.specs.Prelude.{◌≡◌, length};
 ghost use Rattle.rt_schema.specs.Given.{places};
 
@@ -13,17 +15,17 @@ use rt_value::Keep;
 use std::alloc::Global;
 use std::process::Abort;
 
-/// Tables without rules.
+// Tables without rules.
 const FREE: &str = "CREATE TABLE u (b INTEGER, c INTEGER); CREATE TABLE t (a INTEGER, b INTEGER)";
 
-/// The same with a key, NOT NULL and a foreign key.
+// The same with a key, NOT NULL and a foreign key.
 const RULED: &str =
     "CREATE TABLE u (b INTEGER PRIMARY KEY, c INTEGER); CREATE TABLE t (a INTEGER NOT NULL, b INTEGER REFERENCES u)";
 
-/// What a field of a seeded table may be.
+// What a field of a seeded table may be.
 const FIELDS: [&str; 6] = ["", "-1", "0", "1", "2", "3"];
 
-/// The step of a linear congruential generator.
+// The step of a linear congruential generator.
 fn step(state: u64) -> u64 {
     state
         .wrapping_mul(6_364_136_223_846_793_005)
@@ -34,7 +36,7 @@ fn field(state: u64) -> &'static str {
     FIELDS[((state >> 33) % 6) as usize]
 }
 
-/// The text of a table of two columns with so many rows.
+// The text of a table of two columns with so many rows.
 fn table(rt: &impl Abort, alloc: Global, header: &str, rows: u64, seed: u64) -> String {
     let mut text = String::from_str(alloc, header).expect(rt, "memory");
     let mut state = seed;
@@ -48,8 +50,8 @@ fn table(rt: &impl Abort, alloc: Global, header: &str, rows: u64, seed: u64) -> 
     text
 }
 
-/// The files of two queries over seeded tables: from one to five rows of `u`, and two to five of
-/// `t`.
+// The files of two queries over seeded tables: from one to five rows of `u`, and two to five of
+// `t`.
 fn seeded(
     rt: &impl Abort,
     alloc: Global,
@@ -67,7 +69,7 @@ fn seeded(
     files
 }
 
-/// Whether the two queries answer differently on the kept rows.
+// Whether the two queries answer differently on the kept rows.
 fn differ(rt: &impl Abort, alloc: Global, input: &Input, keep: &Keep) -> bool
     requires { places input.now.given.tables ≡ length keep.now }
 {
@@ -80,14 +82,14 @@ fn differ(rt: &impl Abort, alloc: Global, input: &Input, keep: &Keep) -> bool
     found
 }
 
-/// Whether the kept rows are a counterexample.
+// Whether the kept rows are a counterexample.
 fn counters(rt: &impl Abort, alloc: Global, input: &Input, keep: &Keep) -> bool
     requires { places input.now.given.tables ≡ length keep.now }
 {
     lawful(input.schema(), input.given(), keep) && differ(rt, alloc, input, keep)
 }
 
-/// Whether one choice comes before another: it keeps the first row that only one of them keeps.
+// Whether one choice comes before another: it keeps the first row that only one of them keeps.
 fn comes_before(keep: &Keep, other: &Keep) -> bool {
     for (a, b) in keep.as_slice().iter().zip(other.as_slice()) {
         if *a != *b {
@@ -97,7 +99,7 @@ fn comes_before(keep: &Keep, other: &Keep) -> bool {
     false
 }
 
-/// Whether a choice keeps fewer rows than the best so far, or as many and comes before it.
+// Whether a choice keeps fewer rows than the best so far, or as many and comes before it.
 fn is_better(keep: &Keep, best: &Option<Keep>) -> bool {
     match best {
         Some(other) => {
@@ -108,12 +110,12 @@ fn is_better(keep: &Keep, best: &Option<Keep>) -> bool {
     }
 }
 
-/// The number of choices of so many rows, of ten at most.
+// The number of choices of so many rows, of ten at most.
 fn choices(places: usize) -> usize {
     1 << places.min(10)
 }
 
-/// The first of the smallest counterexamples, by a trial of every choice of at most ten rows.
+// The first of the smallest counterexamples, by a trial of every choice of at most ten rows.
 fn tried(rt: &impl Abort, alloc: Global, input: &Input) -> Option<Keep> {
     let places = input.given().total();
     let mut best = None;
@@ -126,7 +128,7 @@ fn tried(rt: &impl Abort, alloc: Global, input: &Input) -> Option<Keep> {
     best
 }
 
-/// Whether this is the counterexample, or there is none.
+// Whether this is the counterexample, or there is none.
 fn is_first(best: &Best, first: &Option<Keep>) -> bool {
     match (best, first) {
         (Best::Least(keep), Some(other)) => *keep == *other,
@@ -135,7 +137,7 @@ fn is_first(best: &Best, first: &Option<Keep>) -> bool {
     }
 }
 
-/// Whether the search finds what the trial finds, over at most ten rows.
+// Whether the search finds what the trial finds, over at most ten rows.
 fn agrees(rt: &impl Abort, alloc: Global, input: &Input) -> bool {
     let first = tried(rt, alloc, input);
     let best = decide(alloc, input).expect(rt, "memory");
@@ -156,7 +158,7 @@ fn input_agrees(rt: &impl Abort, alloc: Global, input: Option<Input>) -> bool {
     }
 }
 
-/// Whether search and trial agree on a seeded input.
+// Whether search and trial agree on a seeded input.
 fn seed_agrees(
     rt: &impl Abort,
     alloc: Global,
@@ -170,7 +172,7 @@ fn seed_agrees(
     input_agrees(rt, alloc, input)
 }
 
-/// Search and trial agree on ten seeded inputs at each pair of queries.
+// Search and trial agree on ten seeded inputs at each pair of queries.
 fn assert_all(rt: &impl Abort, alloc: Global, schema: &str, pairs: &[(&str, &str)]) {
     let mut seed: u64 = 0;
     for (query1, query2) in pairs {

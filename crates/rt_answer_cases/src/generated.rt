@@ -1,5 +1,6 @@
 //! Which rows of the generated inputs can matter: each third student, who has two registrations of
 //! one department, with these.
+
 use crate::choices::accepted;
 use rt_annot::goal;
 use rt_cases::words;
@@ -21,7 +22,7 @@ fn places_of(rt: &impl Abort, alloc: Global, keep: &Keep) -> List<usize> {
     places
 }
 
-/// The rows of an input that can matter.
+// The rows of an input that can matter.
 fn rows_of(rt: &impl Abort, alloc: Global, input: &Input) -> Keep {
     let schema = input.schema();
     let given = input.given();
@@ -34,7 +35,7 @@ fn rows_of(rt: &impl Abort, alloc: Global, input: &Input) -> Keep {
     rows
 }
 
-/// The generated input of so many students.
+// The generated input of so many students.
 fn generated(rt: &impl Abort, alloc: Global, students: &str) -> Option<Input> {
     let command = words(alloc, &["made", students]).expect(rt, "memory");
     let mut none = MemFiles::new(alloc);
@@ -54,7 +55,7 @@ fn are_places(rt: &impl Abort, alloc: Global, input: Input, wanted: &[usize]) ->
     found
 }
 
-/// Whether just the rows at these places of a generated input can matter.
+// Whether just the rows at these places of a generated input can matter.
 fn has_places(rt: &impl Abort, alloc: Global, students: &str, wanted: &[usize]) -> bool {
     match generated(rt, alloc, students) {
         Some(input) => are_places(rt, alloc, input, wanted),

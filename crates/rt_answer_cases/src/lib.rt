@@ -1,8 +1,8 @@
-//! The tests of answers, annotations and verdicts as values: what names and set operators mean, and
-//! what is seen of an annotation and of a verdict from outside; and of algebra texts: what is read,
-//! what a text becomes and answers, what is refused, and the command on them.
+//! The tests of answers, annotations and verdicts as values: what names and set operators mean,
+//! and what is seen of an annotation and a verdict from outside. Also of algebra texts: what is
+//! read, what a text answers, what is refused, and the command on them.
 //!
-//! They stand in a crate of their own, since a crate with tests is proved twice.
+//! They are a crate of their own, since a crate with tests is proved twice.
 #![tactic(auto)]
 
 #[cfg(test)]

@@ -1,5 +1,6 @@
-//! What names, kinds and set operators mean: the rows of small queries, each row behind a `|`, or
-//! the first fault of a query.
+//! What names, kinds and set operators mean: the rows of small queries, each row after a `|`, or
+//! the first error of a query.
+
 use crate::annotated::answer;
 use crate::choices::choice;
 use rt_cases::{FOUR, files, words};
@@ -42,7 +43,7 @@ fn put_rows(out: &mut String, rows: &[Row]) -> Result<(), AllocError> {
     Ok(())
 }
 
-/// Whether these are the rows.
+// Whether these are the rows.
 fn are_rows(rt: &impl Abort, alloc: Global, rows: &[Row], wanted: &str) -> bool {
     let mut out = String::new(alloc);
     put_rows(&mut out, rows).expect(rt, "memory");
@@ -51,7 +52,7 @@ fn are_rows(rt: &impl Abort, alloc: Global, rows: &[Row], wanted: &str) -> bool 
     found
 }
 
-/// Whether these are the rows of the first query on all four rows.
+// Whether these are the rows of the first query on all four rows.
 fn has_rows(rt: &impl Abort, alloc: Global, input: &Input, wanted: &str) -> bool {
     let places = input.given().total();
     let keep = choice(rt, alloc, places, 15);
@@ -62,7 +63,7 @@ fn has_rows(rt: &impl Abort, alloc: Global, input: &Input, wanted: &str) -> bool
     found
 }
 
-/// Whether this is the fault of the first query.
+// Whether this is the error of the first query.
 fn has_fault(rt: &impl Abort, alloc: Global, outcome: &Outcome, wanted: &str) -> bool {
     let text = match outcome {
         Outcome::Refused(Part::Query1, fault) => fault_text(alloc, fault),
@@ -89,7 +90,7 @@ fn is_told(rt: &impl Abort, alloc: Global, read: Result<Input, Outcome>, wanted:
     }
 }
 
-/// What is read of a query beside itself.
+// What is read of a query as both queries.
 fn read(rt: &impl Abort, alloc: Global, query: &str) -> Result<Input, Outcome> {
     let mut files = files(alloc, SCHEMA, &TABLES, query, query).expect(rt, "memory");
     let command = words(alloc, &FOUR).expect(rt, "memory");
@@ -260,7 +261,7 @@ fn kinds_and_bounds(rt: HostRuntime) {
     assert_each(&rt, rt.alloc(), &KINDS_AND_BOUNDS);
 }
 
-/// Whether the query has two columns, the first under this name and the second without one.
+// Whether the query has two columns, the first under this name and the second without one.
 fn has_one_name(rt: &impl Abort, alloc: Global, query: &str, name: &str) -> bool {
     match read(rt, alloc, query) {
         Ok(input) => {

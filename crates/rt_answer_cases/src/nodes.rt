@@ -1,5 +1,6 @@
-//! Worked nodes of annotated evaluation: at which choices a row is in the answer. A choice stands
-//! as a binary number, the lowest digit for the first place.
+//! Worked nodes of annotated evaluation: at which choices a row is in the answer. A choice is
+//! written as a binary number, the lowest digit for the first place.
+
 ghost use Rattle.std.specs.Prelude.{◌≡◌, length};
 ghost use Rattle.rt_schema.specs.Given.{places};
 
@@ -17,7 +18,7 @@ const PAIR: &str = "CREATE TABLE t (a INTEGER); CREATE TABLE u (b INTEGER);";
 
 const NULLS: [(&str, &str); 2] = [("d/t.csv", "a\n1\n"), ("d/u.csv", "b\n\"\"\n")];
 
-/// A schema, and the rows of its tables.
+// A schema, and the rows of its tables.
 type Rows = (&'static str, &'static [(&'static str, &'static str)]);
 
 const SCHOOL_ROWS: Rows = (SCHOOL, &[STUDENT, REG]);
@@ -37,7 +38,7 @@ const NOT_IN: &str = "SELECT a FROM t WHERE a NOT IN (SELECT b FROM u)";
 
 const NOT_EXISTS: &str = "SELECT a FROM t WHERE NOT EXISTS (SELECT * FROM u WHERE b = a)";
 
-/// Whether a node has this value at the choice of a number.
+// Whether a node has this value at the choice of a number.
 fn has_value(
     rt: &impl Abort,
     alloc: Global,
@@ -52,7 +53,7 @@ fn has_value(
     found
 }
 
-/// Whether a node has these values at these choices.
+// Whether a node has these values at these choices.
 fn has_values(
     rt: &impl Abort,
     alloc: Global,
@@ -76,7 +77,7 @@ fn row_node(rt: &impl Abort, alloc: Global, input: &Input, dag: &mut Dag, row: &
     node
 }
 
-/// Whether the node of a row of the first query has these values.
+// Whether the node of a row of the first query has these values.
 fn row_has(
     rt: &impl Abort,
     alloc: Global,
@@ -93,7 +94,7 @@ fn row_has(
     found
 }
 
-/// The node that is true where the two queries answer differently.
+// The node that is true where the two queries answer differently.
 fn difference(alloc: Global, input: &Input, dag: &mut Dag) -> Result<Node, NoMemory>
     requires { dag.old.rows ≡ places input.now.given.tables }
 {
@@ -103,7 +104,7 @@ fn difference(alloc: Global, input: &Input, dag: &mut Dag) -> Result<Node, NoMem
     differ(alloc, dag, &left, &right)
 }
 
-/// Whether the node at which the two queries differ has these values.
+// Whether the node at which the two queries differ has these values.
 fn difference_has(rt: &impl Abort, alloc: Global, input: &Input, values: &[(usize, bool)]) -> bool {
     let mut dag = Dag::new(alloc, input.given().total()).expect(rt, "memory");
     let node = difference(alloc, input, &mut dag).expect(rt, "memory");
@@ -112,7 +113,7 @@ fn difference_has(rt: &impl Abort, alloc: Global, input: &Input, values: &[(usiz
     found
 }
 
-/// Whether the first query of an input gives the row of this value with a node of these values.
+// Whether the first query of an input gives the row of this value with a node of these values.
 fn input_gives(
     rt: &impl Abort,
     alloc: Global,
@@ -132,7 +133,7 @@ fn input_gives(
     }
 }
 
-/// Whether a query over these tables gives the row of this value with a node of these values.
+// Whether a query over these tables gives the row of this value with a node of these values.
 fn query_gives(
     rt: &impl Abort,
     alloc: Global,
@@ -147,7 +148,7 @@ fn query_gives(
     input_gives(rt, alloc, input, value, values)
 }
 
-/// Whether the node at which two queries over the three sets differ has these values.
+// Whether the node at which two queries over the three sets differ has these values.
 fn sets_differ(
     rt: &impl Abort,
     alloc: Global,

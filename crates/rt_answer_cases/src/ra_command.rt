@@ -1,4 +1,5 @@
 //! What the command says, over files and sinks in memory.
+
 use rt_io::{MemFiles, MemSink};
 use rt_ra_run::{RA_USAGE, RaOutcome, ra_run};
 use rt_value::{List, NoMemory, Txt};
@@ -19,7 +20,7 @@ const REG: (&str, &str) = (
     "name,course,dept,grade\nMary,216,CS,100\nMary,230,CS,75\nJohn,316,CS,90\n",
 );
 
-/// The command over the files of a schema `s`, a folder `d` and two texts `p` and `q`.
+// The command over the files of a schema `s`, a folder `d` and two texts `p` and `q`.
 const FIVE: [&str; 5] = ["ra", "s", "d", "p", "q"];
 
 const MARY: &str =
@@ -49,7 +50,7 @@ fn hold_all(
     files.hold("q", right.as_bytes())
 }
 
-/// The files of a schema, of tables by the names of their files, and of two texts.
+// The files of a schema, of tables by the names of their files, and of two texts.
 fn files(
     rt: &impl Abort,
     alloc: Global,
@@ -67,15 +68,15 @@ fn school(rt: &impl Abort, alloc: Global, left: &str, right: &str) -> MemFiles {
     files(rt, alloc, SCHOOL, &[STUDENT, REG], left, right)
 }
 
-/// The status of an outcome, which is let go of here.
+// The status of an outcome, which is dropped here.
 fn status_of(outcome: RaOutcome) -> u8 {
     let status = outcome.status();
     drop(outcome);
     status
 }
 
-/// Whether the command ends with this status and writes just these texts, over these files, which are
-/// let go of here.
+// Whether the command ends with this status and writes just these texts, over these files, which
+// are dropped here.
 fn ends(
     rt: &impl Abort,
     alloc: Global,

@@ -1,4 +1,5 @@
 //! A schema and its rows, as texts give them.
+
 ghost use Rattle.rt_schema.specs.Given.{IsOf};
 
 use rt_ddl::read_schema;
@@ -7,6 +8,7 @@ use rt_schema::{Given, Schema};
 use std::alloc::Global;
 use std::process::Abort;
 
+/// A schema and the rows given for it.
 #[derive(Drop)]
 pub(crate) struct Data {
     pub(crate) schema: Schema,

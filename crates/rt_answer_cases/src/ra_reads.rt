@@ -1,3 +1,5 @@
+//! What the reader of algebra texts takes and refuses, with the byte of each error.
+
 use rt_ra_tree::{RaFault, parse_ra};
 use rt_token::tokens;
 use std::alloc::Global;
@@ -25,8 +27,8 @@ fn answer_of(rt: &impl Abort, alloc: Global, text: &str) -> Told {
     told
 }
 
-// The word of an operator that isn't reserved is a name where no parenthesis follows it, and so is
-// a quoted one always.
+// The word of an operator that isn't reserved is a name if no parenthesis follows it. A quoted
+// one is always.
 #[test]
 fn reads_each_rule(rt: HostRuntime) {
     for text in &[

@@ -1,4 +1,5 @@
-//! What texts answer on a few rows, and their first faults.
+//! What texts answer on a few rows, and their first errors.
+
 ghost use Rattle.std.specs.Prelude.{IfOk};
 ghost use Rattle.rt_algebra.specs.Typed.{IsTyped, IsTypedOf};
 ghost use Rattle.rt_schema.specs.Given.{IsOf};
@@ -17,7 +18,7 @@ use std::process::Abort;
 const SCHEMA: &str =
     "CREATE TABLE student (name TEXT, major TEXT); CREATE TABLE reg (name TEXT, course TEXT); CREATE TABLE t (a INTEGER, b INTEGER); CREATE TABLE u (b INTEGER); CREATE TABLE none (b INTEGER)";
 
-/// Mary takes two courses and John none; a row of `t` has NULL.
+// Mary takes two courses and John none; a row of `t` has NULL.
 const FILES: [&str; 4] = [
     "name,major\nMary,CS\nJohn,ECON\n",
     "name,course\nMary,AI\nMary,DB\n",
@@ -53,7 +54,7 @@ fn rows_text(rt: &impl Abort, alloc: Global, rows: &[Row]) -> Bytes {
     text
 }
 
-/// The answer on all rows.
+// The answer on all rows.
 fn answer_text(rt: &impl Abort, alloc: Global, typed: &Typed, given: &Given) -> Bytes
     requires typed { IsTyped given.now.kinds typed.now }
 {
@@ -89,7 +90,7 @@ fn resolve(rt: &impl Abort, alloc: Global, text: &str, schema: &Schema) -> Resul
     typed
 }
 
-/// The rows of the text, or its first fault.
+// The rows of the text, or its first error.
 fn told_of(rt: &impl Abort, alloc: Global, text: &str, data: &Data) -> Bytes
     requires { IsOf data.now.schema data.now.given }
 {

@@ -1,4 +1,5 @@
 //! Calls of `ratest` in memory.
+
 use crate::held::words;
 use rt_input::Outcome;
 use rt_io::{MemFiles, MemSink};
@@ -6,7 +7,7 @@ use rt_top::ratest;
 use rt_value::{NoMemory, Txt};
 use std::alloc::Global;
 
-/// The status of an outcome, which is let go of here.
+/// The status of an outcome, which is dropped here.
 pub fn status_of(outcome: Outcome) -> u8 {
     let status = outcome.status();
     drop(outcome);
@@ -26,7 +27,7 @@ pub fn ends(
     Ok(words_end(alloc, files, command.as_slice(), status, out, err))
 }
 
-/// The same of words as the program has them.
+/// The same for arguments as the program has them.
 pub fn words_end(
     alloc: Global,
     files: &mut MemFiles,
@@ -41,7 +42,8 @@ pub fn words_end(
     ended == status && to_out.bytes() == out.as_bytes() && to_err.bytes() == err.as_bytes()
 }
 
-/// Whether the text is cut to this, and the outcome a fault of writing, where its sink takes ten bytes.
+/// Whether the text is cut to this, and the outcome is an error of writing, for a sink that takes
+/// ten bytes.
 pub fn is_write_fault(alloc: Global, words: &[Txt], files: &mut MemFiles, held: &[u8]) -> bool {
     let (mut out, mut err) = (MemSink::new(alloc), MemSink::new(alloc));
     out.room(10);

@@ -1,11 +1,13 @@
 //! Commands and their files in memory.
+
 use rt_io::MemFiles;
 use rt_value::{List, NoMemory, Txt};
 use std::alloc::Global;
 
-/// The words that name the files.
+/// The arguments that name the files.
 pub const FOUR: [&str; 4] = ["s", "d", "p", "q"];
 
+/// The arguments as the program has them.
 pub fn words(alloc: Global, words: &[&str]) -> Result<List<Txt>, NoMemory> {
     let mut list = List::new(alloc);
     for word in words {

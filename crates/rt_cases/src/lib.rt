@@ -1,4 +1,5 @@
-//! What tests of the top call share: commands and their files in memory, and how a call of them ends.
+//! What tests of the top call share: commands and their files in memory, and how a call of them
+//! ends.
 #![tactic(auto)]
 
 mod call;

@@ -1,5 +1,5 @@
 -- Which files a command begins.
-use Rattle.std.proofs.Common.{◌≡◌, ◌∙◌, ◌≤◌, ◌-◌, Bool, true, List, [], ◌∷◌, ◌++◌, Ok, length, take, drop, get_or, refl, sym, ap, subst, arith}
+use Rattle.std.proofs.Common.{◌≡◌, ◌∙◌, ◌≤◌, ◌-◌, Bool, true, List, [], ◌∷◌, Ok, length, take, drop, get_or, sym, ap, subst, arith}
 use Rattle.std.proofs.lemmas.List.{take_all}
 use Rattle.std.specs.Option.{ForSome}
 use Rattle.std.specs.Prelude.{Option, None, Some, codes}
@@ -47,7 +47,7 @@ none_asked tells held (prove args) old new same = none_for tells held (command a
 none_asked tells held (check name args) old new same = none_checked tells held name (command args) old new same
 none_asked tells held neither old new same = same
 
--- ---- from the words behind the name of the command
+-- ---- from the arguments after the name of the command
 
 pub prove_begun : (tells : Bool) (held : Holding) (words : List Text) (old new : List Text) (name word : Text) (b : Bool) → 1 ≤ length words → name ≡ get_or words 0 name
     → b ≡ true → b ≡ bytes_eq word (codes "prove") → word ≡ name

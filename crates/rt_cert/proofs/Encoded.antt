@@ -91,7 +91,7 @@ wanted-as rows most f g lines assume same e = record {
   determined = e.determined;
 }
 
--- an output that is there, whatever stands for others
+-- an output that is there, whatever the default for others
 abbrev pub output_by : List Literal → ℕ → Literal → Literal
 output_by outs j d = get_or outs (j - 1) d
 

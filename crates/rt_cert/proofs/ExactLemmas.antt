@@ -50,7 +50,7 @@ known tells k t = by_case k.made
     by_case None = t
     by_case (Some n) = tt
 
--- files that tell their contents
+-- files whose contents are known
 told : (c : Call) → IsTrue c.files.tells → IsTold c
 told c t = λ k is. known c.files.tells k t
 
@@ -60,7 +60,7 @@ some_same e = cc
 none_some : {X : Type 0} {x : X} → None ≡ Some x → ⊥
 none_some e = cc
 
--- words that are no command are refused as that
+-- arguments that are no command are refused as that
 no_command : (c : Call) → command c.words ≡ None → judged c.words c.files.held ≡ Err outcome.Usage
 no_command c none = ap (command_judged c.files.held) none
 
@@ -105,7 +105,7 @@ no_sink_fault out err at.Err calm broke = calm.err_rose broke
 
 -- ---- from the outcome that may come to the one that does
 
--- what holds of it, of a sink that fails and of want of memory holds of the outcome
+-- what holds of it, of a sink that fails and of out of memory holds of the outcome
 spoken : (P : CertOutcome → Type 0) (sink : Log) (o : CertOutcome) (said : Text) (result : CertOutcome) → (Broke sink → P (Verdict outcome.WriteFault)) → P (Verdict outcome.NoMemory)
     → P o → WritesTo sink o said result → P result
 spoken P sink o said result broke memory is wrote = elim wrote [
@@ -116,7 +116,7 @@ spoken P sink o said result broke memory is wrote = elim wrote [
   ]
 ]
 
--- ---- words that are no command
+-- ---- arguments that are no command
 
 none_prove : (c : Call) (a : Asked) → IsUsage a → (P : Accepted → Type 0) → IsProveAnd a (λ args. (input : Accepted) × IsRead (with_words c args) input × P input) → ⊥
 none_prove c (prove args) usage P h = no_options _ (command args) usage h.1.options
@@ -128,7 +128,7 @@ none_check c (prove args) usage P h = h
 none_check c (check name args) usage P h = no_options _ (command args) usage h.1.options
 none_check c neither usage P h = h
 
--- a fact of the command's words
+-- a fact of the command's arguments
 none_either : (a : Asked) → IsUsage a → (P : List Text → Type 0) → ((args : List Text) → command args ≡ None → P args → ⊥) → IsEitherAnd a P → ⊥
 none_either (prove args) usage P none h = none args usage h
 none_either (check name args) usage P none h = none args usage h
@@ -154,7 +154,7 @@ usage_row c usage CertLong said ends = none_check c (asked_by c.words) usage _ e
 usage_row c usage CertRead said ends = none_check c (asked_by c.words) usage _ ends.0
 usage_row c usage (Verdict o) said ends = usage_verdict c usage o said ends
 
--- ---- the words of a command that is asked for
+-- ---- the arguments of a command that is asked for
 
 module _ (c : Call) (args : List Text) (prove_read : (P : Accepted → Type 0) → InProve c P → (input : Accepted) × IsRead (with_words c args) input)
     (check_read : (P : Text → Accepted → Type 0) → InCheck c P → (input : Accepted) × IsRead (with_words c args) input)
@@ -187,7 +187,7 @@ module _ (c : Call) (args : List Text) (prove_read : (P : Accepted → Type 0) �
     row_yields (Verdict o) said ends = verdict_yields o said ends
 
   module _ (input : Accepted) (knows : IsTold (with_words c args)) (ok : judged args c.files.held ≡ Ok input) where
-    -- over an accepted input only a spent budget or a fault is an outcome of `ratest`
+    -- over an accepted input only a spent budget or an error is an outcome of `ratest`
     accepted_verdict : (P : Outcome → Type 0) (o : Outcome) (said : Text) → ((s : Spent) → InProve c (IsSpentIn s said) → P (outcome.Spent s))
         → ((part : Part) → ReadFaultRow (with_words c args) part → P (outcome.ReadFault part)) → EndsVerdict c o said → P o
     accepted_verdict P outcome.Agree said spent unread ends = absurd ends

@@ -53,7 +53,7 @@ asked-fewer (Some l) most keep asked some h = h
 clash : {b : Bool} → b ≡ true → b ≡ false → ⊥
 clash p q = cc
 
--- where the verdict stands, no model makes true what is assumed
+-- where the verdict holds, no model makes true what is assumed
 pub verdict-refutes : (input : Accepted) (keep : Option (List Bool)) (lines : List (List Literal)) (assume : Option Literal) → IsEncoding input keep lines assume → IsSmallestOrNone input keep → IsToBeRefuted keep
     → HasNoModel lines assume
 verdict-refutes input None lines assume e agrees t = λ bools model assumed.
@@ -68,7 +68,7 @@ verdict-refutes input (Some keep) lines assume e smallest t = λ bools model ass
     let least = smallest.smallest (rows_in rows bools) (rows-long rows bools, w.0) in
     omega (arith, fewer, least)
 
--- where none does, the verdict stands but for the order of rows
+-- where none does, the verdict holds but for the order of rows
 pub refutation-least : (input : Accepted) (keep : Option (List Bool)) (lines : List (List Literal)) (assume : Option Literal) → IsEncoding input keep lines assume → ForSome keep (IsCounter input)
     → (IsToBeRefuted keep → HasNoModel lines assume) → IsLeastOrNone input keep
 refutation-least input None lines assume e counter none = λ t long. elim (bool-cases (counters input t)) [

@@ -31,7 +31,7 @@ use Rattle.rt_cert.specs.Texts.{fault_text, judgement_text, of_fault, of_judgeme
 use Rattle.rt_cert.specs.Words.{Asked, IsCheckAnd, IsEitherAnd, IsProveAnd, IsUsage, asked_by, check, prove}
 use Rattle.rt_cert.proofs.FileLemmas.{checks-later, later}
 
--- ---- the words
+-- ---- the arguments
 
 pub prove_words : (first : Text) (args : List Text) → bytes_eq first (codes "prove") ≡ true → asked_by (first ∷ args) ≡ prove args
 prove_words first args is = rw is refl
@@ -43,7 +43,7 @@ check_words first name args is =
 
 -- ---- no input
 
--- one of the two is asked for, with these words of a command
+-- one of the two is asked for, with these arguments of a command
 module _ (c : Call) (args : List Text) (either : (P : List Text → Type 0) → P args → IsEitherAnd (asked_by c.words) P) (usage : command args ≡ None → IsUsage (asked_by c.words)) where
   stopped : (o : Outcome) (said : Text) → Stop (with_words c args) o → (o ≡ outcome.NoMemory → ⊥) → said ≡ verdict_text (limit_of (command args)) o → Ends c (Verdict o) said
   stopped outcome.Agree said stop other says = absurd stop
@@ -124,7 +124,7 @@ module _ (c : Call) (name : Text) (args : List Text) (is : asked_by c.words ≡ 
   check_ends o said says = over_ends c args (λ P p. subst (λ (a : Asked). IsEitherAnd a P) (sym is) p) (λ u. subst IsUsage (sym is) u)
       (λ input. ChecksIn c.files name input o said) o said (checks o said) says
 
--- ---- from the words behind the name of the command
+-- ---- from the arguments after the name of the command
 
 pub prove_prepared : (words : List Text) (s : Seen) (name word : Text) (b : Bool) (r : Result Told NoMemory) → 1 ≤ length words → name ≡ get_or words 0 name
     → b ≡ true → b ≡ bytes_eq word (codes "prove") → word ≡ name

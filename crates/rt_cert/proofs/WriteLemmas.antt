@@ -28,7 +28,7 @@ if_text (Verdict (outcome.ReadFault part)) P p = p
 if_text (Verdict outcome.WriteFault) P p = tt
 if_text (Verdict outcome.NoMemory) P p = tt
 
--- an outcome that may come is no fault of writing and no want of memory
+-- an outcome that may come is neither an error of writing nor out of memory
 no_fault : (c : Call) (o : CertOutcome) (said : Text) (P : Type 0) → Ends c o said → IfWriteFault o P
 no_fault c (Proved cert e) said P ends = tt
 no_fault c (Valid keep) said P ends = tt

@@ -27,7 +27,7 @@ use Rattle.rt_cert.specs.CertFile.{IsBadFile, IsFileOf, IsLongFile}
 use Rattle.rt_cert.specs.Texts.{long_text, malformed_text, place, unread_text, usage_text, valid_text, verdict_text, wrong_text}
 use Rattle.rt_cert.specs.Words.{IfCheck, IfProve, IsCheckAnd, IsEitherAnd, IsProveAnd, IsUsage, asked_by}
 
--- the call of the command of `ratest` with these words, over the same files
+-- the call of the command of `ratest` with these arguments, over the same files
 abbrev pub with_words : Call → List Text → Call
 with_words c words = record { words = words; files = c.files }
 
@@ -37,16 +37,18 @@ with_words c words = record { words = words; files = c.files }
 abbrev pub InProve : Call → (Accepted → Type 0) → Type 0
 InProve c P = IsProveAnd (asked_by c.words) (λ args. (input : Accepted) × IsRead (with_words c args) input × P input)
 
--- the check of the certificate in the file of this name is, over an input that was read in the call
+-- the check of the certificate in the file of this name is, over an input that was read in the
+-- call
 abbrev pub InCheck : Call → (Text → Accepted → Type 0) → Type 0
 InCheck c P = IsCheckAnd (asked_by c.words) (λ name args. (input : Accepted) × IsRead (with_words c args) input × P name input)
 
--- the check of a certificate that the file of this name spells, where the files tell their contents,
--- says this
+-- if the contents of files are known, the check of a certificate that the file of this name
+-- spells says this
 abbrev pub IsJudgedIn : Seen → Judgement → Text → Accepted → Type 0
 IsJudgedIn s said name input = (cert : Cert) × (IsTrue s.tells → IsFileOf (s.held name) cert) × IsJudged input cert said
 
--- where the files tell their contents, this is the first line of the file that can't stand there
+-- if the contents of files are known, this is the first line of the file that no certificate has
+-- there
 abbrev pub IsMalformed : Seen → CertFault → Text → Type 0
 IsMalformed s (faults.BadLine line) name = IsTrue s.tells → IsBadFile (s.held name) line
 IsMalformed s faults.NoMemory name = ⊥
@@ -117,42 +119,42 @@ pub record EndsBroken (c : Call) (out err : Log) (o : CertOutcome) : Type 0 wher
 
 -- ---- where an outcome has to come
 
--- usage, or a fault where no file is read
+-- usage, or an error where no file is read
 abbrev pub IsUsageOrFault : CertOutcome → Type 0
 IsUsageOrFault (Verdict o) = top.YieldsToWrite outcome.Usage o
 IsUsageOrFault _ = ⊥
 
--- what an answer may be where a refusal of the input stands: that refusal, or a fault
+-- what an answer may be for an input that is refused: that refusal, or an error
 abbrev pub YieldsTo : Outcome → CertOutcome → Type 0
 YieldsTo refusal (Verdict o) = top.YieldsTo refusal o
 YieldsTo refusal _ = ⊥
 
--- a file that can't be read, a sink that fails, or want of memory
+-- a file that can't be read, a sink that fails, or out of memory
 abbrev pub IsFault : Outcome → Type 0
 IsFault (outcome.ReadFault part) = ⊤
 IsFault outcome.WriteFault = ⊤
 IsFault outcome.NoMemory = ⊤
 IsFault _ = ⊥
 
--- this answer on a certificate, or a fault
+-- this answer on a certificate, or an error
 abbrev pub IsOrFault : CertOutcome → CertOutcome → Type 0
 IsOrFault answer CertRead = ⊤
 IsOrFault answer (Verdict o) = IsFault o
 IsOrFault answer o = o ≡ answer
 
--- the check of a certificate is asked for over files that tell their contents, and this input is
--- accepted; the bytes are those of the certificate's file
+-- The check of a certificate is asked for over files whose contents are known, and this input is
+-- accepted. The bytes are those of the certificate's file.
 abbrev pub OverFile : Call → (Accepted → Text → Type 0) → Type 0
 OverFile c P = IsTrue c.files.tells → IfCheck (asked_by c.words) (λ name args. (input : Accepted) → judged args c.files.held ≡ Ok input → P input (c.files.held name))
 
--- a certificate, or want of memory
+-- a certificate, or out of memory
 abbrev pub IsProvedOrMemory : CertOutcome → Type 0
 IsProvedOrMemory (Proved cert e) = ⊤
 IsProvedOrMemory (Verdict outcome.NoMemory) = ⊤
 IsProvedOrMemory _ = ⊥
 
--- a certificate is asked for of this accepted input; no count of a file that the command names rose,
--- and there is no budget, or one that no search can spend
+-- A certificate is asked for of this accepted input, and no count of a file that the command
+-- names rose. There is no budget, or one that no search can spend.
 abbrev pub OverCalm : Call → Type 0 → Type 0
 OverCalm c P = IfProve (asked_by c.words) (λ args. IsTold (with_words c args) → top.NoFileRose (with_words c args)
     → (input : Accepted) → judged args c.files.held ≡ Ok input → top.HasRoom input → P)

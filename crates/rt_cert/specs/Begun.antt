@@ -1,5 +1,5 @@
--- Which files a command begins: first ones of those that it names, in the order of the reading, and none
--- behind the first refusal.
+-- Which files a command begins: first ones of those that it names, in the order of the reading,
+-- and none after the first refusal.
 use Rattle.std.specs.Prelude.{◌≡◌, Bool, List, [], ◌∷◌, ◌++◌, Option, None, Some}
 use Rattle.rt_io.specs.Command.{command}
 use Rattle.rt_io.specs.Ranges.{Command}

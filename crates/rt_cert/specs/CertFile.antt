@@ -13,8 +13,8 @@ use Rattle.rt_cert.specs.declared.file.FileFault.TheVariants.{BadLine, Long, Unr
 abbrev pub most_bytes : ℕ
 most_bytes = 67108864
 
--- the bytes of a file that isn't too long are those of a text; a byte order mark at their start is none
--- of it
+-- the bytes of a file that isn't too long are those of a text; a byte order mark at their start
+-- is none of it
 pub record IsTextOf (bytes : Text) (text : Text) : Type 0 where
   pub short : length bytes ≤ most_bytes
   pub same : text ≡ without_mark bytes
@@ -25,7 +25,7 @@ pub record IsFileOf (bytes : Text) (cert : Cert) : Type 0 where
   pub fits : IsCert cert
   pub spelled : without_mark bytes ≡ cert_text cert
 
--- it is no certificate's, and this line is the first that can't stand there
+-- it is no certificate's, and this line is the first that no certificate has there
 pub record IsBadFile (bytes : Text) (line : ℕ) : Type 0 where
   pub short : length bytes ≤ most_bytes
   pub bad : IsFirstBad (without_mark bytes) line
@@ -36,8 +36,8 @@ pub record IsLongFile (s : Seen) (name : Text) : Type 0 where
   pub taken : s.taken ≡ most_bytes + 1
   pub long : IsTrue s.tells → most_bytes < length (s.held name)
 
--- what stops the reading of a certificate in the file of this name: a line of it, its length, that its
--- count rose, or want of memory
+-- what stops the reading of a certificate in the file of this name: a line of it, its length,
+-- that its count rose, or out of memory
 abbrev pub FileStops : Seen → Text → FileFault → Type 0
 FileStops s name (BadLine line) = IsTrue s.tells → IsBadFile (s.held name) line
 FileStops s name Long = IsLongFile s name

@@ -34,7 +34,7 @@ IsToBeRefuted (Some keep) = 0 < size keep
 
 -- ---- a certificate that is written
 
--- a certificate of the verdict on an input, with the encoding that its steps stand on
+-- a certificate of the verdict on an input, with the encoding that its steps go on from
 pub record IsProof (input : Accepted) (cert : Cert) (encoded : Encoded) : Type 0 where
   pub spelled : IsCert cert
   pub verdict : IsSmallestOrNone input (kept_by input cert)
@@ -53,13 +53,14 @@ abbrev pub places_fault : Accepted → List ℕ → Option ℕ → Option Why
 places_fault input places (Some place) = Some (why.Place place)
 places_fault input places None = choice_fault input (keep_of (rows_of input) places)
 
--- the first thing that is wrong with what a certificate claims, whatever its steps: a place that isn't
--- below the number of rows, rows that aren't lawful, or the same answers on them
+-- The first thing that is wrong with what a certificate claims, whatever its steps. It is a place
+-- that isn't below the number of rows, rows that aren't lawful, or the same answers on them.
 abbrev pub claim_fault : Accepted → Option (List ℕ) → Option Why
 claim_fault input None = None
 claim_fault input (Some places) = places_fault input places (find (λ place. nat_le (rows_of input) place) places)
 
--- nothing is wrong with what it claims, and these are the lines of the input and of its choice of rows
+-- nothing is wrong with what it claims, and these are the lines of the input and of its choice of
+-- rows
 pub record IsTried (input : Accepted) (cert : Cert) (encoded : Encoded) : Type 0 where
   pub claim : claim_fault input cert.keep ≡ None
   pub encoding : IsEncoding input (kept_by input cert) encoded.lines encoded.assume

@@ -16,7 +16,8 @@ use Rattle.rt_cert.specs.declared.judgement.Judgement.TheVariants.{Valid, Wrong}
 use Rattle.rt_cert.specs.declared.judgement.Why.{Why}
 use Rattle.rt_cert.specs.declared.judgement.Why.TheVariants as why
 
--- nothing is wrong with the claim, and this is its choice of rows: a counterexample, where there is one
+-- nothing is wrong with the claim, and this is its choice of rows: a counterexample, where there
+-- is one
 pub record Holds (input : Accepted) (places : Option (List ℕ)) (keep : Option (List Bool)) : Type 0 where
   pub fault : claim_fault input places ≡ None
   pub is : keep ≡ option_map (keep_of (rows_of input)) places

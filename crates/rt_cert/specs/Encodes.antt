@@ -21,8 +21,9 @@ abbrev pub KeepsFewer : ℕ → Option Literal → List Bool → Type 0
 KeepsFewer most None keep = ⊤
 KeepsFewer most (Some l) keep = size keep < most
 
--- over just the choices that are wanted and keep fewer rows, where a literal asks for that, the lines
--- have a model that makes it true; and the rows determine the other variables
+-- The lines have a model over a choice, with what is assumed true, exactly if the choice is
+-- wanted and, where a literal is assumed, keeps fewer rows. The rows determine the other
+-- variables.
 pub record Encodes (rows : ℕ) (IsWanted : List Bool → Type 0) (most : ℕ) (lines : List (List Literal)) (assume : Option Literal) : Type 0 where
   pub asked : IsAsked most assume
   pub means : (keep : List Bool) → length keep ≡ rows → HasModelOver rows lines assume keep ↔ (IsWanted keep × KeepsFewer most assume keep)

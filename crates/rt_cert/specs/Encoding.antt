@@ -12,7 +12,7 @@ abbrev pub most_of : Option (List Bool) → ℕ
 most_of None = 0
 most_of (Some keep) = size keep
 
--- the lines are those of the counterexamples of an input, and what is assumed asks for fewer rows than
--- a choice keeps
+-- the lines are those of the counterexamples of an input, and what is assumed asks for fewer rows
+-- than a choice keeps
 abbrev pub IsEncoding : Accepted → Option (List Bool) → List (List Literal) → Option Literal → Type 0
 IsEncoding input keep lines assume = Encodes (places input.given.tables) (λ s. counters input s ≡ true) (most_of keep) lines assume

@@ -20,7 +20,7 @@ use Rattle.rt_cert.specs.Answers.{IsSpentIn}
 use Rattle.rt_cert.specs.CertFile.{FileStops, IsFileOf}
 use Rattle.rt_cert.specs.Texts.{fault_text, judgement_text, of_fault, of_judgement, verdict_text}
 
--- an outcome of `ratest` that is no want of memory, and its text
+-- an outcome of `ratest` other than out of memory, and its text
 abbrev pub SaysVerdict : List Text → Outcome → CertOutcome → Text → Type 0
 SaysVerdict words o result said = (result ≡ Verdict o) × (o ≢ outcome.NoMemory) × (said ≡ verdict_text (limit_of (command words)) o)
 
@@ -62,7 +62,7 @@ SaysCheck c name result said = SaysOver c (λ input. ChecksIn c.files name input
 
 -- ---- what is written
 
--- how the writing of a text ended: all of it was taken, the sink failed, or memory was wanting
+-- how the writing of a text ended: all of it was taken, the sink failed, or it is out of memory
 abbrev pub WritesTo : Log → CertOutcome → Text → CertOutcome → Type 0
 WritesTo sink o said result =
     ((result ≡ o) × Grew sink said) ⊎ (((result ≡ Verdict outcome.WriteFault) × Broke sink × GrewPartly sink said) ⊎ ((result ≡ Verdict outcome.NoMemory) × GrewPartly sink said))

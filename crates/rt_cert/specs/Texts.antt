@@ -74,8 +74,8 @@ fault_text file.NoMemory = []
 
 -- ---- places and statuses
 
--- a certificate and what is valid belong to the first sink, what stands against it to the second, and
--- an outcome of `ratest` to its own
+-- A certificate and what is valid belong to the first sink, and what speaks against it to the
+-- second. An outcome of `ratest` belongs to its own.
 abbrev pub place : CertOutcome → Place
 place (Proved cert e) = at.Out
 place (Valid keep) = at.Out

@@ -1,10 +1,10 @@
--- The words `prove ARGS` or `check CERT ARGS`.
+-- The arguments `prove ARGS` or `check CERT ARGS`.
 use Rattle.std.specs.Prelude.{◌≡◌, List, [], ◌∷◌, None, codes, if◌then◌else◌, ⊤}
 use Rattle.std.specs.Str.{bytes_eq}
 use Rattle.rt_io.specs.Command.{command}
 use Rattle.rt_input.specs.Source.{Text}
 
--- what the words ask for, and the words of a command of `ratest`
+-- what the arguments ask for, and the arguments of a command of `ratest`
 pub data Asked : Type 0 where
   -- a certificate
   prove : List Text → Asked
@@ -32,7 +32,7 @@ IsCheckAnd (prove args) P = ⊥
 IsCheckAnd (check cert args) P = P cert args
 IsCheckAnd neither P = ⊥
 
--- one of the two, of the words of the command
+-- one of the two, of the arguments of the command
 abbrev pub IsEitherAnd : Asked → (List Text → Type 0) → Type 0
 IsEitherAnd (prove args) P = P args
 IsEitherAnd (check cert args) P = P args
@@ -53,7 +53,7 @@ IfEither (prove args) P = P args
 IfEither (check cert args) P = P args
 IfEither neither P = ⊤
 
--- the words are neither, or those behind them are no command
+-- the arguments are neither, or those after them are no command
 abbrev pub IsUsage : Asked → Type 0
 IsUsage (prove args) = command args ≡ None
 IsUsage (check cert args) = command args ≡ None

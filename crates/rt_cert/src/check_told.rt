@@ -1,4 +1,5 @@
-//! The check of a certificate in a file.
+//! The answer to `check CERT ARGS`: the input is read, and then the certificate.
+
 ghost use Rattle.std.specs.Prelude.{◌≡◌, [], ◌∷◌, IfOk};
 ghost use Rattle.rt_io.specs.Command.{command};
 ghost use Rattle.rt_io.specs.Edge.{AddsPrefix, NoneFell, OnlyRises};
@@ -18,7 +19,7 @@ use rt_recorder::{Cert, CertFault};
 use rt_value::{NoMemory, Txt};
 use std::alloc::Global;
 
-/// What is to be said of a certificate of an input.
+// The answer for a certificate of an input.
 fn judged(alloc: Global, input: &Input, cert: &Cert) -> Result<Told, NoMemory>
     ensures { IfOk result (λ t. JudgesIn input.now cert.now t.outcome t.text) }
 {
@@ -28,7 +29,7 @@ fn judged(alloc: Global, input: &Input, cert: &Cert) -> Result<Told, NoMemory>
     Ok(Told { outcome, text })
 }
 
-/// What is to be said where a file has no certificate.
+// The answer for a file that has no certificate.
 fn faulty(alloc: Global, fault: FileFault) -> Result<Told, NoMemory>
     ensures { IfOk result (λ t. IsFaultTold fault t.outcome t.text) }
 {
@@ -42,7 +43,7 @@ fn faulty(alloc: Global, fault: FileFault) -> Result<Told, NoMemory>
     Ok(Told { outcome, text })
 }
 
-/// What is to be said of the certificate in the named file, over an input.
+// The answer for the certificate in the named file, over an input.
 fn checked<F: Files>(
     alloc: Global,
     input: &Input,
@@ -64,7 +65,7 @@ fn checked<F: Files>(
     }
 }
 
-/// What is to be said of the words `check CERT ARGS`; the words are ARGS.
+/// The answer to `check CERT ARGS`. `name` is CERT, and `words` are ARGS.
 pub(crate) fn check_told<F: Files>(
     alloc: Global,
     name: &Txt,

@@ -1,3 +1,5 @@
+//! The check of a certificate: claim, number of lines, steps, in this order. No search is used.
+
 ghost use Rattle.std.specs.Prelude.{◌≡◌, ◌↔◌, Some, IfOk, IsTrue};
 ghost use Rattle.rt_cert.specs.Certified.{IsJudged, IsToBeRefuted, claim_fault};
 ghost use Rattle.rt_cert.specs.Claims.{IsJudgedOver};
@@ -14,7 +16,7 @@ use rt_recorder::{Cert, Checked, Encoded, check_steps};
 use rt_value::{Keep, NoMemory};
 use std::alloc::Global;
 
-/// Whether a refutation is asked for: nothing keeps fewer rows than none.
+/// Whether a refutation is asked for. It is not for a choice of no rows, since none keeps fewer.
 pub(crate) fn is_to_be_refuted(keep: &Option<Keep>) -> bool
     ensures { IsTrue result ↔ IsToBeRefuted keep.now }
 {
@@ -24,7 +26,7 @@ pub(crate) fn is_to_be_refuted(keep: &Option<Keep>) -> bool
     }
 }
 
-// Checks the steps over the lines.
+// Checks the steps over the lines of the encoding.
 fn judge(
     alloc: Global,
     cert: &Cert,
@@ -51,12 +53,12 @@ fn judge(
     }
 }
 
-/// Checks a certificate of an input without any search, in a time that is linear in its steps and
-/// their hints: its choice of rows is tried, the input is encoded anew, and the steps are checked over
-/// these lines.
+/// Checks a certificate of an input without any search, in time linear in its steps and their
+/// hints. Its choice of rows is tried, the input is encoded anew, and the steps are checked over
+/// these lines. The answer is the first cause of rejection in the order of `Why`.
 pub fn check(alloc: Global, input: &Input, cert: &Cert) -> Result<Judgement, NoMemory>
     ensures judged { IfOk result (IsJudged input.now cert.now) }
-    // What is wrong with its claim is told, whatever its steps.
+    // A claim that is wrong is rejected as that, whatever the steps are.
     ensures claim { (why : Cause) → claim_fault input.now cert.now.keep ≡ Some why → IfOk result (λ judgement. judgement ≡ Wrong why) }
 {
     match claim_of(alloc, input, &cert.keep)? {

@@ -1,3 +1,6 @@
+//! What a certificate claims, tried on the input: its places, its rows under the law, and the two
+//! answers on them.
+
 ghost use Rattle.std.specs.Prelude.{◌≡◌, nat_le, length, Some, None, IfOk};
 ghost use Rattle.std.specs.List.{find};
 ghost use Rattle.rt_schema.specs.Given.{places};
@@ -12,8 +15,8 @@ use rt_schema::lawful;
 use rt_value::{Keep, List, NoMemory};
 use std::alloc::Global;
 
-/// What a certificate claims, before its steps are looked at: a counterexample as a choice of rows, or
-/// that there is none; or why that can't be.
+/// What a certificate claims, before its steps are looked at: a counterexample as a choice of
+/// rows, or that there is none. `Fails` says why that can't be.
 #[derive(Drop)]
 pub(crate) enum Claim {
     Stands(Option<Keep>),
@@ -32,7 +35,7 @@ fn first_past(places: &[u64], rows: usize) -> Option<u64>
     None
 }
 
-// What is wrong with a choice of rows.
+// Why a choice of rows is no counterexample, if it is none.
 fn choice_fault(alloc: Global, input: &Input, keep: &Keep) -> Result<Option<Why>, NoMemory>
     requires { length keep.now ≡ places input.now.given.tables }
     ensures { IfOk result (λ fault. fault ≡ choice_fault input.now keep.now) }
@@ -50,7 +53,7 @@ fn choice_fault(alloc: Global, input: &Input, keep: &Keep) -> Result<Option<Why>
     Ok(None)
 }
 
-// What places claim that are all below the number of rows.
+// The claim of places that are all below the number of rows.
 fn claim_of_rows(alloc: Global, input: &Input, places: &[u64]) -> Result<Claim, NoMemory>
     requires { find (λ place. nat_le (rows_of input.now) place) places.now ≡ None }
     ensures { IfOk result (IsClaim input.now (Some places.now)) }
@@ -71,7 +74,7 @@ fn claim_of_places(alloc: Global, input: &Input, places: &[u64]) -> Result<Claim
     }
 }
 
-/// What the places of a certificate claim, or what one without places does.
+/// The claim of a certificate: of these places, or without any that the queries agree.
 pub(crate) fn claim_of(
     alloc: Global,
     input: &Input,

@@ -1,3 +1,5 @@
+//! The encoding of an input as a value, for the steps to go on from.
+
 ghost use Rattle.std.specs.Prelude.{◌≡◌, length, IfOk};
 ghost use Rattle.std.specs.Option.{ForSome};
 ghost use Rattle.rt_schema.specs.Given.{places};
@@ -9,7 +11,7 @@ use rt_recorder::Encoded;
 use rt_value::{Keep, NoMemory};
 use std::alloc::Global;
 
-/// The lines of an input and of a choice of its rows, kept.
+/// The lines of an input and of a choice of its rows, with the literal that is assumed.
 pub(crate) fn encoding(
     alloc: Global,
     input: &Input,

@@ -1,4 +1,5 @@
-//! The certificate in a file.
+//! The certificate in a file: at most 64 MiB, and read before anything is said of it.
+
 ghost use Rattle.std.specs.Prelude.{◌≡◌, [], ◌∷◌, IsTrue, IfOk, IfErr};
 ghost use Rattle.rt_io.specs.Edge.{AddsPrefix, OnlyRises};
 ghost use Rattle.rt_recorder.specs.Certificate.{IsCert, cert_text};
@@ -11,13 +12,13 @@ use rt_recorder::{Cert, CertFault, read_cert};
 use rt_value::{Bytes, NoMemory, Txt};
 use std::alloc::Global;
 
-/// The most bytes of the file.
+// The most bytes of the file: 64 MiB.
 const MOST_BYTES: usize = 67_108_864;
 
-/// Why there is no certificate.
+/// Why a file has no certificate.
 #[derive(Clone, Copy, PartialEq, Eq, Debug)]
 pub(crate) enum FileFault {
-    /// The first line that can't stand there, counted from 1.
+    /// The first line that no certificate has there, counted from 1.
     BadLine(usize),
     /// The file has too many bytes.
     Long,
@@ -37,7 +38,7 @@ impl From<NoMemory> for FileFault {
     }
 }
 
-/// The text of the named file, without a byte order mark at its start.
+// The text of the named file, without a byte order mark at its start.
 fn read_text<F: Files>(alloc: Global, name: &Txt, files: &mut F) -> Result<Bytes, FileFault>
     ensures ok { IfOk result (λ text. IsTrue F.tells → IsTextOf (F.held files.old name.now) text) }
     ensures err { IfErr result (FileStops (over F.Files files.old files.new) name.now) }
@@ -53,7 +54,7 @@ fn read_text<F: Files>(alloc: Global, name: &Txt, files: &mut F) -> Result<Bytes
     }
 }
 
-/// The certificate that a text is.
+// The certificate of a text.
 fn cert_of(alloc: Global, text: &[u8]) -> Result<Cert, FileFault>
     ensures ok { IfOk result (λ cert. IsCert cert × (text.now ≡ cert_text cert)) }
     ensures err { IfErr result (TextStops text.now) }

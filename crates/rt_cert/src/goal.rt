@@ -1,4 +1,6 @@
-ghost use Rattle.std.specs.Prelude.{◌≡◌, ◌≤◌, ◌<◌, List as Seq, Bool, true, [], IfOk, length};
+//! The clauses of a certificate's question: those of the goal, and then a counter of the rows.
+
+ghost use Rattle.std.specs.Prelude.{◌≡◌, ◌≤◌, ◌<◌, true, [], IfOk, length};
 ghost use Rattle.rt_formula.specs.Shared.{val};
 ghost use Rattle.rt_cert.specs.Encodes.{Encodes};
 
@@ -9,8 +11,8 @@ use rt_totalizer::count;
 use rt_value::NoMemory;
 use std::alloc::Global;
 
-/// Adds the clauses of the goal and, for a number of rows that isn't 0, of a counter up to it. Answers
-/// with the literal that fewer rows are kept.
+/// Adds the clauses of the goal and, for a number of rows that isn't 0, of a counter up to it. It
+/// answers with the literal that says that fewer rows are kept.
 pub(crate) fn encode_goal<A: Adds>(
     alloc: Global,
     dag: &Dag,

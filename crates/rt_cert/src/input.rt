@@ -1,4 +1,7 @@
-ghost use Rattle.std.specs.Prelude.{◌≡◌, ◌≤◌, [], IfOk, length};
+//! The encoding of an input, which both the writer and the checker of a certificate make anew.
+//! Certificates count its lines, so a change of their order makes old ones invalid.
+
+ghost use Rattle.std.specs.Prelude.{◌≡◌, [], IfOk, length};
 ghost use Rattle.std.specs.Option.{ForSome, option_copied};
 ghost use Rattle.rt_schema.specs.Given.{places};
 ghost use Rattle.rt_cert.specs.Encoding.{IsEncoding, most_of};
@@ -11,7 +14,7 @@ use rt_input::Input;
 use rt_value::{Keep, NoMemory};
 use std::alloc::Global;
 
-// The number of rows that are to be beaten.
+// The number of rows that are to be beaten; 0 without a choice.
 fn most_of(keep: Option<&Keep>) -> usize
     ensures { result ≡ most_of (option_copied keep.entry) }
 {
@@ -21,10 +24,10 @@ fn most_of(keep: Option<&Keep>) -> usize
     }
 }
 
-/// Adds the clauses of the counterexamples of an input to no lines yet. For a choice of rows they also
-/// count the kept rows up to that choice's number, and the literal that is answered is true where fewer
-/// are kept. Without a choice, or for one of no rows, there is no literal. After an error some clauses
-/// may have been added.
+/// Adds the clauses of the counterexamples of an input to no lines yet. For a choice of rows they
+/// also count the kept rows up to that choice's number. The literal that is answered is true
+/// where fewer are kept. Without a choice, or for one of no rows, there is no literal. After an
+/// error some clauses may have been added.
 pub fn encode<A: Adds>(
     alloc: Global,
     input: &Input,

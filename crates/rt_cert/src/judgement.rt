@@ -1,3 +1,5 @@
+//! What the check of a certificate says.
+
 use rt_recorder::Encoded;
 use rt_value::Keep;
 
@@ -18,8 +20,8 @@ pub enum Why {
     NoRefutation(Encoded),
 }
 
-/// What the check of a certificate says: that its choice of rows has the least size, or that the
-/// queries agree; or why it is rejected.
+/// `Valid`: the choice of rows has the least size, or, without one, the queries agree. `Wrong`:
+/// why the certificate is rejected.
 #[derive(Drop)]
 pub enum Judgement {
     Valid(Option<Keep>),

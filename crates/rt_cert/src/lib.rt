@@ -1,12 +1,13 @@
-//! Certificates of an input: that a choice of rows is a counterexample of the least size, or that the
-//! queries agree on every lawful sub-instance.
+//! Certificates of an input: that a choice of rows is a counterexample of the least size, or that
+//! the queries agree on every lawful sub-instance.
 //!
-//! One is written by a search, and checked without any: the checker encodes the input anew and goes
-//! along the steps. What it accepts holds whoever wrote the certificate.
+//! One is written by a search, and checked without any: the checker encodes the input anew and
+//! goes along the steps. What it accepts holds, whoever wrote the certificate.
 //!
-//! The clauses are those of the formula of the counterexamples and, for a choice of rows to be beaten,
-//! of a counter of the kept rows up to that choice's number. Nothing of them comes from a search, so
-//! that whoever writes a certificate and whoever checks it have the same lines.
+//! The clauses are those of the formula of the counterexamples. If a choice of rows is to be
+//! beaten, those of a counter of the kept rows follow, up to that choice's number. Nothing of
+//! them comes from a search, so that whoever writes a certificate and whoever checks it have the
+//! same lines.
 //!
 //! The command of certificates does both: it writes one of an input, or checks one.
 #![tactic(auto)]

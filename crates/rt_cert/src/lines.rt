@@ -1,3 +1,5 @@
+//! From kept lines to a solver or a checker.
+
 ghost use Rattle.std.specs.Prelude.{◌≡◌, false, map, [], OnOk};
 
 use rt_clause::{Adds, Clauses};

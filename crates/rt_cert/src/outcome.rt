@@ -1,3 +1,5 @@
+//! How the command of certificates ends, with its exit status.
+
 ghost use Rattle.std.specs.Prelude.{◌≡◌};
 ghost use Rattle.rt_cert.specs.Texts.{of_judgement, place, status_of};
 
@@ -10,7 +12,7 @@ use rt_value::Keep;
 /// How a call of `cert_run` ends.
 #[derive(Drop)]
 pub enum CertOutcome {
-    /// A certificate of the verdict on the input, and the encoding that its steps stand on.
+    /// A certificate of the verdict on the input, and the encoding that its steps go on from.
     Proved(Cert, Encoded),
     /// The certificate is accepted: its choice of rows has the least size, or the queries agree.
     Valid(Option<Keep>),
@@ -22,12 +24,12 @@ pub enum CertOutcome {
     CertLong,
     /// The file of the certificate could not be read.
     CertRead,
-    /// What `ratest` too ends with where it has no verdict, or the spent budget.
+    /// An outcome that `ratest` has too: one that is no verdict, or the spent budget.
     Verdict(Outcome),
 }
 
 impl CertOutcome {
-    /// The status that the program ends with.
+    /// The exit status of the program: 0 to 8.
     pub fn status(&self) -> u8
         ensures { result ≡ status_of self.now }
     {
@@ -41,7 +43,7 @@ impl CertOutcome {
         }
     }
 
-    /// The sink of its text.
+    /// The sink of its text: standard output for what is asked for, standard error for the rest.
     pub(crate) fn place(&self) -> Place
         ensures { result ≡ place self.now }
     {
@@ -54,6 +56,7 @@ impl CertOutcome {
         }
     }
 
+    /// The outcome of a check.
     pub(crate) fn of(judgement: Judgement) -> CertOutcome
         ensures { result ≡ of_judgement judgement }
     {

@@ -1,3 +1,5 @@
+//! Between choices of rows and lists of places.
+
 ghost use Rattle.std.specs.Prelude.{◌≡◌, ◌<◌, IfOk};
 ghost use Rattle.std.specs.List.{All as Each};
 ghost use Rattle.rt_cert.specs.Places.{keep_of, places_of};
@@ -5,7 +7,7 @@ ghost use Rattle.rt_cert.specs.Places.{keep_of, places_of};
 use rt_value::{Keep, List, NoMemory};
 use std::alloc::Global;
 
-/// The places that a choice keeps, in order.
+/// The places that a choice keeps, counted from 0 and rising.
 pub(crate) fn places_of(alloc: Global, keep: &Keep) -> Result<List<u64>, NoMemory>
     ensures { IfOk result (λ places. places ≡ places_of keep.now) }
 {

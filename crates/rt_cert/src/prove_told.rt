@@ -1,4 +1,5 @@
-//! The certificate of the verdict on an input.
+//! The answer to `prove ARGS`: a certificate of the verdict.
+
 ghost use Rattle.std.specs.Prelude.{◌≡◌, IfOk};
 ghost use Rattle.rt_cert.specs.Least.{IsSmallestOrNone};
 ghost use Rattle.rt_io.specs.Edge.{NoneFell};
@@ -18,7 +19,7 @@ use rt_top::{GivenUp, decide, given_up};
 use rt_value::{Keep, NoMemory, Txt};
 use std::alloc::Global;
 
-/// What is to be said of a verdict: its certificate.
+// The answer for a verdict: its certificate.
 fn certified(alloc: Global, input: &Input, keep: &Option<Keep>) -> Result<Told, NoMemory>
     requires { IsSmallestOrNone input.now keep.now }
     ensures { IfOk result (λ t. ProvesIn input.now t.outcome t.text) }
@@ -29,7 +30,7 @@ fn certified(alloc: Global, input: &Input, keep: &Option<Keep>) -> Result<Told, 
     Ok(Told { outcome, text })
 }
 
-/// What is to be said of an input: the certificate of its verdict, or that the budget is spent.
+// The answer for an input: the certificate of its verdict, or that the budget is spent.
 fn proved(alloc: Global, input: &Input) -> Result<Told, NoMemory>
     ensures { IfOk result (λ t. ProvesIn input.now t.outcome t.text) }
 {
@@ -52,7 +53,7 @@ fn proved(alloc: Global, input: &Input) -> Result<Told, NoMemory>
     }
 }
 
-/// What is to be said of the words `prove ARGS`; these are ARGS.
+/// The answer to `prove ARGS`. `words` are ARGS.
 pub(crate) fn prove_told<F: Files>(
     alloc: Global,
     words: &[Txt],

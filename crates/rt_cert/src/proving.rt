@@ -1,3 +1,5 @@
+//! The writing of a certificate, once the verdict is known.
+
 ghost use Rattle.std.specs.Prelude.{◌≡◌, ◌++◌, IfOk};
 ghost use Rattle.std.specs.List.{AllByRecursion as Each};
 ghost use Rattle.std.specs.Option.{option_map};
@@ -18,9 +20,10 @@ use rt_recorder::{Cert, Encoded, Step};
 use rt_value::{Keep, List, NoMemory};
 use std::alloc::Global;
 
+// A certificate can't spell a number of this size; no encoding has so many lines.
 const MOST_LINES: usize = 1 << 62;
 
-/// A certificate, and the encoding that its steps stand on.
+/// A certificate, and the encoding that its steps go on from.
 #[derive(Drop)]
 pub struct Proof {
     pub cert: Cert,
@@ -56,8 +59,8 @@ fn kept_places(alloc: Global, keep: &Option<Keep>) -> Result<Option<List<u64>>, 
     }
 }
 
-/// A certificate that a choice of rows is the smallest counterexample of an input, or that there is
-/// none. Its steps are found by one search over the lines of the encoding.
+/// A certificate that a choice of rows is the smallest counterexample of an input, or that there
+/// is none. Its steps are found by one search over the lines of the encoding.
 pub fn prove(alloc: Global, input: &Input, keep: &Option<Keep>) -> Result<Proof, NoMemory>
     requires { IsSmallestOrNone input.now keep.now }
     ensures proof { IfOk result (λ p. IsProof input.now p.cert p.encoded) }

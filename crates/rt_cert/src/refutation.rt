@@ -1,3 +1,6 @@
+//! The steps of a certificate: a new search over the lines of the encoding, whose conflicts are
+//! recorded.
+
 ghost use Rattle.std.specs.Prelude.{◌≡◌, ◌++◌, IfOk};
 ghost use Rattle.std.specs.List.{AllByRecursion as Each};
 ghost use Rattle.rt_clause.specs.Refuting.{IsRefuted};
@@ -11,7 +14,7 @@ use rt_solver::{Found, Order, Solver};
 use rt_value::{List, NoMemory};
 use std::alloc::Global;
 
-// One more than the greatest variable of a clause, where that is more.
+// One more than the greatest variable of a clause, or the number so far if that is more.
 fn reach(variables: usize, line: &[Lit]) -> usize {
     let mut most = variables;
     for lit in line {
@@ -20,8 +23,8 @@ fn reach(variables: usize, line: &[Lit]) -> usize {
     most
 }
 
-// How many variables there are. No contract speaks of it, since the search may decide them in any
-// order: to decide all before none makes what it learns as short as can be.
+// The number of variables. No contract speaks of it, since the search may decide them in any
+// order. With all of them to be decided first, what it learns is as short as can be.
 fn variables(lines: &Clauses) -> usize {
     let mut most = 0;
     for i in 0..lines.len() {

@@ -1,3 +1,5 @@
+//! The command of certificates, whole: its contract is the promise of `prove` and `check`.
+
 ghost use Rattle.std.specs.Prelude.{◌≡◌, ◌<◌, ◌⊎◌, ℕ, length, Some, Err, IfOk};
 ghost use Rattle.rt_io.specs.Edge.{NoneFell};
 ghost use Rattle.rt_io.specs.Logs.{IsKept, NoSinkRose, WritesNothing, at_place, log, other_place};
@@ -27,7 +29,7 @@ use rt_io::{Files, Sink, SinkFail, write_at};
 use rt_value::{List, NoMemory, Txt};
 use std::alloc::Global;
 
-/// What is to be said of the words.
+// The answer to the arguments.
 fn prepare<F: Files>(alloc: Global, words: &[Txt], files: &mut F) -> Result<Told, NoMemory>
     ensures ends { IfOk result (λ t. Ends (call F.Files words.now files.old files.new) t.outcome t.text) }
     ensures begun { Begins F.Files (asked_by words.now) files.old files.new }
@@ -45,7 +47,7 @@ fn prepare<F: Files>(alloc: Global, words: &[Txt], files: &mut F) -> Result<Told
     }
 }
 
-/// Writes the text of an answer to its sink.
+// Writes the text of an answer to its sink.
 fn speak<O: Sink, E: Sink>(out: &mut O, err: &mut E, told: Told) -> CertOutcome
     ensures ends { WritesTo (at_place (place told.outcome) (log O.Sink out.old out.new) (log E.Sink err.old err.new)) told.outcome told.text result }
     ensures kept { IsKept (other_place (place told.outcome) (log O.Sink out.old out.new) (log E.Sink err.old err.new)) }
@@ -58,8 +60,9 @@ fn speak<O: Sink, E: Sink>(out: &mut O, err: &mut E, told: Told) -> CertOutcome
     }
 }
 
-/// Writes a certificate of the verdict on a command's input, or checks the one in a file over it: reads
-/// the files that the words name, and writes what is found to `out`, or to `err` why there is nothing.
+/// Writes a certificate of the verdict on a command's input, or checks the one in a file over it.
+/// It reads the files that the arguments name. What is found goes to `out`, or to `err` why there
+/// is nothing. `words` are the arguments from `prove` or `check` on.
 pub fn cert_run<F: Files, O: Sink, E: Sink>(
     alloc: Global,
     words: &[Txt],
@@ -67,27 +70,29 @@ pub fn cert_run<F: Files, O: Sink, E: Sink>(
     out: &mut O,
     err: &mut E,
 ) -> CertOutcome
-    // Each outcome comes only where it may; its whole text went to its sink, and nothing to the other.
+    // Each outcome comes only where it may; its whole text went to its sink, and nothing to the
+    // other.
     ensures ends { IfText result (EndsWritten (call F.Files words.now files.old files.new) (log O.Sink out.old out.new) (log E.Sink err.old err.new) result) }
-    // Only where the sink of an outcome that may come failed in this call.
+    // Only if the sink of an outcome that may come failed in this call.
     ensures write_fault { IfWriteFault result ((allowed : CertOutcome) × EndsBroken (call F.Files words.now files.old files.new) (log O.Sink out.old out.new) (log E.Sink err.old err.new) allowed) }
-    // Want of memory may come anywhere; at most a prefix of such a text was written.
+    // Out of memory may come anywhere; at most a prefix of such a text was written.
     ensures no_memory { let o = log O.Sink out.old out.new in let e = log E.Sink err.old err.new in
         IfNoMemory result (WritesNothing o e ⊎ ((allowed : CertOutcome) × EndsBegun (call F.Files words.now files.old files.new) o e allowed)) }
-    // Where the words are no command, that is told; and where the input is refused, the first refusal is.
+    // For arguments that are no command, the answer is that. If the input is refused, it is the
+    // first refusal.
     ensures usage { IsUsage (asked_by words.now) → IsUsageOrFault result }
     ensures refused { IfEither (asked_by words.now) (λ args. IsTold (call F.Files args files.old files.new)
         → (refusal : Outcome) → judged args (F.held files.old) ≡ Err refusal → YieldsTo refusal result) }
-    // Over an accepted input a certificate that is too long or malformed is told as that, and what is
-    // wrong with its claim is told, whatever its steps.
+    // Over an accepted input, a certificate that is too long or malformed is answered as that. A
+    // claim that is wrong is rejected as that, whatever the steps are.
     ensures long { OverFile (call F.Files words.now files.old files.new) (λ input bytes. most_bytes < length bytes → IsOrFault outcome.CertLong result) }
     ensures malformed { OverFile (call F.Files words.now files.old files.new) (λ input bytes. (line : ℕ) → IsBadFile bytes line → IsOrFault (outcome.Malformed (BadLine line)) result) }
     ensures claim { OverFile (call F.Files words.now files.old files.new) (λ input bytes. (cert : Cert) → IsFileOf bytes cert → (why : Why) → claim_fault input cert.keep ≡ Some why → IsOrFault (outcome.Wrong why) result) }
-    // Of an accepted input without a budget, or with one that no search can spend, there is a certificate
-    // over files and sinks that don't fail.
+    // Of an accepted input without a budget, or with one that no search can spend, there is a
+    // certificate over files and sinks that don't fail.
     ensures complete { OverCalm (call F.Files words.now files.old files.new) (NoSinkRose (log O.Sink out.old out.new) (log E.Sink err.old err.new) → IsProvedOrMemory result) }
-    // The files that are begun are first ones of those that the words name, in the order of the reading,
-    // and none stands behind the first refusal.
+    // The files that are begun are first ones of those that the arguments name, in the order of
+    // the reading, and none after the first refusal.
     ensures begun { Begins F.Files (asked_by words.now) files.old files.new }
     ensures held { F.held files.new ≡ F.held files.old }
     ensures rises { NoneFell (F.faults files.old) (F.faults files.new) }

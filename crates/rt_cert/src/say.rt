@@ -1,4 +1,5 @@
-//! The texts of outcomes.
+//! The texts of outcomes. `specs/Texts.antt` has them byte by byte.
+
 ghost use Rattle.std.specs.Prelude.{◌≡◌, IfOk, string_bytes};
 ghost use Rattle.rt_cert.specs.Texts as spec;
 
@@ -7,10 +8,10 @@ use crate::judgement::{Judgement, Why};
 use rt_value::{Bytes, Keep, List, NoMemory};
 use std::alloc::{AllocError, Global};
 
-/// The text for words that are no command.
+/// The text for arguments that are no command.
 pub const CERT_USAGE: &str = "usage: ratest_plus prove ARGS\n       ratest_plus check CERT ARGS\n";
 
-/// What an accepted certificate says.
+// The line for an accepted certificate.
 fn valid_text(alloc: Global, keep: &Option<Keep>) -> Result<String, AllocError>
     ensures { IfOk result (λ s. string_bytes s ≡ spec.valid_text keep.now) }
 {
@@ -23,7 +24,7 @@ fn valid_text(alloc: Global, keep: &Option<Keep>) -> Result<String, AllocError>
     }
 }
 
-/// Why a certificate is rejected, without a line end.
+// Why a certificate is rejected, without a line end.
 fn why_text(alloc: Global, why: &Why) -> Result<String, AllocError>
     ensures { IfOk result (λ s. string_bytes s ≡ spec.why_text why.now) }
 {
@@ -48,7 +49,7 @@ fn wrong_text(alloc: Global, why: &Why) -> Result<String, AllocError>
     format!(in alloc; "ratest: certificate: rejected: {words}\n")
 }
 
-/// What the check of a certificate says.
+/// The line for the check of a certificate.
 pub(crate) fn judgement_text(alloc: Global, judgement: &Judgement) -> Result<Bytes, NoMemory>
     ensures { IfOk result (λ text. text ≡ spec.judgement_text judgement.now) }
 {
@@ -59,7 +60,7 @@ pub(crate) fn judgement_text(alloc: Global, judgement: &Judgement) -> Result<Byt
     List::from_slice(alloc, line.as_str().as_bytes())
 }
 
-/// Why there is no certificate in its file.
+/// The line for a file that has no certificate.
 pub(crate) fn fault_text(alloc: Global, fault: &FileFault) -> Result<Bytes, NoMemory>
     ensures { IfOk result (λ text. text ≡ spec.fault_text fault.now) }
 {

@@ -1,4 +1,6 @@
-ghost use Rattle.std.specs.Prelude.{◌≡◌, IfOk};
+//! An answer that is ready to be written.
+
+ghost use Rattle.std.specs.Prelude.{IfOk};
 ghost use Rattle.rt_cert.specs.Steps.{SaysVerdict};
 
 use crate::outcome::CertOutcome;
@@ -14,7 +16,8 @@ pub(crate) struct Told {
     pub(crate) text: Bytes,
 }
 
-/// What is to be said where there is no input; the words are those of the command of `ratest`.
+/// The answer for a command without an input. `words` are the arguments of the command of
+/// `ratest`.
 pub(crate) fn stopped(alloc: Global, words: &[Txt], outcome: Outcome) -> Result<Told, NoMemory>
     ensures { IfOk result (λ t. SaysVerdict words.now outcome t.outcome t.text) }
 {

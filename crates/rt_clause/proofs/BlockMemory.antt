@@ -1,10 +1,10 @@
 -- What the proofs by hand share. Assumes `Logic`.
---     word_had, word_made, mark_had, mark_made     a value of one pointer, and one of no bytes
---     value_out, value_in, tells                   an item in memory is one machine value, and what it owns
---     slot_out, slot_in                            one place is taken out of the row and put back
---     of_room, to_room                             room for an array is a row of empty places, and any row is room again
---     all_seen                                     a `&` to full places is one to a slice
---     block_cut, block_glue                        room for one item more is room for a word, and for the places after it
+--     word_had, word_made, mark_had, mark_made   a value of one pointer, and one of no bytes
+--     value_out, value_in, tells     an item in memory is one machine value, and what it owns
+--     slot_out, slot_in              one place is taken out of the row and put back
+--     of_room, to_room               room for an array is empty places, and any row is room again
+--     all_seen                       a `&` to full places is one to a slice
+--     block_cut, block_glue          room for one item more is room for a word, and for the places after
 -- After the proofs of the kit's `circular_buffer` (LICENSE-circular_buffer).
 use mathlib.Core.Path.{◌≡◌, refl, sym, ap, subst, ◌∙◌}
 use Prim.Native.Nat.{ℕ, zero, suc, ◌+◌, ◌*◌, ◌^◌, ◌<◌, ◌≤◌}

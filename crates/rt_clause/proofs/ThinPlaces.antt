@@ -48,7 +48,7 @@ set_twice (x ∷ cs) (suc i) c d = ap (λ ys. x ∷ ys) (set_twice cs i c d)
 some-same : (k l : Literal) → Some k ≡ Some l → k ≡ l
 some-same k l e = ap (λ o. elim o [ None ↦ k | Some j ↦ j ]) e
 
--- two emptied places are filled the other way round
+-- two emptied places are filled again, with the two literals exchanged
 abbrev pub exchanged : Places → ℕ → ℕ → Literal → Literal → Places
 exchanged cs a b x y = set (set (set (set cs a nothing) b nothing) a (Some y)) b (Some x)
 

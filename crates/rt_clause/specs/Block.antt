@@ -1,5 +1,5 @@
--- What the owner of a block owns and lends. The block begins with one word, the number of its
--- places, and then come the places, each for an item of the row R that takes as much as a word.
+-- What the owner of a block owns and lends. The block begins with one machine word, the number of
+-- its places. Then come the places, each for an item of the row R that takes as much as a word.
 -- After the specs of the kit's `circular_buffer` (LICENSE-circular_buffer).
 use Rattle.std.specs.Prelude.{◌≡◌, ℕ, ◌+◌, ◌*◌, ◌^◌, List, [], ◌∷◌, length, Option, Some, None}
 use Rattle.std.specs.Mem.{type_size}
@@ -24,7 +24,7 @@ module _ (R : RattleType) where
   slot b o (Some x) = part_at R full_share x b o
   slot b o None = froom (raw (lone R.mir)) b o
 
-  -- places side by side
+  -- places one after another
   abbrev pub slots : ℕ → ℕ → List (Option R.Denot) → Fml
   slots b o [] = ftrue
   slots b o (c ∷ cs) = fsep (slot b o c) (slots b (o + type_size R) cs)

@@ -13,8 +13,8 @@ gate out lits = map (λ l. negated out ∷ l ∷ []) lits ++ (out ∷ map negate
 abbrev pub AgreeBelow : ℕ → List Bool → List Bool → Type 0
 AgreeBelow n xs ys = (v : ℕ) → v < n → slice_index_or xs v false ≡ slice_index_or ys v false
 
--- new lines over variables below m go on from old ones over variables below n: each model of the
--- old ones goes on to one of the new, and what determined the old variables determines the new ones
+-- New lines over variables below m go on from old ones over variables below n. Each model of the
+-- old ones goes on to one of the new, and what determined the old variables determines the new.
 pub record Extends (old : List (List Literal)) (n : ℕ) (new : List (List Literal)) (m : ℕ) : Type 0 where
   pub more : List (List Literal)
   pub lines : new ≡ old ++ more

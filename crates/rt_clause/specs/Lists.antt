@@ -25,12 +25,13 @@ abbrev pub IsMet : List Literal → List Literal → Type 0
 IsMet set clause = ((l : Literal) × (has clause l ≡ true) × (has set l ≡ true))
     ⊎ ((k : Literal) × (l : Literal) × (has clause k ≡ true) × (has clause l ≡ true) × (k ≢ l) × (is_false set k ≡ false) × (is_false set l ≡ false))
 
--- the set has no literal with its negation, and propagation over the lines adds nothing to it and finds no conflict
+-- the set has no literal with its negation, and propagation over the lines adds nothing to it and
+-- finds no conflict
 pub record Closed (lines : List (List Literal)) (set : List Literal) : Type 0 where
   pub consistent : (l : Literal) → has set l ≡ true → has set (negated l) ≡ false
   pub met : (i : ℕ) → i < length lines → IsMet set (line_at lines i)
 
--- no variable stands twice
+-- no variable occurs twice
 abbrev pub HasNoRepeat : List Literal → Type 0
 HasNoRepeat [] = Unit {0}
 HasNoRepeat (l ∷ ls) = ((k : Literal) → has ls k ≡ true → k.var ≢ l.var) × HasNoRepeat ls

@@ -1,4 +1,4 @@
--- What stands in the places of a clause's block.
+-- What the places of a clause's block hold.
 use Rattle.std.specs.Prelude.{◌≡◌, ◌<◌, ◌^◌, List, [], ◌∷◌, map, length, Option, Some, None}
 use Rattle.rt_clause.specs.Literal.{Literal}
 use Rattle.rt_clause.specs.declared.thin.ThinClause.TheInside.{Inside}

@@ -1,3 +1,6 @@
+//! A growing list of clauses, each in a block of its own. How they are kept is private: contracts
+//! see `Clauses` as a list of lists of literals.
+
 ghost use Rattle.std.specs.Prelude.{◌≡◌, [], ◌∷◌, ◌++◌, ◌<◌, length, OnOk, OnErr};
 ghost use Rattle.rt_clause.specs.Lists.{line_at};
 
@@ -34,12 +37,14 @@ impl Clauses {
         }
     }
 
+    /// The number of clauses.
     pub fn len(&self) -> usize
         ensures { result ≡ length self.now }
     {
         self.items.len()
     }
 
+    /// The clause at `i`, counted from 0.
     pub fn at(&self, i: usize) -> &[Lit]
         requires { i < length self.now }
         ensures { result.now ≡ line_at self.now i }
@@ -47,7 +52,7 @@ impl Clauses {
         self.items[i].lits()
     }
 
-    /// Puts a copy of the clause at the end.
+    /// Puts a copy of the clause at the end. After an error the list is as before.
     pub fn push(&mut self, lits: &[Lit]) -> Result<(), NoMemory>
         ensures ok { OnOk result (self.new ≡ self.old ++ lits.now ∷ []) }
         ensures err { OnErr result (self.new ≡ self.old) }

@@ -1,4 +1,6 @@
-// After `cells.rt` of the kit's `circular_buffer` (LICENSE-circular_buffer).
+//! Allocating and freeing the block of a clause, with `unsafe` that is proved by hand. After
+//! `cells.rt` of the kit's `circular_buffer` (LICENSE-circular_buffer).
+
 ghost use Rattle.std.specs.Prelude.{◌≡◌, ℕ, ◌+◌, None, length, replicate, IfOk};
 ghost use Rattle.std.specs.Vec.Ownership.{FitsInBlock};
 ghost use denote.RawPtr.{Ptr};
@@ -47,7 +49,7 @@ pub(crate) fn allocate<T, A: Allocator>(
     }
 }
 
-/// Frees a block. What its places hold is forgotten.
+/// Frees a block. What its places hold is forgotten, not dropped.
 pub(crate) fn deallocate<T, A: Allocator>(
     alloc: &A,
     start: Start,

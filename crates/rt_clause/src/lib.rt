@@ -1,9 +1,9 @@
 //! Literals, clauses, and what holds lists of clauses.
 //!
-//! A solver and the checker of its answers both speak of clauses in the words of this crate's
-//! `specs/`: when a set of literals is closed under unit propagation, when a clause follows by
-//! unit propagation along hints (reverse unit propagation, as in LRAT proofs), when a clause is
-//! fresh, and when some variables determine others.
+//! The solver and the checker of its answers share the definitions of this crate's `specs/`. They
+//! say when a set of literals is closed under unit propagation, and when a clause is fresh. They
+//! say when a clause follows by unit propagation along hints (reverse unit propagation, as in
+//! LRAT proofs), and when some variables determine others.
 #![tactic(auto)]
 
 mod clauses;

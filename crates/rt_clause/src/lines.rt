@@ -1,3 +1,6 @@
+//! What takes clauses: `Adds` takes given ones, `Lines` also derived ones. The contracts are all
+//! that the encoders and the solver know of a recorder, a checker or a plain list.
+
 ghost use Rattle.std.specs.Prelude.{◌≡◌, List, [], ◌∷◌, ◌++◌, ◌<◌, length, Bool, true, false, IsTrue, OnOk, OnErr, IfOk, if◌then◌else◌};
 ghost use Rattle.std.specs.List.{All as Each};
 ghost use Rattle.rt_clause.specs.Literal.{Literal};
@@ -7,7 +10,7 @@ ghost use Rattle.rt_clause.specs.Models.{IsModel, clause_true};
 use crate::lit::Lit;
 use rt_value::NoMemory;
 
-/// What holds a list of clauses, here called lines, and for each of them whether it was derived
+/// A holder of a list of clauses, here called lines, and for each of them whether it was derived
 /// or given.
 pub trait Adds {
     /// The lines in order.
@@ -26,8 +29,8 @@ pub trait Adds {
 
 /// Lines that also take a clause which follows from them, and refuse one that does not.
 pub trait Lines: Adds {
-    /// Puts the clause at the end where it follows along the hints, numbers of lines in the order
-    /// of their use. Where the answer is no, and after an error, both lists are as before.
+    /// Puts the clause at the end if it follows along the hints: numbers of lines, counted from 0,
+    /// in the order of their use. If it doesn't, and after an error, both lists are as before.
     fn derive(&mut self, lits: &[Lit], hints: &[usize]) -> Result<bool, NoMemory>
         requires { Each (λ h. h < length (Self.lines self.old)) hints.now }
         ensures yes { IfOk result (λ yes. yes ≡ follows (Self.lines self.old) lits.now hints.now) }

@@ -1,3 +1,6 @@
+//! Literals, packed into one machine word each. Contracts see a variable and a Bool; the packing
+//! shows in `index` alone.
+
 ghost use Rattle.std.specs.Prelude.{◌≡◌, ◌<◌, ◌^◌};
 ghost use Rattle.std.specs.Cmp.Rules.{comparing};
 ghost use Rattle.std.proofs.Common.{rules};
@@ -8,8 +11,8 @@ use rt_value::List;
 use std::fmt;
 use std::marker::Model;
 
-/// A literal: a variable, and the Bool at which the literal is true. Both stand in one word, which
-/// is twice the variable, and one more where the Bool is true.
+/// A literal: a variable, and the Bool at which the literal is true. Both are packed into one
+/// machine word: twice the variable, and one more if the Bool is true.
 #[derive(Clone, Copy)]
 pub struct Lit {
     word: usize,
@@ -36,6 +39,7 @@ impl Model for Lit {
 }
 
 impl Lit {
+    /// The literal of the variable `var` that is true where the variable is `on`.
     pub fn of(var: usize, on: bool) -> Lit
         requires { var < 2 ^ 62 }
         ensures var { result.var ≡ var }
@@ -45,6 +49,7 @@ impl Lit {
         Lit { word }
     }
 
+    /// The number of its variable, counted from 0.
     pub fn var(self) -> usize
         ensures is { result ≡ self.var }
         ensures small { result < 2 ^ 62 }
@@ -52,13 +57,15 @@ impl Lit {
         self.word / 2
     }
 
+    /// The Bool of its variable at which it is true.
     pub fn on(self) -> bool
         ensures { result ≡ self.on }
     {
         self.word % 2 == 1
     }
 
-    /// The literal's place in a list with one entry for each literal.
+    /// The literal's place in a list with one entry for each literal. The two of a variable are
+    /// neighbours, first the one that is true at false.
     pub fn index(self) -> usize
         ensures is { result ≡ packed self }
         ensures small { result < 2 ^ 63 }

@@ -1,3 +1,6 @@
+//! A clause in one block of memory. The pointers and the `unsafe` behind it end here: contracts
+//! see a list of literals.
+
 ghost use Rattle.std.specs.Prelude.{◌≡◌, ◌<◌, length, IfOk};
 ghost use Rattle.std.specs.List.{swap};
 
@@ -12,8 +15,8 @@ use std::marker::Model;
 // Fewer literals than this fit a block, which takes fewer than 2^63 bytes.
 const LIMIT: usize = 1 << 59;
 
-/// A clause behind one pointer, which leads to a block with the number of literals and then the
-/// literals.
+/// A clause behind one pointer, to a block with the number of literals and then the literals. So a
+/// list of clauses takes one machine word for each, besides the blocks.
 pub struct ThinClause {
     start: Start,
     places: Places<Lit>,
@@ -35,7 +38,7 @@ impl Model for ThinClause {
 }
 
 impl ThinClause {
-    /// A copy of the literals. Where memory is wanting nothing has been made.
+    /// A copy of the literals. When out of memory, nothing has been made.
     pub fn of(alloc: Global, lits: &[Lit]) -> Result<ThinClause, NoMemory>
         ensures { IfOk result (λ c. c ≡ lits.now) }
     {
@@ -55,19 +58,21 @@ impl ThinClause {
         })
     }
 
+    /// The number of literals.
     pub fn len(&self) -> usize
         ensures { result ≡ length self.now }
     {
         *self.places.count(self.start)
     }
 
+    /// The literals in order.
     pub fn lits(&self) -> &[Lit]
         ensures { result.now ≡ self.now }
     {
         self.places.items(self.start, self.len())
     }
 
-    /// Exchanges two literals.
+    /// Exchanges the literals at `a` and `b`.
     pub fn swap(&mut self, a: usize, b: usize)
         requires a { a < length self.old }
         requires b { b < length self.old }

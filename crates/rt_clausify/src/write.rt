@@ -1,3 +1,6 @@
+//! The clauses of a formula, node by node, oldest first. A marked node gets the next variable as
+//! its name; `not` takes its child's name negated, and a row its own variable.
+
 ghost use Rattle.std.specs.Prelude.{◌≡◌, ℕ, ◌+◌, ◌≤◌, ◌<◌, ◌^◌, List as Seq, [], ◌∷◌, ◌++◌, Bool, true, false, map, length, IfOk};
 ghost use Rattle.std.specs.List.{All as Each};
 ghost use Rattle.rt_clause.specs.Lists.{AreBelow, Determined};
@@ -12,6 +15,7 @@ use rt_formula::{Dag, Entry, Node, under};
 use rt_value::{Keep, List, NoMemory};
 use std::alloc::Global;
 
+// Variables stay below this, so that each fits a literal; beyond it the answer is out of memory.
 const MOST_VARIABLES: usize = 1 << 61;
 
 // The literals of some nodes, or their negations.
@@ -111,7 +115,7 @@ fn write_node<A: Adds>(
     }
 }
 
-// The number of nodes up to the goal.
+// The number of nodes up to and with the goal.
 fn after(dag: &Dag, goal: Node) -> usize
     requires { goal < length dag.now.entries }
     ensures { result ≡ goal + 1 }
@@ -156,8 +160,12 @@ fn write_marked<A: Adds>(
     Ok(Named::of(dag.rows(), next, lit))
 }
 
-/// Adds the clauses of each gate under the goal, and the goal as a unit, and answers with the
-/// numbering of the variables. After an error some clauses may have been added.
+/// Adds the clauses of each gate under the goal, and the goal as a unit clause. It answers with
+/// the numbering of the variables: row r is variable r, and the gates follow. After an error some
+/// clauses may have been added.
+///
+/// `any` over rows 0 and 1, whose variable is 2, as the goal:
+///     (2, not 0)   (2, not 1)   (not 2, 0, 1)   (2)
 pub fn clausify<A: Adds>(
     alloc: Global,
     dag: &Dag,

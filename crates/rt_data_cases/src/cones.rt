@@ -8,7 +8,7 @@ use rt_value::Keep;
 use std::alloc::Global;
 use std::process::Abort;
 
-/// The rows that can matter where the goal is that the row at this place is kept.
+// The rows that can matter where the goal is that the row at this place is kept.
 fn cone_under(rt: &impl Abort, alloc: Global, dag: &mut Dag, tables: &Data, place: usize) -> Keep
     requires { IsOf tables.now.schema tables.now.given }
 {
@@ -27,7 +27,7 @@ fn cone_in(rt: &impl Abort, alloc: Global, tables: &Data, place: usize) -> Keep
     rows
 }
 
-/// The same over the rows of a file.
+// The same over the rows of a file.
 fn cone_of(rt: &impl Abort, alloc: Global, schema: &str, file: &str, place: usize) -> Keep {
     let tables = read_data(rt, alloc, schema, &[file]);
     let rows = cone_in(rt, alloc, &tables, place);

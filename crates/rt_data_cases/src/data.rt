@@ -8,6 +8,7 @@ use rt_value::Keep;
 use std::alloc::Global;
 use std::process::Abort;
 
+/// A schema and rows of its tables.
 #[derive(Drop)]
 pub(crate) struct Data {
     pub(crate) schema: Schema,

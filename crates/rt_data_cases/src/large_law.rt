@@ -1,4 +1,4 @@
-//! The law of 2,000 rows as a formula.
+//! The law of 2,000 rows as a formula: that it is true where it should be, and how large it is.
 ghost use Rattle.rt_schema.specs.Given.{IsOf};
 
 use crate::data::{Data, read_data};
@@ -9,7 +9,7 @@ use rt_value::Keep;
 use std::alloc::Global;
 use std::process::Abort;
 
-/// A file of 2,000 rows, of which each refers to the next and the last to the first.
+// A file of 2,000 rows, of which each refers to the next and the last to the first.
 fn ring(rt: &impl Abort, alloc: Global) -> String {
     let mut file = String::new(alloc);
     file.push_str("a,b\n").expect(rt, "memory");
@@ -21,7 +21,7 @@ fn ring(rt: &impl Abort, alloc: Global) -> String {
     file
 }
 
-/// All of 2,000 rows, but for the first perhaps.
+// All of 2,000 rows, but for the first perhaps.
 fn places(rt: &impl Abort, alloc: Global, first: &str) -> String {
     let mut places = String::new(alloc);
     places.push_str(first).expect(rt, "memory");
@@ -31,7 +31,7 @@ fn places(rt: &impl Abort, alloc: Global, first: &str) -> String {
     places
 }
 
-/// Whether the formula of the law is true at the rows of the ring, but for the first perhaps.
+// Whether the formula of the law is true at the rows of the ring, but for the first perhaps.
 fn ring_holds(rt: &impl Abort, alloc: Global, first: &str) -> bool {
     let schema = "CREATE TABLE t (a INTEGER PRIMARY KEY, b INTEGER REFERENCES t (a));";
     let file = ring(rt, alloc);
@@ -49,7 +49,7 @@ fn two_thousand_rows(rt: HostRuntime) {
     assert!(rt; !ring_holds(&rt, alloc, "0"));
 }
 
-/// How many children the gates of a formula have.
+// How many children the gates of a formula have.
 fn children(dag: &Dag) -> usize {
     let mut children = 0_usize;
     for at in 0..dag.len() {
@@ -60,7 +60,7 @@ fn children(dag: &Dag) -> usize {
     children
 }
 
-/// A file of 2,000 rows under a head, which are alike but for the first perhaps.
+// A file of 2,000 rows under a head, which are the same but for the first perhaps.
 fn alike(rt: &impl Abort, alloc: Global, head: &str, first: &str, other: &str) -> String {
     let mut file = String::new(alloc);
     file.push_str(head).expect(rt, "memory");
@@ -71,8 +71,8 @@ fn alike(rt: &impl Abort, alloc: Global, head: &str, first: &str, other: &str) -
     file
 }
 
-/// The size of a formula of 2,000 rows, whether it is true where the last row is kept alone, and
-/// whether it is true where the first is kept beside it.
+// The size of a formula of 2,000 rows, and whether it is true at two choices: the last row alone,
+// and the first with the last.
 #[derive(Drop)]
 struct Size {
     nodes: usize,
@@ -81,7 +81,7 @@ struct Size {
     two: bool,
 }
 
-/// Whether the formula is true once this place is kept too.
+// Whether the formula is true once this place is kept too.
 fn value_with(rt: &impl Abort, dag: &Dag, node: Node, keep: &mut Keep, place: usize) -> bool {
     assert!(rt; place < keep.len());
     keep.set(place, true);
@@ -102,7 +102,7 @@ fn size_of(rt: &impl Abort, alloc: Global, dag: &Dag, node: Node) -> Size {
     }
 }
 
-/// The size of the formula of the law.
+// The size of the formula of the law.
 fn law_size(rt: &impl Abort, alloc: Global, tables: &Data) -> Size
     requires { IsOf tables.now.schema tables.now.given }
 {
@@ -113,7 +113,7 @@ fn law_size(rt: &impl Abort, alloc: Global, tables: &Data) -> Size
     size
 }
 
-/// The same of the rows of a file.
+// The same of the rows of a file.
 fn size_over(rt: &impl Abort, alloc: Global, schema: &str, file: &str) -> Size {
     let tables = read_data(rt, alloc, schema, &[file]);
     let size = law_size(rt, alloc, &tables);
@@ -121,8 +121,8 @@ fn size_over(rt: &impl Abort, alloc: Global, schema: &str, file: &str) -> Size {
     size
 }
 
-/// Whether the formula of the law of 2,000 rows that are alike has a few gates for each, and is true
-/// where one of them is kept and not where the first is too.
+// Whether the formula of the law of 2,000 equal rows has a few gates for each. It has to be true
+// where one of them is kept, and false where the first is kept too.
 fn costs_little(
     rt: &impl Abort,
     alloc: Global,
@@ -152,8 +152,8 @@ const ALIKE: [(&str, &str, &str, &str); 2] = [
     ),
 ];
 
-// A group of rows with one key value, or with one determining value, costs a few gates a row, and none
-// for each pair of rows.
+// A group of rows with one key value, or with one determining value, costs a few gates for each
+// row, and none for each pair of rows.
 #[test]
 fn two_thousand_rows_with_one_value(rt: HostRuntime) {
     for (schema, head, first, other) in &ALIKE {

@@ -1,4 +1,4 @@
-//! The law of rows, by itself and as a formula.
+//! The law of rows, by itself and as a formula: both have to refuse the same choices of rows.
 ghost use Rattle.rt_schema.specs.Given.{IsOf};
 
 use crate::data::{Data, choice, read_data};
@@ -8,7 +8,7 @@ use rt_schema::{law_work, lawful};
 use std::alloc::Global;
 use std::process::Abort;
 
-/// Whether the kept rows are lawful.
+// Whether the kept rows are lawful.
 fn is_lawful(rt: &impl Abort, alloc: Global, tables: &Data, places: &str) -> bool
     requires { IsOf tables.now.schema tables.now.given }
 {
@@ -19,7 +19,7 @@ fn is_lawful(rt: &impl Abort, alloc: Global, tables: &Data, places: &str) -> boo
     found
 }
 
-/// Whether the formula of the law is true at the kept rows.
+// Whether the formula of the law is true at the kept rows.
 fn is_true(rt: &impl Abort, alloc: Global, tables: &Data, places: &str) -> bool
     requires { IsOf tables.now.schema tables.now.given }
 {
@@ -38,7 +38,7 @@ fn value_at(rt: &impl Abort, alloc: Global, dag: &Dag, node: Node, places: &str)
     value
 }
 
-/// Whether the kept rows are lawful, and whether the formula of the law is true at them.
+// Whether the kept rows are lawful, and whether the formula of the law is true at them.
 fn both(rt: &impl Abort, alloc: Global, tables: &Data, places: &str) -> [bool; 2]
     requires { IsOf tables.now.schema tables.now.given }
 {
@@ -61,7 +61,7 @@ pub(crate) fn both_of(
     found
 }
 
-/// The choices that are not lawful, of which the formula of the law says the same.
+// The choices that are not lawful, of which the formula of the law says the same.
 fn refused_of(rt: &impl Abort, alloc: Global, tables: &Data, choices: &[&str]) -> String
     requires { IsOf tables.now.schema tables.now.given }
 {
@@ -77,7 +77,7 @@ fn refused_of(rt: &impl Abort, alloc: Global, tables: &Data, choices: &[&str]) -
     refused
 }
 
-/// Whether just these of the choices of the rows of a file are not lawful.
+// Whether just these of the choices of the rows of a file are not lawful.
 fn are_refused(
     rt: &impl Abort,
     alloc: Global,
@@ -132,7 +132,7 @@ fn two_rows_at_each_choice(rt: HostRuntime) {
 
 const THREE: [&str; 8] = ["000", "100", "010", "001", "110", "101", "011", "111"];
 
-/// Whether these are refused of a table under a rule.
+// Whether these are refused of a table under a rule.
 fn refuses(rt: &impl Abort, alloc: Global, rule: &str, file: &str, wanted: &str) -> bool {
     let schema = format!(in alloc; "CREATE TABLE t (a INTEGER, b INTEGER, c TEXT, {rule});").expect(
         rt, "memory",
@@ -153,7 +153,7 @@ const FIRST_SECOND: &str = "100 010 110 101 011 111 ";
 
 const FIRST_THIRD: &str = "100 001 110 101 011 111 ";
 
-// A check refuses the rows that make it false, and lets those stand that make it unknown.
+// A check refuses the rows that make it false, and passes those that make it unknown.
 const CHECKS: [(&str, &str); 22] = [
     ("CHECK (a > 0)", ""),
     ("CHECK (a > 1)", FIRST),
@@ -188,7 +188,7 @@ fn checks_of_three_rows(rt: HostRuntime) {
     }
 }
 
-/// Whether a dependency refuses these of rows without their head.
+// Whether a dependency refuses these of rows without their head.
 fn dependency_refuses(
     rt: &impl Abort,
     alloc: Global,
@@ -234,7 +234,7 @@ fn dependencies_of_three_rows(rt: HostRuntime) {
     }
 }
 
-/// The work of the law of the rows of these files.
+// The work of the law of the rows of these files.
 fn work_of(rt: &impl Abort, alloc: Global, schema: &str, files: &[&str]) -> u128 {
     let tables = read_data(rt, alloc, schema, files);
     let work = law_work(&tables.schema, &tables.given);

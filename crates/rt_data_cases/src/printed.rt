@@ -1,3 +1,5 @@
+//! What is printed, byte by byte: witnesses, spent budgets and summaries.
+
 ghost use Rattle.std.specs.Prelude.{◌≡◌, IfOk};
 ghost use Rattle.std.specs.List.Sorted.{IsStrictlySortedBy};
 ghost use Rattle.rt_schema.specs.Given.{IsOf};
@@ -14,7 +16,7 @@ const STUDENTS: &str =
 
 const TWO: &str = "CREATE TABLE t (a INTEGER);\nCREATE TABLE u (a INTEGER);";
 
-/// A row whose cells are NULL, whole numbers or texts, as they are written.
+// A row whose cells are NULL, whole numbers or texts, as they are written.
 fn row(rt: &impl Abort, alloc: Global, cells: &[&str]) -> Row {
     let mut row = Row::new(alloc);
     for cell in cells {
@@ -28,7 +30,7 @@ fn row(rt: &impl Abort, alloc: Global, cells: &[&str]) -> Row {
     row
 }
 
-/// An answer of one row, or of none where there is no cell.
+// An answer of one row, or of none where there is no cell.
 fn answer(rt: &impl Abort, alloc: Global, cells: &[&str]) -> Result<List<Row>, NoMemory>
     ensures { IfOk result (λ rows. IsStrictlySortedBy row_cmp rows) }
 {

@@ -5,12 +5,12 @@ use rt_value::{Boxed, List, Op, Row, Value};
 use std::alloc::Global;
 use std::process::Abort;
 
-/// A comparison of a column of the row with a number.
+// A comparison of a column of the row with a number.
 fn number(op: Op, up: usize, at: usize, number: i128) -> Pred {
     Pred::Cmp(op, Expr::Col(up, at), Expr::Int(number))
 }
 
-/// A comparison of two columns of the row.
+// A comparison of two columns of the row.
 fn columns(op: Op, a: usize, b: usize) -> Pred {
     Pred::Cmp(op, Expr::Col(0, a), Expr::Col(0, b))
 }
@@ -19,7 +19,7 @@ fn both(rt: &impl Abort, alloc: Global, a: Pred, b: Pred) -> List<Pred> {
     List::from_vec(vec![in alloc; a, b].expect(rt, "memory"))
 }
 
-/// A column of the second member, columns of both, and a column of the row outward.
+// A column of the second member, columns of both, and a column of the row outward.
 fn three(rt: &impl Abort, alloc: Global) -> Pred {
     let key = columns(Op::Eq, 0, 2);
     let mut members = both(rt, alloc, number(Op::Eq, 0, 1, 5), key);
@@ -59,8 +59,8 @@ fn conjuncts_of_two_members(rt: HostRuntime) {
     assert!(rt; splits(&rt, rt.alloc(), condition));
 }
 
-/// How many conditions are own to each of two members, how many keys each has, and whether a
-/// condition is left (as 1), for members of two columns and of one.
+// For members of two columns and of one: how many own conditions and how many keys each has, and
+// 1 if a condition is left.
 fn counts(rt: &impl Abort, alloc: Global, condition: Pred) -> [usize; 5] {
     let parts = split(alloc, &condition, &[2, 1]).expect(rt, "memory");
     drop(condition);
@@ -115,7 +115,7 @@ fn cell(rt: &impl Abort, alloc: Global, value: Value) -> Row {
     row
 }
 
-/// Whether of three rows the second alone has its key twice, at the first and the last place.
+// Whether of three rows the second alone has its key twice, at the first and the last place.
 fn are_matched(rt: &impl Abort, alloc: Global, before: &[&Row], own: &[&Row]) -> bool {
     let keys = [KeyPair { before: 0, own: 0 }];
     let places = matches(alloc, &keys, before, own).expect(rt, "memory");

@@ -1,3 +1,5 @@
+//! Table files: records, errors and their order, the limit of rows, and the generated input.
+
 use rt_ddl::read_schema;
 use rt_load::{LoadFault, Made, load, made};
 use rt_schema::{Given, Schema};
@@ -42,7 +44,7 @@ fn cell(rt: &impl Abort, alloc: Global, value: &Value) -> String {
     .expect(rt, "memory")
 }
 
-// The values of all rows, each behind a `|`, and each row behind a `;`.
+// The values of all rows, each after a `|`, and each row after a `;`.
 fn shown(rt: &impl Abort, alloc: Global, given: &Given) -> String {
     let mut text = String::new(alloc);
     for rows in given.tables() {
@@ -114,7 +116,7 @@ fn the_first_fault_decides(rt: HostRuntime) {
     assert!(rt; is_refused(&rt, alloc, TEXTS, file, LoadFault::BadText(2, 2)));
 }
 
-// Row 2,001 is refused, and the fault behind it is not reached.
+// Row 2,001 is refused, and the error after it is not reached.
 #[test]
 fn row_2001_is_one_too_many(rt: HostRuntime) {
     let alloc = rt.alloc();

@@ -1,3 +1,5 @@
+//! The work of a query, as it is counted before it is run.
+
 use crate::data::read_data;
 use rt_algebra::{Expr, Pred, Query, Typed, work};
 use rt_schema::ColKind;
@@ -8,13 +10,13 @@ use std::process::Abort;
 const SCHEMA: &str =
     "CREATE TABLE student (name TEXT, major TEXT);\nCREATE TABLE reg (name TEXT, num INTEGER, dept TEXT, grade INTEGER);";
 
-/// Two students, and three registrations.
+// Two students, and three registrations.
 const FILES: [&str; 2] = [
     "name,major\nMary,CS\nJohn,ECON\n",
     "name,num,dept,grade\nMary,216,CS,100\nMary,230,CS,75\nJohn,316,CS,90\n",
 ];
 
-/// A product of tables.
+// A product of tables.
 fn product(rt: &impl Abort, alloc: Global, tables: &[usize]) -> Boxed<Query> {
     let mut members = List::new(alloc);
     for table in tables {
@@ -23,7 +25,7 @@ fn product(rt: &impl Abort, alloc: Global, tables: &[usize]) -> Boxed<Query> {
     Boxed::new(alloc, Query::Product(members)).expect(rt, "memory")
 }
 
-/// As many comparisons of two columns.
+// As many comparisons of two columns.
 fn comparisons(rt: &impl Abort, alloc: Global, count: usize) -> Pred {
     let mut tests = List::new(alloc);
     for _ in 0..count {
@@ -33,7 +35,7 @@ fn comparisons(rt: &impl Abort, alloc: Global, count: usize) -> Pred {
     Pred::And(tests)
 }
 
-/// The first column of a product of tables, under as many comparisons of two columns.
+// The first column of a product of tables, under as many comparisons of two columns.
 fn picked(rt: &impl Abort, alloc: Global, tables: &[usize], count: usize) -> Boxed<Query> {
     let select = Query::Select(product(rt, alloc, tables), comparisons(rt, alloc, count));
     let selected = Boxed::new(alloc, select).expect(rt, "memory");
@@ -42,12 +44,12 @@ fn picked(rt: &impl Abort, alloc: Global, tables: &[usize], count: usize) -> Box
     Boxed::new(alloc, project).expect(rt, "memory")
 }
 
-/// The names of one query and not of the other.
+// The names of one query and not of the other.
 fn difference(rt: &impl Abort, alloc: Global, a: Boxed<Query>, b: Boxed<Query>) -> Boxed<Query> {
     Boxed::new(alloc, Query::Except(a, b)).expect(rt, "memory")
 }
 
-/// A query with one column of texts.
+// A query with one column of texts.
 fn typed(rt: &impl Abort, alloc: Global, query: Boxed<Query>) -> Typed {
     let name = vec![in alloc; None].expect(rt, "memory");
     Typed {

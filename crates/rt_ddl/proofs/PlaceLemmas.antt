@@ -18,7 +18,7 @@ use Rattle.rt_ddl.specs.declared.parts.Part.{Part}
 use Rattle.rt_ddl.specs.declared.parts.Part.TheVariants as part
 use Rattle.rt_ddl.specs.declared.parts.TableText.{TableText}
 
--- ---- words of choice
+-- ---- choices
 
 or-none : {A : Type 0} (o : Option A) → or_else o None ≡ o
 or-none None = refl
@@ -109,7 +109,7 @@ pub table-named : (ts : List TableText) (n : Word) → has_name (table_names ts)
 table-named [] n = refl
 table-named (t ∷ ts) n = ap (λ b. bytes_eq t.name n || b) (table-named ts n)
 
--- ---- where columns and tables stand
+-- ---- where columns and tables are
 
 at-more : (b : Bool) (k m : ℕ) (o : Option ℕ) → k ≡ unwrap_or o m → cond {A = ℕ} b 0 (suc k) ≡ unwrap_or (cond {A = Option ℕ} b (Some 0) (option_map (λ (i : ℕ). suc i) o)) (suc m)
 at-more true k m o h = refl

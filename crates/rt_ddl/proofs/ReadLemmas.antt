@@ -18,7 +18,7 @@ use Rattle.rt_ddl.specs.declared.parts.TableText.{TableText}
 use Rattle.rt_ddl_tree.specs.declared.tree.SchemaText.{SchemaText}
 use Rattle.rt_ddl_tree.proofs.TreeLemmas.{one_tree}
 
--- the faults that a tree can have
+-- the errors that a tree can have
 abbrev of_tree : SchemaFault → Bool
 of_tree (fault.Lex f) = false
 of_tree (fault.Syntax at) = false
@@ -86,7 +86,7 @@ tree-answer text tokens tree r l t g others other m u =
 lex-tree : (text : Text) (f : LexFault) (P : Answer → Type 0) → lexed text ≡ Err f → TreeAnswer text P
 lex-tree text f P l tokens tree m t = let h : Err f ≡ Ok tokens = sym l ∙ m in cc h
 
--- the faults of the tokens
+-- the errors of the tokens
 pub lex-answer : (text : Text) (f : LexFault) → Gives lex_memory (Err f) (lexed text) → IsAnswer text (Err (of_lex f))
 lex-answer text (lex.NotUtf8 at) g = g
 lex-answer text (lex.BadByte at) g = g

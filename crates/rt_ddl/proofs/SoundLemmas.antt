@@ -1,4 +1,5 @@
--- Where no name is unknown, all foreign keys match and all checks are typed, the tables are a schema.
+-- Where no name is unknown, all foreign keys match and all checks are typed, the tables are a
+-- schema.
 use Rattle.std.proofs.Common.{◌≡◌, ◌<◌, sym, subst, ℕ, suc, List, [], ◌∷◌, ◌++◌, length, refl, Bool, true, false, Option, Some, None, cond, arith, map}
 use Rattle.std.specs.Prelude.{◌&&◌, ◌||◌, bytes_eq, nat_lt, IsTrue}
 use Rattle.std.specs.List.{flat_map, list_all}
@@ -23,7 +24,7 @@ use Rattle.rt_ddl_tree.specs.declared.test_tree.TestPart.{TestPart}
 use Rattle.rt_ddl_tree.specs.declared.test_tree.TestSide.{TestSide}
 use Rattle.rt_ddl_tree.specs.declared.test_tree.TestSide.TheVariants as side
 
--- ---- words of choice
+-- ---- choices
 
 both-none : {A : Type 0} (a b : Option A) → or_else a b ≡ None → (a ≡ None) × (b ≡ None)
 both-none None b e = (refl, e)

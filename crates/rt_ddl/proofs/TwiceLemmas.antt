@@ -1,4 +1,4 @@
--- A name that stands twice is among the names so far.
+-- A name that is given twice is among the names so far.
 use Rattle.std.proofs.Common.{◌≡◌, ◌∙◌, ◌+◌, ◌<◌, sym, ap, ℕ, List, [], ◌∷◌, ◌++◌, length, get_or, take, drop, Bool, false, Option, Some, None}
 use Rattle.std.proofs.lemmas.List.{drop_more, map-append, take_more}
 use Rattle.rt_token.specs.Terminals.{Word}

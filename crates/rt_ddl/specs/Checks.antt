@@ -1,7 +1,7 @@
 -- The check that a condition makes, its columns by their numbers (ISO/IEC 9075-2, check constraint
 -- definition). A number after a minus stays within 128 bits, as each number of a text does.
 --
--- NOT before a comparison and the NOT inside it: where both stand, there is none.
+-- NOT before a comparison and the NOT inside it cancel out where both are there.
 use Rattle.std.specs.Prelude.{ℕ, Bool, true, false, not, ◌∷◌, map}
 use Rattle.std.specs.Int.{int_wrapping_neg, w128}
 use Rattle.rt_token.specs.Terminals.{Word}

@@ -1,4 +1,4 @@
--- A fault of the tokens as a fault of the schema.
+-- An error of the tokens as an error of the schema.
 use Rattle.rt_token.specs.declared.fault.LexFault.{LexFault}
 use Rattle.rt_token.specs.declared.fault.LexFault.TheVariants as lex
 use Rattle.rt_ddl.specs.declared.fault.SchemaFault.{SchemaFault}

@@ -1,8 +1,8 @@
--- Which schema a text makes, or its first fault (ISO/IEC 9075-2, table definition; our own limits).
+-- Which schema a text makes, or its first error (ISO/IEC 9075-2, table definition; our own limits).
 --
--- The faults come in five classes, one after the other over the whole text: a name that stands
--- twice, a name that is unknown, a foreign key whose columns do not match, an excess, and a check that
--- compares a whole number with a text. In a class the first place in text order decides.
+-- There are five tests, one after the other over the whole text: a name given twice, a name that is
+-- unknown, a foreign key whose columns do not match, an excess, and a check of mixed kinds. Of the
+-- errors of one test the first place in text order decides.
 use Rattle.std.specs.Prelude.{ℕ, suc, Bool, true, false, if◌then◌else◌, List, [], ◌∷◌, ◌++◌, count_by, length, map, Option, Some, None, Result, Ok, Err, bytes_eq, nat_lt, slice_get}
 use Rattle.std.specs.List.{flat_map, list_all, list_any}
 use Rattle.rt_token.specs.Terminals.{Word}
@@ -37,7 +37,7 @@ abbrev pub given : {A : Type 0} → Bool → A → Option A
 given true x = Some x
 given false x = None
 
--- ---- a name that stands twice
+-- ---- a name that is given twice
 
 abbrev pub has_name : List Word → Word → Bool
 has_name ns n = list_any (λ m. bytes_eq m n) ns
@@ -67,7 +67,7 @@ has_primary ps = list_any is_primary ps
 abbrev pub has_table : List TableText → Word → Bool
 has_table ts n = list_any (λ t. bytes_eq t.name n) ts
 
--- the first of the names that stands before, also among those before all
+-- the first of the names that is also one before it, or among those before them all
 abbrev pub name_twice : List Word → List Word → Option Word
 name_twice before [] = None
 name_twice before (n ∷ ns) = or_else (given (has_name before n) n) (name_twice (before ++ n ∷ []) ns)
@@ -210,7 +210,7 @@ rules_made ts cs (rule.Foreign from t to) = made.Foreign (record { from = column
 rules_made ts cs (rule.Check t) = made.Check (check_made (column_at cs) t) ∷ []
 rules_made ts cs (rule.Depend from to) = made.Depend (record { from = columns_at cs from; to = columns_at cs to }) ∷ []
 
--- the rules that stand with a column, or those that stand for themselves
+-- the rules that are items of the table (true), or those written with a column (false)
 abbrev pub part_rules : Bool → List TableText → List Column → Part → List Rule
 part_rules true ts cs (part.Column c) = []
 part_rules true ts cs (part.Rule true r) = rules_made ts cs r
@@ -304,7 +304,7 @@ abbrev pub named : (Word → SchemaFault) → Option Word → Option SchemaFault
 named f None = None
 named f (Some n) = Some (f n)
 
--- the first fault of a text, with the tables that it makes
+-- the first error of a text, with the tables that it makes
 abbrev pub fault_of : List TableText → List Table → Option SchemaFault
 fault_of texts tables =
     or_else (named fault.DuplicateName (tables_twice [] texts))

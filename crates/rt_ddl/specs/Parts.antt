@@ -2,7 +2,7 @@
 -- constraint definition).
 --
 -- IF NOT EXISTS, the number after CHAR or VARCHAR, the rule NULL and the names of constraints have
--- no effect. A rule that stands with a column is the rule over this one column, but a CHECK may name
+-- no effect. A rule written with a column is the rule over this one column, but a CHECK may name
 -- every column of its table.
 use Rattle.std.specs.Prelude.{true, false, List, [], ◌∷◌, ◌++◌, map, Option, Some, None, option_map}
 use Rattle.std.specs.List.{flat_map}
@@ -43,7 +43,7 @@ kind_of word.Text = of_kind.Text
 kind_of (word.Char n) = of_kind.Text
 kind_of (word.VarChar n) = of_kind.Text
 
--- a rule that stands with the column of this name
+-- a rule written with the column of this name
 abbrev pub column_rule_parts : Word → ColumnRule → List Part
 column_rule_parts name column_rule.NotNull = part.Rule false (rule.NotNull name) ∷ []
 column_rule_parts name column_rule.Null = []
@@ -52,7 +52,7 @@ column_rule_parts name column_rule.Unique = part.Rule false (rule.Unique (name �
 column_rule_parts name (column_rule.References t c) = part.Rule false (rule.Foreign (name ∷ []) t.text (option_map (λ n. n.text ∷ []) c)) ∷ []
 column_rule_parts name (column_rule.Check t) = part.Rule false (rule.Check t) ∷ []
 
--- a rule that stands with a column, or none
+-- a rule written with a column, or none
 abbrev pub rule_parts : Option RuleText → List Part
 rule_parts None = []
 rule_parts (Some r) = part.Rule false r ∷ []

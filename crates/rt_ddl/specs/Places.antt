@@ -32,7 +32,7 @@ column_names ps = map (λ c. c.name) (columns_of ps)
 abbrev pub table_names : List TableText → List Word
 table_names ts = map (λ t. t.name) ts
 
--- what is kept beside the parts of a table
+-- what is kept with the parts of a table
 pub record IsKnown (parts : List Part) (columns : List Column) (names : List Word) (has : Bool) (primary : List Word) : Type 0 where
   pub columns_are : columns ≡ columns_of parts
   pub names_are : names ≡ column_names parts

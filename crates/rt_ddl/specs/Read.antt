@@ -22,7 +22,7 @@ HasTree text a = (tokens : List Token) × (tree : SchemaText) × (lexed text ≡
 abbrev pub HasNoTree : Text → ℕ → Type 0
 HasNoTree text at = (tokens : List Token) × (lexed text ≡ Ok tokens) × ((tree : SchemaText) → ¬ IsTreeOf tokens tree) × IsPlace tokens at
 
--- when each answer comes; want of memory may come anywhere
+-- when each answer comes; NoMemory may come anywhere
 abbrev pub IsAnswer : Text → Answer → Type 0
 IsAnswer text (Ok tables) = HasTree text (Ok tables)
 IsAnswer text (Err (fault.Lex f)) = lexed text ≡ Err f

@@ -1,5 +1,5 @@
--- What a text makes, as a value: the law `read_is_tree` says that the tree that is read here is just
--- the one formed tree that the tokens have.
+-- What a text makes, as a value. By the law `read_is_tree` the tree that is read here is just the
+-- one formed tree that the tokens have.
 use Rattle.std.specs.Prelude.{List, Option, Some, None, Result, Ok, Err}
 use Rattle.rt_token.specs.Lexed.{Text, lexed}
 use Rattle.rt_token.specs.declared.fault.LexFault.{LexFault}
@@ -19,12 +19,12 @@ abbrev pub of_tokens : Result (List Token) LexFault → Answer
 of_tokens (Ok tokens) = of_tree (tree_read tokens)
 of_tokens (Err f) = Err (fault.Lex f)
 
--- the schema that a text makes, or its first fault; the place of a syntax fault is left open, and
--- 0 stands for it
+-- the schema that a text makes, or its first error; the place of a syntax error is left open, and
+-- given as 0
 abbrev pub schema_read : Text → Answer
 schema_read text = of_tokens (lexed text)
 
--- an answer without the place of a syntax fault
+-- an answer without the place of a syntax error
 abbrev pub placeless : Answer → Answer
 placeless (Ok tables) = Ok tables
 placeless (Err (fault.Lex f)) = Err (fault.Lex f)

@@ -1,4 +1,4 @@
-//! The tables and rules that the texts make.
+//! From names to numbers: the tables and rules that the texts make, once all names are known.
 
 ghost use Rattle.std.specs.Prelude.{◌≡◌, ◌++◌, ◌∷◌, [], IfOk, OnOk, map, option_map};
 ghost use Rattle.std.specs.List.{flat_map};
@@ -119,7 +119,7 @@ fn push_rule(
     }
 }
 
-// Puts the rules that stand for themselves, or those that stand with columns, at the end.
+// Puts the rules that are items of the table, or those written with a column, at the end.
 fn push_rules(
     alloc: Global,
     rules: &mut List<Rule>,
@@ -155,7 +155,8 @@ fn table_of(alloc: Global, tables: &KnownTables, table: &KnownTable) -> Result<T
     })
 }
 
-/// The tables that the texts make, where no name stands twice or is unknown.
+/// The tables that the texts make, in text order; the rules of columns come before the others. An
+/// unknown name gets the number after the last one.
 pub fn tables_of(alloc: Global, texts: &KnownTables) -> Result<List<Table>, NoMemory>
     ensures { IfOk result (λ tables. tables ≡ spec.tables_of texts.now) }
 {

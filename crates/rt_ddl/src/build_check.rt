@@ -1,4 +1,4 @@
-//! The checks that conditions make.
+//! The checks that conditions make. NOT before a comparison and NOT inside it cancel out.
 
 ghost use Rattle.std.specs.Prelude.{◌≡◌, IfOk};
 ghost use Rattle.rt_ddl.specs.Checks as spec;
@@ -84,7 +84,7 @@ fn form_made(alloc: Global, table: &KnownTable, form: &TestForm) -> Result<Check
     }
 }
 
-// The NOT inside.
+// The NOT inside a form, as in NOT BETWEEN.
 fn form_not(form: &TestForm) -> bool
     ensures { result ≡ spec.form_not form.now }
 {

@@ -1,3 +1,5 @@
+//! The errors of reading a schema, those of the lexer included.
+
 ghost use Rattle.std.specs.Prelude.{◌≡◌};
 ghost use Rattle.rt_ddl.specs.LexFaults.{of_lex};
 ghost use Rattle.rt_ddl.specs.declared.fault.SchemaFault.TheVariants as faults;
@@ -14,8 +16,8 @@ pub enum Excess {
     Rules(Txt),
 }
 
-/// Why a text makes no schema. The faults are tested in this order, each over the whole text; of
-/// those of one kind the first in the text is told.
+/// Why a text makes no schema. The errors are tested in this order, each over the whole text; of
+/// those of one kind the first in the text is the answer.
 #[derive(Debug, Drop)]
 pub enum SchemaFault {
     Lex(LexFault),

@@ -1,3 +1,6 @@
+//! A table's text with what the later passes look up, computed once. Contracts see the text alone,
+//! so what is kept for speed may change.
+
 ghost use Rattle.std.specs.Prelude.{◌≡◌, IfOk, map, option_map, slice_get};
 ghost use Rattle.rt_ddl.specs.Meaning as spec;
 
@@ -8,7 +11,7 @@ use rt_value::{List, NoMemory, Txt};
 use std::alloc::Global;
 use std::marker::Model;
 
-/// A table's text. To find a column takes time in the logarithm of their number.
+/// A table's text. Finding a column takes time in the logarithm of their number.
 pub struct KnownTable {
     text: TableText,
     columns: List<Column>,
@@ -105,6 +108,7 @@ fn copied(alloc: Global, names: &[Txt]) -> Result<List<Txt>, NoMemory>
 }
 
 impl KnownTable {
+    /// The table of a text, with what is looked up in it.
     pub fn of(alloc: Global, text: TableText) -> Result<KnownTable, NoMemory>
         ensures { IfOk result (λ table. table ≡ text) }
     {
@@ -134,13 +138,14 @@ impl KnownTable {
         self.text.parts.as_slice()
     }
 
+    /// Whether a column has this name.
     pub fn has_column(&self, name: &Txt) -> bool
         ensures { result ≡ spec.has_column self.now.parts name.now }
     {
         self.names.has(name)
     }
 
-    /// The column of this name.
+    /// The first column of this name.
     pub fn column(&self, name: &Txt) -> Option<&Column>
         ensures { option_map (λ column. column.now) result ≡ slice_get (spec.columns_of self.now.parts) (spec.column_at (spec.columns_of self.now.parts) name.now) }
     {
@@ -148,7 +153,7 @@ impl KnownTable {
         self.columns.as_slice().get(place)
     }
 
-    /// The place of the column of this name, or the number of columns.
+    /// The place, from 0, of the first column of this name, or the number of columns.
     pub fn column_at(&self, name: &Txt) -> usize
         ensures { result ≡ spec.column_at (spec.columns_of self.now.parts) name.now }
     {
@@ -164,7 +169,7 @@ impl KnownTable {
         self.has_primary
     }
 
-    /// The columns of the primary key.
+    /// The columns of the first primary key, or none without one.
     pub fn primary(&self) -> &[Txt]
         ensures { result.now ≡ spec.primary_of self.now.parts }
     {

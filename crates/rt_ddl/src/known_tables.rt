@@ -1,3 +1,5 @@
+//! All tables of a text, found by name. Contracts see the list of their texts alone.
+
 ghost use Rattle.std.specs.Prelude.{◌≡◌, ◌++◌, ◌∷◌, [], IfOk, option_map, slice_get};
 ghost use Rattle.rt_ddl.specs.Meaning as spec;
 
@@ -7,7 +9,8 @@ use rt_value::{List, NoMemory, Txt};
 use std::alloc::Global;
 use std::marker::Model;
 
-/// The tables of a text, in text order. To find one takes time in the logarithm of their number.
+/// The tables of a text, in text order. Finding one takes time in the logarithm of
+/// their number.
 #[derive(Drop)]
 pub struct KnownTables {
     list: List<KnownTable>,
@@ -43,6 +46,7 @@ impl KnownTables {
         }
     }
 
+    /// The tables in text order.
     pub fn as_slice(&self) -> &[KnownTable]
         ensures { result.now ≡ self.now }
     {

@@ -1,7 +1,8 @@
 //! Reading a schema: CREATE TABLE statements (ISO/IEC 9075-2, table definition), from bytes to the
 //! tables and rules that they make.
 //!
-//! The trees of texts stand in rt_ddl_tree; `specs/Meaning.antt` says which schema a text makes.
+//! The trees of texts are those of rt_ddl_tree; `specs/Meaning.antt` says which schema a text
+//! makes.
 #![tactic(auto)]
 
 mod build;

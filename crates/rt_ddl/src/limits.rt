@@ -1,4 +1,4 @@
-//! Limits.
+//! How large a schema may be: limits of our own, not the standard's.
 
 ghost use Rattle.std.specs.Prelude.{◌≡◌};
 ghost use Rattle.rt_ddl.specs.Meaning as spec;
@@ -52,7 +52,7 @@ fn check_table(alloc: Global, table: &Table) -> Result<(), SchemaFault>
     Ok(())
 }
 
-/// Whether the tables are too many, or one of them has too many columns or rules.
+/// The first excess: too many tables, or else the first table with too many columns or rules.
 pub fn check_limits(alloc: Global, tables: &[Table]) -> Result<(), SchemaFault>
     ensures { Gives is_memory result (spec.unless (spec.excess_of tables.now) tt) }
 {

@@ -1,4 +1,4 @@
-//! Lists of what parts of a condition make.
+//! What each part of a condition makes, and the loop over a list of parts, proved once.
 
 ghost use Rattle.std.specs.Prelude.{◌≡◌, ◌∷◌, ℕ, IfOk, map};
 ghost use Rattle.rt_ddl.specs.Meaning.{column_at, columns_of};

@@ -1,4 +1,4 @@
-//! Foreign keys whose columns do not match.
+//! The third test: foreign keys whose columns match in number and kind those they refer to.
 
 ghost use Rattle.std.specs.Prelude.{◌≡◌, option_map};
 ghost use Rattle.std.specs.List.{list_all};

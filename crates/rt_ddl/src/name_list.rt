@@ -1,3 +1,5 @@
+//! An index of names. That it is a `BTreeMap` is private; contracts see the names in order.
+
 ghost use Rattle.std.specs.Prelude.{◌≡◌, ◌++◌, ◌∷◌, [], IfOk, OnOk, bytes_eq, length};
 ghost use Rattle.rt_token.specs.Terminals.{Word};
 ghost use Rattle.rt_ddl.specs.Meaning.{given, has_name, or_else};
@@ -8,7 +10,7 @@ use std::alloc::Global;
 use std::collections::BTreeMap;
 use std::marker::Model;
 
-/// Names in an order. To find one takes time in the logarithm of their number.
+/// Names in an order. Finding one takes time in the logarithm of their number.
 pub struct NameList {
     list: List<Txt>,
     places: BTreeMap<Txt, usize>,
@@ -58,19 +60,21 @@ impl NameList {
         }
     }
 
+    /// Whether the name is among these.
     pub fn has(&self, name: &Txt) -> bool
         ensures { result ≡ has_name self.now name.now }
     {
         self.places.contains_key(name)
     }
 
+    /// How many names there are, repeated ones counted each time.
     pub fn len(&self) -> usize
         ensures { result ≡ length self.now }
     {
         self.list.len()
     }
 
-    /// The first place of a name.
+    /// The first place of a name, from 0.
     pub fn place(&self, name: &Txt) -> Option<usize>
         ensures { result ≡ place_of self.now name.now }
     {

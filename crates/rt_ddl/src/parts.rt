@@ -1,4 +1,5 @@
-//! What a table's text says, part by part in text order, without the words that have no effect.
+//! What a table's text says, part by part in text order, without what has no effect. Later passes
+//! work on this, and no longer on the tree.
 
 use rt_ddl_tree::{Shared, Test};
 use rt_schema::Column;
@@ -16,21 +17,22 @@ impl Drop for TableText {
     }
 }
 
-/// A column, or a rule; a rule tells whether it stands for itself or with a column.
+/// A column, or a rule. The bool of a rule is true where it is an item of the table, false where it
+/// was written with a column.
 #[derive(Drop)]
 pub enum Part {
     Column(Column),
     Rule(bool, RuleText),
 }
 
-/// A rule over columns by their names. One that stands with a column names that one; a CHECK may
-/// name others.
+/// A rule over columns by their names. One that was written with a column names that column alone,
+/// but a CHECK may name others.
 #[derive(Drop)]
 pub enum RuleText {
     NotNull(Txt),
     PrimaryKey(List<Txt>),
     Unique(List<Txt>),
-    /// The referencing columns, the referenced table, and its columns if they are told.
+    /// The referencing columns, the referenced table, and its columns if they are given.
     Foreign(List<Txt>, Txt, Option<List<Txt>>),
     Check(Shared<Test>),
     /// The determining columns, and those that they determine.

@@ -1,3 +1,5 @@
+//! From bytes to a schema: tokens, tree, parts, the five tests, and the tables.
+
 ghost use Rattle.rt_ddl.specs.Meaning.{is_memory, schema_of};
 ghost use Rattle.rt_ddl.specs.Parts as spec;
 ghost use Rattle.rt_ddl.specs.Read.{IsAnswer, TreeAnswer};
@@ -18,7 +20,7 @@ use rt_schema::Schema;
 use rt_token::{ReadFault, syntax_place, tokens};
 use std::alloc::Global;
 
-// The schema that the texts make, or their first fault.
+// The schema that the texts make, or their first error.
 #[tactic(auto, using(crate::proofs::SoundLemmas::sound_tables))]
 fn schema(alloc: Global, texts: &KnownTables) -> Result<Schema, SchemaFault>
     ensures { Gives is_memory result (schema_of texts.now) }
@@ -47,7 +49,8 @@ fn made(alloc: Global, tree: &SchemaText) -> Result<Schema, SchemaFault>
     schema(alloc, &texts)
 }
 
-/// Reads the CREATE TABLE statements of a text.
+/// The schema of a text of CREATE TABLE statements (ISO/IEC 9075-2, table definition), or the first
+/// error of the text.
 pub fn read_schema(alloc: Global, text: &[u8]) -> Result<Schema, SchemaFault>
     ensures answer { IsAnswer text.now result }
     ensures tree { TreeAnswer text.now (Gives is_memory result) }

@@ -81,7 +81,7 @@ fn column_foreign(
     Ok(RuleText::Foreign(from, table, maybe_only(alloc, to)?))
 }
 
-// The rule that stands with the column of this name, unless it has no effect.
+// The rule written with the column of this name, unless it has no effect.
 fn column_rule(alloc: Global, column: &Txt, rule: &ColumnRule) -> Result<Option<RuleText>, NoMemory>
     ensures { IfOk result (λ r. spec.rule_parts r ≡ spec.column_rule_parts column.now rule.now) }
 {

@@ -1,4 +1,4 @@
-//! The first name that stands twice.
+//! The first test: no name is given twice, and no table has two primary keys.
 
 ghost use Rattle.std.specs.Prelude.{◌≡◌, ◌++◌, ◌∷◌, [], IfOk, option_map};
 ghost use Rattle.rt_ddl.specs.Meaning as spec;
@@ -130,7 +130,7 @@ fn parts_twice<'t>(
     Ok(None)
 }
 
-/// The first name that stands twice, or the table of the first primary key that is a second one.
+/// The first name that is given twice, or the table of the first primary key that is a second one.
 pub fn tables_twice(alloc: Global, tables: &[KnownTable]) -> Result<Option<&Txt>, NoMemory>
     ensures { IfOk result (λ twice. option_map (λ name. name.now) twice ≡ spec.tables_twice [] tables.now) }
 {

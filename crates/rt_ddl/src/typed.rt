@@ -1,4 +1,4 @@
-//! Checks that compare a whole number with a text.
+//! The last test: no check compares a whole number with a text.
 
 ghost use Rattle.std.specs.Prelude.{◌≡◌, option_map};
 ghost use Rattle.rt_ddl.specs.Meaning as spec;

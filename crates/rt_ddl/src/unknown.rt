@@ -1,4 +1,4 @@
-//! The first name that is unknown.
+//! The second test: each name of a rule is that of a table or a column.
 
 ghost use Rattle.std.specs.Prelude.{◌≡◌, option_map};
 ghost use Rattle.rt_ddl.specs.Meaning as spec;
@@ -9,7 +9,7 @@ use crate::parts::{Part, RuleText};
 use crate::unknown_test::test_unknown;
 use rt_value::{List, Txt};
 
-// The name, where no column has it.
+/// The name, where no column has it.
 #[tactic(auto, unfolding(crate::specs::Meaning::unknown_column))]
 pub fn unknown_column<'t>(table: &KnownTable, name: &'t Txt) -> Option<&'t Txt>
     ensures { option_map (λ name. name.now) result ≡ spec.unknown_column table.now.parts name.now }

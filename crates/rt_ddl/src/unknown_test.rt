@@ -1,4 +1,4 @@
-//! The first name in a condition that is unknown.
+//! The second test within conditions: each name is that of a column.
 
 ghost use Rattle.std.specs.Prelude.{◌≡◌, option_map};
 ghost use Rattle.rt_ddl.specs.Meaning as spec;

@@ -7,7 +7,7 @@ use Rattle.rt_token.proofs.FrontLemmas.{other-nat}
 use Rattle.rt_token.proofs.Laws.{Lawful, name-law, paren-law, weaker}
 use Rattle.rt_ddl_tree.specs.Spelled.{spelled_name}
 
--- a reader of the schema grammar, whose names may stand before a parenthesis
+-- a reader of the schema grammar, whose names may come before a parenthesis
 abbrev pub Law : {A : Type 0} → Parser A → (A → Kinds) → ℕ → ℕ → Type 0
 Law p spell n low = Lawful false p spell n low
 

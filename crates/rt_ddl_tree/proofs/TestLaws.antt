@@ -134,7 +134,7 @@ form-sound =
     (either-sound is_one_of read_one_of read_between spelled_form (made-sound _ one_of one_of_kinds spelled_form (one-of-law 0).sound (λ x. refl))
     (made-sound _ between between_kinds spelled_form (between-law 0).sound (λ x. refl))))
 
--- what follows a form's first side tells which form it is
+-- what follows a form's first side decides which form it is
 past-side : (a : TestSide) (x rest : Kinds) → past_side ((spelled_side a ++ x) ++ rest) ≡ x ++ rest
 past-side (side.Column n) x rest = refl
 past-side (side.Number false n) x rest = refl

@@ -1,4 +1,4 @@
--- Readers of what stands in lists.
+-- Readers of members of lists.
 use Rattle.std.specs.Prelude.{◌≡◌, ◌≤◌, length, Some}
 use Rattle.rt_token.specs.Readers.{Parser}
 use Rattle.rt_token.specs.Terminals.{Kinds}

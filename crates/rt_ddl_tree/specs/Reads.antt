@@ -1,6 +1,6 @@
 -- The grammar of schema texts, as readers of terminals from the left.
 --
--- What the reading of a schema answers is defined by them; by the law `read_is_tree` it is the tree that
+-- They define what the reading of a schema answers. By the law `read_is_tree` that is the tree that
 -- the tokens spell (`Spelled`).
 use Rattle.std.specs.Prelude.{◌&&◌, ◌||◌, ℤ, Bool, true, false, List, [], ◌∷◌, Option, Some, None, codes, is_some}
 use Rattle.rt_token.specs.Readers.{Parser, Step, ◌>>=◌, after_word, alternative, both, done, either, lead, lead_word, list_of, made, no_other, optional, paren, read_end, read_name, starts, step_after, step_when, word_alternative}
@@ -125,7 +125,7 @@ read_table_rule =
     (alternative fixed.Unique (made table_rule.Unique read_names)
     (alternative fixed.Foreign (made foreign_of (lead_word (codes "key") read_foreign)) read_other_table_rule))
 
--- whether DEPENDENCY stands there as a word, and not as a column's name
+-- whether DEPENDENCY comes next as a keyword, and not as a column's name
 abbrev pub is_dependency : Kinds → Bool
 is_dependency ks = starts fixed.Left (tail_of ks) && is_some (after_word (codes "dependency") ks)
 
@@ -153,7 +153,7 @@ create_of b x = record { if_not_exists = b; name = x.0; head = x.1.0; tail = x.1
 unfoldable pub read_made : Parser (Name × (Item × List Item))
 read_made = both read_name read_items
 
--- whether IF stands there as a word, and not as the table's name
+-- whether IF comes next as a keyword, and not as the table's name
 abbrev pub is_if : Kinds → Bool
 is_if ks = starts fixed.Not (tail_of ks)
 

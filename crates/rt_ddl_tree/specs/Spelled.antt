@@ -1,5 +1,5 @@
--- The tokens of a schema text's tree (ISO/IEC 9075-2, table definition; the grammar stands at the
--- types of the tree).
+-- The tokens of a schema text's tree (ISO/IEC 9075-2, table definition). The grammar is in the
+-- comments of the tree's types.
 use Rattle.std.specs.Prelude.{◌≡◌, ℤ, Bool, true, false, List, [], ◌∷◌, ◌++◌, map, codes}
 use Rattle.std.specs.List.{flat_map}
 use Rattle.rt_token.specs.Terminals.{Kinds, Word, flag, in_paren, maybe}

@@ -1,6 +1,6 @@
 -- The grammar of conditions, as readers of terminals from the left.
 --
--- What the reading of a schema answers is defined by them; by the law `read_is_tree` it is the tree that
+-- They define what the reading of a schema answers. By the law `read_is_tree` that is the tree that
 -- the tokens spell (`TestSpelled`).
 use Rattle.std.specs.Prelude.{Bool, true, false, List, [], ◌∷◌, if◌then◌else◌, Some, None, is_some}
 use Rattle.rt_value.specs.declared.value.Op.{Op}

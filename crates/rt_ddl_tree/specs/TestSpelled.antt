@@ -1,5 +1,5 @@
 -- The tokens of a CHECK's condition (ISO/IEC 9075-2, search condition, comparison predicate, null
--- predicate, between predicate, in predicate; the grammar stands at the types of the tree).
+-- predicate, between predicate, in predicate). The grammar is in the comments of the tree's types.
 use Rattle.std.specs.Prelude.{[], ◌∷◌, ◌++◌}
 use Rattle.std.specs.List.{flat_map}
 use Rattle.rt_token.specs.Comparisons.{op_sign}

@@ -14,7 +14,7 @@ TreeRead tokens (Ok t) = IsTreeOf tokens t
 TreeRead tokens (Err (Syntax left)) = (t : SchemaText) → ¬ IsTreeOf tokens t
 TreeRead tokens (Err NoMemory) = Unit {0}
 
--- the formed tree that tokens have, if they have one: the law `read_is_tree` says that the tree that
--- is read is just the one
+-- the formed tree that tokens have, if they have one: by the law `read_is_tree` it is the tree that
+-- is read
 unfoldable pub tree_read : List Token → Option SchemaText
 tree_read tokens = option_and_then read_text (marks (kinds tokens))

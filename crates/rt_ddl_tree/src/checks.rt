@@ -1,4 +1,4 @@
-//! Reading the conditions of CHECK.
+//! Reading the conditions of CHECK. What follows a form's first side decides which form is read.
 
 ghost use Rattle.std.specs.Prelude.{◌≡◌};
 ghost use Rattle.rt_ddl_tree.specs.TestReads as spec;

@@ -1,4 +1,4 @@
-//! Reading names, kinds and the rules of a column.
+//! Reading a column: its name, its kind and the rules after it; and lists of names.
 
 ghost use Rattle.std.specs.Prelude.{◌≡◌};
 ghost use Rattle.rt_ddl_tree.specs.Reads as spec;
@@ -26,6 +26,7 @@ impl Member for Name {
     }
 }
 
+/// Names in parentheses.
 #[tactic(auto, unfolding(crate::specs::Reads::read_names))]
 pub fn names<'t>(
     alloc: Global,
@@ -37,6 +38,7 @@ pub fn names<'t>(
     Ok((Names { head, tail }, rest))
 }
 
+/// Names in parentheses, or None where no parenthesis opens.
 #[tactic(auto, unfolding(crate::specs::Reads::read_maybe_names))]
 pub fn maybe_names<'t>(
     alloc: Global,
@@ -165,7 +167,7 @@ fn column_rule<'t>(
     other_column_rule(alloc, terminals)
 }
 
-/// CONSTRAINT and a name, if they stand there.
+/// The name after CONSTRAINT, if the terminals begin with that.
 #[tactic(auto, unfolding(crate::specs::Reads::read_constraint))]
 pub fn constraint<'t>(
     alloc: Global,
@@ -221,6 +223,7 @@ fn column_constraints<'t>(
     Ok((items, rest))
 }
 
+/// The column at the front, with its rules, and what follows it.
 #[tactic(auto, unfolding(crate::specs::Reads::read_column))]
 pub fn column<'t>(
     alloc: Global,

@@ -1,6 +1,6 @@
 //! The tree of a schema text (ISO/IEC 9075-2, table definition), and its reader from tokens.
 //!
-//! `tree` and `test_tree` have one type a line of the grammar; `specs/Spelled.antt` and
+//! `tree` and `test_tree` have one type for each line of the grammar; `specs/Spelled.antt` and
 //! `specs/TestSpelled.antt` say which tokens a tree has.
 #![tactic(auto)]
 

@@ -1,4 +1,4 @@
-//! Reading lists.
+//! Reading lists with separators: one loop, proved once, for every kind of member.
 
 ghost use Rattle.rt_ddl_tree.specs.Members.{IsShort};
 ghost use Rattle.rt_token.specs.Readers.{Parser, both, list_of, paren, step_after};
@@ -9,7 +9,7 @@ use rt_token::{Fixed, ReadFault, Terminal, after, expect};
 use rt_value::List;
 use std::alloc::Global;
 
-/// What stands in lists.
+/// What lists are made of.
 pub trait Member: Drop {
     ghost parser: { Parser Self };
 
@@ -38,7 +38,7 @@ fn more<'t, T: Member>(
     Ok((items, rest))
 }
 
-/// A member and those after it, each behind the separator.
+/// A member and those after it, each after a separator.
 pub fn list<'t, T: Member>(
     alloc: Global,
     terminals: &'t [Terminal],

@@ -1,3 +1,6 @@
+//! The reader of the tree, and the laws that its result is the one tree that the tokens have.
+//! Crates above rest on these laws, and not on how the readers in this crate branch.
+
 ghost use Rattle.std.specs.Prelude.{◌≡◌, List, Some};
 ghost use Rattle.rt_ddl_tree.specs.Spelled.{IsTreeOf};
 ghost use Rattle.rt_ddl_tree.specs.Trees.{TreeRead, tree_read};
@@ -9,7 +12,7 @@ use crate::tree::SchemaText;
 use rt_token::{ReadFault, Token, terminals};
 use std::alloc::Global;
 
-/// The tree of the tokens. A fault tells how many tokens were left where it was seen.
+/// The tree of the tokens. A syntax error says how many tokens were left where it was seen.
 pub fn read_tree(alloc: Global, tokens: &[Token]) -> Result<SchemaText, ReadFault>
     ensures { TreeRead tokens.now result }
 {

@@ -1,3 +1,6 @@
+//! A reference-counted value: a CHECK's condition is in the tree and in the table's parts, and is
+//! never copied.
+
 ghost use Rattle.std.specs.Prelude.{◌≡◌, IfOk};
 
 use rt_value::NoMemory;
@@ -5,7 +8,7 @@ use std::alloc::Global;
 use std::marker::Model;
 use std::rc::Rc;
 
-/// A value with several owners, that contracts see as the value.
+/// A value with several owners, which contracts see as the value.
 pub struct Shared<T> {
     owner: Rc<T>,
 }
@@ -33,6 +36,7 @@ impl<T> Shared<T> {
 }
 
 impl<T: Drop> Shared<T> {
+    /// The value with one owner.
     pub fn new(alloc: Global, value: T) -> Result<Shared<T>, NoMemory>
         ensures { IfOk result (λ s. s ≡ value) }
     {

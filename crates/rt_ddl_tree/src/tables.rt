@@ -1,4 +1,4 @@
-//! Reading rules of a table, tables and the whole text.
+//! Reading a table: its rules, its columns and rules in turn, and the whole text of tables.
 
 ghost use Rattle.std.specs.Prelude.{◌≡◌, codes};
 ghost use Rattle.rt_ddl_tree.specs.Reads as spec;
@@ -30,7 +30,7 @@ fn references<'t>(
     Ok(((table, to), rest))
 }
 
-// What follows the words FOREIGN KEY.
+// What follows FOREIGN KEY.
 #[tactic(auto, unfolding(crate::specs::Reads::read_foreign))]
 fn foreign<'t>(
     alloc: Global,
@@ -43,7 +43,7 @@ fn foreign<'t>(
     Ok(((from, references), rest))
 }
 
-// Names after the word KEY.
+// Names after KEY.
 fn key_names<'t>(
     alloc: Global,
     terminals: &'t [Terminal],
@@ -53,7 +53,7 @@ fn key_names<'t>(
     names(alloc, expect_word(terminals, "key")?)
 }
 
-// A foreign key from the word KEY on.
+// A foreign key from KEY on.
 fn key_foreign<'t>(
     alloc: Global,
     terminals: &'t [Terminal],
@@ -63,7 +63,7 @@ fn key_foreign<'t>(
     foreign(alloc, expect_word(terminals, "key")?)
 }
 
-// Names after the word DETERMINES.
+// Names after DETERMINES.
 fn determined<'t>(
     alloc: Global,
     terminals: &'t [Terminal],
@@ -73,7 +73,7 @@ fn determined<'t>(
     names(alloc, expect_word(terminals, "determines")?)
 }
 
-// What follows the word DEPENDENCY.
+// What follows DEPENDENCY.
 #[tactic(auto, unfolding(crate::specs::Reads::read_depend))]
 fn depend<'t>(
     alloc: Global,
@@ -123,7 +123,8 @@ fn table_rule<'t>(
     other_table_rule(alloc, terminals)
 }
 
-// Whether DEPENDENCY stands there as a word, and not as a column's name.
+// Whether DEPENDENCY comes next as a keyword, and not as a column's name: it isn't reserved, and a
+// parenthesis follows the keyword alone.
 fn is_dependency(terminals: &[Terminal]) -> bool
     ensures { result ≡ spec.is_dependency terminals.now }
 {
@@ -173,7 +174,7 @@ fn made<'t>(
     Ok(((name, items), rest))
 }
 
-// Whether IF stands there as a word, and not as the table's name.
+// Whether IF comes next as a keyword, and not as the table's name: NOT follows the keyword alone.
 fn is_if(terminals: &[Terminal]) -> bool
     ensures { result ≡ spec.is_if terminals.now }
 {

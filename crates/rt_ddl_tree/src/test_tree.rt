@@ -1,4 +1,4 @@
-//! The tree of a CHECK's condition, one type a line of the grammar, dropped as those of `tree` are.
+//! The tree of a CHECK's condition, one type for each line of the grammar. Drops are as in `tree`.
 
 use rt_token::Name;
 use rt_value::{List, Op, Txt};
@@ -29,8 +29,10 @@ pub struct TestLeaf {
     pub form: TestForm,
 }
 
+/// A comparison or a test, where the bool is true if this NOT is there:
+///
 /// `side op side | side IS [ NOT ] NULL | side [ NOT ] BETWEEN side AND side
-/// | side [ NOT ] IN "(" side { "," side } ")"`. The bool tells whether this NOT stands there.
+/// | side [ NOT ] IN "(" side { "," side } ")"`
 pub enum TestForm {
     Cmp(TestSide, Op, TestSide),
     IsNull(TestSide, bool),
@@ -49,7 +51,7 @@ impl Drop for TestForm {
     }
 }
 
-/// `name | [ "-" ] number | text | NULL`. The bool tells whether a minus stands there.
+/// `name | [ "-" ] number | text | NULL`. The bool is true if the minus is there.
 pub enum TestSide {
     Column(Name),
     Number(bool, i128),

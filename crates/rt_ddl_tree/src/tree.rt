@@ -1,7 +1,7 @@
-//! The tree of a schema text, one type a line of the grammar.
+//! The tree of a schema text, one type for each line of the grammar.
 //!
-//! A type with forms or trees in it has a `drop` of its own, which is called wherever one goes; a
-//! derived one is written out there, in each crate, with all forms.
+//! A type with forms or trees in it has a `drop` of its own, which is one call wherever a value
+//! goes. A derived one would be written out there, in each crate, with all forms.
 
 use crate::shared::Shared;
 use crate::test_tree::Test;

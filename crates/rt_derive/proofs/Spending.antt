@@ -33,7 +33,8 @@ not-own l = elim (bool-cases (lit_eq (negated l) l)) [ inl t ↦ absurd (never l
   never true e = cc
   never false e = cc
 
--- of a clause of which one literal is left, adding a literal that is not its negation leaves the same
+-- of a clause of which one literal is left, adding a literal that is not its negation leaves the
+-- same
 module _ (set new : List Literal) (l : Literal) (n : (k : Literal) → has new k ≡ (lit_eq k l || has set k)) where
   unmoved : (c : List Literal) → ((x : Literal) → has (left set c) x ≡ true → is_false new x ≡ false) → left new c ≡ left set c
   unmoved [] h = refl

@@ -1,4 +1,4 @@
--- Lines with the same literals, and those that are kept beside longer ones.
+-- Lines with the same literals, and those that are kept with longer ones.
 use Rattle.std.specs.Prelude.{◌≡◌, ℕ, ◌<◌, List, length}
 use Rattle.std.specs.BTreeMap.{BTreeMap, get}
 use Rattle.std.specs.Option.{IfSome}

@@ -1,4 +1,4 @@
--- What is left of a line, and how the checker tells it.
+-- What is left of a line, and how the checker says it.
 use Rattle.std.specs.Prelude.{◌≡◌, true, false, List, [], ◌∷◌}
 use Rattle.std.specs.List.{list_all}
 use Rattle.rt_clause.specs.Literal.{Literal, lit_eq}

@@ -1,3 +1,7 @@
+//! The checker: lines, and the one test by which a derived line is accepted. What a check
+//! remembers of its own run (literals held, long lines used) is private; contracts see lines and
+//! their Bools.
+
 ghost use Rattle.std.specs.Prelude.{◌≡◌, List as Seq, [], ◌∷◌, ◌++◌, ◌<◌, length, Bool, true, false, IsTrue, ◌↔◌, OnOk, OnErr, IfOk, if◌then◌else◌};
 ghost use Rattle.std.specs.List.{All as Each};
 ghost use Rattle.rt_clause.specs.Literal.{Literal};
@@ -15,7 +19,7 @@ use std::alloc::Global;
 use std::collections::BTreeSet;
 
 /// What is left of a line when its false literals are taken away: no literal, one literal that may
-/// stand there several times, or two different ones.
+/// be repeated, or at least two different ones.
 #[derive(Clone, Copy)]
 pub enum Rest {
     Nothing,
@@ -23,6 +27,7 @@ pub enum Rest {
     Several,
 }
 
+// Reads the line up to its second different literal that is not false.
 fn what_is_left(line: &[Lit], held: &Held) -> Rest
     ensures { IsRest (left held.now line.now) result }
 {
@@ -53,11 +58,12 @@ fn rest_at(lines: &Store, h: usize, held: &Held) -> Rest
     what_is_left(lines.brief_at(h), held)
 }
 
-// From so many literals on a line is long: it is read once in a check, however often it is hinted.
+// The length in literals from which a line is long. A check reads a long line as a unit once,
+// however often it is hinted.
 const LONG: usize = 64;
 
-// Uses the line as a unit: what it answers, or nothing where the hints go on. A long line that was
-// used before would add nothing, so it is not read again.
+// Uses the line as a unit. It gives the answer of the whole check, or none where the next hint is
+// to be used. A long line that was used before would add nothing, so it is not read again.
 fn take(
     held: &mut Held,
     used: &mut BTreeSet<usize>,
@@ -102,10 +108,13 @@ fn without_repeats(alloc: Global, lits: &[Lit], seen: &mut Held) -> Result<LitLi
 }
 
 // Whether assuming that the clause is false, and using the hinted lines in order as units, ends in
-// a false line. A line is read up to the second literal that is left of it, so no more of its literals
-// than there are in the clause and in the hints, and a long line once: this takes at most the time of
-// the clause, of the hints times the length at which a line is long, and of the lengths of the
-// different long lines that are hinted.
+// a false line. Over the lines (a, b) and (a, not b), the clause (a) with hints 0 and 1 does:
+//     assumed      not a
+//     line 0       b is left, and is held from now on
+//     line 1       nothing is left: yes
+// A line is read up to the second different literal that is left of it, and a long line once. So
+// the time is at most that of the clause, of `LONG` literals a hint, and of each hinted long line
+// once.
 fn check(
     held: &mut Held,
     used: &mut BTreeSet<usize>,
@@ -143,8 +152,9 @@ fn refutes_line(line: &[Lit], assume: &Option<Lit>) -> bool
     }
 }
 
-/// A list of lines, each with whether it was derived. A line is derived only where it follows from
-/// those before it by unit propagation along the hints given with it.
+/// A list of lines, each with whether it was derived. A line is derived only if it follows from
+/// those before it by unit propagation along the hints given with it (reverse unit propagation,
+/// as in LRAT).
 #[derive(Drop)]
 pub struct Checker {
     lines: Store,
@@ -176,8 +186,8 @@ impl Checker {
         self.lines.len()
     }
 
-    /// Whether the lines have the empty clause, or the negation of `assume` alone. Such a line mostly
-    /// came last, so the search begins there.
+    /// Whether the lines have the empty clause, or the clause of the negation of `assume` alone.
+    /// Such a line mostly came last, so the search begins there.
     pub fn refutes(&self, assume: Option<Lit>) -> bool
         ensures { IsTrue result ↔ IsRefuted (⟦<Checker as Adds>⟧.lines self.now) assume }
     {
@@ -203,8 +213,8 @@ impl Checker {
         Ok(())
     }
 
-    // Keeps the literals of a line, each once, where it is long and some are repeated. Where memory is
-    // wanting for it, nothing is kept.
+    // Keeps the literals of a line, each once, if it is long and some are repeated. When out of
+    // memory for it, nothing is kept.
     fn shorten(&mut self, i: usize, lits: &[Lit])
         requires known { i < length self.old.lines }
         requires line { line_at self.old.lines i ≡ lits.now }

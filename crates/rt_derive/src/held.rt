@@ -1,3 +1,6 @@
+//! The literals that a check assumes or has derived, with a fast test. How the set is kept may
+//! change: contracts see a list of literals.
+
 ghost use Rattle.std.specs.Prelude.{◌≡◌, ◌≢◌, ℕ, ◌≤◌, ◌^◌, [], ◌||◌, false, length, slice_index_or, OnOk};
 ghost use Rattle.rt_clause.specs.Literal.{Literal, lit_eq};
 ghost use Rattle.rt_clause.specs.Lists.{has};
@@ -8,10 +11,9 @@ use std::alloc::Global;
 use std::collections::BTreeSet;
 use std::marker::Model;
 
-/// A set of literals, which contracts see as a list in some order. A literal for which room was made
-/// has a mark, and all others stand in an ordered set, so that a literal whose variable is as large
-/// as a word allows takes no more memory than another. To empty the set takes time linear in what it
-/// holds.
+/// A set of literals, which contracts see as a list in some order. A literal for which room was
+/// made has a mark, and all others are in an ordered set. So a literal with a huge variable takes
+/// no more memory than another. To empty the set takes time linear in what it holds.
 #[derive(Drop)]
 pub(crate) struct Held {
     marks: Vec<bool>,
@@ -68,6 +70,7 @@ fn unmark(marks: &mut Vec<bool>, at: usize)
 }
 
 impl Held {
+    /// No literals, which takes no memory.
     pub(crate) fn new(alloc: Global) -> Held
         ensures { result ≡ [] }
     {
@@ -86,6 +89,7 @@ impl Held {
         widen(&mut self.marks, marks_for(line))
     }
 
+    /// Whether the literal is in the set.
     pub(crate) fn has(&self, lit: Lit) -> bool
         ensures { result ≡ has self.now lit }
     {
@@ -97,6 +101,7 @@ impl Held {
         }
     }
 
+    /// Puts the literal into the set.
     pub(crate) fn put(&mut self, lit: Lit) -> Result<(), NoMemory>
         ensures ok { OnOk result ((l : Literal) → has self.new l ≡ (lit_eq l lit || has self.old l)) }
     {
@@ -111,6 +116,7 @@ impl Held {
         Ok(())
     }
 
+    /// Empties the set, and keeps the room for marks.
     pub(crate) fn clear(&mut self)
         ensures { self.new ≡ [] }
     {

@@ -1,7 +1,7 @@
 //! The checker of derived clauses: what it accepts follows from the lines before.
 //!
-//! It shares nothing with the solver but the definitions of `rt_clause`, so that an answer of the
-//! solver rests on these few functions.
+//! It shares only `rt_clause` with the solver, so that an answer of the solver rests on these few
+//! functions.
 #![tactic(auto)]
 
 mod checker;

@@ -1,3 +1,6 @@
+//! The checker's lines, some with a shorter line of the same literals for reading. Only `brief_at`
+//! shows the shorter one; contracts see the lines as they were pushed.
+
 ghost use Rattle.std.specs.Prelude.{◌≡◌, ◌<◌, ◌∷◌, ◌++◌, [], length, OnOk, OnErr};
 ghost use Rattle.rt_clause.specs.Lists.{line_at};
 ghost use Rattle.rt_derive.specs.Alike.{Alike};
@@ -8,8 +11,8 @@ use std::alloc::Global;
 use std::collections::BTreeMap;
 use std::marker::Model;
 
-/// Lines in order, which contracts see as a list. Beside a line in which literals are repeated there
-/// can be one with the same literals, each once, which is shorter to read.
+/// Lines in order, which contracts see as a list. For a line in which literals are repeated, one
+/// with the same literals, each once, can be kept too: it is shorter to read.
 #[derive(Drop)]
 pub(crate) struct Store {
     lines: Clauses,
@@ -30,6 +33,7 @@ impl Model for Store {
 }
 
 impl Store {
+    /// No lines, which takes no memory.
     pub(crate) fn new(alloc: Global) -> Store
         ensures { result ≡ [] }
     {
@@ -40,12 +44,14 @@ impl Store {
         }
     }
 
+    /// The number of lines.
     pub(crate) fn len(&self) -> usize
         ensures { result ≡ length self.now }
     {
         self.lines.len()
     }
 
+    /// The line at `i`, counted from 0, as it was pushed.
     pub(crate) fn at(&self, i: usize) -> &[Lit]
         requires { i < length self.now }
         ensures { result.now ≡ line_at self.now i }
@@ -53,7 +59,7 @@ impl Store {
         self.lines.at(i)
     }
 
-    /// The literals of the line, each once where a line like that is kept.
+    /// The literals of the line at `i`, each once where a shorter line is kept.
     pub(crate) fn brief_at(&self, i: usize) -> &[Lit]
         requires { i < length self.now }
         ensures { Alike result.now (line_at self.now i) }
@@ -64,6 +70,7 @@ impl Store {
         }
     }
 
+    /// Puts a copy of the line at the end. After an error the lines are as before.
     pub(crate) fn push(&mut self, lits: &[Lit]) -> Result<(), NoMemory>
         ensures ok { OnOk result (self.new ≡ self.old ++ lits.now ∷ []) }
         ensures err { OnErr result (self.new ≡ self.old) }
@@ -71,7 +78,7 @@ impl Store {
         self.lines.push(lits)
     }
 
-    /// Keeps a line with the same literals beside one.
+    /// Keeps a shorter line with the same literals for the line at `i`.
     pub(crate) fn keep_brief(&mut self, i: usize, lits: &[Lit]) -> Result<(), NoMemory>
         requires known { i < length self.old }
         requires alike { Alike lits.now (line_at self.old i) }

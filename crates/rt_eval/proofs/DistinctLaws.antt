@@ -189,7 +189,7 @@ same rows xs ys r p f = rw (dedup_is row_eq xs ys f) (any_dedup row_eq row_eq_eq
 pub sorted_distinct : (rows xs ys : Rows) → IsPermutation rows xs → IsSorted row_cmp xs → IsFiltered (DiffersFromLast row_eq) [] xs ys → ys ≡ distinct rows
 sorted_distinct rows xs ys p s f = unique ys (distinct rows) (strict xs ys s f) (distinct_strict rows) (λ r. same rows xs ys r p f ∙ sym (distinct_has rows r))
 
--- repeats that stand together may go first
+-- repeats that are next to each other may go first
 pub unrepeated : (rows firsts : Rows) (r : List Value) → IsFiltered (DiffersFromLast row_eq) [] rows firsts → has_row firsts r ≡ has_row rows r
 unrepeated rows firsts r f = rw (dedup_is row_eq rows firsts f) (any_dedup row_eq row_eq_equiv r rows)
 

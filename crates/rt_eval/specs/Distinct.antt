@@ -6,7 +6,7 @@ use Rattle.rt_value.specs.declared.value.Value.{Value}
 use Rattle.rt_value.specs.Row.{row_cmp}
 use Rattle.rt_schema.specs.Given.{Rows}
 
--- a row at its place among rows in order, unless it stands there
+-- a row at its place among rows in order, unless it is there already
 abbrev pub placed_by : Ordering → List Value → List Value → Rows → Rows → Rows
 placed_by Less row first rest others = row ∷ first ∷ rest
 placed_by Equal row first rest others = first ∷ rest

@@ -1,3 +1,6 @@
+//! The answer of a query as the other crates ask for it: a set, on the kept rows. But for `Rows`
+//! the rest of this crate is private, and may be rearranged as long as this contract is proved.
+
 ghost use Rattle.std.specs.Prelude.{◌≡◌, [], List, length, IfOk};
 ghost use Rattle.rt_value.specs.declared.value.Value.{Value};
 ghost use Rattle.rt_schema.specs.Given.{places};
@@ -15,7 +18,7 @@ use rt_schema::Given;
 use rt_value::{Keep, NoMemory};
 use std::alloc::Global;
 
-/// The answer on the kept rows, as a set.
+/// The answer on the kept rows, as a set: sorted, each row once.
 pub fn answers(alloc: Global, typed: &Typed, given: &Given, keep: &Keep) -> Result<Rows, NoMemory>
     requires typed { IsTyped given.now.kinds typed.now }
     requires places { places given.now.tables ≡ length keep.now }
@@ -26,7 +29,7 @@ pub fn answers(alloc: Global, typed: &Typed, given: &Given, keep: &Keep) -> Resu
     wrapped_answers(alloc, typed.query.get(), given, keep)
 }
 
-/// The answer with arithmetic modulo 2^128, which asks for no bounds.
+// The answer with arithmetic modulo 2^128, which asks for no bounds.
 fn wrapped_answers(
     alloc: Global,
     query: &Query,

@@ -1,4 +1,5 @@
-//! The truth of conditions.
+//! The truth of conditions, subqueries included (ISO/IEC 9075-2, search condition). The innermost
+//! row in scope comes first in `env`.
 ghost use Rattle.std.specs.Prelude.{◌≡◌, map, IfOk, IfSome};
 ghost use Rattle.rt_value.specs.Value.{value_truth};
 ghost use Rattle.rt_algebra.specs.Expression.{wrapped, cell_of, value_by};
@@ -48,7 +49,7 @@ pub fn pred(
     }
 }
 
-/// AND, which asks no further member once one is false.
+// AND, which asks no further member once one is false.
 #[cycle(answer)]
 fn all(
     alloc: Global,
@@ -70,7 +71,7 @@ fn all(
     Ok(truth)
 }
 
-/// OR, which asks no further member once one is true.
+// OR, which asks no further member once one is true.
 #[cycle(answer)]
 fn any(
     alloc: Global,
@@ -92,13 +93,14 @@ fn any(
     Ok(truth)
 }
 
+/// Whether a condition of this truth keeps a row: neither false nor unknown does.
 pub fn is_yes(truth: Truth) -> bool
     ensures { result ≡ is_yes truth }
 {
     truth == Truth::Yes
 }
 
-/// The comparison of two expressions. Columns are compared where they stand.
+// The comparison of two expressions. Columns are compared in place, without copies.
 fn compared(alloc: Global, op: Op, a: &Expr, b: &Expr, env: &[&Row]) -> Result<Truth, NoMemory>
     ensures { IfOk result (λ t. t ≡ value_truth op (value_by wrapped a.now (map (λ r. r.now) env.now)) (value_by wrapped b.now (map (λ r. r.now) env.now))) }
 {
@@ -112,7 +114,7 @@ fn compared(alloc: Global, op: Op, a: &Expr, b: &Expr, env: &[&Row]) -> Result<T
     }
 }
 
-/// The value of a column that is there.
+// The value of a column that is there.
 fn column<'a>(expr: &Expr, env: &[&'a Row]) -> Option<&'a Value>
     ensures { IfSome result (λ v. v.now ≡ value_by wrapped expr.now (map (λ r. r.now) env.now)) }
 {

@@ -1,4 +1,5 @@
-//! Projections. Of a selection no row is kept that has only to be tested.
+//! Projections. A row of a selection is projected as soon as it is tested, so that the selection is
+//! never there as a whole.
 ghost use Rattle.std.specs.Prelude.{◌≡◌, ◌∷◌, ◌++◌, [], map, IfOk};
 ghost use Rattle.rt_algebra.specs.Answer.{answer_by};
 ghost use Rattle.rt_algebra.specs.Expression.{wrapped, row_by};
@@ -17,7 +18,7 @@ use rt_schema::rows_at;
 use rt_value::{List, NoMemory, Row};
 use std::alloc::Global;
 
-/// The items for each row of the source. A row of a selection is let go of as soon as it is tested.
+/// The values of the items for each row of the source, with repeats.
 #[cycle(answer)]
 pub fn projection(
     alloc: Global,
@@ -63,7 +64,7 @@ pub fn projection(
     }
 }
 
-/// The items for each row of the product on which the condition is true.
+// The items for each row of the product on which the condition is true.
 #[cycle(answer)]
 fn product_items(
     alloc: Global,
@@ -98,8 +99,8 @@ fn product_items(
     }
 }
 
-/// The items for each of the joined rows on which the condition is true. Not all of the rows stand
-/// at once: those of the last member are let go of before the next of the rows before it is joined.
+// The items for each of the joined rows on which the condition is true. Not all rows are in memory
+// at once: for each of the rows before the last member its joined rows are made, tested and freed.
 #[cycle(answer)]
 fn pair_items(
     alloc: Global,
@@ -119,7 +120,7 @@ fn pair_items(
     Ok(out)
 }
 
-/// `out`, and the items for each of the rows on which the condition is true.
+// `out`, and the items for each of the rows on which the condition is true.
 #[cycle(answer)]
 fn row_items(
     alloc: Global,

@@ -35,7 +35,7 @@ pub fn lacks_rows(members: &[List<Row>]) -> bool
 }
 
 /// The concatenations on which each member's own conditions and keys hold, the last member not yet
-/// joined to the rows before it.
+/// joined to the rows before it. Members are taken in their order.
 pub fn chosen(
     alloc: Global,
     members: &[List<Row>],
@@ -58,7 +58,7 @@ pub fn chosen(
     Ok(pairs)
 }
 
-/// The pairs joined to those rows of one more member on which its own conditions and keys hold.
+// The pairs joined to those rows of one more member on which its own conditions and keys hold.
 fn joined_to(
     alloc: Global,
     pairs: &Pairs,
@@ -75,7 +75,7 @@ fn joined_to(
     Ok(more)
 }
 
-/// The same, joined.
+/// The same as `chosen`, joined.
 pub fn chosen_rows(
     alloc: Global,
     members: &[List<Row>],
@@ -97,7 +97,7 @@ fn unit(alloc: Global) -> Result<List<Row>, NoMemory>
     Ok(out)
 }
 
-/// The rows on which the conditions are true, each as the innermost in scope.
+// The rows on which the conditions are true, each as the innermost in scope.
 fn own_rows(
     alloc: Global,
     rows: &[Row],
@@ -124,7 +124,7 @@ fn is_own(alloc: Global, row: &Row, conditions: &[Pred], env: &[&Row]) -> Result
     Ok(holds)
 }
 
-/// How many values each row of a member has, where all have as many.
+/// How many values the first row of each member has, 0 where there is none.
 pub fn widths(alloc: Global, members: &[List<Row>]) -> Result<List<usize>, NoMemory>
     ensures { IfOk result (λ out. out ≡ map (λ rows. length (slice_index_or rows 0 [])) members.now) }
 {

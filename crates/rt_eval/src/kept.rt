@@ -1,3 +1,5 @@
+//! The sub-instance that a choice keeps, copied out as tables of its own.
+
 ghost use Rattle.std.specs.Prelude.{◌≡◌, ◌+◌, ◌≤◌, length, drop, IfOk};
 ghost use Rattle.rt_schema.specs.Given.{places};
 ghost use Rattle.rt_schema.specs.Kept.{kept, kept_rows};
@@ -24,7 +26,7 @@ pub fn kept_tables(
     Ok(out)
 }
 
-/// The kept rows of a table, `base` being the place of the first.
+// The kept rows of a table, `base` being the place of the first.
 fn kept_rows(alloc: Global, rows: &[Row], base: usize, keep: &Keep) -> Result<List<Row>, NoMemory>
     requires { base + length rows.now ≤ length keep.now }
     ensures { IfOk result (λ out. out ≡ kept_rows rows.now (drop base keep.now)) }

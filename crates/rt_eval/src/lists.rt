@@ -1,3 +1,6 @@
+//! What operators do to lists of rows that are there already: INTERSECT, EXCEPT, projection and
+//! product, and the truth of EXISTS and IN.
+
 ghost use Rattle.std.specs.Prelude.{◌≡◌, ◌∷◌, ◌++◌, [], map, not, IfOk};
 ghost use Rattle.std.specs.List.{filter};
 ghost use Rattle.rt_algebra.specs.Expression.{wrapped, row_by};
@@ -8,7 +11,7 @@ use rt_algebra::{Expr, cell_truth, row, scope};
 use rt_value::{List, NoMemory, Row, Truth, Value};
 use std::alloc::Global;
 
-/// Whether there is a row.
+/// EXISTS: whether there is a row.
 pub fn some_truth(rows: &[Row]) -> Truth
     ensures { result ≡ some_truth rows.now }
 {
@@ -40,7 +43,7 @@ pub fn appended(alloc: Global, rows: List<Row>, more: &[Row]) -> Result<List<Row
     Ok(out)
 }
 
-/// The rows that stand among the others.
+/// INTERSECT: those of the rows that are among the others.
 pub fn common(alloc: Global, rows: &[Row], others: List<Row>) -> Result<List<Row>, NoMemory>
     ensures { IfOk result (λ out. out ≡ filter (has_row others) rows.now) }
 {
@@ -54,7 +57,7 @@ pub fn common(alloc: Global, rows: &[Row], others: List<Row>) -> Result<List<Row
     Ok(out)
 }
 
-/// The rows that do not stand among the others.
+/// EXCEPT: those of the rows that are not among the others.
 pub fn difference(alloc: Global, rows: &[Row], others: List<Row>) -> Result<List<Row>, NoMemory>
     ensures { IfOk result (λ out. out ≡ filter (λ r. not (has_row others r)) rows.now) }
 {
@@ -96,7 +99,7 @@ pub fn joined(alloc: Global, rows: &[Row], others: &[Row]) -> Result<List<Row>, 
     Ok(out)
 }
 
-/// `out`, and the row before each of the others.
+// `out`, and the row before each of the others.
 fn joined_each(
     alloc: Global,
     out: List<Row>,

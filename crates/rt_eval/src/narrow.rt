@@ -1,4 +1,4 @@
-//! Selections from products, as far as the parts of the condition bring them.
+//! Selections from products, narrowed by the parts of the condition before rows are joined.
 ghost use Rattle.std.specs.Prelude.{◌≡◌, ◌∷◌, [], map, IfOk, IfSome, IsTrue};
 ghost use Rattle.rt_algebra.specs.Expression.{Env, wrapped};
 ghost use Rattle.rt_split.specs.Join.{joined_rows};
@@ -20,7 +20,8 @@ pub struct Narrowed {
     pub are_chosen: bool,
 }
 
-/// Most often the members' own conditions and the keys are all of the condition.
+/// The rows that the members' own conditions and keys choose from the product. Most often these are
+/// all of the condition, and the rows need no further test.
 pub fn narrow(
     alloc: Global,
     members: &[List<Row>],
@@ -62,8 +63,8 @@ pub fn narrow_pairs(
     }
 }
 
-/// The condition taken apart, where each member has rows and they are of one width. A condition is
-/// long beside a product without rows.
+// The condition taken apart, where each member has rows and they are of one width. For a product
+// without rows taking it apart would cost more than the product.
 fn parts_of(
     alloc: Global,
     members: &[List<Row>],

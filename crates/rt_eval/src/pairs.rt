@@ -1,4 +1,4 @@
-//! The rows before a member of a product, and the member's rows that match them.
+//! A join that is worked out and not yet written out: which rows match, without joined copies.
 ghost use Rattle.std.specs.Prelude.{◌≡◌, ◌++◌, [], drop, length, map, slice_get, IfOk};
 ghost use Rattle.std.specs.List.{cons_option, filter_map};
 ghost use Rattle.rt_algebra.specs.Answer.{join_each};
@@ -11,7 +11,8 @@ use rt_value::{List, NoMemory, Row, Value};
 use std::alloc::Global;
 
 /// Rows that are not joined yet: for each of the rows before a member the places of the member's
-/// rows that follow it.
+/// rows that follow it. By the first column `befores` (1), (2) and `rows` (1, 'a'), (2, 'b'),
+/// (1, 'c') have `places` [0, 2], [1]; joined they are (1, 1, 'a'), (1, 1, 'c'), (2, 2, 'b').
 #[derive(Drop)]
 pub struct Pairs {
     pub befores: List<Row>,
@@ -77,7 +78,7 @@ impl Pairs {
     }
 }
 
-/// For each of the rows before a member the places of the member's rows that match it by the keys.
+// For each of the rows before a member the places of the member's rows that match it by the keys.
 fn places(
     alloc: Global,
     keys: &[KeyPair],
@@ -102,7 +103,7 @@ fn borrowed<'a>(alloc: Global, rows: &'a [Row]) -> Result<List<&'a Row>, NoMemor
     Ok(out)
 }
 
-/// `out`, and the row before each of the rows at the places.
+// `out`, and the row before each of the rows at the places.
 fn picked_each(
     alloc: Global,
     out: List<Row>,
@@ -119,7 +120,7 @@ fn picked_each(
     Ok(out)
 }
 
-/// `out`, and the row before the one at the place, where there is one.
+// `out`, and the row before the one at the place, where there is one.
 fn with_picked(
     alloc: Global,
     out: List<Row>,
@@ -139,7 +140,7 @@ fn with_picked(
     }
 }
 
-/// The values of one row, then those of the other, in memory taken at once.
+// The values of one row, then those of the other, in memory taken at once.
 fn joined_row(alloc: Global, before: &Row, row: &Row) -> Result<Row, NoMemory>
     ensures { IfOk result (λ r. r ≡ before.now ++ row.now) }
 {

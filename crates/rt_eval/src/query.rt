@@ -1,3 +1,6 @@
+//! Queries, operator by operator, as lists with repeats. A selection from a product is narrowed
+//! first, and its condition tested again only where the parts aren't all of it.
+
 ghost use Rattle.std.specs.Prelude.{◌≡◌, ◌∷◌, [], map, IfOk};
 ghost use Rattle.std.specs.List.{filter};
 ghost use Rattle.rt_algebra.specs.Expression.{wrapped};
@@ -14,7 +17,8 @@ use rt_schema::rows_at;
 use rt_value::{List, NoMemory, Row};
 use std::alloc::Global;
 
-/// The answer of a query on the rows of the tables, under the rows in scope.
+/// The answer of a query on the rows of the tables, under the rows in scope: a list that may repeat
+/// rows, as UNION and projections do.
 #[cycle(answer)]
 pub fn answer(
     alloc: Global,
@@ -73,7 +77,7 @@ pub fn answer(
     }
 }
 
-/// The rows whose condition is true, each as the innermost in scope.
+// The rows whose condition is true, each as the innermost in scope.
 #[cycle(answer)]
 fn selected(
     alloc: Global,
@@ -96,7 +100,7 @@ fn selected(
     Ok(out)
 }
 
-/// The rows of a product whose condition is true.
+// The rows of a product whose condition is true.
 #[cycle(answer)]
 fn product_selected(
     alloc: Global,

@@ -1,3 +1,5 @@
+//! Sets of rows: sorted, so two sets are compared row by row and a row is found by halving.
+
 ghost use Rattle.std.specs.Prelude.{◌≡◌, List, IfOk};
 ghost use Rattle.std.specs.List.Sorted.{IsStrictlySortedBy};
 ghost use Rattle.rt_value.specs.declared.value.Value.{Value};
@@ -40,6 +42,7 @@ impl Rows {
         Ok(Rows { rows: items })
     }
 
+    /// The rows in their order, each once.
     pub fn as_slice(&self) -> &[Row]
         ensures rows { result.now ≡ self.now }
         ensures sorted { IsStrictlySortedBy row_cmp self.now }

@@ -45,7 +45,7 @@ marked-long (m ∷ marks) (suc k) h = let r = marked-long marks k h in omega (ar
 pub goal-stands : (d : Shared) (goal : ℕ) → StandsUnder d goal goal
 goal-stands d goal marks g c = g
 
--- what a node under the goal names stands under it
+-- what a node under the goal names is under it
 pub child-stands : (d : Shared) (goal n : ℕ) (e : Entry) → slice_get d.entries n ≡ Some e → StandsUnder d goal n → Each (λ c. StandsUnder d goal c) (children e)
 child-stands d goal n e f s i x b marks g c = c n e f (s marks g c) i x b
 

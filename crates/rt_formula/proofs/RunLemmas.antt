@@ -102,7 +102,7 @@ tails-more {a} {b} {c} g h keep first child tail run tails new i f k t l e n v m
     ∙ shares (val a keep first) (list_any (val c keep) tails) (val c keep tail)
     ∙ ap (λ x. val a keep first && x) (sym (any-push (val c keep) tails tail) ∙ ap (list_any (val c keep)) (sym n))
 
--- one more child, which stands for some at the front of those that are left
+-- one more child, which replaces some at the front of those that are left
 pub runs-more : {a b c : Shared} → IsGrown a b → IsGrown b c → (keep : List Bool) (of nodes new front rest next : List ℕ) (j : ℕ)
     → Each (λ n. n < length b.entries) nodes → Each (λ n. n < length a.entries) front → new ≡ nodes ++ j ∷ [] → rest ≡ front ++ next
     → val c keep j ≡ list_any (val b keep) front

@@ -26,7 +26,7 @@ entry_value keep before (Any of) = list_any (bool_at before) of
 unfoldable pub values : List Bool → List Entry → List Bool
 values keep entries = fold (λ before e. before ++ entry_value keep before e ∷ []) [] entries
 
--- the value of a node at a Keep
+-- the value of a node at a choice of rows, one Bool for each
 abbrev pub val : Shared → List Bool → ℕ → Bool
 val shared keep node = bool_at (values keep shared.entries) node
 
@@ -53,8 +53,8 @@ pub record Fits (rows place : ℕ) (e : Entry) : Type 0 where
   pub below : Each (λ k. k < place) (children e)
   pub row : Each (λ v. v < rows) (named_rows e)
 
--- the first two nodes are yes and no, each entry is over nodes before it, there are fewer than
--- 2 ^ 60, and no two are equal
+-- The first two nodes are yes and no, and each entry is over nodes before it. There are fewer than
+-- 2 ^ 60, and no two are equal.
 pub record IsSound (shared : Shared) : Type 0 where
   pub yes : slice_get shared.entries 0 ≡ Some Yes
   pub no : slice_get shared.entries 1 ≡ Some No

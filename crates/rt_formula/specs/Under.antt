@@ -1,4 +1,4 @@
--- Which nodes and rows stand under a node; marks of nodes are a Bool for each node up to it.
+-- Which nodes and rows are under a node; marks of nodes are a Bool for each node up to it.
 use Rattle.std.specs.Prelude.{◌≡◌, ℕ, ◌+◌, ◌≤◌, Bool, true, false, List, length, slice_get, slice_index_or, Some}
 use Rattle.std.specs.List.{All as Each}
 use Rattle.rt_formula.specs.declared.entry.Entry.{Entry}
@@ -25,8 +25,8 @@ AreClosedFrom d goal low marks = (k : ℕ) (e : Entry) → low ≤ k → k ≤ g
 abbrev pub AreClosed : Shared → List Bool → Type 0
 AreClosed d marks = (k : ℕ) (e : Entry) → slice_get d.entries k ≡ Some e → is_marked marks k ≡ true → Each (λ c. is_marked marks c ≡ true) (children e)
 
--- a node stands under the goal where it is in each set of nodes that has the goal and, with each
--- node, those that its entry names
+-- a node is under the goal if it is in each set of nodes that has the goal and, with each node,
+-- those that its entry names
 abbrev pub StandsUnder : Shared → ℕ → ℕ → Type 0
 StandsUnder d goal n = (marks : List Bool) → is_marked marks goal ≡ true → AreClosed d marks → is_marked marks n ≡ true
 
@@ -38,13 +38,13 @@ pub record AreUnder (d : Shared) (goal : ℕ) (marks : List Bool) : Type 0 where
   pub closed : AreClosedFrom d goal 0 marks
   pub stand : (k : ℕ) → is_marked marks k ≡ true → StandsUnder d goal k
 
--- a row whose variable stands under the goal
+-- a row whose variable is under the goal
 pub record RowStands (d : Shared) (goal v : ℕ) : Type 0 where
   pub node : ℕ
   pub stands : StandsUnder d goal node
   pub names : slice_get d.entries node ≡ Some (Row v)
 
--- one Bool for each row, true where its variable stands under the goal
+-- one Bool for each row, true where its variable is under the goal
 pub record AreRowsUnder (d : Shared) (goal : ℕ) (rows : List Bool) : Type 0 where
   pub long : length rows ≡ d.rows
   pub all : (v : ℕ) → RowStands d goal v → is_marked rows v ≡ true

@@ -1,3 +1,6 @@
+//! The shared formula: nodes are added here, and simplified on the way. Which simplifications are
+//! made is private; contracts give the value of each node and nothing about its entry.
+
 ghost use Rattle.std.specs.Prelude.{◌≡◌, ℕ, List, [], ◌∷◌, ◌++◌, ◌<◌, ◌≤◌, ◌^◌, Bool, true, false, not, IsTrue, ◌↔◌, IfOk, OnErr, OnOk, length, slice_get};
 
 use crate::entry::{Entry, Kids, Node};
@@ -10,12 +13,13 @@ use rt_value::{Keep, List, NoMemory};
 use std::alloc::Global;
 use std::marker::Model;
 
+// The most nodes there can be; for one more the answer is out of memory.
 const MOST_NODES: usize = (1 << 60) - 1;
 
 /// Shared formulas over a number of row variables. Contracts see that number and the entries in
 /// order; `val` of `specs/` is the value of a node at a choice of rows.
 ///
-/// Nodes are only added, so a node stays a node and keeps its value; after want of memory nothing
+/// Nodes are only added, so a node stays a node and keeps its value. When out of memory, nothing
 /// has changed.
 pub struct Dag {
     rows: usize,
@@ -64,13 +68,14 @@ impl Dag {
         })
     }
 
+    /// The number of row variables.
     pub fn rows(&self) -> usize
         ensures { result ≡ self.now.rows }
     {
         self.rows
     }
 
-    /// How many nodes there are.
+    /// The number of nodes.
     pub fn len(&self) -> usize
         ensures len { result ≡ length self.now.entries }
         ensures small { result < 2 ^ 60 }
@@ -79,7 +84,7 @@ impl Dag {
         self.entries.len()
     }
 
-    /// The entry of a node.
+    /// The entry of the node with the number `at`.
     pub fn entry(&self, at: usize) -> &Entry
         requires { at < length self.now.entries }
         ensures entry { slice_get self.now.entries at ≡ Some result.now }
@@ -88,6 +93,7 @@ impl Dag {
         &self.entries[at]
     }
 
+    /// The node that is always true.
     pub fn yes(&self) -> Node
         ensures node { result < length self.now.entries }
         ensures means { (keep : List Bool) → val self.now keep result ≡ true }
@@ -96,6 +102,7 @@ impl Dag {
         Node::of(0)
     }
 
+    /// The node that is never true.
     pub fn no(&self) -> Node
         ensures node { result < length self.now.entries }
         ensures means { (keep : List Bool) → val self.now keep result ≡ false }
@@ -143,8 +150,9 @@ impl Dag {
         }
     }
 
-    /// The node that is true where any of these is; never, where there are none. Children that come
-    /// one after another and are an `all` over the same first child are put together as one.
+    /// The node that is true where any of these is; never, where there are none. Children that
+    /// come one after another and are an `all` over the same first child are put together as one,
+    /// as `runs` says.
     pub fn any(&mut self, of: &[Node]) -> Result<Node, NoMemory>
         requires { Each (λ n. n < length self.old.entries) of.now }
         ensures grown { IsGrown self.old self.new }
@@ -170,7 +178,7 @@ impl Dag {
         self.entries.truncate(len);
     }
 
-    /// The value of a node at a choice of rows.
+    /// The value of a node at a choice of rows, in time linear in the whole Dag.
     pub fn value(&self, node: Node, keep: &Keep) -> Result<bool, NoMemory>
         requires node { node < length self.now.entries }
         requires keep { length keep.now ≡ self.now.rows }
@@ -222,7 +230,8 @@ impl Dag {
         }
     }
 
-    // Whether a node stands among these beside its negation.
+    // Whether both a node and its negation are among these. Then an `all` of them is never true,
+    // and an `any` of them always.
     fn is_contrary(&self, nodes: &NodeSet) -> bool
         requires { Each (λ n. n < length self.now.entries) nodes.now }
         ensures { IsTrue result → AreContrary self.now nodes.now }
@@ -238,7 +247,7 @@ impl Dag {
     }
 
     // Puts the children that are no constants into an empty set, up to a constant that decides the
-    // gate: whether there is one.
+    // gate. The answer is whether there is one.
     fn sift(&self, gate: Gate, of: &[Node], kept: &mut NodeSet) -> Result<bool, NoMemory>
         requires nodes { Each (λ n. n < length self.now.entries) of.now }
         requires empty { kept.old ≡ [] }
@@ -295,7 +304,7 @@ impl Dag {
         }
     }
 
-    // An `any` of these children as they are.
+    /// An `any` of these children as they are.
     pub(crate) fn any_plain(&mut self, of: &[Node]) -> Result<Node, NoMemory>
         requires { Each (λ n. n < length self.old.entries) of.now }
         ensures grown { IsGrown self.old self.new }
@@ -309,7 +318,7 @@ impl Dag {
         }
     }
 
-    // An `all` of children none of which is left out.
+    /// An `all` of children none of which is left out.
     pub(crate) fn all_of(&mut self, of: &[Node]) -> Result<Node, NoMemory>
         requires { Each (λ n. n < length self.old.entries) of.now }
         ensures grown { IsGrown self.old self.new }

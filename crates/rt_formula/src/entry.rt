@@ -1,3 +1,5 @@
+//! What a formula is made of: nodes, gates' children, and the entry of a node.
+
 ghost use Rattle.std.specs.Prelude.{◌≡◌, ℕ, List, ◌<◌, IsTrue, ◌↔◌, IfOk, true, length};
 
 use rt_value::NoMemory;
@@ -22,7 +24,7 @@ impl Model for Node {
     ghost inverse = { λ n. record { at = n } };
 }
 
-/// The members of a gate, in the order in which they were given.
+/// The children of a gate, in the order in which they were given.
 #[derive(Drop)]
 pub struct Kids {
     pub(crate) nodes: SmallVec<Node, 4>,
@@ -40,12 +42,14 @@ impl Model for Kids {
 }
 
 impl Node {
+    /// The node with this number.
     pub(crate) fn of(at: usize) -> Node
         ensures { result ≡ at }
     {
         Node { at }
     }
 
+    /// Its number: older nodes have smaller ones.
     pub fn number(self) -> usize
         ensures { result ≡ self }
     {
@@ -54,6 +58,7 @@ impl Node {
 }
 
 impl Kids {
+    /// A copy of these nodes as children.
     pub(crate) fn of(alloc: Global, nodes: &[Node]) -> Result<Kids, NoMemory>
         ensures { IfOk result (λ kids. kids ≡ nodes.now) }
     {
@@ -61,6 +66,7 @@ impl Kids {
         Ok(Kids { nodes })
     }
 
+    /// The children in order.
     pub fn as_slice(&self) -> &[Node]
         ensures { result.now ≡ self.now }
     {
@@ -104,7 +110,7 @@ impl Hash for Kids {
     }
 }
 
-/// What a node says: always, never, that a row is kept, or how it rests on older nodes.
+/// What a node says: always, never, that a row is kept, or a gate over older nodes.
 #[derive(PartialEq, Eq, Hash, Drop)]
 pub enum Entry {
     Yes,

@@ -1,4 +1,5 @@
-//! The children of a gate that matter.
+//! What is left of a gate's children once constants and repeated ones are taken away.
+
 ghost use Rattle.rt_formula.specs.Gathering.{deciding};
 ghost use Rattle.std.specs.Prelude.{◌≡◌};
 
@@ -12,7 +13,7 @@ pub enum Gate {
     Any,
 }
 
-/// What gathering the children of a gate found: that they decide it, or those that matter, each once.
+/// The outcome for the children of a gate: they decide it, or these matter, each once.
 #[derive(Drop)]
 pub enum Gathered {
     Decided,

@@ -1,3 +1,6 @@
+//! Rows that were noted with nodes, looked up by the row. The map behind it is private: contracts
+//! see the list of nodes of each row.
+
 ghost use Rattle.std.specs.Prelude.{◌≡◌, ◌++◌, ◌∷◌, [], List, cond, IfOk, OnOk};
 ghost use Rattle.rt_value.specs.Row.{row_eq};
 ghost use Rattle.rt_value.specs.declared.value.Value.{Value};
@@ -11,7 +14,8 @@ use std::collections::BTreeMap;
 use std::marker::Model;
 
 /// For each row the nodes of the noted rows that are the same as it, in the order in which they
-/// were noted. To find them takes time in the logarithm of the number of different rows.
+/// were noted. NULL is the same as NULL here. To find them takes time in the logarithm of the
+/// number of different rows.
 pub struct Groups {
     nodes: BTreeMap<Row, List<Node>>,
     alloc: Global,
@@ -56,8 +60,8 @@ impl Groups {
         Ok(())
     }
 
-    /// Makes one node the whole group of a row. After an error the rows that are the same as it may
-    /// be lost.
+    /// Makes one node the whole group of a row. After an error the rows that are the same as it
+    /// may be lost.
     pub fn set(&mut self, row: Row, node: Node) -> Result<(), NoMemory>
         ensures { OnOk result ((other : List Value) → group_at self.new other ≡ cond (row_eq other row) (node ∷ []) (group_at self.old other)) }
     {
@@ -67,7 +71,7 @@ impl Groups {
         Ok(())
     }
 
-    /// All these rows.
+    /// The groups of all these rows.
     pub fn of(alloc: Global, rows: &[Noted]) -> Result<Groups, NoMemory>
         ensures { IfOk result (λ g. (row : List Value) → group_at g row ≡ standing row rows.now) }
     {
@@ -78,6 +82,7 @@ impl Groups {
         Ok(groups)
     }
 
+    /// The nodes of a row, none if it was never noted.
     pub fn get(&self, row: &Row) -> &[Node]
         ensures { result.now ≡ group_at self.now row.now }
     {

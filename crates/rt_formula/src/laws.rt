@@ -1,4 +1,5 @@
-//! Laws on growth, as the contracts of functions.
+//! Laws on growth, as the contracts of functions without code.
+
 ghost use Rattle.rt_formula.specs.Laws.{OlderStay, TakenBack};
 
 /// A node stays a node, and keeps its value, as entries are added.

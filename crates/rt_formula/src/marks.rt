@@ -1,4 +1,6 @@
-//! Which nodes and rows stand under a node.
+//! Which nodes and rows are under a node: those that its value can depend on. Marks are set from
+//! the goal down, in one pass over older and older nodes.
+
 ghost use Rattle.std.specs.Prelude.{◌≡◌, ◌<◌, ℕ, List, Bool, true, length, IfOk, ◌⊎◌};
 ghost use Rattle.std.specs.List.{All as Each};
 ghost use Rattle.rt_formula.specs.declared.entry.Entry.TheVariants.{Row};
@@ -46,7 +48,8 @@ fn children_of(entry: &Entry) -> &[Node]
     }
 }
 
-/// The nodes under the goal, itself among them: one Bool for each node up to it.
+/// The nodes under the goal, itself among them: one Bool for each node up to it. A node is under
+/// the goal if the goal's entry names it, or the entry of a node under the goal does.
 pub fn under(alloc: Global, dag: &Dag, goal: Node) -> Result<Keep, NoMemory>
     requires { goal < length dag.now.entries }
     ensures { IfOk result (AreUnder dag.now goal) }
@@ -95,7 +98,7 @@ fn marked_rows(alloc: Global, dag: &Dag, goal: Node, marks: &Keep) -> Result<Kee
     Ok(rows)
 }
 
-/// The rows whose variables stand under the goal: one Bool for each row.
+/// The rows whose variables are under the goal: one Bool for each row.
 pub fn rows_under(alloc: Global, dag: &Dag, goal: Node) -> Result<Keep, NoMemory>
     requires { goal < length dag.now.entries }
     ensures { IfOk result (AreRowsUnder dag.now goal) }

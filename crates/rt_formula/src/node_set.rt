@@ -1,3 +1,5 @@
+//! A set of nodes that keeps their order, for the children of one gate.
+
 ghost use Rattle.std.specs.Prelude.{◌≡◌, [], OnOk};
 ghost use Rattle.rt_formula.specs.Gathering.{has_node, with_node};
 
@@ -22,6 +24,7 @@ impl Model for NodeSet {
 }
 
 impl NodeSet {
+    /// No nodes, which takes no memory.
     pub(crate) fn new(alloc: Global) -> NodeSet
         ensures { result ≡ [] }
     {
@@ -30,12 +33,14 @@ impl NodeSet {
         }
     }
 
+    /// Whether the node is in the set.
     pub(crate) fn has(&self, node: Node) -> bool
         ensures { result ≡ has_node self.now node }
     {
         self.nodes.contains(&node)
     }
 
+    /// Puts a node at the end, unless the set has it.
     pub(crate) fn put(&mut self, node: Node) -> Result<(), NoMemory>
         ensures { OnOk result (self.new ≡ with_node self.old node) }
     {
@@ -43,6 +48,7 @@ impl NodeSet {
         Ok(())
     }
 
+    /// The nodes in order.
     pub(crate) fn as_slice(&self) -> &[Node]
         ensures { result.now ≡ self.now }
     {

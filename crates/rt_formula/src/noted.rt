@@ -1,7 +1,9 @@
+//! A row with its node: what annotated evaluation passes from layer to layer.
+
 use crate::entry::Node;
 use rt_value::Row;
 
-/// A row that may be there, and the node that says at which choices it is.
+/// A row that may be in an answer, and the node that says at which choices it is.
 #[derive(Debug)]
 pub struct Noted {
     pub row: Row,

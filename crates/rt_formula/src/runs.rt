@@ -1,5 +1,6 @@
-//! Children of an `any` that come one after another and are an `all` over the same first child. Such
-//! a run is written as one child: an `all` over that first child and the `any` of what is left.
+//! Children of an `any` that come one after another and are an `all` over the same first child.
+//! Such a run, of three or more, is one child: `ab | ac | ad` becomes `a(b|c|d)`.
+
 ghost use Rattle.std.specs.Prelude.{◌≡◌, ℕ, List, [], ◌<◌, ◌≤◌, Bool, ◌&&◌, IfOk, IfSome, OnOk, length, take};
 ghost use Rattle.std.specs.List.{list_all, list_any, All as Each};
 ghost use Rattle.rt_formula.specs.Runs.{StandsOver};
@@ -10,7 +11,7 @@ use crate::entry::{Entry, Node};
 use rt_value::{List, NoMemory};
 use std::alloc::Global;
 
-/// Nodes at the front of a list that are three or more, each an `all` over the same first child.
+// Three or more nodes at the front of a list, each an `all` over the same first child.
 #[derive(Clone, Copy)]
 struct Run {
     first: Node,
@@ -32,7 +33,7 @@ fn first_of(dag: &Dag, node: Node) -> Option<Node>
     }
 }
 
-// How many nodes at the front are an `all` over this first child.
+// The number of nodes at the front that are an `all` over this first child.
 fn length_over(dag: &Dag, first: Node, of: &[Node]) -> usize
     requires { Each (λ n. n < length dag.now.entries) of.now }
     ensures within { result ≤ length of.now }
@@ -48,7 +49,7 @@ fn length_over(dag: &Dag, first: Node, of: &[Node]) -> usize
     length
 }
 
-// The run at the front.
+// The run at the front, if there is one.
 fn run_at_front(dag: &Dag, of: &[Node]) -> Option<Run>
     requires { Each (λ n. n < length dag.now.entries) of.now }
     ensures some { IfSome result (λ run. 0 < run.length) }
@@ -82,7 +83,7 @@ fn later_children(alloc: Global, dag: &Dag, node: Node) -> Result<List<Node>, No
     }
 }
 
-// What is left of an `all` without its first child.
+// An `all` without its first child.
 fn tail_of(alloc: Global, dag: &mut Dag, node: Node) -> Result<Node, NoMemory>
     requires { node < length dag.old.entries }
     ensures grown { IsGrown dag.old dag.new }
@@ -127,7 +128,7 @@ fn joined(alloc: Global, dag: &mut Dag, first: Node, run: &[Node]) -> Result<Nod
     dag.all(&[first, tail])
 }
 
-/// Puts the children of an `any` into an empty list, each run as one.
+/// Puts the children of an `any` into an empty list, each run as one child.
 pub(crate) fn join_runs(
     alloc: Global,
     dag: &mut Dag,

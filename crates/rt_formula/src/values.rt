@@ -1,4 +1,5 @@
 //! The values of all nodes at a choice of rows, oldest first, so that none is computed twice.
+
 ghost use Rattle.std.specs.Prelude.{◌≡◌, IfOk};
 ghost use Rattle.std.specs.List.{list_all, list_any};
 ghost use Rattle.rt_formula.specs.Shared.{bool_at, entry_value, values};
@@ -7,6 +8,7 @@ use crate::entry::{Entry, Node};
 use rt_value::NoMemory;
 use std::alloc::Global;
 
+/// The value at a place, and false past the end.
 pub(crate) fn value_at(values: &[bool], n: usize) -> bool
     ensures { result ≡ bool_at values.now n }
 {
@@ -48,6 +50,7 @@ fn entry_of(entry: &Entry, values: &[bool], keep: &[bool]) -> bool
     }
 }
 
+/// The value of each entry at the choice `keep`, in the order of the entries.
 pub(crate) fn values_of(
     alloc: Global,
     entries: &[Entry],

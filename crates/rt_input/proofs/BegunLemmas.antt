@@ -1,14 +1,12 @@
 -- Which files a reading begins, one step after the other.
-use Rattle.std.proofs.Common.{◌≡◌, ◌∙◌, ◌<◌, ◌≤◌, ◌+◌, ◌∷◌, ◌++◌, ℕ, suc, Bool, List, [], Result, Ok, Err, length, take, drop, get_or, append_assoc, append-nil, add-zero, refl, sym, ap, subst, arith, slice_set}
+use Rattle.std.proofs.Common.{◌≡◌, ◌∙◌, ◌<◌, ◌≤◌, ◌+◌, ◌∷◌, ◌++◌, ℕ, suc, Bool, List, [], Result, Ok, Err, length, take, drop, get_or, append_assoc, append-nil, add-zero, sym, ap, subst, arith, slice_set}
 use Rattle.std.proofs.Math.Seq.{drop-cons}
 use Rattle.std.proofs.lemmas.List.{take-append-drop, length-take-le, take_more}
 use Rattle.rt_io.proofs.AddLemmas.{adds_all, adds_first, adds_none, adds_then, all_then}
 use Rattle.rt_io.specs.Edge.{AddsPrefix}
 use Rattle.rt_schema.specs.declared.table.Table.{Table as TableOf}
-use Rattle.rt_schema.specs.Given.{Rows, Tables, places}
-use Rattle.rt_algebra.specs.declared.typed.Typed.{Typed}
+use Rattle.rt_schema.specs.Given.{Tables, places}
 use Rattle.rt_input.specs.declared.first.First.{First}
-use Rattle.rt_input.specs.declared.outcome.Outcome.{Outcome}
 use Rattle.rt_input.specs.declared.part.Part.TheVariants.{Schema, Table, Query1, Query2}
 use Rattle.rt_input.specs.declared.source.Source.{Source}
 use Rattle.std.specs.Prelude.{OnErr, OnOk, Option, None, Some}
@@ -217,7 +215,7 @@ pub none_for : (tells : Bool) (held : Holding) (o : Option Command) (old new : L
 none_for tells held None old new same = same
 none_for tells held (Some k) old new same = none_begun (IsKnown tells (source_of k)) (input_files (source_of k)) (input_reached (source_of k) held) old new same
 
--- a call on words that are read
+-- a call on arguments that are read
 pub begins_for : (tells : Bool) (held : Holding) (o : Option Command) (k : Command) (old new : List Text) → o ≡ Some k
     → AddsSome (IsKnown tells (source_of k)) (input_files (source_of k)) (input_reached (source_of k) held) old new → BeginsFor tells held o old new
 begins_for tells held o k old new is some = subst (λ (p : Option Command). BeginsFor tells held p old new) (sym is) some

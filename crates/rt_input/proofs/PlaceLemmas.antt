@@ -1,4 +1,4 @@
--- Where the syntax fault of a refusal stands.
+-- Which place the syntax error of a refusal names.
 use Rattle.std.proofs.Common.{◌≡◌, List, Result, Ok, Err, refl, sym, subst}
 use Rattle.std.specs.Prelude.{IfOk, IsOkAnd, ⊤}
 use Rattle.rt_ddl.specs.Read.{IsAnswer as SchemaAnswer}
@@ -29,7 +29,7 @@ use Rattle.rt_input.specs.Steps.{Seen, TextStops}
 ok_and : {T E : Type 0} (P : T → Type 0) (r : Result T E) (x : T) → r ≡ Ok x → P x → IsOkAnd r P
 ok_and {T = T} {E = E} P r x is p = subst (λ (q : Result T E). IsOkAnd q P) (sym is) p
 
--- ---- the faults of a text
+-- ---- the errors of a text
 
 pub placed_lex : (p : Part) (text : Text) (fault : LexFault) → PlacedIn p text (lex_outcome p fault)
 placed_lex p text (lex.NotUtf8 at) = (refl, tt)
@@ -65,7 +65,7 @@ placed_name p text name.Columns = (refl, tt)
 placed_name p text name.ArithWidth = (refl, tt)
 placed_name p text name.NoMemory = tt
 
--- ---- faults without a place
+-- ---- errors without a place
 
 always : {T E : Type 0} (r : Result T E) → IfOk r (λ x. ⊤)
 always (Ok x) = tt

@@ -1,5 +1,5 @@
--- An accepted input, as contracts see it: a schema, the rows given for it, two queries over it, and
--- the numbers of the command.
+-- An accepted input, as contracts see it: a schema, the rows given for it, two queries over it,
+-- and the numbers of the command.
 use Rattle.std.specs.Prelude.{◌≡◌, ◌≤◌, ℕ, List, Option}
 use Rattle.std.specs.Option.{ForSome}
 use Rattle.rt_schema.specs.declared.table.Table.{Table}
@@ -17,8 +17,8 @@ pub record Accepted : Type 0 where
   pub work_limit : ℕ
   pub made : Option ℕ
 
--- what the type `Input` keeps: the rows and the queries are of the schema, the queries have the same
--- kinds of columns, and the numbers are in their ranges
+-- what the type `Input` keeps: the rows and the queries are of the schema, the queries have the
+-- same kinds of columns, and the numbers are in their ranges
 pub record IsAccepted (input : Accepted) : Type 0 where
   pub of_schema : IsOf input.schema input.given
   pub left : IsTypedOf input.schema input.left

@@ -1,5 +1,5 @@
--- Which files a call begins: first ones of those that its command names, in the order of the reading,
--- and none behind the first refusal.
+-- Which files a call begins: first ones of those that its command names, in the order of the
+-- reading, and none after the first refusal.
 use Rattle.std.specs.Prelude.{◌≡◌, ℕ, ◌+◌, Bool, List, [], ◌∷◌, ◌++◌, Option, None, Some, Result, Ok, Err, slice_set}
 use Rattle.rt_io.specs.Edge.{AddsPrefix}
 use Rattle.rt_io.specs.Ranges.{Command}
@@ -63,8 +63,8 @@ input_reached source held = first_reached source held ++ then_files (first_judge
 
 -- ---- what is begun
 
--- of the names begun before and after: some first ones of these files were added, for some tables of
--- the schema; where the contents are known, of those that are reached
+-- Of the names begun before and after: some first ones of these files were added, for some tables
+-- of the schema. If the contents are known, they are among those that are reached.
 pub record AddsSome (known : Type 0) (files : List TableOf → List Text) (reached : List Text) (old new : List Text) : Type 0 where
   pub named : (tables : List TableOf) × AddsPrefix old new (files tables)
   pub told : known → AddsPrefix old new reached

@@ -1,5 +1,5 @@
--- The faults of each text as outcomes: want of memory and limits are outcomes of their own, and each
--- other fault is a refusal of its part.
+-- The errors of each text as outcomes. Out of memory and limits are outcomes of their own, and
+-- each other error is a refusal of its part.
 use Rattle.std.specs.Prelude.{Bool, true, false, Result, Ok, Err}
 use Rattle.rt_token.specs.declared.fault.LexFault.{LexFault}
 use Rattle.rt_token.specs.declared.fault.LexFault.TheVariants as lex
@@ -22,7 +22,7 @@ use Rattle.rt_input.specs.declared.outcome.Limit.TheVariants as limit
 use Rattle.rt_input.specs.declared.outcome.Outcome.{Outcome}
 use Rattle.rt_input.specs.declared.outcome.Outcome.TheVariants as outcome
 
--- the value, or the outcome of the fault
+-- the value, or the outcome of the error
 abbrev pub or_outcome : {T E : Type 0} → (E → Outcome) → Result T E → Result T Outcome
 or_outcome f (Ok x) = Ok x
 or_outcome f (Err e) = Err (f e)
@@ -118,7 +118,7 @@ is_name_refusal name.Columns = true
 is_name_refusal name.ArithWidth = true
 is_name_refusal name.NoMemory = false
 
--- no want of memory and no limit
+-- neither out of memory nor a limit
 abbrev pub is_refusal : Fault → Bool
 is_refusal (Lex fault) = is_lex_refusal fault
 is_refusal (Schema fault) = is_schema_refusal fault
@@ -126,7 +126,7 @@ is_refusal (Load fault) = is_load_refusal fault
 is_refusal (Sql fault) = is_sql_refusal fault
 is_refusal (Name fault) = is_name_refusal fault
 
--- ---- the open place of a syntax fault
+-- ---- the open place of a syntax error
 
 abbrev pub placeless_schema : SchemaFault → SchemaFault
 placeless_schema (schema.Lex fault) = schema.Lex fault
@@ -144,7 +144,7 @@ placeless_sql sql.TooDeep = sql.TooDeep
 placeless_sql (sql.Syntax at) = sql.Syntax 0
 placeless_sql sql.NoMemory = sql.NoMemory
 
--- the fault without the place of a syntax fault, which is judged as 0
+-- the error without the place of a syntax error, which is judged as 0
 abbrev pub placeless : Fault → Fault
 placeless (Lex fault) = Lex fault
 placeless (Schema fault) = Schema (placeless_schema fault)

@@ -1,6 +1,6 @@
--- The input of a command, or the first refusal in the order of its parts: the words, the schema, the
--- tables in schema order, query 1, query 2, the two queries beside each other, the work; and of each
--- file first its length and then its contents.
+-- The input of a command, or the first refusal in the order of its parts. These are the
+-- arguments, the schema, the tables in schema order, query 1, query 2, their columns together,
+-- and the work. Of each file, its length comes first and then its contents.
 use Rattle.std.specs.Prelude.{◌≡◌, ℕ, ◌+◌, ◌==◌, nat_le, List, [], ◌∷◌, length, take, replicate, Option, None, Some, Result, Ok, Err, IsOk, IsOkAnd, slice_get, slice_set, if◌then◌else◌}
 use Rattle.std.specs.Option.{option_map}
 use lib.Pointwise.{pointwise}

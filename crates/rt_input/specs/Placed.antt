@@ -1,5 +1,5 @@
--- Where a syntax fault may stand: at the start of a token of its text, at the end of the last one, or
--- at 0 where the text has no token. Which of these it is stays open.
+-- Which place a syntax error may name: the start of a token of its text, the end of the last one,
+-- or 0 in a text without tokens. Which of these it is stays open.
 use Rattle.std.specs.Prelude.{◌≡◌, ℕ, Result, IfOk, IsOkAnd, ⊤}
 use Rattle.rt_token.specs.Places.{IsPlace}
 use Rattle.rt_token.specs.Lexed.{lexed}
@@ -44,7 +44,7 @@ Stands text (Load fault) = ⊤
 Stands text (Sql fault) = SqlStands text fault
 Stands text (Name fault) = ⊤
 
--- a refusal of this part whose syntax fault stands in this text
+-- a refusal of this part whose syntax error names a place of this text
 abbrev pub PlacedIn : Part → Text → Outcome → Type 0
 PlacedIn part text (outcome.Refused p fault) = (p ≡ part) × Stands text fault
 PlacedIn part text outcome.Agree = ⊤
@@ -56,7 +56,7 @@ PlacedIn part text (outcome.ReadFault p) = ⊤
 PlacedIn part text outcome.WriteFault = ⊤
 PlacedIn part text outcome.NoMemory = ⊤
 
--- the syntax fault of a refusal stands in the text of its part
+-- the syntax error of a refusal names a place in the text of its part
 abbrev pub Placed : Parts → Outcome → Type 0
 Placed texts (outcome.Refused part fault) = IfOk (texts part) (λ text. Stands text fault)
 Placed texts outcome.Agree = ⊤
@@ -68,6 +68,6 @@ Placed texts (outcome.ReadFault part) = ⊤
 Placed texts outcome.WriteFault = ⊤
 Placed texts outcome.NoMemory = ⊤
 
--- it is no syntax fault, whatever the texts
+-- it is no syntax error, whatever the texts
 abbrev pub IsPlaceless : Outcome → Type 0
 IsPlaceless o = (texts : Parts) → Placed texts o

@@ -17,12 +17,12 @@ use Rattle.rt_input.specs.Placed.{Placed}
 use Rattle.rt_input.specs.Source.{IsKnown, IsMade, file_of, source_of}
 use Rattle.rt_input.specs.Steps.{Seen, over, Failed, IsLongFor}
 
--- a call: its words, and what is known of the files over it
+-- a call: its arguments, and what is known of the files over it
 pub record Call : Type 0 where
   pub words : List (List ℕ)
   pub files : Seen
 
--- the call on these words that found the files as `old` and left them as `new`
+-- the call on these arguments that found the files as `old` and left them as `new`
 abbrev pub call : {F : Type 0} → Files F → List (List ℕ) → F → F → Call
 call files words old new = record { words = words; files = over files old new }
 
@@ -34,8 +34,8 @@ IsTold c = ForSome (command c.words) (λ k. IsKnown c.files.tells (source_of k))
 abbrev pub IsMadeCall : Option Command → Type 0
 IsMadeCall o = IsSomeAnd o (λ k. IsMade (source_of k))
 
--- an input that was read in the call: an accepted one with the numbers of the command, and where the
--- contents of its source are known, the one that is judged
+-- An input that was read in the call: an accepted one with the numbers of the command. If the
+-- contents of its source are known, it is the one that is judged.
 pub record IsRead (c : Call) (input : Accepted) : Type 0 where
   pub sound : IsAccepted input
   pub options : IsSomeAnd (command c.words) (λ k. HasOptions k input)
@@ -49,11 +49,11 @@ limit_of (Some k) = k.work_limit
 abbrev pub UsageRow : Call → Type 0
 UsageRow c = command c.words ≡ None
 
--- where the contents of the source are known, a syntax fault stands in the text of its part
+-- if the contents of the source are known, a syntax error names a place in the text of its part
 abbrev pub PlacedRow : Call → Outcome → Type 0
 PlacedRow c o = ForSome (command c.words) (λ k. IsKnown c.files.tells (source_of k) → Placed (text_of (source_of k) c.files.held) o)
 
--- the refusal that is judged; which place of its text a syntax fault names is left open
+-- the refusal that is judged; which place of its text a syntax error names is left open
 abbrev pub RefusedRow : Call → Part → Fault → Type 0
 RefusedRow c part fault =
     IsSome (command c.words) × IsTrue (is_refusal fault) × (IsTold c → judged c.words c.files.held ≡ Err (outcome.Refused part (placeless fault)))
@@ -71,13 +71,13 @@ pub record ReadFaultAt (s : Seen) (part : Part) (k : Command) : Type 0 where
 abbrev pub ReadFaultRow : Call → Part → Type 0
 ReadFaultRow c part = IsSomeAnd (command c.words) (ReadFaultAt c.files part)
 
--- what stops the reading of the words
+-- what stops the reading of the arguments
 abbrev pub WordsStop : Option Command → Outcome → Type 0
 WordsStop o outcome.Usage = o ≡ None
 WordsStop o outcome.NoMemory = ⊤
 WordsStop o _ = ⊥
 
--- what stops the reading of an input: its row, where it is no verdict, or want of memory
+-- what stops the reading of an input: its row, if it is no verdict, or out of memory
 abbrev pub Stop : Call → Outcome → Type 0
 Stop c outcome.Agree = ⊥
 Stop c (outcome.Witness keep) = ⊥

@@ -1,4 +1,4 @@
--- Where the texts of a command stand: in the files that it names, or in a generated input.
+-- Where the texts of a command come from: the files that it names, or a generated input.
 use Rattle.std.specs.Prelude.{ℕ, Bool, IsTrue, ⊤, List, [], ◌∷◌, ◌++◌, Option, None, Some, codes, slice_index_or}
 use Rattle.rt_load.specs.Made.{made}
 use Rattle.rt_load.specs.declared.input.Made.{Made as Texts}
@@ -49,7 +49,7 @@ abbrev pub file_of : Source → Part → Option Text
 file_of (Files paths) part = file_name paths part
 file_of (Made texts) part = None
 
--- the contents of a source are known: they are generated, or its files tell theirs
+-- the contents of a source are known: they are generated, or its kind of files has known contents
 abbrev pub IsKnown : Bool → Source → Type 0
 IsKnown tells (Files paths) = IsTrue tells
 IsKnown tells (Made texts) = ⊤

@@ -13,8 +13,9 @@ use Rattle.rt_input.specs.Faults.{is_refusal, placeless}
 use Rattle.rt_input.specs.Held.{Holding, most_bytes, text_read}
 use Rattle.rt_input.specs.Source.{IsKnown, file_of}
 
--- what is known of the files over a call: whether they tell their contents, these, the counts of
--- faults before and after, and afterwards the current name and how many of its bytes were taken
+-- What is known of the files over a call: whether their contents are known, these, and the counts
+-- of errors before and after. And the current name afterwards, with the number of its bytes that
+-- were taken.
 pub record Seen : Type 0 where
   pub tells : Bool
   pub held : Holding
@@ -49,8 +50,8 @@ IsLongFor s source (limits.Rules table) = ⊤
 IsLongFor s source limits.Rows = ⊤
 IsLongFor s source (limits.Work work) = ⊤
 
--- what stops the reading of one file: its count rose before more bytes than it may have were taken, one
--- byte more was taken, or memory was wanting
+-- What stops the reading of one file. Its count rose before more bytes than it may have were
+-- taken, or one byte more was taken, or it is out of memory.
 abbrev pub TextStops : Seen → List ℕ → Part → Outcome → Type 0
 TextStops s name part outcome.Agree = ⊥
 TextStops s name part (outcome.Witness keep) = ⊥
@@ -75,7 +76,7 @@ of_contents (limits.Rules table) = true
 of_contents limits.Rows = true
 of_contents (limits.Work work) = true
 
--- what stops a step that reads no file: the refusal that is judged, or want of memory
+-- what stops a step that reads no file: the refusal that is judged, or out of memory
 abbrev pub Refuses : {T : Type 0} → Result T Outcome → Outcome → Type 0
 Refuses judged outcome.Agree = ⊥
 Refuses judged (outcome.Witness keep) = ⊥
@@ -87,8 +88,8 @@ Refuses judged (outcome.ReadFault part) = ⊥
 Refuses judged outcome.WriteFault = ⊥
 Refuses judged outcome.NoMemory = ⊤
 
--- a fault of reading comes only where the count of the part's file rose, and a refusal is the one
--- that is judged; `Reached` is how far the reading came
+-- An error of reading comes only where the count of the part's file rose, and a refusal is the
+-- one that is judged. `Reached` is how far the reading came.
 abbrev pub Stops : {T : Type 0} → Seen → Source → Result T Outcome → (Part → Type 0) → Outcome → Type 0
 Stops s source judged Reached outcome.Agree = ⊥
 Stops s source judged Reached (outcome.Witness keep) = ⊥
@@ -110,7 +111,7 @@ IsLimitOf Among (limits.Rules table) = ⊤
 IsLimitOf Among limits.Rows = ⊤
 IsLimitOf Among (limits.Work work) = ⊥
 
--- a refusal, a limit or a fault of reading is that of one of these parts, and not of the work
+-- a refusal, a limit or an error of reading is that of one of these parts, and not of the work
 abbrev pub SpeaksOf : (Part → Type 0) → Outcome → Type 0
 SpeaksOf Among outcome.Agree = ⊤
 SpeaksOf Among (outcome.Witness keep) = ⊤

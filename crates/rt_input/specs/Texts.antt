@@ -1,5 +1,5 @@
--- The text of each outcome that is no verdict, the sink that an outcome belongs to, and the status of
--- the program.
+-- The text of each outcome that is no verdict, the sink that an outcome belongs to, and the
+-- status of the program.
 use Rattle.std.specs.Prelude.{ℕ, List, [], ◌++◌, codes, decimal}
 use Rattle.rt_ddl.specs.declared.fault.SchemaFault.{SchemaFault}
 use Rattle.rt_ddl.specs.declared.fault.SchemaFault.TheVariants as schema
@@ -90,7 +90,7 @@ limit_text most (Rules table) = codes "table " ++ (table ++ codes " has more tha
 limit_text most Rows = codes "more than 2000 rows"
 limit_text most (Work work) = codes "work " ++ (decimal work ++ (codes " is above " ++ decimal most))
 
--- the line of a refusal, of a limit or of a fault of reading; the other outcomes have none
+-- the line of a refusal, of a limit or of an error of reading; the other outcomes have none
 abbrev pub refusal_line : ℕ → Outcome → List ℕ
 refusal_line most outcome.Agree = []
 refusal_line most (outcome.Witness keep) = []
@@ -102,8 +102,8 @@ refusal_line most (outcome.ReadFault part) = codes "ratest: cannot read " ++ (pa
 refusal_line most outcome.WriteFault = []
 refusal_line most outcome.NoMemory = []
 
--- the text of an outcome that is no verdict, for a command whose text for words that are none is
--- `usage`; a fault of writing and want of memory have none
+-- The text of an outcome that is no verdict. `usage` is the command's text for arguments that are
+-- none. An error of writing and out of memory have no text.
 abbrev pub stopped_text : List ℕ → ℕ → Outcome → List ℕ
 stopped_text usage most outcome.Agree = []
 stopped_text usage most (outcome.Witness keep) = []

@@ -1,4 +1,6 @@
-//! The faults of each text as outcomes.
+//! From the errors of each reader to outcomes. Out of memory and limits become outcomes of their
+//! own; every other error is a refusal of the part that it is in.
+
 ghost use Rattle.std.specs.Prelude.{◌≡◌};
 ghost use Rattle.rt_input.specs.Faults.{excess_limit, lex_outcome, load_outcome, name_outcome, schema_outcome, sql_outcome};
 
@@ -10,7 +12,7 @@ use rt_scope::NameFault;
 use rt_sql::SqlFault;
 use rt_token::LexFault;
 
-/// The outcome of a text that has no tokens.
+/// The outcome of an error of the lexer in the text of a part.
 pub fn lex_outcome(part: Part, fault: LexFault) -> Outcome
     ensures { result ≡ lex_outcome part fault }
 {
@@ -30,7 +32,7 @@ fn excess_limit(excess: Excess) -> Limit
     }
 }
 
-/// The outcome of a schema that is refused.
+/// The outcome of an error in a schema.
 pub(crate) fn schema_outcome(fault: SchemaFault) -> Outcome
     ensures { result ≡ schema_outcome fault }
 {
@@ -42,7 +44,7 @@ pub(crate) fn schema_outcome(fault: SchemaFault) -> Outcome
     }
 }
 
-/// The outcome of a table file that is refused.
+/// The outcome of an error in a table file.
 pub(crate) fn load_outcome(part: Part, fault: LoadFault) -> Outcome
     ensures { result ≡ load_outcome part fault }
 {
@@ -53,7 +55,7 @@ pub(crate) fn load_outcome(part: Part, fault: LoadFault) -> Outcome
     }
 }
 
-/// The outcome of tokens that are no query.
+/// The outcome of an error of the parser: the tokens are no query.
 pub(crate) fn sql_outcome(part: Part, fault: SqlFault) -> Outcome
     ensures { result ≡ sql_outcome part fault }
 {
@@ -63,7 +65,7 @@ pub(crate) fn sql_outcome(part: Part, fault: SqlFault) -> Outcome
     }
 }
 
-/// The outcome of a query that has no meaning over the schema.
+/// The outcome of a query that has no meaning over the schema, such as one with an unknown name.
 pub(crate) fn name_outcome(part: Part, fault: NameFault) -> Outcome
     ensures { result ≡ name_outcome part fault }
 {

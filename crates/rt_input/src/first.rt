@@ -1,4 +1,6 @@
-//! What a command reads before its second query.
+//! What a command reads before its second query. A command that compares one query with many
+//! reads this once.
+
 ghost use Rattle.std.specs.Prelude.{◌≡◌, IfOk, IfErr, OnOk, Ok};
 ghost use Rattle.rt_io.specs.Edge.{NoneFell};
 ghost use Rattle.rt_algebra.specs.Typed.{IsTypedOf};
@@ -65,7 +67,8 @@ impl First {
     }
 }
 
-/// The schema, the rows and the first query of a source; its second query isn't read.
+/// The schema, the rows and the first query of a source, in the order of reading. Its second
+/// query isn't read.
 pub(crate) fn first_of<F: Files>(
     alloc: Global,
     files: &mut F,
@@ -92,7 +95,7 @@ pub(crate) fn first_of<F: Files>(
     })
 }
 
-/// The same of a command.
+/// The schema, the rows and the first query of a command.
 pub fn read_first<F: Files>(alloc: Global, words: &Words, files: &mut F) -> Result<First, Outcome>
     ensures sound { IfOk result IsFirst }
     ensures ok { IfOk result (λ first. IsKnown F.tells (source_of words.now) → first_judged (source_of words.now) (F.held files.old) ≡ Ok first) }

@@ -1,3 +1,6 @@
+//! The accepted input. Its fields are private, so that each `Input` is one that was checked:
+//! contracts get `IsAccepted` from its invariant.
+
 ghost use Rattle.std.specs.Prelude.{◌≡◌};
 ghost use Rattle.rt_input.specs.Accepted.{IsAccepted};
 
@@ -47,7 +50,8 @@ impl Model for Input {
 }
 
 impl Input {
-    /// The input of these queries over the rows of the tables; `made` is for a generated one.
+    /// The input of these queries over the rows of the tables. `made` is the number of students
+    /// of a generated one.
     pub fn new(
         tables: Tables,
         left: Typed,
@@ -71,6 +75,7 @@ impl Input {
         }
     }
 
+    /// The schema.
     pub fn schema(&self) -> &Schema
         ensures same { result.now ≡ self.now.schema }
         ensures sound { IsAccepted self.now }
@@ -78,18 +83,21 @@ impl Input {
         &self.schema
     }
 
+    /// The rows given for the schema.
     pub fn given(&self) -> &Given
         ensures { result.now ≡ self.now.given }
     {
         &self.given
     }
 
+    /// The first query.
     pub fn left(&self) -> &Typed
         ensures { result.now ≡ self.now.left }
     {
         &self.left
     }
 
+    /// The second query.
     pub fn right(&self) -> &Typed
         ensures { result.now ≡ self.now.right }
     {
@@ -103,7 +111,7 @@ impl Input {
         self.conflicts
     }
 
-    /// The most work that the input may be.
+    /// The most work that the input may be, as `work_between` counts it.
     pub fn work_limit(&self) -> u64
         ensures { result ≡ self.now.work_limit }
     {

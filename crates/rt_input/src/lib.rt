@@ -1,5 +1,5 @@
-//! What the words and the files of a command say: where the texts of its parts stand, an accepted
-//! input, or the outcome that stops the reading, and its text.
+//! From the arguments and files of a command to an accepted input, or to the outcome that stops
+//! the reading. Also the text of each outcome that is no verdict.
 #![tactic(auto)]
 
 mod faults;
@@ -16,7 +16,6 @@ mod stopped;
 mod tables;
 mod text;
 
-pub use faults::lex_outcome;
 pub use first::{First, read_first};
 pub use input::Input;
 pub use outcome::{Fault, Limit, Outcome, Spent};

@@ -1,3 +1,6 @@
+//! How a call ends, with its exit status. The readers make refusals and limits of these, and the
+//! search makes verdicts.
+
 ghost use Rattle.std.specs.Prelude.{◌≡◌};
 ghost use Rattle.rt_input.specs.Steps.{is_memory};
 ghost use Rattle.rt_input.specs.Texts.{status_of};
@@ -11,8 +14,8 @@ use rt_sql::SqlFault;
 use rt_token::LexFault;
 use rt_value::{Keep, List, NoMemory, Txt};
 
-/// What is wrong with the contents of a file. Want of memory and limits are outcomes of their own,
-/// and stand in none of these.
+/// The error in the contents of a file. Out of memory and limits are outcomes of their own, and
+/// are none of these.
 pub enum Fault {
     /// The text of a schema or of a query has no tokens.
     Lex(LexFault),
@@ -20,7 +23,7 @@ pub enum Fault {
     Schema(SchemaFault),
     /// The table file is no table of the schema.
     Load(LoadFault),
-    /// The tokens are those of no query.
+    /// The tokens are no query.
     Sql(SqlFault),
     /// The query has no meaning over the schema, or the two queries have other columns.
     Name(NameFault),
@@ -50,7 +53,7 @@ pub enum Limit {
     Rules(Txt),
     /// The tables together have too many rows.
     Rows,
-    /// The two queries and the rules of the schema are so much work.
+    /// The two queries and the rules of the schema take this much work.
     Work(u128),
 }
 
@@ -67,10 +70,12 @@ impl Drop for Limit {
     }
 }
 
-/// What is known where the budget of conflicts is spent: the best choice of places so far, if there
-/// is one, whether no counterexample is known to keep fewer rows, and as many clauses over places as
-/// the budget says. Each is true at every counterexample that keeps fewer rows than the best, or at
-/// most as many where none keeps fewer, or at every one where there is no best.
+/// What is known when the budget of conflicts is spent. `best` is the best choice of places so
+/// far, if there is one, and `least` says that no counterexample keeps fewer rows.
+///
+/// `nogoods` has as many clauses over places as the budget says. Each is true at every
+/// counterexample that keeps fewer rows than the best, or at most as many if `least` is true.
+/// Without a best choice, each is true at every counterexample.
 #[derive(Debug)]
 pub struct Spent {
     pub budget: u64,
@@ -98,7 +103,7 @@ pub enum Outcome {
     /// The first of the smallest counterexamples in the order of rows, as the choice of the places
     /// that it keeps.
     Witness(Keep),
-    /// The words are no command.
+    /// The arguments are no command.
     Usage,
     /// The first refusal of the input.
     Refused(Part, Fault),
@@ -110,12 +115,12 @@ pub enum Outcome {
     ReadFault(Part),
     /// The text could not be written.
     WriteFault,
-    /// Memory was wanting.
+    /// Out of memory.
     NoMemory,
 }
 
 impl Outcome {
-    /// The status that the program ends with.
+    /// The exit status of the program, 0 to 7.
     pub fn status(&self) -> u8
         ensures { result ≡ status_of self.now }
     {
@@ -131,7 +136,7 @@ impl Outcome {
         }
     }
 
-    /// Whether memory was wanting.
+    /// Whether it is out of memory.
     pub fn is_memory(&self) -> bool
         ensures { result ≡ is_memory self.now }
     {

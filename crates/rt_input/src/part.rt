@@ -1,10 +1,12 @@
+//! The parts of an input that a refusal names.
+
 ghost use Rattle.std.specs.Prelude.{◌≡◌};
 ghost use Rattle.rt_input.specs.Source.{query_part};
 
 use rt_value::Txt;
 
-/// A part of an input: the schema, a table by its number and name, a query, or the two queries
-/// beside each other.
+/// A part of an input: the schema, a table by its number (from 0) and name, a query, or the
+/// comparison of the two queries' columns.
 #[derive(Debug, Drop)]
 pub enum Part {
     Schema,
@@ -22,7 +24,7 @@ pub enum QueryPart {
 }
 
 impl QueryPart {
-    /// The part of an input that the query is.
+    /// The part of the input for this query.
     pub fn part(self) -> Part
         ensures { result ≡ query_part self }
     {

@@ -1,4 +1,5 @@
-//! The queries of an input, from their texts to the algebra, and their work.
+//! The queries of an input, from their texts to the algebra.
+
 ghost use Rattle.std.specs.Prelude.{◌≡◌, IfOk, IfErr, Ok};
 ghost use Rattle.rt_algebra.specs.Typed.{IsTypedOf};
 ghost use Rattle.rt_input.specs.Judged.{like_left, query_of, query_of_tokens, query_of_tree};
@@ -18,7 +19,7 @@ use rt_token::{Token, tokens};
 use rt_tree::Sql;
 use std::alloc::Global;
 
-/// The query of a tree.
+// The query of a tree.
 fn query_of_tree(alloc: Global, part: Part, schema: &Schema, tree: &Sql) -> Result<Typed, Outcome>
     ensures typed { IfOk result (IsTypedOf schema.now) }
     ensures ok { IfOk result (λ typed. query_of_tree part schema.now tree.now ≡ Ok typed) }
@@ -32,7 +33,7 @@ fn query_of_tree(alloc: Global, part: Part, schema: &Schema, tree: &Sql) -> Resu
     }
 }
 
-/// The query of tokens.
+// The query of tokens.
 fn query_of_tokens(
     alloc: Global,
     part: Part,
@@ -51,7 +52,8 @@ fn query_of_tokens(
     }
 }
 
-/// The query of a text; a fault speaks of the part.
+/// The typed query of a text: tokens, tree, and then its meaning over the schema. An error names
+/// the part.
 pub fn query_of(alloc: Global, part: Part, schema: &Schema, text: &[u8]) -> Result<Typed, Outcome>
     ensures typed { IfOk result (IsTypedOf schema.now) }
     ensures ok { IfOk result (λ typed. query_of part schema.now text.now ≡ Ok typed) }
@@ -65,7 +67,7 @@ pub fn query_of(alloc: Global, part: Part, schema: &Schema, text: &[u8]) -> Resu
     }
 }
 
-/// The second query, where it has as many columns as the first, of the same kinds.
+/// The second query, if it has as many columns as the first, of the same kinds.
 pub fn like_left(left: &Typed, right: Typed) -> Result<Typed, Outcome>
     ensures kinds { IfOk result (λ typed. typed.kinds ≡ left.now.kinds) }
     ensures ok { IfOk result (λ typed. (typed ≡ right) × (like_left left.now right ≡ Ok typed)) }

@@ -1,6 +1,7 @@
-//! The reading of a command's input.
-ghost use Rattle.std.specs.Prelude.{◌≡◌, ◌≤◌, ◌++◌, IsSomeAnd, IfOk, IfErr, OnOk, Ok, None, Some};
-ghost use Rattle.std.specs.Option.{ForSome};
+//! The reading of a command's input, in a fixed order: arguments, schema, tables, queries, and
+//! then the work. The first refusal in that order is the answer.
+
+ghost use Rattle.std.specs.Prelude.{◌≡◌, ◌++◌, IfOk, IfErr, OnOk, Ok, Some};
 ghost use Rattle.rt_io.specs.Edge.{AddsPrefix, NoneFell};
 ghost use Rattle.rt_schema.specs.Given.{IsOf};
 ghost use Rattle.rt_algebra.specs.Typed.{IsTypedOf};
@@ -28,7 +29,7 @@ use rt_schema::{Given, Schema, capped_add, law_work};
 use rt_value::Txt;
 use std::alloc::Global;
 
-/// The command that the words spell.
+/// The command of the arguments, or the outcome `Usage`.
 pub fn read_words(alloc: Global, words: &[Txt]) -> Result<Words, Outcome>
     ensures ok { IfOk result (λ k. command words.now ≡ Some k) }
     ensures err { IfErr result (WordsStop (command words.now)) }
@@ -63,7 +64,7 @@ pub(crate) fn read_query<F: Files>(
     query_of(alloc, part.part(), schema, text.as_slice())
 }
 
-/// The second query, whose columns are as the first's.
+// The second query, whose columns are of the same kinds as the first's.
 fn read_right<F: Files>(
     alloc: Global,
     files: &mut F,
@@ -86,7 +87,8 @@ fn read_right<F: Files>(
     like_left(left, right)
 }
 
-/// The work of two queries over given rows and of the rules of the schema.
+/// The work of two queries over given rows and of the rules of the schema, in the unit of `work`.
+/// It stops at 2^127 - 1.
 pub fn work_between(schema: &Schema, given: &Given, left: &Typed, right: &Typed) -> u128
     requires { IsOf schema.now given.now }
     ensures { result ≡ work_between schema.now given.now left.now right.now }
@@ -103,7 +105,7 @@ fn total_work(input: &Input) -> u128
     work_between(schema, input.given(), input.left(), input.right())
 }
 
-/// The input, where its work is within its limit.
+/// The input, if its work is within its limit.
 pub fn within_limit(input: Input) -> Result<Input, Outcome>
     ensures sound { IfOk result IsAccepted }
     ensures ok { IfOk result (λ same. (same ≡ input) × (within_limit input ≡ Ok same)) }
@@ -118,7 +120,7 @@ pub fn within_limit(input: Input) -> Result<Input, Outcome>
     }
 }
 
-/// What the texts of a source say, with the numbers of the command.
+// What the texts of a source say, with the numbers of the command.
 fn read_source<F: Files>(
     alloc: Global,
     words: &Words,
@@ -147,7 +149,7 @@ fn read_source<F: Files>(
     }
 }
 
-/// What the texts of a command say.
+// What the texts of a command say.
 fn read_command<F: Files>(alloc: Global, words: &Words, files: &mut F) -> Result<Input, Outcome>
     ensures sound { IfOk result IsAccepted }
     ensures options { IfOk result (HasOptions words.now) }
@@ -170,8 +172,8 @@ fn read_command<F: Files>(alloc: Global, words: &Words, files: &mut F) -> Result
 pub fn read_input<F: Files>(alloc: Global, words: &[Txt], files: &mut F) -> Result<Input, Outcome>
     ensures ok { IfOk result (IsRead (call F.Files words.now files.old files.new)) }
     ensures err { IfErr result (Stop (call F.Files words.now files.old files.new)) }
-    // The files that are begun are first ones of those that the command names, and none stands behind
-    // the first refusal; where there is an input, they are all of them.
+    // The files that are begun are first ones of those that the command names, and none after the
+    // first refusal. If there is an input, they are all of them.
     ensures begun { Begins F.Files (command words.now) files.old files.new }
     ensures begun_ok { OnOk result (BeganFor F.tells (F.held files.old) (command words.now) (F.begun files.old) (F.begun files.new)) }
     // A generated input begins no file.

@@ -1,4 +1,5 @@
-//! The texts of refusals and faults.
+//! The texts of refusals and errors. `specs/Texts.antt` has them byte by byte.
+
 ghost use Rattle.std.specs.Prelude.{◌≡◌, ◌++◌, IfOk, codes, decimal, string_bytes};
 ghost use Rattle.rt_input.specs.Texts.{part_text, fault_text, lex_text, limit_text, load_text, name_text, refusal_line, schema_text, sql_text, syntax_text};
 
@@ -12,14 +13,14 @@ use rt_token::LexFault;
 use rt_value::{Bytes, List, NoMemory};
 use std::alloc::{AllocError, Global};
 
-// A text behind a label.
+// A text after a label.
 fn labelled(alloc: Global, label: &str, text: &str) -> Result<String, AllocError>
     ensures { IfOk result (λ s. string_bytes s ≡ label.now ++ text.now) }
 {
     format!(in alloc; "{label}{text}")
 }
 
-// A number behind a label.
+// A number after a label.
 fn numbered(alloc: Global, label: &str, number: usize) -> Result<String, AllocError>
     ensures { IfOk result (λ s. string_bytes s ≡ label.now ++ decimal number) }
 {
@@ -33,7 +34,7 @@ fn between(alloc: Global, before: &str, text: &str, after: &str) -> Result<Strin
     format!(in alloc; "{before}{text}{after}")
 }
 
-/// How the line of a refusal names a part.
+/// The name of a part in the line of a refusal, such as `table beers`.
 pub fn part_text(alloc: Global, part: &Part) -> Result<String, AllocError>
     ensures { IfOk result (λ s. string_bytes s ≡ part_text part.now) }
 {
@@ -58,7 +59,7 @@ fn fault_words(alloc: Global, fault: &Fault) -> Result<String, AllocError>
     }
 }
 
-/// Why a text has no tokens, without a line end; empty for want of memory.
+/// Why a text has no tokens, without a line end; empty for out of memory. Bytes count from 0.
 pub fn lex_text(alloc: Global, fault: &LexFault) -> Result<String, AllocError>
     ensures { IfOk result (λ s. string_bytes s ≡ lex_text fault.now) }
 {
@@ -150,7 +151,7 @@ fn name_text(alloc: Global, fault: &NameFault) -> Result<String, AllocError>
     }
 }
 
-/// The text of a limit; `most` is the work limit in force.
+// The text of a limit; `most` is the work limit in force.
 fn limit_text(alloc: Global, most: u64, limit: &Limit) -> Result<String, AllocError>
     ensures { IfOk result (λ s. string_bytes s ≡ limit_text most limit.now) }
 {
@@ -169,7 +170,7 @@ fn limit_text(alloc: Global, most: u64, limit: &Limit) -> Result<String, AllocEr
     }
 }
 
-/// What is wrong with a text, without a line end; empty for want of memory and for what is a limit.
+/// The error in a text, without a line end; empty for out of memory and for what is a limit.
 pub fn fault_text(alloc: Global, fault: &Fault) -> Result<Bytes, NoMemory>
     ensures { IfOk result (λ text. text ≡ fault_text fault.now) }
 {
@@ -177,8 +178,8 @@ pub fn fault_text(alloc: Global, fault: &Fault) -> Result<Bytes, NoMemory>
     List::from_slice(alloc, text.as_bytes())
 }
 
-/// The line of a refusal, a limit or a fault of reading; `work_limit` is the one in force. Empty for
-/// every other outcome.
+/// The line of a refusal, a limit or an error of reading. `work_limit` is the one in force. Empty
+/// for every other outcome.
 pub fn refusal_line(alloc: Global, outcome: &Outcome, work_limit: u64) -> Result<Bytes, NoMemory>
     ensures { IfOk result (λ text. text ≡ refusal_line work_limit outcome.now) }
 {

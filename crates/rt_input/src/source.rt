@@ -1,4 +1,5 @@
-//! Where the texts of a command stand.
+//! Where the texts of a command come from: the files that it names, or a generated input.
+
 ghost use Rattle.std.specs.Prelude.{◌≡◌, IfOk};
 ghost use Rattle.rt_input.specs.Source.{file_name, made_part, paths_in, source_of, table_file, table_paths};
 
@@ -13,7 +14,7 @@ pub struct Paths {
     pub schema: Txt,
     /// The folder of the table files.
     pub dir: Txt,
-    /// The queries' files; none where the command reads no query.
+    /// The queries' files; none for a command that reads no query.
     pub query1: Option<Txt>,
     pub query2: Option<Txt>,
 }
@@ -45,6 +46,7 @@ impl Drop for Source {
 }
 
 impl Source {
+    /// The source of a command: generated if it asks for that, else its files.
     pub fn of(alloc: Global, words: &Words) -> Result<Source, NoMemory>
         ensures { IfOk result (λ source. source ≡ source_of words.now) }
     {
@@ -87,7 +89,7 @@ impl Paths {
         })
     }
 
-    /// The name of the file of a part. The comparison of the two queries has none.
+    /// The name of the file of a part, if it has one: the comparison of the two queries has none.
     pub fn file(&self, alloc: Global, part: &Part) -> Result<Option<Txt>, NoMemory>
         ensures { IfOk result (λ name. name ≡ file_name self.now part.now) }
     {

@@ -1,4 +1,5 @@
-//! What is said where there is no verdict.
+//! What is printed if there is no verdict.
+
 ghost use Rattle.std.specs.Prelude.{◌≡◌, IfOk};
 ghost use Rattle.rt_io.specs.Command.{command};
 ghost use Rattle.rt_input.specs.Reading.{limit_of};
@@ -10,7 +11,7 @@ use rt_io::{WordFault, read_words};
 use rt_value::{Bytes, List, NoMemory, Txt};
 use std::alloc::Global;
 
-/// The work limit of the command that the words are.
+// The work limit of the command, and 0 for arguments that are none.
 fn work_limit(alloc: Global, words: &[Txt]) -> Result<u64, NoMemory>
     ensures { IfOk result (λ most. most ≡ limit_of (command words.now)) }
 {
@@ -21,8 +22,9 @@ fn work_limit(alloc: Global, words: &[Txt]) -> Result<u64, NoMemory>
     }
 }
 
-/// The text of an outcome that is no verdict, for a command whose words hold those of one of
-/// `ratest`: `words` are these, and `usage` is its text for words that are no command.
+/// The text of an outcome that is no verdict. `words` are the arguments of a command of `ratest`,
+/// which those of another program may hold. `usage` is the text for arguments that are no
+/// command.
 pub fn stopped_text(
     alloc: Global,
     usage: &str,

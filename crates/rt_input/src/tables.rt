@@ -1,4 +1,5 @@
-//! The schema of a command and the rows of its tables.
+//! The schema of a command and the rows of its tables, which are read in the order of the schema.
+
 ghost use Rattle.std.specs.Prelude.{◌≡◌, ◌≤◌, ◌++◌, IsTrue, IfOk, IfErr, OnErr, OnOk, Ok, Some, length, slice_get, slice_set};
 ghost use Rattle.rt_io.specs.Edge.{AddsPrefix, NoneFell};
 ghost use Rattle.rt_input.specs.Begun.{AddsAll, AddsSome, data_files, data_reached, part_files, table_files, tables_reached};
@@ -38,7 +39,7 @@ impl Drop for Tables {
 }
 
 impl Tables {
-    /// The schema and the rows, each by itself.
+    /// The schema and the rows as two values.
     pub(crate) fn into_parts(self) -> (Schema, Given)
         ensures schema { result.0 ≡ self.schema }
         ensures given { result.1 ≡ self.given }
@@ -48,7 +49,7 @@ impl Tables {
     }
 }
 
-/// The schema of a text.
+// The schema of a text.
 fn schema_of(alloc: Global, text: &[u8]) -> Result<Schema, Outcome>
     ensures ok { IfOk result (λ schema. schema_of text.now ≡ Ok schema) }
     ensures err { IfErr result (Refuses (schema_of text.now)) }
@@ -61,7 +62,7 @@ fn schema_of(alloc: Global, text: &[u8]) -> Result<Schema, Outcome>
     }
 }
 
-/// The schema.
+// The schema of a source.
 fn schema_file<F: Files>(alloc: Global, files: &mut F, source: &Source) -> Result<Schema, Outcome>
     ensures ok { IfOk result (λ schema. IsKnown F.tells source.now → schema_judged source.now (F.held files.old) ≡ Ok schema) }
     ensures err { IfErr result (Stops (over F.Files files.old files.new) source.now (schema_judged source.now (F.held files.old)) (λ p. p ≡ parts.Schema)) }
@@ -77,7 +78,7 @@ fn schema_file<F: Files>(alloc: Global, files: &mut F, source: &Source) -> Resul
     schema_of(alloc, text.as_slice())
 }
 
-/// The rows of the table with this number, which come into `given`.
+// The rows of the table with this number, which come into `given`.
 fn read_table<F: Files>(
     alloc: Global,
     files: &mut F,
@@ -115,7 +116,7 @@ fn read_table<F: Files>(
     }
 }
 
-/// The rows of all tables.
+// The rows of all tables.
 fn read_given<F: Files>(
     alloc: Global,
     files: &mut F,
@@ -166,6 +167,7 @@ pub(crate) fn tables_of<F: Files>(
 }
 
 /// The schema of the file of that name, and the rows of its tables' files in the folder `dir`.
+/// The file of a table is its name with `.csv`.
 pub fn read_tables<F: Files>(
     alloc: Global,
     schema: &Txt,

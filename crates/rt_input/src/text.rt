@@ -1,4 +1,5 @@
 //! The texts of a command, from its files or generated.
+
 ghost use Rattle.std.specs.Prelude.{◌≡◌, ◌≢◌, ◌≤◌, [], ◌∷◌, ◌++◌, IsTrue, IfOk, IfErr, OnOk, Ok};
 ghost use Rattle.rt_io.specs.Edge.{AddsPrefix, NoneFell, OnlyRises};
 ghost use Rattle.rt_input.specs.Begun.{part_files};
@@ -16,10 +17,11 @@ use rt_io::{Files, ReadFail, read_file};
 use rt_value::{Bytes, List, NoMemory, Txt};
 use std::alloc::Global;
 
-/// The most bytes of a file.
+// The most bytes of a file.
 const MOST_BYTES: usize = 4_194_304;
 
-/// The text of the named file, without a byte order mark at its start. A fault speaks of the part.
+/// The text of the named file, without a byte order mark (EF BB BF) at its start. An error names
+/// the part.
 pub fn read_text<F: Files>(
     alloc: Global,
     part: Part,
@@ -28,7 +30,7 @@ pub fn read_text<F: Files>(
 ) -> Result<Bytes, Outcome>
     ensures ok { IfOk result (λ text. IsTrue F.tells → text_read part (F.held files.old name.now) ≡ Ok text) }
     ensures err { IfErr result (TextStops (over F.Files files.old files.new) name.now part) }
-    // A file is too long exactly where more bytes of it were taken than it may have.
+    // A file is too long exactly if more bytes of it were taken than it may have.
     ensures within { OnOk result (F.taken files.new ≤ most_bytes) }
     ensures begun { AddsPrefix (F.begun files.old) (F.begun files.new) (name.now ∷ []) }
     ensures begun_ok { OnOk result (F.begun files.new ≡ F.begun files.old ++ name.now ∷ []) }

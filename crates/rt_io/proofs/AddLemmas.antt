@@ -12,12 +12,12 @@ adds_none old new more same = (0, omega arith, same ∙ sym (append-nil old))
 pub adds_all : {T : Type 0} (old new more : List T) → new ≡ old ++ more → AddsPrefix old new more
 adds_all old new more is = (length more, omega arith, is ∙ ap (λ xs. old ++ xs) (sym (take_all (length more) more (omega arith))))
 
--- no more than these, where others come behind them
+-- no more than these, where others come after them
 pub adds_first : {T : Type 0} (old new more behind : List T) → AddsPrefix old new more → AddsPrefix old new (more ++ behind)
 adds_first old new more behind adds =
     (adds.0, omega (arith, adds.1, length-append more behind), adds.2 ∙ ap (λ xs. old ++ xs) (sym (take-append-le adds.0 more behind adds.1)))
 
--- all of these, and then some of those behind them
+-- all of these, and then some of those after them
 pub adds_then : {T : Type 0} (old mid new more behind : List T) → mid ≡ old ++ more → AddsPrefix mid new behind → AddsPrefix old new (more ++ behind)
 adds_then old mid new more behind all adds = (
   length more + adds.0,

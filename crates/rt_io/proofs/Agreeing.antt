@@ -57,7 +57,7 @@ twice-on (text ∷ rest) after_all r t = twice-on rest after_all (with_word text
 
 -- ---- the walk
 
--- the faults of the words that are left, and what is filed at their end
+-- the errors of the arguments that are left, and what is filed at their end
 abbrev pub faults_on : Walk → List Text → Kinds
 faults_on w texts = or_else (walk_fault shape [] w texts) (settle_fault our_rules false (fold (walked our_rules []) w texts).held)
 
@@ -68,7 +68,7 @@ pub data Ends (r : Reading) (faults : Kinds) (rows : List Row) : Type 0 where
   fine : faults ≡ [] → Stands r rows nothing → Ends r faults rows
   refused : (faults ≡ [] → ⊥) → IsTwice r → Ends r faults rows
 
--- what we read agrees with the faults and the rows
+-- what we read agrees with the errors and the rows
 abbrev pub Agrees : Option Reading → Kinds → List Row → Type 0
 Agrees None faults rows = faults ≡ [] → ⊥
 Agrees (Some r) faults rows = Ends r faults rows
@@ -91,19 +91,19 @@ or-second (k ∷ ks) b e = cc e
 or-both : (a b : Kinds) → a ≡ [] → b ≡ [] → or_else a b ≡ []
 or-both a b e f = rw (e, f) refl
 
--- a word without a fault
+-- an argument without an error
 passes : (o : Option Reading) (w next : Walk) (text : Text) (rest : List Text) → turn_fault shape [] w text ≡ [] → walked our_rules [] w text ≡ next
     → AgreesOn o next rest → AgreesOn o w (text ∷ rest)
 unfolding walk_fault
 passes o w next text rest e is h = subst (λ (k : Kinds). Agrees o (or_else (or_else k (walk_fault shape [] (walked our_rules [] w text) rest)) (settle_fault our_rules false (fold (walked our_rules []) (walked our_rules [] w text) rest).held)) (rows_on (walked our_rules [] w text) rest))
     (sym e) (subst (λ (n : Walk). AgreesOn o n rest) (sym is) h)
 
--- a word with a fault
+-- an argument with an error
 stops : (w : Walk) (text : Text) (rest : List Text) → (turn_fault shape [] w text ≡ [] → ⊥) → faults_on w (text ∷ rest) ≡ [] → ⊥
 unfolding walk_fault
 stops w text rest n e = n (or-first _ _ (or-first _ _ e))
 
--- where the walk stands between two words
+-- where the walk is between two arguments
 pub data Place : Type 0 where
   open_at : List Row → Pending → Between → Place
   asking_at : List Row → Setting → Place
@@ -155,7 +155,7 @@ module _ (text : Text) (rest : List Text) (valid : IsUtf8 text)
       (subst (λ (x : Text). turn_fault shape [] (at_word h w) x ≡ []) (sym is) (dashes-fault h w))
       (subst (λ (x : Text). walked our_rules [] (at_word h w) x ≡ after_dashes_at h w) (sym is) (dashes-walk h w)) a
 
-  -- any word
+  -- any argument
   module _ (rows : List Row) (p : Pending) (w : Between) (r : Reading) where
     plain-open : long_of text ≡ None → short_of text ≡ None → bytes_eq text (45 ∷ 45 ∷ []) ≡ false → Files r rows p
         → AgreesOn (read_on rest open_to_all (with_word text r)) (at_word (held rows p) (between w)) (text ∷ rest)
@@ -199,7 +199,7 @@ module _ (text : Text) (rest : List Text) (valid : IsUtf8 text)
     awaited k (as_long x name v l d n1 n2) h = stops _ text rest (not-nil _ _ _ (long-fault text d name v l n1 n2 (asking rows o) (option_waits (name_of o))))
     awaited k (as_short x flag more is l s d) h = short-stops (asking rows o) refl (option_waits (name_of o)) flag more is l s d
 
-  -- a word after `--`
+  -- an argument after `--`
   after-open : (rows : List Row) (p : Pending) (w : Between) (r : Reading) → Files r rows p → AgreesOn (read_on rest after_all (with_word text r)) (after_dashes_at (held rows p) (between w)) (text ∷ rest)
   after-open rows p w r (clean e h) = passes _ _ _ text rest (after-fault rows (between w) text p ∙ e) (after-walk rows (between w) text p)
       (ih (after_at (filed rows p) (word_of_it text) more_words) (with_word text r) (put-word r _ text h))

@@ -1,4 +1,4 @@
--- Lemmas on the command's words.
+-- Lemmas on the command's arguments.
 use Rattle.std.proofs.Common.{◌≡◌, [], ◌∷◌, refl, inl, inr, true}
 use Rattle.clap.specs.Words.{HasKind, Kinds, is_simple, is_simple_and_free, kind_of}
 use Rattle.clap.specs.declared.error.Error.{Error}

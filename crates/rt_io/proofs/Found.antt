@@ -29,7 +29,7 @@ module _ (id : Text) where
   pub values-are : (m : ArgMatches) (o : Option (List Text)) → o ≡ option_map raw_values (matched_of (found_of m) id) → values_in id (rows_of (found_of m)) ≡ unwrap_or o []
   values-are m o e = values-found (found_of m).entries.items ∙ ap (λ (x : Option (List Text)). unwrap_or x []) (sym e)
 
--- a command of the plain words and the limits
+-- a command of the plain arguments and the limits
 pub formed : (of : List Text → Limits → Option Command) (o : Option Reading) (rows : List Row) (l : Limits) (plain : List Text) (result : Result Command WordFault)
     → o ≡ Some (reading_in rows) → Some l ≡ limits (reading_in rows) → values_in (codes "words") rows ≡ plain → Reads (of plain l) result
     → Reads (option_and_then (form of) o) result
@@ -38,7 +38,7 @@ formed of o rows l plain result e f g h =
     ap (λ (x : Option Limits). option_and_then (of (values_in (codes "words") rows)) x) (sym f) ∙ ap (λ (x : List Text). of x l) g in
     subst (λ (x : Option Command). Reads x result) (sym (ap (λ (x : Option Reading). option_and_then (form of) x) e ∙ limited)) h
 
--- neither form has no words
+-- without arguments neither form is a command
 pub no_words : (made : Bool) (l : Limits) → of_form made [] l ≡ None
 no_words true l = refl
 no_words false l = refl

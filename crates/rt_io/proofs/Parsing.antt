@@ -45,7 +45,7 @@ no-rows-added : (rows : List Row) → fold with_default rows our_rules ≡ rows
 unfolding clap_on_literals command_app
 no-rows-added rows = simp same-either
 
--- after the walk nothing is at fault
+-- after the walk there is no further error
 level : (stop : Option (Text × List Text)) (k : Kinds) (end : Held) → or_else k (or_else (entered_fault (built command_app) stop) (or_else (settle_fault our_rules false end)
     (or_else (defaults_fault (settled our_rules end).rows our_rules) (check_fault shape (finished our_rules end) (is_some (entered (built command_app) stop))))))
     ≡ or_else k (settle_fault our_rules false end)

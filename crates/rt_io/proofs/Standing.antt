@@ -1,4 +1,4 @@
--- What was read, beside what `clap` holds.
+-- What was read, compared with what `clap` holds.
 use Rattle.std.proofs.Common.{◌≡◌, ◌∙◌, ◌<◌, ◌≤◌, List, [], ◌∷◌, ◌++◌, refl, Bool, true, false, Option, Some, None, codes, ap, sym, subst, length, length-append, arith}
 use Rattle.std.proofs.lemmas.List.{append-nil}
 use Rattle.std.specs.Str.{bytes_eq}

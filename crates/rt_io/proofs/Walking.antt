@@ -1,4 +1,4 @@
--- One word of the command, as `clap` walks over it.
+-- One argument of the command, as `clap` walks over it.
 use Rattle.std.proofs.Common.{◌≡◌, List, [], ◌∷◌, ℕ, refl, true, false, Option, Some, None, codes}
 use Rattle.std.specs.Str.{bytes_eq, chars}
 use Rattle.std.specs.Prelude.{slice_get}
@@ -43,7 +43,7 @@ at_word h w = record { held = h; waiting = w; position = 1; is_trailing = false;
 abbrev pub after_dashes_at : Held → Waiting → Walk
 after_dashes_at h w = record { held = h; waiting = w; position = 1; is_trailing = true; stopped = None }
 
--- what takes a next word where no option waits for its value
+-- what takes the next argument where no option waits for its value
 pub data Between : Type 0 where
   anything : Between
   more_words : Between
@@ -58,7 +58,7 @@ settling rows p = settle_fault our_rules false (held rows p)
 abbrev pub filed : List Row → Pending → List Row
 filed rows p = settled_rows our_rules (pending_of p) rows
 
--- a plain word
+-- a plain argument
 module _ (rows : List Row) (word : Text) (l : long_of word ≡ None) (s : short_of word ≡ None) (d : bytes_eq word (45 ∷ 45 ∷ []) ≡ false) where
   pub plain-fault : (p : Pending) (w : Between) → turn_fault shape [] (at_word (held rows p) (between w)) word ≡ settling rows p
   unfolding clap_on_literals command_app
@@ -107,7 +107,7 @@ module _ (h : Held) where
   dashes-walk (option id) = refl
   dashes-walk positional = refl
 
--- a word after `--`
+-- an argument after `--`
 module _ (rows : List Row) (w : Waiting) (word : Text) where
   pub after-fault : (p : Pending) → turn_fault shape [] (after_dashes_at (held rows p) w) word ≡ settling rows p
   unfolding clap_on_literals command_app

@@ -1,4 +1,4 @@
--- What a word is to `clap`.
+-- What an argument is to `clap`.
 use Rattle.std.proofs.lemmas.Bool.Decides.{Decides-eqb}
 use Rattle.std.proofs.Common.{◌≡◌, ◌∙◌, ℕ, [], ◌∷◌, ap, sym, subst, refl, Bool, true, false, Option, Some, None, codes}
 use Rattle.std.specs.Prelude.{◌==◌, if◌then◌else◌, slice_get}
@@ -10,7 +10,7 @@ use Rattle.clap.specs.Lexer.{long_of, short_of}
 use Rattle.rt_io.specs.Reading.{Setting, Text, Word, after_dash, after_dashes, conflicts, dashes, name_of, option, option_or_setting, plain, setting, unknown, word_of, work}
 use Rattle.rt_io.proofs.Rows.{same_id}
 
--- what the word is to us, and what `clap`'s lexer makes of it
+-- what the argument is to us, and what `clap`'s lexer makes of it
 pub data IsRead : Text → Word → Type 0 where
   as_plain : (w : Text) → long_of w ≡ None → short_of w ≡ None → bytes_eq w (45 ∷ 45 ∷ []) ≡ false → IsRead w plain
   as_dashes : (w : Text) → w ≡ 45 ∷ 45 ∷ [] → IsRead w dashes
@@ -20,7 +20,7 @@ pub data IsRead : Text → Word → Type 0 where
       → bytes_eq (codes "conflicts") name ≡ false → bytes_eq (codes "work") name ≡ false → IsRead w unknown
   as_short : (w : Text) (flag : ℕ) (rest : Text) → w ≡ 45 ∷ flag ∷ rest → long_of w ≡ None → short_of w ≡ Some (flag ∷ rest) → bytes_eq w (45 ∷ 45 ∷ []) ≡ false → IsRead w unknown
 
--- a word that begins with `--` and goes on
+-- an argument that begins with `--` and goes on
 module _ (x : ℕ) (rest : Text) where
   abbrev whole : Text
   whole = 45 ∷ 45 ∷ x ∷ rest
@@ -65,7 +65,7 @@ first-read : (x : ℕ) (rest : Text) (b : Bool) → (x == 45) ≡ b → IsRead (
 first-read x rest true e = subst (λ (y : ℕ). IsRead (y ∷ rest) (after_dash rest)) (sym (eq-number x 45 e)) (after-dash-read rest)
 first-read x rest false e = as_plain (x ∷ rest) (rw e refl) (rw e refl) (rw e refl)
 
--- each word is read
+-- each argument is read
 pub word-read : (w : Text) → IsRead w (word_of w)
 word-read [] = as_plain [] refl refl refl
 word-read (x ∷ rest) = first-read x rest (x == 45) refl

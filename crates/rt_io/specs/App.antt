@@ -1,4 +1,4 @@
--- The words as `clap` reads them.
+-- The arguments as `clap` reads them.
 use Rattle.std.specs.Prelude.{◌≡◌, ◌≢◌, List, [], ◌∷◌, Some, None, true, codes, if◌then◌else◌, option_and_then}
 use Rattle.std.specs.Str.{bytes_eq}
 use Rattle.clap.specs.declared.error.kind.ErrorKind.{ErrorKind}
@@ -26,7 +26,7 @@ empty_app = on_top (λ s. record s { no_binary_name = true; disable_help_flag = 
 unfoldable pub command_app : App
 command_app = with_rule (with_rule (with_rule empty_app plain_rule) conflicts_rule) work_rule
 
--- what is at fault in the words, and what is read of them
+-- the errors of the arguments, and what is read of them
 unfoldable pub faults : List Text → Kinds
 faults texts = fault_of command_app texts
 

@@ -1,4 +1,4 @@
--- The command that the words spell.
+-- The command that arguments mean.
 use Rattle.std.specs.Prelude.{◌≡◌, ℕ, ◌&&◌, Bool, true, false, nat_le, List, [], ◌∷◌, length, Option, Some, None, codes, if◌then◌else◌, option_map, option_and_then, unwrap_or, Result, Ok, Err}
 use Rattle.std.specs.Str.{bytes_eq}
 use Rattle.rt_value.specs.Numeral.{all_digits, decimal}
@@ -53,7 +53,7 @@ of_made _ l = None
 abbrev pub form : (List Text → Limits → Option Command) → Reading → Option Command
 form of r = option_and_then (of r.plain) (limits r)
 
--- the command that the words spell; the second form is read where the first word is `made`
+-- the command that the arguments mean; the second form is read where the first one is `made`
 abbrev pub command : List Text → Option Command
 command [] = None
 command (first ∷ rest) =
@@ -65,7 +65,7 @@ abbrev pub of_form : Bool → List Text → Limits → Option Command
 of_form true words l = of_made words l
 of_form false words l = of_files words l
 
--- the command is read, or the fault is `Usage` where there is none, unless memory was wanting
+-- the command is read, or the error is `Usage` where there is none, unless out of memory
 abbrev pub Reads : Option Command → Result Command WordFault → Type 0
 Reads c (Ok words) = c ≡ Some words
 Reads c (Err Usage) = c ≡ None

@@ -1,7 +1,7 @@
--- What a call of the outside does to what is known of it: the words of the traits' contracts.
+-- What a call of the outside does to what is known of it: the vocabulary of the traits' contracts.
 use Rattle.std.specs.Prelude.{◌≡◌, ◌≢◌, ℕ, ◌+◌, ◌-◌, ◌^◌, ◌≤◌, min, List, ◌++◌, length, take}
 
--- the count rose, or stands at the last value of a `u64`
+-- the count rose, or is at the last value of a `u64`
 abbrev pub Rose : ℕ → ℕ → Type 0
 Rose old new = min (old + 1) (2 ^ 64 - 1) ≤ new
 

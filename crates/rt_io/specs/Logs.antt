@@ -5,7 +5,7 @@ use Rattle.rt_io.specs.declared.sink.Sink.{Ghosts as Sinks}
 use Rattle.rt_io.specs.declared.place.Place.{Place}
 use Rattle.rt_io.specs.declared.place.Place.TheVariants as at
 
--- one sink over a call: whether it tells its bytes, these, and its count, before and after
+-- one sink over a call: whether its bytes are known, these, and its count, before and after
 pub record Log : Type 0 where
   pub tells : Bool
   pub old : List ℕ

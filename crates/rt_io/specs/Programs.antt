@@ -1,10 +1,10 @@
--- Which command of the second program words are.
+-- Which command of the second program arguments are for.
 use Rattle.std.specs.Prelude.{ℕ, List, [], ◌∷◌, codes, if◌then◌else◌}
 use Rattle.std.specs.Str.{bytes_eq}
 use Rattle.rt_io.specs.declared.commands.PlusCommand.{PlusCommand}
 use Rattle.rt_io.specs.declared.commands.PlusCommand.TheVariants.{Ra, Row, Grade, Prove, Check}
 
--- the command that this word names, and `ra` where it names none
+-- the command that this argument names, and `ra` where it names none
 abbrev pub named : List ℕ → PlusCommand
 named word =
     if bytes_eq word (codes "row") then Row
@@ -13,7 +13,7 @@ named word =
     else if bytes_eq word (codes "check") then Check
     else Ra
 
--- the first word names it
+-- the first argument names it
 abbrev pub plus_command : List (List ℕ) → PlusCommand
 plus_command [] = Ra
 plus_command (first ∷ rest) = named first

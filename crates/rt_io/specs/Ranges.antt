@@ -3,8 +3,8 @@ use Rattle.std.specs.Prelude.{◌≡◌, ℕ, ◌≤◌, List, length, Option, S
 use Rattle.std.specs.Option.{ForSome}
 use Rattle.rt_io.specs.declared.limits.Limits.{Limits}
 
--- what the words ask for: the queries over the files of four paths, or over a generated input of
--- the size `made`
+-- what the arguments ask for: the queries over the files of four paths, or over a generated input
+-- of the size `made`
 pub record Command : Type 0 where
   pub paths : List (List ℕ)
   pub conflicts : Option ℕ

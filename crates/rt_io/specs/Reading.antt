@@ -1,7 +1,8 @@
--- How the words of the command are read.
+-- How the arguments of the command are read.
 use Rattle.std.specs.Prelude.{ℕ, ◌==◌, List, [], ◌∷◌, ◌++◌, Option, Some, None, codes, if◌then◌else◌}
 use Rattle.std.specs.List.{before_first, after_first, list_any}
 use Rattle.std.specs.Str.{bytes_eq}
+use Rattle.rt_value.specs.Bytes.{equals, minus_sign}
 
 abbrev pub Text : Type 0
 Text = List ℕ
@@ -15,7 +16,7 @@ abbrev pub name_of : Setting → Text
 name_of conflicts = codes "conflicts"
 name_of work = codes "work"
 
--- the plain words, and the values that each option was given
+-- the plain arguments, and the values that each option was given
 pub record Reading : Type 0 where
   pub plain : List Text
   pub conflicts : List Text
@@ -31,7 +32,7 @@ abbrev pub with_value : Setting → Text → Reading → Reading
 with_value conflicts text r = record r { conflicts = r.conflicts ++ text ∷ [] }
 with_value work text r = record r { work = r.work ++ text ∷ [] }
 
--- what a word is, before `--`
+-- what an argument is, before `--`
 pub data Word : Type 0 where
   plain : Word
   -- `--`
@@ -42,10 +43,10 @@ pub data Word : Type 0 where
   setting : Setting → Text → Word
   unknown : Word
 
--- a name with what stands behind its first `=` (61)
+-- an option, with what follows its first `=` if it has one
 abbrev pub option_or_setting : Setting → Text → Word
 option_or_setting o text =
-    if list_any (λ x. x == 61) text then setting o (after_first (λ x. x == 61) text)
+    if list_any (λ x. x == equals) text then setting o (after_first (λ x. x == equals) text)
     else option o
 
 -- what follows `--`, by the name before its first `=`
@@ -57,23 +58,23 @@ named name text =
 
 abbrev pub after_dashes : Text → Word
 after_dashes [] = dashes
-after_dashes (x ∷ rest) = named (before_first (λ x. x == 61) (x ∷ rest)) (x ∷ rest)
+after_dashes (x ∷ rest) = named (before_first (λ x. x == equals) (x ∷ rest)) (x ∷ rest)
 
 abbrev pub after_dash : Text → Word
 after_dash [] = plain
-after_dash (x ∷ rest) = if x == 45 then after_dashes rest else unknown
+after_dash (x ∷ rest) = if x == minus_sign then after_dashes rest else unknown
 
 abbrev pub word_of : Text → Word
 word_of [] = plain
-word_of (x ∷ rest) = if x == 45 then after_dash rest else plain
+word_of (x ∷ rest) = if x == minus_sign then after_dash rest else plain
 
--- what the next word is read as: any word, the value of an option, or a plain word after `--`
+-- what the next argument is read as: any one, the value of an option, or a plain one after `--`
 pub data Mode : Type 0 where
   open_to_all : Mode
   awaiting : Setting → Mode
   after_all : Mode
 
--- the value of an option, which is a plain word
+-- the value of an option, which is a plain argument
 abbrev pub value_read : Setting → Text → Word → Reading → (Mode → Reading → Option Reading) → Option Reading
 value_read o text plain r next = next open_to_all (with_value o text r)
 value_read o text other r next = None
@@ -94,11 +95,11 @@ abbrev pub ended : Mode → Reading → Option Reading
 ended (awaiting o) r = None
 ended other r = Some r
 
--- the words that are left, read onto what was read
+-- the arguments that are left, read onto what was read
 abbrev pub read_on : List Text → Mode → Reading → Option Reading
 read_on [] mode r = ended mode r
 read_on (text ∷ rest) mode r = read_as mode text r (read_on rest)
 
--- the plain words and the values of the options, if each word has its place
+-- the plain arguments and the values of the options, if each argument has its place
 abbrev pub read : List Text → Option Reading
 read texts = read_on texts open_to_all nothing_read

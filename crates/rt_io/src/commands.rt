@@ -1,10 +1,10 @@
-//! The commands of the second program.
+//! Which command of the second program, `ratest_plus`, a command line means.
 ghost use Rattle.std.specs.Prelude.{◌≡◌};
 ghost use Rattle.rt_io.specs.Programs.{named, plus_command};
 
 use rt_value::Txt;
 
-/// A command of the second program.
+/// A command of the second program: `ra` when no other is named.
 #[derive(Clone, Copy, Debug)]
 pub enum PlusCommand {
     Ra,
@@ -30,8 +30,8 @@ fn named(word: &str) -> PlusCommand
     }
 }
 
-/// The command that the words are: the first one names it. Words that begin as no command's do are
-/// those of `ra`, which answers them.
+/// The command that the first argument names. Arguments that name none go to `ra`, which reads or
+/// refuses them.
 pub fn plus_command(words: &[Txt]) -> PlusCommand
     ensures { result ≡ plus_command words.now }
 {

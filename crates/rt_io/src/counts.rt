@@ -1,4 +1,5 @@
-//! A count of faults for each name that was begun.
+//! How often the calls on each name failed. Entries in a vector are private to the files that
+//! keep them.
 ghost use Rattle.std.specs.Prelude.{◌≡◌, ◌≢◌, ◌+◌, ◌<◌, ◌≤◌, ◌++◌, ◌∷◌, ℕ, List, [], length, OnOk, OnErr, vec_len};
 ghost use Rattle.rt_io.specs.Edge.{Rose, OnlyRises};
 ghost use Rattle.rt_io.specs.Counts.{count_in, name_at, names_in};
@@ -6,8 +7,8 @@ ghost use Rattle.rt_io.specs.Counts.{count_in, name_at, names_in};
 use rt_value::{NoMemory, Txt};
 use std::alloc::Global;
 
-/// The faults of one begin and of the reads after it. A name that is begun again has a further
-/// entry, so that raising a count takes no memory.
+/// The failed calls of one begin and of the reads after it. A name that is begun again gets a
+/// further entry, so that raising a count takes no memory.
 #[derive(Drop)]
 pub(crate) struct Entry {
     pub(crate) name: Txt,

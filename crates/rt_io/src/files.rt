@@ -1,3 +1,6 @@
+//! Files as the programs see them: begun by name, read piece by piece, able to fail at any call.
+//! `read_file` is proved against the trait alone, so it holds for each kind of files.
+
 ghost use Rattle.std.specs.Prelude.{◌≡◌, ◌≢◌, ◌+◌, ◌-◌, ◌^◌, min, ◌<◌, ◌≤◌, ◌++◌, ◌∷◌, ℕ, List, [], Bool, IsTrue, Option, Some, None, length, take, IfOk, OnOk, OnErr, IsErrOf, IfSome, IsOkAnd};
 ghost use Rattle.rt_io.specs.Edge.{AddsPrefix, Rose, OnlyRises, NoneFell};
 
@@ -31,22 +34,22 @@ pub enum ReadFail {
 
 /// What gives the bytes of files by their names, one file after the other.
 ///
-/// A clause on contents stands only where the type tells them. Counts start at 0 for every name,
-/// and a name's count rises by the faults of that name alone.
+/// A contract clause on contents holds only where the type's `tells` is true. Counts start at 0
+/// for every name, and a name's count rises by the failed calls on that name alone.
 pub trait Files {
-    /// Whether this type tells the contents of its files.
+    /// Whether contracts know the contents of this type's files.
     ghost tells: { Bool };
 
-    /// Whether there is a file of this name, where it tells that.
+    /// Whether there is a file of this name, where that is known.
     ghost has: { Self → List ℕ → Bool };
 
-    /// The contents of each name, where it tells them.
+    /// The contents of each name, where they are known.
     ghost held: { Self → List ℕ → List ℕ };
 
     /// The name of the current file.
     ghost current: { Self → Option (List ℕ) };
 
-    /// The bytes of the current file that aren't read yet, where it tells them.
+    /// The bytes of the current file that aren't read yet, where they are known.
     ghost left: { Self → List ℕ };
 
     /// How many bytes of the current file were read, up to the last value of a `u64`.
@@ -58,8 +61,8 @@ pub trait Files {
     /// The names that were begun, in order, with those whose begin failed.
     ghost begun: { Self → List (List ℕ) };
 
-    /// Makes the named file the current one, at its start. After a fault no file is current. Where
-    /// memory is wanting, the name may be among those that were begun or not.
+    /// Makes the named file the current one, at its start. After an error no file is current. When
+    /// out of memory, the name may be among those that were begun or not.
     fn begin(&mut self, name: &str) -> Result<(), BeginFail>
         ensures current { OnOk result (current self.new ≡ Some name.now) }
         ensures start { OnOk result (IsTrue tells → left self.new ≡ held self.old name.now) }
@@ -113,7 +116,7 @@ pub fn read_file<F: Files>(
     ensures failed_within { IsErrOf result ReadFail.Failed → F.taken files.new ≤ max }
     ensures too_long { IsErrOf result ReadFail.TooLong → F.taken files.new ≡ max + 1 }
     ensures too_long_current { IsErrOf result ReadFail.TooLong → F.current files.new ≡ Some name.now }
-    // This file is begun, and no other one.
+    // Of all files this one alone is begun.
     ensures begun { AddsPrefix (F.begun files.old) (F.begun files.new) (name.now ∷ []) }
     ensures begun_ok { OnOk result (F.begun files.new ≡ F.begun files.old ++ name.now ∷ []) }
     ensures begun_failed { IsErrOf result ReadFail.Failed → F.begun files.new ≡ F.begun files.old ++ name.now ∷ [] }

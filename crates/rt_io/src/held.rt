@@ -1,10 +1,11 @@
-//! Files in memory, by their names.
+//! What both kinds of files in memory share: a list of named contents, the newest first.
 ghost use Rattle.std.specs.Prelude.{◌≡◌, ◌≢◌, ℕ, List, min, length, take, [], false, true, MatchOption, OnOk, OnErr};
 ghost use Rattle.rt_io.specs.Held.{held_in, has_in};
 
 use rt_value::{Bytes, List, NoMemory, Txt};
 use std::alloc::Global;
 
+/// A name and what the file of that name holds.
 #[derive(Drop)]
 pub(crate) struct Held {
     pub(crate) name: Txt,
@@ -43,7 +44,8 @@ pub(crate) fn find<'a>(files: &'a [Held], name: &str) -> Option<&'a Bytes>
     None
 }
 
-/// Puts as many of the bytes in front as fit, but at most `piece`.
+/// Copies as many of the bytes to the front of `buf` as fit, but at most `piece`, and answers
+/// how many.
 pub(crate) fn give(bytes: &[u8], buf: &mut [u8], piece: usize) -> usize
     ensures count { result ≡ min (min (length bytes.now) (length buf.old)) piece }
     ensures front { take result buf.new ≡ take result bytes.now }

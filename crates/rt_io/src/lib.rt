@@ -1,11 +1,12 @@
 //! The outside: files that are read, sinks that are written, and what is known of both.
 //!
-//! A call of the outside may fail at any time. So each object keeps a count of its faults, and a
-//! contract says of a fault that this count rose. Files in memory and sinks in memory also tell
-//! their contents; the files of the system and its writers tell none.
+//! A call of the outside may fail at any time. So each object counts its failed calls, and a
+//! contract says of an error that this count rose. Contracts know the contents of files and sinks
+//! in memory, and nothing of the contents of the system's files and writers.
 //!
-//! Besides, the words of the command line, read with the crate `clap` (what they say is a definition
-//! that names nothing of `clap`), and what the programs answer to words that can't be read.
+//! Also here: the arguments of the command line, read with the crate `clap`, and what the programs
+//! answer to arguments that can't be read. What arguments mean is a definition that names nothing
+//! of `clap`.
 #![tactic(auto)]
 
 mod commands;

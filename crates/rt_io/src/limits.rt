@@ -1,4 +1,4 @@
-//! The numbers that the options give.
+//! The numbers of the options `--conflicts` and `--work`: their ranges and their defaults.
 ghost use Rattle.std.specs.Prelude.{◌≡◌, IfSome, map};
 ghost use Rattle.std.specs.Option.{ForSome};
 ghost use Rattle.clap.specs.Words.{found_of, rows_of};
@@ -9,7 +9,8 @@ ghost use Rattle.rt_io.specs.Ranges.{AreInRange, IsWithin};
 use clap::ArgMatches;
 use rt_value::{all_digits, decimal_up_to};
 
-/// The numbers of the two options, with what stands for one that isn't given.
+/// The budget of conflicts, None where it isn't given, and the limit of work, 16,000,000 where it
+/// isn't given.
 #[derive(Clone, Copy)]
 pub struct Limits {
     pub conflicts: Option<u64>,

@@ -1,4 +1,4 @@
-//! The words as `clap` takes them apart.
+//! The arguments as `clap` takes them apart: the one module that describes our options to it.
 ghost use Rattle.std.specs.Prelude.{◌≡◌, All, IfOk, IfErr, map, Some};
 ghost use Rattle.std.specs.Str.{IsUtf8};
 ghost use Rattle.clap.specs.Words.{app_of, found_of, rows_of};
@@ -10,7 +10,7 @@ use clap::error::ErrorKind;
 use clap::{Arg, ArgAction, ArgMatches, Command};
 use std::alloc::{AllocError, Global};
 
-/// The plain words, and the values that each option was given.
+/// The plain arguments, and the values that each option was given.
 pub fn matches_of<'a>(alloc: Global, words: &'a [&'a str]) -> Result<ArgMatches<'a>, WordFault>
     ensures ok { IfOk result (λ m. read (map (λ s. s.now) words.entry.now) ≡ Some (reading_in (rows_of (found_of m)))) }
     ensures err { IfErr result (IsRefused (map (λ s. s.now) words.entry.now)) }
@@ -25,8 +25,8 @@ pub fn matches_of<'a>(alloc: Global, words: &'a [&'a str]) -> Result<ArgMatches<
     }
 }
 
-// One command serves both forms: plain words and two options. That an option comes once at most
-// is tested on what it was given, since `clap` notes a repeat one word late.
+// One command serves both forms: plain arguments and two options. That an option comes once at
+// most is tested on what it was given, since `clap` notes a repeat one argument late.
 fn command_of<'a>(alloc: Global) -> Result<Command<'a>, AllocError>
     ensures { IfOk result (λ m. app_of m ≡ command_app) }
 {
@@ -42,7 +42,7 @@ fn command_of<'a>(alloc: Global) -> Result<Command<'a>, AllocError>
     Ok(three)
 }
 
-// Each word is UTF-8, as its type says: `clap` finds no fault in a flag that isn't.
+// Each argument is UTF-8, as its type says: `clap` finds no error in a flag that isn't.
 fn texts_are_valid(words: &[&str])
     ensures { All IsUtf8 (map (λ s. s.now) words.now) }
 {

@@ -1,3 +1,6 @@
+//! Files for tests: what they hold, how much one read gives and which calls fail is set
+//! beforehand. Looking names up in a list is private.
+
 ghost use Rattle.std.specs.Prelude.{◌≡◌, ◌≢◌, ◌+◌, ◌-◌, ◌^◌, ◌<◌, ◌≤◌, ◌++◌, ◌∷◌, ◌↔◌, ℕ, List, [], true, false, vec_len, length, drop, take, min, Some, None, OnOk, OnErr, IfOk, IfSome, IsOkAnd, IsErr, IsErrOf, IsTrue, Contains};
 ghost use Rattle.std.specs.Option.{ForSome};
 ghost use Rattle.rt_io.specs.Edge.{AddsPrefix, Rose, OnlyRises, NoneFell};
@@ -9,8 +12,8 @@ use crate::held::{Held, find, give, put};
 use rt_value::{Bytes, List, NoMemory, Txt};
 use std::alloc::Global;
 
-/// The current file: its entry among the counts, its bytes, how far they are read, and by how
-/// many reads.
+// The current file: its entry among the counts, its bytes, how far they are read, and by how
+// many reads.
 #[derive(Drop)]
 struct Current {
     entry: usize,
@@ -26,7 +29,7 @@ pub(crate) struct FailingRead {
     pub(crate) read: u64,
 }
 
-/// Files in memory, whose calls can be made to fail.
+/// Files in memory, whose calls can be made to fail. A begin of a name that isn't held fails too.
 #[derive(Drop)]
 pub struct MemFiles {
     alloc: Global,
@@ -44,6 +47,7 @@ pub struct MemFiles {
 impl MemFiles {
     ghost use Rattle.rt_io.specs.MemFiles.{has_of, held_of, current_of, left_of, taken_of, faults_of, begun_of, piece_of, failing_begins, failing_reads, SameFiles, SameSettings};
 
+    /// No files. Reads give as much as fits, and no call is set to fail.
     pub fn new(alloc: Global) -> MemFiles
         ensures has { (name : List ℕ) → has_of result name ≡ false }
         ensures held { (name : List ℕ) → held_of result name ≡ [] }
@@ -120,14 +124,14 @@ impl MemFiles {
     }
 }
 
-/// Whether a name is among these.
+// Whether a name is among these.
 fn is_named(names: &[Txt], name: &str) -> bool
     ensures { result ≡ is_named names.now name.now }
 {
     names.iter().any(|failing| failing.as_str() == name)
 }
 
-/// Whether this read of a name is among these.
+// Whether this read of a name is among these.
 fn is_failing(fails: &[FailingRead], name: &str, read: u64) -> bool
     ensures { result ≡ is_failing fails.now name.now read }
 {
@@ -158,7 +162,7 @@ impl Files for MemFiles {
         ensures fails { IsTrue (is_named (failing_begins self.old) name.now) → IsErr result }
         ensures cause { IsErrOf result BeginFail.Failed → IsTrue (has_of self.old name.now) → IsTrue (is_named (failing_begins self.old) name.now) }
         ensures settings { SameSettings self.old self.new }
-        // The clauses of `Files`.
+        // The contract of `Files`.
         ensures current { OnOk result (current_of self.new ≡ Some name.now) }
         ensures start { OnOk result (IsTrue true → left_of self.new ≡ held_of self.old name.now) }
         ensures there { OnOk result (IsTrue true → IsTrue (has_of self.old name.now)) }
@@ -203,7 +207,7 @@ impl Files for MemFiles {
         ensures reads { IfSome (current_of self.old) (λ _. reads_of self.new ≡ min (reads_of self.old + 1) (2 ^ 64 - 1)) }
         ensures fails { IfSome (current_of self.old) (λ name. IsErr result ↔ (IsTrue (is_failing (failing_reads self.old) name (reads_of self.new)))) }
         ensures settings { SameSettings self.old self.new }
-        // The clauses of `Files`.
+        // The contract of `Files`.
         ensures bound { IfOk result (λ n. n ≤ length buf.new) }
         ensures next { IfOk result (λ n. IsTrue true → left_of self.old ≡ take n buf.new ++ left_of self.new) }
         ensures end { IfOk result (λ n. IsTrue true → n ≡ 0 → 0 < length buf.new → left_of self.new ≡ []) }

@@ -1,3 +1,5 @@
+//! A sink for tests: what it can hold and how much one write takes is set beforehand.
+
 ghost use Rattle.std.specs.Prelude.{◌≡◌, ◌<◌, ◌≤◌, ◌-◌, ◌^◌, ◌++◌, [], true, min, length, take, Some, None, IfOk, OnOk, OnErr, IsErrOf, IsTrue};
 ghost use Rattle.rt_io.specs.Edge.{Rose};
 
@@ -16,6 +18,7 @@ pub struct MemSink {
 impl MemSink {
     ghost use Rattle.rt_io.specs.MemSink.{held_of, faults_of, room_of, piece_of, takes, SameSink};
 
+    /// A sink without bytes and without limits.
     pub fn new(alloc: Global) -> MemSink
         ensures contents { held_of result ≡ [] }
         ensures faults { faults_of result ≡ 0 }
@@ -50,13 +53,14 @@ impl MemSink {
         self.piece = n;
     }
 
+    /// What was written so far.
     pub fn bytes(&self) -> &[u8]
         ensures { result.now ≡ held_of self.now }
     {
         self.held.as_slice()
     }
 
-    /// How many of `n` bytes it takes.
+    // How many of `n` bytes it takes.
     fn takes(&self, n: usize) -> usize
         ensures { result ≡ takes self.now n }
     {
@@ -83,7 +87,7 @@ impl Sink for MemSink {
         ensures full { IsErrOf result SinkFail.Failed → (takes self.old (length bytes.now) ≡ 0) × (0 < length bytes.now) }
         ensures room { room_of self.new ≡ room_of self.old }
         ensures piece { piece_of self.new ≡ piece_of self.old }
-        // The clauses of `Sink`.
+        // The contract of `Sink`.
         ensures bound { IfOk result (λ n. n ≤ length bytes.now) }
         ensures ok { IfOk result (λ n. IsTrue true → held_of self.new ≡ held_of self.old ++ take n bytes.now) }
         ensures err { OnErr result (IsTrue true → held_of self.new ≡ held_of self.old) }

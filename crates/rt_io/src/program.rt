@@ -1,3 +1,5 @@
+//! What both `main`s share: the arguments of the process, and the answer to unreadable ones.
+
 ghost use Rattle.std.specs.Prelude.{◌≡◌, ◌⊎◌};
 
 use crate::real_sink::RealSink;
@@ -10,7 +12,7 @@ fn put(words: &mut List<Txt>, alloc: Global, word: String) -> Result<(), NoMemor
     words.push(Txt::from_string(alloc, word)?)
 }
 
-/// The words after the program's name. A word that isn't UTF-8 is an error.
+/// The arguments after the program's name. One that isn't UTF-8 is an error.
 pub fn given_words(rt: &HostRuntime) -> io::Result<List<Txt>> {
     let mut words = List::new(rt.alloc());
     for word in env::args(rt)?.skip(1) {
@@ -21,7 +23,8 @@ pub fn given_words(rt: &HostRuntime) -> io::Result<List<Txt>> {
     Ok(words)
 }
 
-/// Writes the usage text where words can't be read, unless memory was wanting, and gives the status.
+/// The status where the arguments can't be read: 7 when out of memory, and else 2, after writing
+/// the usage text.
 pub fn refuse<W: io::Write>(err: &mut RealSink<W>, error: &io::Error, usage: &str) -> u8
     ensures { (result ≡ 2) ⊎ (result ≡ 7) }
 {

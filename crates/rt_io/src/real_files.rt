@@ -1,3 +1,6 @@
+//! The files of the system. Which bytes they give is outside of every contract; proved is which
+//! were begun, how much was read and which calls failed.
+
 ghost use Rattle.std.specs.Prelude.{◌≡◌, ◌<◌, ◌≤◌, ℕ, List, [], false, vec_len, Some, None};
 ghost use Rattle.std.specs.Option.{option_map, option_map_or, ForSome};
 ghost use Rattle.rt_io.specs.Counts.{count_in, name_at, names_in};
@@ -15,7 +18,7 @@ struct Current {
     taken: u64,
 }
 
-/// The files of the system. They tell nothing of their contents.
+/// The files of the system, whose contents no contract knows.
 #[derive(Drop)]
 pub struct RealFiles {
     rt: HostRuntime,
@@ -26,6 +29,7 @@ pub struct RealFiles {
 }
 
 impl RealFiles {
+    /// The files that the process may open. No file is current.
     pub fn new(rt: HostRuntime) -> RealFiles
         ensures { (name : List ℕ) → ⟦<RealFiles as Files>⟧.faults result name ≡ 0 }
     {

@@ -1,3 +1,6 @@
+//! What text is written to, and how a whole text is written by writes that may take a part.
+//! `write_text` is proved against the trait alone.
+
 ghost use Rattle.std.specs.Prelude.{◌≡◌, ◌<◌, ◌≤◌, ◌++◌, ℕ, List, Bool, IsTrue, length, take, IfOk, OnOk, OnErr, IsErrOf};
 ghost use Rattle.rt_io.specs.Edge.{Rose, AddsPrefix};
 
@@ -12,18 +15,19 @@ pub enum SinkFail {
     NoMemory,
 }
 
-/// What takes bytes, a piece at a time. A clause on its bytes stands only where the type tells them.
+/// What takes bytes, a piece at a time. A contract clause on its bytes holds only where the type's
+/// `tells` is true.
 pub trait Sink {
-    /// Whether this kind of sink tells its bytes.
+    /// Whether contracts know the bytes of this kind of sink.
     ghost tells: { Bool };
 
-    /// The bytes that it holds, where it tells them.
+    /// The bytes that it holds, where they are known.
     ghost contents: { Self → List ℕ };
 
     /// How many of its calls failed, up to the last value of its counter.
     ghost faults: { Self → ℕ };
 
-    /// Takes the first bytes of the piece, and answers how many. After a fault none was taken.
+    /// Takes the first bytes of the piece, and answers how many. After an error none was taken.
     fn write(&mut self, bytes: &[u8]) -> Result<usize, SinkFail>
         ensures bound { IfOk result (λ n. n ≤ length bytes.now) }
         ensures ok { IfOk result (λ n. IsTrue tells → contents self.new ≡ contents self.old ++ take n bytes.now) }
@@ -34,7 +38,7 @@ pub trait Sink {
         ensures rises { faults self.old ≤ faults self.new };
 }
 
-/// Writes all the bytes, or on a fault a prefix of them.
+/// Writes all the bytes, or on an error a prefix of them.
 pub fn write_text<S: Sink>(sink: &mut S, bytes: &[u8]) -> Result<(), SinkFail>
     ensures ok { OnOk result (IsTrue S.tells → S.contents sink.new ≡ S.contents sink.old ++ bytes.now) }
     ensures err { OnErr result (IsTrue S.tells → AddsPrefix (S.contents sink.old) (S.contents sink.new) bytes.now) }

@@ -1,12 +1,12 @@
-//! Two sinks, one for answers and one for refusals.
+//! The pair of sinks that a command writes to: one for answers, one for refusals.
 ghost use Rattle.std.specs.Prelude.{◌≡◌, ◌≤◌, OnOk, OnErr, IsErrOf};
 ghost use Rattle.rt_io.specs.Logs.{log, at_place, other_place, Grew, GrewPartly, IsKept, Broke};
 
 use crate::place::Place;
 use crate::sink::{Sink, SinkFail, write_text};
 
-/// Writes all the bytes to the sink of that place, or on a fault a prefix of them; nothing goes to
-/// the other.
+/// Writes all the bytes to the sink of that place, or on an error a prefix of them; nothing goes
+/// to the other.
 pub fn write_at<O: Sink, E: Sink>(
     out: &mut O,
     err: &mut E,

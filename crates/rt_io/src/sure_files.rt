@@ -1,3 +1,5 @@
+//! Files in memory that hold what they are given, and have nothing else to set.
+
 ghost use Rattle.std.specs.Prelude.{◌≡◌, ◌≢◌, ◌<◌, ◌≤◌, ℕ, List, [], true, vec_len, length, drop, Some, None, OnOk, OnErr, IfOk};
 ghost use Rattle.std.specs.Option.{option_map, option_map_or, ForSome};
 ghost use Rattle.rt_io.specs.Held.{held_in};
@@ -14,7 +16,7 @@ struct Current {
     at: usize,
 }
 
-/// Files in memory that never fail but by want of memory. A name that is not held is an empty file.
+/// Files in memory that fail only when out of memory. A name that is not held is an empty file.
 #[derive(Drop)]
 pub struct SureFiles {
     alloc: Global,
@@ -25,6 +27,7 @@ pub struct SureFiles {
 }
 
 impl SureFiles {
+    /// No file holds anything, and no file is current.
     pub fn new(alloc: Global) -> SureFiles
         ensures { (name : List ℕ) → ⟦<SureFiles as Files>⟧.held result name ≡ [] }
     {
@@ -45,7 +48,7 @@ impl SureFiles {
         put(self.alloc, &mut self.files, name, bytes)
     }
 
-    /// A copy of the bytes of a name.
+    // A copy of the bytes of a name.
     fn contents(&self, name: &str) -> Result<Bytes, NoMemory>
         ensures { IfOk result (λ bytes. bytes ≡ ⟦<SureFiles as Files>⟧.held self.now name.now) }
     {

@@ -1,9 +1,11 @@
+//! The error of reading a command line.
+
 use rt_value::NoMemory;
 
 /// Why no command was read.
 #[derive(Clone, Copy, PartialEq, Eq, Debug)]
 pub enum WordFault {
-    /// The words aren't those of a command.
+    /// The arguments aren't those of a command.
     Usage,
     NoMemory,
 }

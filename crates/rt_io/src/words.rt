@@ -1,7 +1,9 @@
+//! The command of `ratest`, read and checked: four paths or a generated input, and two limits.
+
 use rt_value::{List, Txt};
 use std::marker::Model;
 
-/// What the words of the command line ask for: two queries over the files of the four paths, or
+/// What the arguments of the command line ask for: two queries over the files of the four paths, or
 /// over a generated input. Contracts see a command whose numbers are in their ranges.
 #[derive(Debug)]
 pub struct Words {

@@ -1,3 +1,6 @@
+//! The command line of `ratest`. That `clap` takes it apart is private: the contract names a
+//! definition of this crate alone.
+
 ghost use Rattle.std.specs.Prelude.{◌≡◌, [], ◌∷◌, IfOk, IfErr, map, option_and_then};
 ghost use Rattle.rt_io.specs.Command.{Reads, command, form, of_files, of_form, of_made};
 ghost use Rattle.rt_io.specs.Ranges.{AreInRange};
@@ -10,7 +13,7 @@ use crate::words::Words;
 use rt_value::{List, NoMemory, Txt};
 use std::alloc::Global;
 
-/// The command that the words behind the program's name spell: four paths, or `made` and a
+/// The command that the arguments after the program's name mean: four paths, or `made` and a
 /// number, with the options `--conflicts` and `--work` anywhere before `--`.
 pub fn read_words(alloc: Global, words: &[Txt]) -> Result<Words, WordFault>
     ensures { Reads (command words.now) result }
@@ -44,7 +47,7 @@ fn read_texts(alloc: Global, words: &[&str]) -> Result<Words, WordFault>
     }
 }
 
-// The command that the words spell, which stand behind `made` where the input is generated.
+// The command of these arguments, which are those after `made` where the input is generated.
 fn read_form(alloc: Global, made: bool, words: &[&str]) -> Result<Words, WordFault>
     ensures { Reads (option_and_then (form (of_form made)) (read (map (λ s. s.now) words.now))) result }
 {

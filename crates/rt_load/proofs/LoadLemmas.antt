@@ -18,7 +18,7 @@ passes-if : (b : Bool) (A B : Type 0) → (A → B) → MatchBool b (Unit {0}) A
 passes-if true A B f h = tt
 passes-if false A B f h = f h
 
--- a fault of a part is the whole's, where the definitions agree
+-- an error of a part is the whole's, where the definitions agree
 pub passes : (e : LoadFault) {T U : Type 0} (part : Result T LoadFault) (whole : Result U LoadFault) → (part ≡ Err e → whole ≡ Err e) → Gives {T = T} is_memory (Err e) part → Gives {T = U} is_memory (Err e) whole
 passes e part whole f h = passes-if (is_memory e) (part ≡ Err e) (whole ≡ Err e) f h
 

@@ -6,7 +6,7 @@ use Rattle.csv.specs.declared.parser.State.{State}
 use Rattle.csv.specs.declared.parser.State.TheVariants as st
 use Rattle.csv.specs.declared.parser.Action.{Action}
 
--- where a record ends, the reader stands between records
+-- where a record ends, the reader is between records
 record EndsWell (p : State × Action) : Type 0 where
   pub well : is_end p.1 ≡ true → ends_at_end p.0 ≡ false
 

@@ -1,4 +1,4 @@
--- What a table's file gives: its rows, or its first fault. The records of the file are those that
+-- What a table's file gives: its rows, or its first error. The records of the file are those that
 -- the crate `csv` defines for its bytes (RFC 4180); the first is the header, and counts as 1.
 use Rattle.std.specs.Prelude.{ℕ, zero, suc, ◌+◌, ◌==◌, ◌&&◌, Bool, true, false, nat_lt, if◌then◌else◌, List, [], ◌∷◌, length, Option, Some, None, Result, Ok, Err, ℤ}
 use Rattle.std.specs.Str.{bytes_eq, is_utf8, str_to_ascii_lowercase}
@@ -17,7 +17,7 @@ use Rattle.rt_load.specs.declared.fault.LoadFault.TheVariants.{BadHeader, FieldC
 abbrev pub Field : Type 0
 Field = List ℕ
 
--- the first fault decides
+-- the first error decides
 infixl 10 ◌>>=◌
 abbrev pub ◌>>=◌ : {A B : Type 0} → Result A LoadFault → (A → Result B LoadFault) → Result B LoadFault
 Ok x >>= f = f x
@@ -37,8 +37,8 @@ abbrev pub text_cell : LoadFault → Field → Result Value LoadFault
 text_cell fault [] = Ok v.Null
 text_cell fault (b ∷ bs) = if is_utf8 (b ∷ bs) then Ok (v.Text (b ∷ bs)) else Err fault
 
--- field c of record n, in a column of this kind: a whole number without the blanks round it, or a
--- text as it stands; NULL where that is empty
+-- field c of record n, in a column of this kind: a whole number without the blanks around it, or a
+-- text as it is; NULL where that is empty
 abbrev pub cell : ColKind → ℕ → ℕ → Field → Result Value LoadFault
 cell Whole n c field = whole_cell (BadInteger n c) (trimmed field)
 cell Text n c field = text_cell (BadText n c) field
@@ -51,7 +51,7 @@ cells (k ∷ ks) n c (f ∷ fs) = cell k.kind n c f >>= λ x. cells ks n (c + 1)
 
 -- ---- records
 
--- the field is the name, without the blanks round it and whatever the case of its letters
+-- the field is the name, without the blanks around it and whatever the case of its letters
 abbrev pub is_name : List ℕ → Field → Bool
 is_name name field = bytes_eq (str_to_ascii_lowercase (trimmed field)) (str_to_ascii_lowercase name)
 

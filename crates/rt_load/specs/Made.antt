@@ -2,13 +2,14 @@
 -- has the courses i and n + i, the first of department CS, the second too where 3 divides i.
 use Rattle.std.specs.Prelude.{ℕ, zero, suc, ◌+◌, ◌-◌, ◌*◌, ◌%◌, ◌==◌, if◌then◌else◌, List, [], ◌∷◌, ◌++◌, codes}
 use Rattle.std.specs.Fmt.{decimal}
+use Rattle.rt_value.specs.Bytes.{line_feed}
 use Rattle.rt_load.specs.declared.input.Made.{Made}
 
 abbrev pub Text : Type 0
 Text = List ℕ
 
 abbrev pub line : Text → Text
-line text = text ++ 10 ∷ []
+line text = text ++ line_feed ∷ []
 
 -- the texts of the numbers from 1 to n
 abbrev pub up_to : ℕ → (ℕ → Text) → Text

@@ -23,7 +23,7 @@ records_of s (Some xs) = records_from default_config (length xs + 1) s xs
 unfoldable pub left_of : Reader Source → List (List (List ℕ))
 left_of rdr = records_of (reader_state rdr) (bytes_left rdr)
 
--- the reader stands between two records, and gives them as they are
+-- the reader is between two records, and gives them as they are
 pub record IsReading (rdr : Reader Source) : Type 0 where
   pub plain : reader_trim rdr ≡ trim.None
   pub ready : Ready rdr

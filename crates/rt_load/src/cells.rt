@@ -1,4 +1,4 @@
-//! The values of a record's fields.
+//! The values of a record's fields: an empty field is NULL, blanks around a number don't count.
 ghost use Rattle.std.specs.Prelude.{◌≡◌, ◌==◌, length};
 ghost use Rattle.csv.specs.Records.{fields_of};
 ghost use Rattle.rt_value.specs.Gives.{Gives};
@@ -44,7 +44,8 @@ fn cell_of(
     }
 }
 
-/// The values of record `n`, which has a field for each column.
+/// The values of record `n`, which has a field for each column; or the error of the first field,
+/// from the left, that is no value of its column.
 pub fn cells_of(
     alloc: Global,
     columns: &[Column],

@@ -1,3 +1,5 @@
+//! The errors of loading a table's file.
+
 use rt_value::NoMemory;
 
 /// Why a table's file was refused. Records are counted from 1, the header being 1, and the fields

@@ -1,3 +1,6 @@
+//! From a table's file to its rows. `specs/Loaded.antt` fixes the order of the tests, since the
+//! first one that fails is the answer.
+
 ghost use Rattle.std.specs.Prelude.{◌≡◌, ◌≤◌, ◌<◌, ◌+◌, ◌-◌, OnOk, OnErr, length, slice_set};
 ghost use Rattle.csv.specs.Records.{fields_of};
 ghost use Rattle.rt_value.specs.Gives.{Gives};
@@ -16,7 +19,7 @@ use std::alloc::Global;
 
 /// Reads the rows of a table from its file into `given`, which has none of this table yet. The
 /// first refusal decides: the header, then record by record its number of fields, the number of
-/// rows, and its fields from the left.
+/// rows, and its fields from the left. After an error `given` is as it was.
 pub fn load(
     alloc: Global,
     schema: &Schema,
@@ -63,7 +66,7 @@ fn rows_of(
     rows_left(alloc, columns, &mut reader, before)
 }
 
-// The rows of the records behind the header.
+// The rows of the records after the header.
 fn rows_left(
     alloc: Global,
     columns: &[Column],

@@ -1,3 +1,6 @@
+//! The generated input of `made N`: its texts are written line by line, and each is the one of
+//! `specs/Made.antt`.
+
 ghost use Rattle.std.specs.Prelude.{◌≡◌, ◌≤◌, ◌∷◌, ◌++◌, [], IfOk, OnOk};
 ghost use Rattle.rt_load.specs.Made as spec;
 
@@ -14,7 +17,8 @@ const QUERY2: &str =
     "SELECT id FROM reg WHERE dept = 'CS' EXCEPT SELECT r.id FROM reg r, reg s WHERE r.id = s.id AND r.num < s.num AND r.dept = 'CS' AND s.dept = 'CS'\n";
 
 /// The input for `n` students with 5 * n rows: two courses and two rooms for each. The queries
-/// differ just on students with two kept courses of CS, whom every third student can be.
+/// differ just on students of whom two courses of CS are kept; every third student has two. For
+/// n = 3 the courses are 1,1,CS 1,4,MA 2,2,CS 2,5,MA 3,3,CS 3,6,CS.
 pub fn made(alloc: Global, n: u64) -> Result<Made, NoMemory>
     requires { (1 ≤ n) × (n ≤ 400) }
     ensures { IfOk result (λ texts. texts ≡ spec.made n) }

@@ -1,4 +1,4 @@
-//! The header of a table's file.
+//! The header of a table's file: the columns' names in order. A byte order mark is refused.
 ghost use Rattle.std.specs.Prelude.{◌≡◌, ◌==◌, ◌&&◌};
 ghost use Rattle.csv.specs.Records.{fields_of};
 ghost use Rattle.rt_load.specs.Loaded as spec;
@@ -18,7 +18,8 @@ pub fn begins_with_mark(bytes: &[u8]) -> bool
     }
 }
 
-/// Whether the fields of a record are the columns' names.
+/// Whether the fields of a record are the columns' names, without the blanks around them and
+/// whatever the case of their letters.
 pub fn is_header(columns: &[Column], fields: &ByteRecord) -> bool
     ensures { result ≡ spec.is_header columns.now (fields_of fields.now) }
 {

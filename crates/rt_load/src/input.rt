@@ -1,3 +1,5 @@
+//! A whole input as texts, in place of files.
+
 use rt_value::{Bytes, List};
 
 /// The texts of a generated input.

@@ -1,4 +1,5 @@
-//! Whole numbers as the fields of INTEGER columns write them.
+//! Whole numbers as the fields of INTEGER columns write them (ISO/IEC 9075-2, 5.3 <signed numeric
+//! literal>).
 ghost use Rattle.std.specs.Prelude.{◌≡◌, ◌<◌, ◌==◌, ◌||◌};
 ghost use Rattle.rt_load.specs.Integer as spec;
 
@@ -10,7 +11,7 @@ fn is_blank(b: u8) -> bool
     b == b' ' || b == b'\t'
 }
 
-/// The bytes without the spaces and tabs round them.
+/// The bytes without the spaces and tabs around them.
 pub fn trimmed(bytes: &[u8]) -> &[u8]
     ensures { result.now ≡ spec.trimmed bytes.now }
 {
@@ -39,7 +40,8 @@ fn trimmed_end(bytes: &[u8]) -> &[u8]
     &bytes[..to]
 }
 
-/// The whole number of 64 bits that a field without blanks round it writes.
+/// The number that a field without blanks around it writes, or None where it writes none from
+/// -2^63 to 2^63 - 1.
 pub fn integer_of(field: &[u8]) -> Option<i128>
     ensures { result ≡ spec.integer field.now }
 {

@@ -1,4 +1,5 @@
-//! The records of a table's file, as the crate `csv` reads them.
+//! The records of a table's file, as the crate `csv` reads them: the only module that sets its
+//! options.
 ghost use Rattle.std.specs.Prelude.{◌≡◌, IfOk, IfErr};
 ghost use Rattle.csv.specs.Reading.{default_config, records, strip_bom};
 ghost use Rattle.csv.specs.Records.{fields_of};
@@ -19,7 +20,7 @@ pub fn reader_of(alloc: Global, bytes: &[u8]) -> Reader<&[u8]>
         .from_reader(alloc, bytes)
 }
 
-/// Reads the next record, if there is one.
+/// Reads the next record into `fields` and answers true, or answers false after the last one.
 pub fn read_next(reader: &mut Reader<&[u8]>, fields: &mut ByteRecord) -> Result<bool, LoadFault>
     requires { IsReading reader.old }
     ensures next { IfOk result (λ found. ReadsNext reader.old reader.new found (fields_of fields.new)) }

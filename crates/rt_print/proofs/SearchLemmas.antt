@@ -12,7 +12,7 @@ use Rattle.rt_value.specs.Order.{row_cmp_total, row_ties}
 use Rattle.rt_schema.specs.Given.{Rows}
 use Rattle.rt_print.specs.Texts.{has}
 
--- how a row stands to the row that is looked for
+-- how a row compares with the row that is looked for
 abbrev index : List Value → List Value → ℕ
 index row x = ordering_index (row_cmp x row)
 

@@ -1,9 +1,10 @@
 -- The texts that are printed: bytes, in lines that end with LF, with decimal numbers without
--- leading zeros. Texts stand between quotes as in ISO/IEC 9075-2, 5.3 <character string literal>.
+-- leading zeros. Texts are put in quotes as in ISO/IEC 9075-2, 5.3 <character string literal>.
 use Rattle.std.specs.Prelude.{ℕ, ◌+◌, Bool, true, false, if◌then◌else◌, ◌==◌, List, [], ◌∷◌, ◌++◌, length, drop, filter, Option, Some, None, codes}
 use Rattle.std.specs.Bool.{beq}
 use Rattle.std.specs.Fmt.{decimal, signed_decimal}
 use Rattle.std.specs.List.{list_any}
+use Rattle.rt_value.specs.Bytes.{line_feed, quote}
 use Rattle.rt_value.specs.declared.value.Value.{Value}
 use Rattle.rt_value.specs.declared.value.Value.TheVariants as v
 use Rattle.rt_value.specs.Keep.{size}
@@ -15,19 +16,19 @@ abbrev pub Text : Type 0
 Text = List ℕ
 
 abbrev pub line : Text → Text
-line text = text ++ 10 ∷ []
+line text = text ++ line_feed ∷ []
 
 -- ---- rows
 
 -- the text with each quote in it doubled
 abbrev pub doubled : Text → Text
 doubled [] = []
-doubled (b ∷ bs) = if b == 39 then 39 ∷ 39 ∷ doubled bs else b ∷ doubled bs
+doubled (b ∷ bs) = if b == quote then quote ∷ quote ∷ doubled bs else b ∷ doubled bs
 
 abbrev pub cell : Value → Text
 cell v.Null = codes "NULL"
 cell (v.Int n) = signed_decimal n
-cell (v.Text t) = 39 ∷ doubled t ++ 39 ∷ []
+cell (v.Text t) = quote ∷ doubled t ++ quote ∷ []
 
 abbrev pub more_cells : List Value → Text
 more_cells [] = []

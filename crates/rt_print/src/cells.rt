@@ -1,4 +1,4 @@
-//! The values of rows, and lines with a number.
+//! How values, rows and counts are written; each call adds its bytes at the end of `text`.
 ghost use Rattle.std.specs.Prelude.{◌≡◌, ◌∷◌, ◌++◌, [], OnOk};
 ghost use Rattle.std.specs.Fmt.{decimal};
 ghost use Rattle.rt_print.specs.Texts as spec;
@@ -6,7 +6,7 @@ ghost use Rattle.rt_print.specs.Texts as spec;
 use rt_value::{Bytes, NoMemory, Value};
 use std::alloc::Global;
 
-/// A line that counts something.
+/// A line that counts something, such as `witness: 3`.
 pub fn put_count(alloc: Global, text: &mut Bytes, title: &str, n: usize) -> Result<(), NoMemory>
     ensures { OnOk result (text.new ≡ text.old ++ spec.count_line title.now n) }
 {
@@ -16,6 +16,7 @@ pub fn put_count(alloc: Global, text: &mut Bytes, title: &str, n: usize) -> Resu
     text.push(b'\n')
 }
 
+/// The number in decimal digits, without leading zeros.
 pub fn put_number(alloc: Global, text: &mut Bytes, n: u64) -> Result<(), NoMemory>
     ensures { OnOk result (text.new ≡ text.old ++ decimal n) }
 {
@@ -23,7 +24,7 @@ pub fn put_number(alloc: Global, text: &mut Bytes, n: u64) -> Result<(), NoMemor
     text.extend(digits.as_str().as_bytes())
 }
 
-/// The values of a row, with a comma and a space between them.
+/// The values of a row, with a comma and a space between them, as in `1, 'O''Hara', NULL`.
 pub fn put_cells(alloc: Global, text: &mut Bytes, row: &[Value]) -> Result<(), NoMemory>
     ensures { OnOk result (text.new ≡ text.old ++ spec.cells row.now) }
 {

@@ -1,4 +1,4 @@
-//! The lines of kept rows.
+//! The lines of kept rows, shared by the texts of a witness and of a spent budget.
 ghost use Rattle.std.specs.Prelude.{◌≡◌, ◌≤◌, ◌++◌, ◌<◌, OnOk, length};
 ghost use Rattle.rt_schema.specs.Given.{places};
 ghost use Rattle.rt_print.specs.Texts as spec;
@@ -8,7 +8,8 @@ use rt_schema::{Given, Schema, Table};
 use rt_value::{Bytes, Keep, List, NoMemory, Row, Txt};
 use std::alloc::Global;
 
-/// A line for each kept place, in order.
+/// A line for each kept place, in order, such as `beers 2: 'Bud', 5`: the table, the number of the
+/// row in its table from 1, and its values.
 pub fn put_kept(
     alloc: Global,
     text: &mut Bytes,

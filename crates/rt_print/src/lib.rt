@@ -1,5 +1,6 @@
-//! The texts that are printed of an answer: the rows that tell two queries apart, a search that
-//! ended at its budget, and the summary of a search over a generated input.
+//! The texts that are printed of an answer: the rows on which two queries differ, a search that
+//! ended at its budget, and the summary of a search over a generated input. Each byte is fixed by
+//! `specs/`.
 #![tactic(auto)]
 
 mod cells;

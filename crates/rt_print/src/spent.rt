@@ -1,3 +1,5 @@
+//! What is printed when a search spends its budget of conflicts (`--conflicts`).
+
 ghost use Rattle.std.specs.Prelude.{◌≡◌, ◌++◌, IfOk, OnOk, Some, length};
 ghost use Rattle.std.specs.Option.{ForSome, option_copied};
 ghost use Rattle.rt_schema.specs.Given.{IsOf, places};

@@ -1,3 +1,5 @@
+//! What `made N` prints in place of rows.
+
 ghost use Rattle.std.specs.Prelude.{◌≡◌, ◌++◌, IfOk, OnOk};
 ghost use Rattle.rt_print.specs.Summary as spec;
 

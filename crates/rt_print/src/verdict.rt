@@ -1,3 +1,5 @@
+//! The answer of a search over the generated input, as far as it is printed.
+
 /// How the search over a generated input ended.
 #[derive(Clone, Copy, PartialEq, Eq, Debug)]
 pub enum MadeVerdict {

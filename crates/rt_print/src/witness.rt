@@ -1,3 +1,6 @@
+//! What is printed of two queries that differ. Answers come sorted, so rows are looked up by
+//! halving; any way with the same text would do.
+
 ghost use Rattle.std.specs.Prelude.{◌≡◌, ◌++◌, IfOk, OnOk, length, map};
 ghost use Rattle.std.specs.Bool.{beq};
 ghost use Rattle.std.specs.List.Sorted.{IsStrictlySortedBy};
@@ -36,7 +39,7 @@ pub fn witness_text(
     Ok(text)
 }
 
-// The rows that are among the others, or those that are not, behind their number.
+// The rows that are among the others, or those that are not, after a line with their number.
 fn put_rows(
     alloc: Global,
     text: &mut Bytes,

@@ -1,9 +1,8 @@
 -- Which files a reading of two algebra texts begins.
-use Rattle.std.proofs.Common.{◌≡◌, subst, sym, ◌∷◌, ◌++◌, Bool, IsTrue, List, [], Result, Ok, Err}
+use Rattle.std.proofs.Common.{◌≡◌, subst, sym, ◌∷◌, ◌++◌, Bool, IsTrue, List, [], Ok}
 use Rattle.std.specs.Prelude.{Option, None, Some}
-use Rattle.rt_io.proofs.AddLemmas.{adds_first, adds_then}
+use Rattle.rt_io.proofs.AddLemmas.{adds_then}
 use Rattle.rt_io.specs.Edge.{AddsPrefix}
-use Rattle.rt_schema.specs.declared.table.Table.{Table}
 use Rattle.rt_input.specs.declared.part.Part.TheVariants.{Query1}
 use Rattle.rt_input.specs.Begun.{AddsAll, AddsSome, data_files, data_reached, then_files}
 use Rattle.rt_input.specs.Held.{Holding}
@@ -37,7 +36,7 @@ module _ (tells : Bool) (k : RaCommand) (held later : Holding) (old mid new : Li
       some_then (IsTrue tells) (data_files (tables_of k)) (data_reached (tables_of k) held) (query_files k) (then_files (data_judged k held) (queries_reached k held)) old mid new all adds
       (λ t. when_reached (data_judged k held) d (queries_reached k held) mid new (told t) (subst (λ (h : Holding). AddsPrefix mid new (queries_reached k h d)) same (reached t)))
 
--- of the words that spell the command
+-- of the arguments that mean the command
 pub spelled_begun : (tells : Bool) (held : Holding) (o : Option RaCommand) (k : RaCommand) (old new : List Text) → o ≡ Some k
     → AddsSome (IsTrue tells) (asked_files k) (asked_reached k held) old new → BeginsFor tells held o old new
 spelled_begun tells held o k old new is some = subst (λ (p : Option RaCommand). BeginsFor tells held p old new) (sym is) some

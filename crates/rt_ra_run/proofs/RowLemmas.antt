@@ -1,6 +1,6 @@
 -- What the rows of a call's answers follow from, and that an accepted command over files and sinks
 -- that don't fail gets a verdict.
-use Rattle.std.proofs.Common.{◌≡◌, ℕ, IsTrue, List, Bool, refl, sym, ap, subst, inl, inr, ◌∙◌, arith}
+use Rattle.std.proofs.Common.{◌≡◌, ℕ, IsTrue, List, refl, sym, ap, subst, inl, inr, ◌∙◌, arith}
 use Rattle.std.specs.Prelude.{Option, Some, None, Result, Ok, Err, IsSome, IsSomeAnd, IfOk, IsOkAnd, ◌<◌, ◌≤◌, ◌^◌, ⊤}
 use Rattle.std.specs.Option.{ForSome}
 use Rattle.rt_io.specs.Logs.{Log, Broke, NoSinkRose, at_place}
@@ -8,7 +8,6 @@ use Rattle.rt_io.specs.declared.place.Place.{Place}
 use Rattle.rt_io.specs.declared.place.Place.TheVariants as at
 use Rattle.rt_schema.specs.Given.{places}
 use Rattle.rt_schema.specs.declared.table.Table.{Table}
-use Rattle.rt_ra_tree.specs.declared.fault.RaFault.{RaFault}
 use Rattle.rt_input.specs.declared.outcome.Outcome.{Outcome}
 use Rattle.rt_input.specs.declared.outcome.Outcome.TheVariants as outcome
 use Rattle.rt_input.specs.declared.outcome.Spent.{Spent}
@@ -49,7 +48,7 @@ placed_row c k o e placed other is =
     let same : k ≡ other = let p : Some k ≡ Some other = sym e ∙ is in cc in
     subst (λ (x : RaCommand). IsTrue c.files.tells → Placed x c.files.held o) same placed
 
--- a row, where it isn't want of memory
+-- a row, where it isn't out of memory
 abbrev pub Stop : Call → RaOutcome → Type 0
 Stop c (Verdict outcome.NoMemory) = ⊤
 Stop c o = Row c o
@@ -87,7 +86,7 @@ stop_says c k judged R (Verdict outcome.WriteFault) said e stop text = absurd st
 stop_says c k judged R (Verdict outcome.NoMemory) said e stop text = text ∙ limit-said c k (Verdict outcome.NoMemory) e
 stop_says c k judged R (Refused part fault) said e stop text = text ∙ limit-said c k (Refused part fault) e
 
--- the words are none
+-- the arguments are none
 pub usage_row : (c : Call) (o : Outcome) → WordsStop (ra_command c.words) o → Stop c (Verdict o)
 usage_row c outcome.Agree stop = absurd stop
 usage_row c (outcome.Witness keep) stop = absurd stop
@@ -216,7 +215,7 @@ gets_verdict c out err o said result a row spoke tells calm sinks ok room = elim
 refused_as : {T : Type 0} (r : Result T RaOutcome) (refusal o : RaOutcome) → r ≡ Err refusal → r ≡ Err o → refusal ≡ o
 refused_as r refusal o p q = cc
 
--- the outcome that its row allows, where a refusal stands
+-- the outcome that its row allows, where there is a refusal
 row_yields : (c : Call) (o refusal : RaOutcome) → Row c o → IsTrue c.files.tells → ra_judged c.words c.files.held ≡ Err refusal → YieldsTo refusal o
 row_yields c (Verdict outcome.Agree) refusal row tells is = not_accepted _ refusal row.0 is (row.1.told tells)
 row_yields c (Verdict (outcome.Witness keep)) refusal row tells is = not_accepted _ refusal row.0 is (row.1.told tells)

@@ -1,11 +1,10 @@
 -- What stops one step of the reading stops the reading.
-use Rattle.std.proofs.Common.{◌≡◌, ◌∙◌, ℕ, Bool, false, IsTrue, List, Result, Ok, Err, refl, sym, ap, subst, arith}
-use Rattle.std.specs.Prelude.{Option, None, Some, IfErr, IfOk, IsOk, IsOkAnd, ◌+◌, ⊤}
-use Rattle.rt_io.specs.Edge.{NoneFell, Rose}
+use Rattle.std.proofs.Common.{◌≡◌, ◌∙◌, ℕ, Bool, IsTrue, List, Result, Ok, Err, refl, sym, ap, subst, arith}
+use Rattle.std.specs.Prelude.{Option, None, Some, IfErr, IfOk, IsOk}
+use Rattle.rt_io.specs.Edge.{NoneFell}
 use Rattle.rt_schema.specs.Given.{Rows, Tables}
 use Rattle.rt_schema.specs.declared.table.Table.{Table}
 use Rattle.rt_algebra.specs.declared.typed.Typed.{Typed}
-use Rattle.rt_input.specs.declared.outcome.Fault.{Fault}
 use Rattle.rt_input.specs.declared.outcome.Limit.{Limit}
 use Rattle.rt_input.specs.declared.outcome.Limit.TheVariants as limit
 use Rattle.rt_input.specs.declared.outcome.Outcome.{Outcome}
@@ -163,7 +162,7 @@ placeless_text s name p (outcome.ReadFault q) stop k held = tt
 placeless_text s name p outcome.WriteFault stop k held = tt
 placeless_text s name p outcome.NoMemory stop k held = tt
 
--- a syntax fault that stands in the text of a part
+-- a syntax error whose place is in the text of a part
 known-text : {T : Type 0} (r : Result T Outcome) (x : T) → or_outcome Verdict r ≡ Ok x → r ≡ Ok x
 known-text (Ok y) x is = let same : y ≡ x = cc in ap Ok same
 known-text (Err e) x is = cc
@@ -278,7 +277,7 @@ query_placed tells k held q r text other (Ok y) part same told placed = tt
 query_placed tells k held q r text other (Err o) part same told placed =
     λ t. placed_at k held q text o (told t) (subst (λ (x : Part). PlacedIn x text o) part (subst (λ (n : List ℕ). PlacedIn r n o) same placed))
 
--- ---- the second query beside the first, and the work
+-- ---- the second query with the first, and the work
 
 pub beside_ok : (left right : Lowered) (typed : Typed) → typed ≡ right.typed → like_left left.typed right.typed ≡ Ok typed
     → (q : Lowered) → q ≡ record { text = right.text; typed = typed } → (q ≡ right) × (beside left right ≡ Ok q)

@@ -1,5 +1,5 @@
 -- When each outcome of a call comes, and what the call writes.
-use Rattle.std.specs.Prelude.{◌≡◌, ℕ, ◌⊎◌, Bool, IsTrue, List, Option, None, Some, Ok, Err, IsSome, IsSomeAnd, ⊤}
+use Rattle.std.specs.Prelude.{◌≡◌, ℕ, ◌⊎◌, Bool, IsTrue, List, None, Some, Ok, Err, IsSome, IsSomeAnd, ⊤}
 use Rattle.std.specs.Option.{ForSome}
 use Rattle.rt_io.specs.Logs.{Log, Broke, Grew, GrewPartly, IsKept, at_place, other_place}
 use Rattle.rt_ra_tree.specs.declared.fault.RaFault.{RaFault}
@@ -10,7 +10,7 @@ use Rattle.rt_input.specs.declared.outcome.Outcome.{Outcome}
 use Rattle.rt_input.specs.declared.outcome.Outcome.TheVariants as outcome
 use Rattle.rt_input.specs.declared.outcome.Spent.{Spent}
 use Rattle.rt_input.specs.Reading.{Call}
-use Rattle.rt_top.specs.Answers.{HasRoom, IfAgree, IfLimit, IfReadFault, IfRefused, IfSpent, IfText, IfUsage, IfWitness}
+use Rattle.rt_top.specs.Answers.{IfText}
 use Rattle.rt_top.specs.Answers as top
 use Rattle.rt_input.specs.Faults as faults
 use Rattle.rt_input.specs.Judged.{IsNamed}
@@ -31,8 +31,8 @@ use Rattle.rt_ra_run.specs.Words.{limit_of, ra_command}
 
 -- ---- when an outcome comes
 
--- what was read in the call: an input that can be accepted, with the numbers of the command, and where
--- the files tell their contents, the one that is judged
+-- what was read in the call: an input that can be accepted, with the numbers of the command, and
+-- where the files' contents are known, the one that is judged
 pub record IsRead (c : Call) (a : Asked) : Type 0 where
   pub sound : IsAsked a
   pub numbers : IsSomeAnd (ra_command c.words) (λ k. HasNumbers k a)
@@ -51,17 +51,17 @@ SpentRow c s = (a : Asked) × IsRead c a × (a.input.conflicts ≡ Some s.budget
 abbrev pub UsageRow : Call → Type 0
 UsageRow c = ra_command c.words ≡ None
 
--- where the files tell their contents, a syntax fault stands in the text of its part
+-- where the files' contents are known, the place of a syntax error is in the text of its part
 abbrev pub PlacedRow : Call → RaOutcome → Type 0
 PlacedRow c o = ForSome (ra_command c.words) (λ k. IsTrue c.files.tells → Placed k c.files.held o)
 
--- the refusal that is judged; which place of its text a syntax fault names is left open
+-- the refusal that is judged; which place of its text a syntax error names is left open
 abbrev pub RefusedRow : Call → Part → RaFault → Type 0
 RefusedRow c part fault =
     IsSome (ra_command c.words) × IsTrue (is_refusal fault) × (IsTrue c.files.tells → ra_judged c.words c.files.held ≡ Err (Refused part (placeless fault)))
     × PlacedRow c (Refused part fault)
 
--- the same of the schema, a table, or the two queries beside each other
+-- the same of the schema, a table, or the pair of queries
 abbrev pub RefusedElsewhereRow : Call → Part → Fault → Type 0
 RefusedElsewhereRow c part fault =
     IsSome (ra_command c.words) × IsTrue (faults.is_refusal fault) × (IsTrue c.files.tells → ra_judged c.words c.files.held ≡ Err (Verdict (outcome.Refused part (faults.placeless fault))))
@@ -95,7 +95,7 @@ abbrev pub Row : Call → RaOutcome → Type 0
 Row c (Verdict o) = VerdictRow c o
 Row c (Refused part fault) = RefusedRow c part fault
 
--- ---- words on one outcome
+-- ---- vocabulary for one outcome
 
 abbrev pub IfVerdict : RaOutcome → (Outcome → Type 0) → Type 0
 IfVerdict (Verdict o) P = P o
@@ -123,17 +123,17 @@ VerdictYields refusal (outcome.ReadFault part) = ⊤
 VerdictYields refusal outcome.WriteFault = ⊤
 VerdictYields refusal outcome.NoMemory = ⊤
 
--- what an answer may be where a refusal stands: that refusal, or a fault
+-- what an answer may be where there is a refusal: that refusal, or an error of reading or writing
 abbrev pub YieldsTo : RaOutcome → RaOutcome → Type 0
 YieldsTo refusal (Verdict o) = VerdictYields refusal o
 YieldsTo refusal (Refused part fault) = refusal ≡ Refused part (placeless fault)
 
--- usage, or a fault where no file is read
+-- usage, or an error where no file is read
 abbrev pub IsUsageOrFault : RaOutcome → Type 0
 IsUsageOrFault (Verdict o) = top.YieldsToWrite outcome.Usage o
 IsUsageOrFault (Refused part fault) = ⊥
 
--- a verdict on the two texts, or want of memory
+-- a verdict on the two texts, or out of memory
 abbrev pub IsVerdictOrMemory : RaOutcome → Type 0
 IsVerdictOrMemory (Verdict o) = top.IsVerdictOrMemory o
 IsVerdictOrMemory (Refused part fault) = ⊥
@@ -180,7 +180,7 @@ pub record WritesUntilFault (c : Call) (out err : Log) (o : RaOutcome) : Type 0 
   pub begun : WritesPart c out err o
   pub broke : Broke (at_place (place o) out err)
 
--- how the writing of a text ended: all of it was taken, the sink failed, or memory was wanting
+-- how the writing of a text ended: all of it was taken, the sink failed, or out of memory
 abbrev pub WritesTo : Log → RaOutcome → List ℕ → RaOutcome → Type 0
 WritesTo sink o said result =
     ((result ≡ o) × Grew sink said)

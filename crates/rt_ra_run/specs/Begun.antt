@@ -1,5 +1,5 @@
--- Which files a command begins: first ones of those that it names, in the order of the reading, and none
--- behind the first refusal.
+-- Which files a command begins: first ones of those that it names, in the order of the reading, and
+-- none after the first refusal.
 use Rattle.std.specs.Prelude.{◌≡◌, Bool, IsTrue, List, [], ◌∷◌, ◌++◌, Option, None, Some}
 use Rattle.rt_io.specs.declared.files.Files.{Ghosts}
 use Rattle.rt_schema.specs.declared.table.Table.{Table}

@@ -1,5 +1,5 @@
--- The faults of an algebra text as outcomes: want of memory is an outcome of its own, and each other
--- fault is a refusal of the text.
+-- The errors of an algebra text as outcomes: out of memory is an outcome of its own, and each other
+-- error is a refusal of the text.
 use Rattle.std.specs.Prelude.{Bool, true, false, Result, Ok, Err}
 use Rattle.rt_token.specs.declared.fault.LexFault.{LexFault}
 use Rattle.rt_token.specs.declared.fault.LexFault.TheVariants as lex
@@ -11,7 +11,7 @@ use Rattle.rt_input.specs.Faults.{is_lex_refusal}
 use Rattle.rt_ra_run.specs.declared.outcome.RaOutcome.{RaOutcome}
 use Rattle.rt_ra_run.specs.declared.outcome.RaOutcome.TheVariants.{Verdict, Refused}
 
--- the value, or the outcome of the fault
+-- the value, or the outcome of the error
 abbrev pub or_outcome : {T E : Type 0} → (E → RaOutcome) → Result T E → Result T RaOutcome
 or_outcome f (Ok x) = Ok x
 or_outcome f (Err e) = Err (f e)
@@ -35,7 +35,7 @@ fault_outcome p fault.TypeMismatch = Refused p fault.TypeMismatch
 fault_outcome p fault.Columns = Refused p fault.Columns
 fault_outcome p fault.NoMemory = Verdict outcome.NoMemory
 
--- no want of memory
+-- not out of memory
 abbrev pub is_refusal : RaFault → Bool
 is_refusal (fault.Lex f) = is_lex_refusal f
 is_refusal fault.TooDeep = true
@@ -47,7 +47,7 @@ is_refusal fault.TypeMismatch = true
 is_refusal fault.Columns = true
 is_refusal fault.NoMemory = false
 
--- the fault without the place of a syntax fault, which is judged as 0
+-- the error without the place of a syntax error, which is judged as 0
 abbrev pub placeless : RaFault → RaFault
 placeless (fault.Lex f) = fault.Lex f
 placeless fault.TooDeep = fault.TooDeep

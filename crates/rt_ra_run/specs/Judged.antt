@@ -1,8 +1,7 @@
--- What is asked by a command, or the first refusal in the order of its parts: the words, the schema,
--- the tables in schema order, query 1, query 2, the two queries beside each other, the work.
+-- What is asked by a command, or the first refusal in the order of its parts: the arguments, the
+-- schema, the tables in schema order, query 1, query 2, the pair of queries, the work.
 use Rattle.std.specs.Prelude.{List, [], ◌∷◌, Option, None, Some, Result, Ok, Err, IsOk, IsOkAnd, ⊤}
 use Rattle.rt_schema.specs.declared.table.Table.{Table}
-use Rattle.rt_algebra.specs.declared.typed.Typed.{Typed}
 use Rattle.rt_token.specs.Lexed.{lexed}
 use Rattle.rt_token.specs.declared.token.Token.{Token}
 use Rattle.rt_ra_tree.specs.Whole.{ra_read}

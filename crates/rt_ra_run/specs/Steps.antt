@@ -1,6 +1,5 @@
 -- What stops the reading of a command's files.
 use Rattle.std.specs.Prelude.{◌≡◌, IsTrue, None, Result, Err, ⊤}
-use Rattle.rt_ra_tree.specs.declared.fault.RaFault.{RaFault}
 use Rattle.rt_input.specs.declared.part.Part.{Part}
 use Rattle.rt_input.specs.declared.outcome.Limit.{Limit}
 use Rattle.rt_input.specs.declared.outcome.Outcome.{Outcome}
@@ -14,7 +13,7 @@ use Rattle.rt_ra_run.specs.declared.outcome.RaOutcome.TheVariants.{Verdict, Refu
 use Rattle.rt_ra_run.specs.Faults.{is_refusal, placeless}
 use Rattle.rt_ra_run.specs.Judged.{file_at, paths_of}
 
--- ---- a step that reads no file: the refusal that is judged, or want of memory
+-- ---- a step that reads no file: the refusal that is judged, or out of memory
 
 abbrev pub VerdictRefuses : {T : Type 0} → Result T RaOutcome → Outcome → Type 0
 VerdictRefuses judged outcome.Agree = ⊥
@@ -37,8 +36,8 @@ Refuses judged (Refused part fault) = IsTrue (is_refusal fault) × (judged ≡ E
 abbrev pub IsLong : Seen → RaCommand → Limit → Type 0
 IsLong s k limit = IsLongFor s (source_from None (paths_of k)) limit
 
--- a fault of reading comes only where the count of the part's file rose, and a
--- refusal is the one that is judged; `Reached` is how far the reading came
+-- an error of reading comes only where the count of the part's file rose, and a refusal is the one
+-- that is judged; `Reached` is how far the reading came
 
 abbrev pub VerdictStops : {T : Type 0} → Seen → RaCommand → Result T RaOutcome → (Part → Type 0) → Outcome → Type 0
 VerdictStops s k judged Reached outcome.Agree = ⊥

@@ -1,5 +1,5 @@
 -- The text of each outcome, the sink that it belongs to, and the status of the program.
-use Rattle.std.specs.Prelude.{ℕ, Bool, List, [], ◌++◌, codes, decimal}
+use Rattle.std.specs.Prelude.{ℕ, Bool, List, [], ◌++◌, codes}
 use Rattle.rt_eval.specs.Distinct.{distinct}
 use Rattle.rt_io.specs.declared.place.Place.{Place}
 use Rattle.rt_io.specs.declared.place.Place.TheVariants as at
@@ -19,7 +19,7 @@ use Rattle.rt_ra_run.specs.declared.outcome.RaOutcome.{RaOutcome}
 use Rattle.rt_ra_run.specs.declared.outcome.RaOutcome.TheVariants.{Verdict, Refused}
 use Rattle.rt_ra_run.specs.Smallest.{answer_at}
 
--- faults of equal names have the text that they have in a query of SQL
+-- errors of equal names have the text that they have in a query of SQL
 abbrev pub fault_text : RaFault → List ℕ
 fault_text (fault.Lex f) = lex_text f
 fault_text fault.TooDeep = sql_text sql.TooDeep

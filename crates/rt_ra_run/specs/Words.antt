@@ -1,5 +1,5 @@
--- The words of the command: `ra`, and then those of a command over files, the first of whose four
--- plain words isn't `made`.
+-- The arguments of the command: `ra`, and then those of a command over files, the first of whose
+-- four plain arguments isn't `made`.
 use Rattle.std.specs.Prelude.{◌≡◌, ℕ, ⊤, List, [], ◌∷◌, Option, None, Some, codes, if◌then◌else◌, option_and_then}
 use Rattle.std.specs.Option.{ForSome}
 use Rattle.std.specs.Str.{bytes_eq}
@@ -12,7 +12,7 @@ use Rattle.rt_input.specs.declared.part.QueryPart.TheVariants.{First, Second}
 use Rattle.rt_input.specs.Source.{Text}
 use Rattle.rt_ra_run.specs.declared.command.RaCommand.{RaCommand}
 
--- the words behind `ra`
+-- the arguments after `ra`
 abbrev pub behind_ra : List Text → Option (List Text)
 behind_ra [] = None
 behind_ra (first ∷ rest) = if bytes_eq first (codes "ra") then Some rest else None
@@ -26,7 +26,7 @@ with_paths _ c = None
 abbrev pub over_files : Command → Option RaCommand
 over_files c = with_paths c.paths c
 
--- the command that the words spell
+-- the command that the arguments mean
 abbrev pub ra_command : List Text → Option RaCommand
 ra_command words = option_and_then (λ rest. option_and_then over_files (command rest)) (behind_ra words)
 
@@ -45,7 +45,7 @@ abbrev pub limit_of : Option RaCommand → ℕ
 limit_of None = 0
 limit_of (Some k) = k.work_limit
 
--- what stops the reading of the words
+-- what stops the reading of the arguments
 abbrev pub WordsStop : Option RaCommand → Outcome → Type 0
 WordsStop o outcome.Usage = o ≡ None
 WordsStop o outcome.NoMemory = ⊤

@@ -1,4 +1,4 @@
-//! The words of the command.
+//! The arguments of `ratest_plus ra`: the keyword, then what `ratest` takes for files.
 ghost use Rattle.std.specs.Prelude.{◌≡◌, IfOk, IfErr, Some, option_and_then};
 ghost use Rattle.rt_io.specs.Command.{command};
 ghost use Rattle.rt_ra_run.specs.Words.{IsInRange, WordsStop, over_files, query_path, ra_command};
@@ -8,7 +8,7 @@ use rt_io::Words;
 use rt_value::Txt;
 use std::alloc::Global;
 
-/// What the words ask for: two algebra texts over the tables of a folder.
+/// What the arguments ask for: two algebra texts over the tables of a folder.
 pub(crate) struct RaCommand {
     pub(crate) schema: Txt,
     /// The folder of the table files.
@@ -33,7 +33,7 @@ impl Drop for RaCommand {
 }
 
 impl RaCommand {
-    /// The path of a query.
+    /// The path of the file of a query.
     pub(crate) fn query(&self, part: QueryPart) -> &Txt
         ensures { result.now ≡ query_path self.now part }
     {
@@ -44,7 +44,7 @@ impl RaCommand {
     }
 }
 
-/// The command over files whose words these are, unless its schema is called `made`.
+// The command over files of these arguments, unless its schema is called `made`.
 fn over_files(alloc: Global, words: &Words) -> Result<RaCommand, Outcome>
     ensures ok { IfOk result (λ k. over_files words.now ≡ Some k) }
     ensures range { IfOk result IsInRange }
@@ -68,7 +68,7 @@ fn over_files(alloc: Global, words: &Words) -> Result<RaCommand, Outcome>
     }
 }
 
-/// The command over files that the words spell.
+// The command over files that the arguments mean.
 fn read_files(alloc: Global, words: &[Txt]) -> Result<RaCommand, Outcome>
     ensures ok { IfOk result (λ k. option_and_then over_files (command words.now) ≡ Some k) }
     ensures range { IfOk result IsInRange }
@@ -78,7 +78,7 @@ fn read_files(alloc: Global, words: &[Txt]) -> Result<RaCommand, Outcome>
     over_files(alloc, &words)
 }
 
-/// The command that the words spell.
+/// The command that the arguments mean, `ra` first; Usage where they mean none.
 pub(crate) fn read_command(alloc: Global, words: &[Txt]) -> Result<RaCommand, Outcome>
     ensures ok { IfOk result (λ k. ra_command words.now ≡ Some k) }
     ensures range { IfOk result IsInRange }

@@ -1,7 +1,8 @@
 //! The command `ra`: two algebra texts over the same tables, compared as two queries of SQL are.
 //!
-//! `specs/Judged.antt` says what is asked or refused, `specs/Smallest.antt` what a counterexample of
-//! two texts is, `specs/Answers.antt` when each outcome comes and what is written.
+//! `specs/Judged.antt` says what is asked or refused, and `specs/Smallest.antt` what a
+//! counterexample of two texts is. `specs/Answers.antt` says when each outcome comes and what is
+//! written.
 #![tactic(auto)]
 
 mod asked;

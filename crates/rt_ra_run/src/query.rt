@@ -1,4 +1,4 @@
-//! One algebra text, from its bytes to the query that it becomes.
+//! One algebra text, from its bytes to the query that it becomes: tokens, tree, names.
 ghost use Rattle.std.specs.Prelude.{◌≡◌, IfOk, IfErr, Ok};
 ghost use Rattle.rt_token.specs.Lexed.{lexed};
 ghost use Rattle.rt_ra_tree.specs.Formed.{IsFormed};
@@ -25,7 +25,7 @@ pub(crate) struct Lowered {
     pub(crate) typed: Typed,
 }
 
-/// The query of a tree.
+// The query of a tree.
 fn query_of_tree(
     alloc: Global,
     part: Part,
@@ -44,7 +44,7 @@ fn query_of_tree(
     }
 }
 
-/// The query of tokens.
+// The query of tokens.
 fn query_of_tokens(
     alloc: Global,
     part: Part,
@@ -62,7 +62,7 @@ fn query_of_tokens(
     }
 }
 
-/// The query of a text.
+/// The query of a text, or its first error as an outcome.
 pub(crate) fn query_of(
     alloc: Global,
     part: Part,

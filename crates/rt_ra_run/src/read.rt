@@ -1,10 +1,10 @@
-//! The reading of what a command asks.
+//! Reading a command's files in their order: schema, tables, query 1, query 2. The first refusal
+//! ends the reading.
 ghost use Rattle.std.specs.Prelude.{◌≡◌, ◌≤◌, [], ◌∷◌, ◌++◌, IsTrue, IfOk, IfErr, OnOk, Ok};
 ghost use Rattle.rt_io.specs.Edge.{AddsPrefix, NoneFell};
 ghost use Rattle.rt_input.specs.Begun.{AddsAll, AddsSome, data_files, data_reached};
 ghost use Rattle.rt_ra_run.specs.Begun.{asked_files, asked_reached, queries_reached, query_files, tables_of};
 ghost use Rattle.rt_schema.specs.Given.{IsOf, places, row_limit};
-ghost use Rattle.rt_input.specs.Accepted.{IsAccepted};
 ghost use Rattle.rt_input.specs.Source.{query_part};
 ghost use Rattle.rt_input.specs.Steps.{over};
 ghost use Rattle.rt_input.specs.declared.part.Part.TheVariants as parts;
@@ -24,7 +24,7 @@ use rt_schema::Schema;
 use rt_value::Bytes;
 use std::alloc::Global;
 
-/// The schema and the rows of its tables.
+// The schema and the rows of its tables.
 fn read_data<F: Files>(
     alloc: Global,
     command: &RaCommand,
@@ -46,7 +46,7 @@ fn read_data<F: Files>(
     }
 }
 
-/// The text of a query.
+// The text of a query.
 fn query_text<F: Files>(
     alloc: Global,
     command: &RaCommand,
@@ -67,7 +67,7 @@ fn query_text<F: Files>(
     }
 }
 
-/// A query over the tables of the schema.
+// A query over the tables of the schema.
 fn read_query<F: Files>(
     alloc: Global,
     command: &RaCommand,
@@ -88,7 +88,7 @@ fn read_query<F: Files>(
     query_of(alloc, part.part(), schema, text.as_slice())
 }
 
-/// The second query, where its columns are as the first's.
+// The second query, where its columns are as the first's.
 fn beside(left: &Lowered, right: Lowered) -> Result<Lowered, RaOutcome>
     ensures kinds { IfOk result (λ q. q.typed.kinds ≡ left.now.typed.kinds) }
     ensures ok { IfOk result (λ q. (q ≡ right) × (beside left.now right ≡ Ok q)) }
@@ -102,7 +102,7 @@ fn beside(left: &Lowered, right: Lowered) -> Result<Lowered, RaOutcome>
     }
 }
 
-/// The second query over the tables of the schema, whose columns are as the first's.
+// The second query over the tables of the schema, whose columns are as the first's.
 fn read_right<F: Files>(
     alloc: Global,
     command: &RaCommand,
@@ -123,7 +123,7 @@ fn read_right<F: Files>(
     beside(left, right)
 }
 
-/// What is asked, where its work is within its limit.
+// What is asked, where its work is within its limit.
 fn within(asked: Asked) -> Result<Asked, RaOutcome>
     ensures ok { IfOk result (λ a. (a ≡ asked) × (within_judged asked ≡ Ok a)) }
     ensures err { IfErr result (Refuses (within_judged asked)) }
@@ -136,7 +136,7 @@ fn within(asked: Asked) -> Result<Asked, RaOutcome>
     }
 }
 
-/// What is asked of the two queries over these tables.
+// What is asked of the two queries over these tables.
 fn asked_of(command: &RaCommand, tables: Tables, left: Lowered, right: Lowered) -> Asked
     requires of_schema { IsOf tables.schema tables.given }
     requires few { places tables.given.tables ≤ row_limit }
@@ -164,7 +164,7 @@ fn asked_of(command: &RaCommand, tables: Tables, left: Lowered, right: Lowered) 
     }
 }
 
-/// What is asked over these tables.
+// What is asked over these tables.
 fn read_queries<F: Files>(
     alloc: Global,
     command: &RaCommand,
@@ -190,7 +190,7 @@ fn read_queries<F: Files>(
     within(asked_of(command, tables, left, right))
 }
 
-/// What a command asks.
+/// What a command asks, or the first refusal in the order of its files.
 pub(crate) fn read_asked<F: Files>(
     alloc: Global,
     command: &RaCommand,

@@ -1,9 +1,12 @@
+//! The command `ra`, from arguments to the text that is written. The contract of `ra_run` is what
+//! the second program guarantees of this command.
+
 ghost use Rattle.std.specs.Prelude.{◌≡◌, ◌⊎◌, List, IsTrue, IfOk, None, Some, Ok, Err};
 ghost use Rattle.rt_io.specs.Edge.{NoneFell};
 ghost use Rattle.rt_io.specs.Logs.{NoSinkRose, WritesNothing, log};
 ghost use Rattle.rt_input.specs.Begun.{AddsSome};
 ghost use Rattle.rt_input.specs.Reading.{call};
-ghost use Rattle.rt_ra_run.specs.Begun.{Begins, asked_files, asked_reached, tables_of};
+ghost use Rattle.rt_ra_run.specs.Begun.{Begins, asked_files, asked_reached};
 ghost use Rattle.rt_top.specs.Answers.{HasRoom, IfAgree, IfLimit, IfNoMemory, IfReadFault, IfRefused, IfSpent, IfUsage, IfWitness, IfWriteFault};
 ghost use Rattle.rt_input.specs.Source.{Text};
 ghost use Rattle.rt_ra_run.specs.declared.asked.Asked.{Asked};
@@ -23,7 +26,7 @@ use rt_io::{Files, Sink, SinkFail, write_at};
 use rt_value::{NoMemory, Txt};
 use std::alloc::Global;
 
-/// What is to be said where there is no verdict; `most` is the work limit in force.
+// The answer where there is no verdict; `most` is the work limit in force.
 fn refuse(alloc: Global, most: u64, outcome: RaOutcome) -> Result<RaAnswer, NoMemory>
     ensures same { IfOk result (λ a. a.outcome ≡ outcome) }
     ensures says { IfOk result (λ a. a.text ≡ refusal_text most outcome) }
@@ -32,7 +35,7 @@ fn refuse(alloc: Global, most: u64, outcome: RaOutcome) -> Result<RaAnswer, NoMe
     Ok(RaAnswer { outcome, text })
 }
 
-/// What is to be said of a command, by the words that spell it.
+// The answer to a command.
 fn answer<F: Files>(alloc: Global, command: &RaCommand, files: &mut F) -> Result<RaAnswer, NoMemory>
     requires range { IsInRange command.now }
     ensures row { IfOk result (λ a. (words : List Text) → ra_command words ≡ Some command.now → Row (call F.Files words files.old files.new) a.outcome) }
@@ -52,7 +55,7 @@ fn answer<F: Files>(alloc: Global, command: &RaCommand, files: &mut F) -> Result
     }
 }
 
-/// What is to be said of the words.
+// The answer to the arguments.
 fn prepare<F: Files>(alloc: Global, words: &[Txt], files: &mut F) -> Result<RaAnswer, NoMemory>
     ensures row { IfOk result (λ a. Row (call F.Files words.now files.old files.new) a.outcome) }
     ensures says { IfOk result (λ a. IsTextOf (call F.Files words.now files.old files.new) a.outcome a.text) }
@@ -71,7 +74,7 @@ fn prepare<F: Files>(alloc: Global, words: &[Txt], files: &mut F) -> Result<RaAn
     }
 }
 
-/// Writes the text of an answer to its sink.
+// Writes the text of an answer to its sink.
 fn speak<O: Sink, E: Sink>(out: &mut O, err: &mut E, answer: RaAnswer) -> RaOutcome
     ensures { Writes (log O.Sink out.old out.new) (log E.Sink err.old err.new) answer.outcome answer.text result }
 {
@@ -83,7 +86,7 @@ fn speak<O: Sink, E: Sink>(out: &mut O, err: &mut E, answer: RaAnswer) -> RaOutc
 }
 
 /// Reads the files of the command `ra`, decides on its two algebra texts, and writes the verdict to
-/// `out`, or to `err` why there is none.
+/// `out`, or to `err` why there is none. `words` are the arguments after the program's name.
 pub fn ra_run<F: Files, O: Sink, E: Sink>(
     alloc: Global,
     words: &[Txt],
@@ -95,11 +98,11 @@ pub fn ra_run<F: Files, O: Sink, E: Sink>(
     ensures agree { IfVerdict result (λ o. IfAgree o (AgreeRow (call F.Files words.now files.old files.new))) }
     // Only where the choice is a smallest counterexample of the two texts.
     ensures witness { IfVerdict result (λ o. IfWitness o (WitnessRow (call F.Files words.now files.old files.new))) }
-    // Only where the words are no command, and there always.
+    // Only where the arguments are no command, and there always.
     ensures usage { IfVerdict result (λ o. IfUsage o (UsageRow (call F.Files words.now files.old files.new))) }
     ensures usage_exact { ra_command words.now ≡ None → IsUsageOrFault result }
-    // Only where this is the first refusal, and there always. A syntax fault stands at a token of its
-    // text, or at the end of the last one.
+    // Only where this is the first refusal, and there always. The place of a syntax error is the
+    // start of a token of its text, or the end of the last one.
     ensures refused { IfRefusedText result (RefusedRow (call F.Files words.now files.old files.new)) }
     ensures refused_elsewhere { IfVerdict result (λ o. IfRefused o (RefusedElsewhereRow (call F.Files words.now files.old files.new))) }
     // Only where the budget of the command is spent.
@@ -110,18 +113,18 @@ pub fn ra_run<F: Files, O: Sink, E: Sink>(
     ensures read_fault { IfVerdict result (λ o. IfReadFault o (ReadFaultRow (call F.Files words.now files.old files.new))) }
     // Only where the sink of an outcome that its row allows failed in this call.
     ensures write_fault { IfVerdict result (λ o. IfWriteFault o ((allowed : RaOutcome) × WritesUntilFault (call F.Files words.now files.old files.new) (log O.Sink out.old out.new) (log E.Sink err.old err.new) allowed)) }
-    // Want of memory may come anywhere; at most a prefix of such a text was written.
+    // Out of memory may come anywhere; at most a prefix of such a text was written.
     ensures no_memory { let o = log O.Sink out.old out.new in let e = log E.Sink err.old err.new in
         IfVerdict result (λ r. IfNoMemory r (WritesNothing o e ⊎ ((allowed : RaOutcome) × WritesPart (call F.Files words.now files.old files.new) o e allowed))) }
     // The whole text went to its sink, and nothing to the other.
     ensures said { IfSaid result (WritesAll (call F.Files words.now files.old files.new) result (log O.Sink out.old out.new) (log E.Sink err.old err.new)) }
-    // An accepted command without a budget, or with one that no search can spend, gets a verdict over
-    // files and sinks that don't fail.
+    // An accepted command without a budget, or with one that no search can spend, gets a verdict
+    // over files and sinks that don't fail.
     ensures complete { let c = call F.Files words.now files.old files.new in
         IsTrue F.tells → NoFileRose c → NoSinkRose (log O.Sink out.old out.new) (log E.Sink err.old err.new)
         → (asked : Asked) → ra_judged words.now (F.held files.old) ≡ Ok asked → HasRoom asked.input → IsVerdictOrMemory result }
     // The files that are begun are first ones of those that the command names, in the order of the
-    // reading, and none stands behind the first refusal.
+    // reading, and none comes after the first refusal.
     ensures begun { Begins F.Files (ra_command words.now) files.old files.new }
     ensures held { F.held files.new ≡ F.held files.old }
     ensures rises { NoneFell (F.faults files.old) (F.faults files.new) }

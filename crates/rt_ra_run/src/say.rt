@@ -1,4 +1,4 @@
-//! The texts of refusals and faults.
+//! The texts of refusals and errors. Each byte is fixed by `specs/Texts.antt`.
 ghost use Rattle.std.specs.Prelude.{◌≡◌, IfOk, string_bytes};
 ghost use Rattle.rt_ra_run.specs.Texts.{fault_text, refusal_text, refused_line};
 
@@ -8,7 +8,7 @@ use rt_ra_tree::RaFault;
 use rt_value::{Bytes, List, NoMemory};
 use std::alloc::{AllocError, Global};
 
-/// The text for words that are no command.
+/// The text for arguments that are no command.
 pub const RA_USAGE: &str =
     "usage: ratest_plus ra SCHEMA DATADIR RA1 RA2 [--conflicts N] [--work N]\n";
 

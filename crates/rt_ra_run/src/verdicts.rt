@@ -1,4 +1,4 @@
-//! The verdict on what is asked.
+//! The verdict on what is asked: that of `ratest` on the queries that the two texts become.
 ghost use Rattle.std.specs.Prelude.{◌≡◌, IfOk, None};
 ghost use Rattle.rt_ra_run.specs.Answers.{Judged};
 ghost use Rattle.rt_ra_run.specs.Asked.{IsAsked, IsMeant};
@@ -16,7 +16,7 @@ pub(crate) struct RaAnswer {
     pub(crate) text: Bytes,
 }
 
-/// What is to be said of two texts: that they agree, a smallest counterexample, or that the budget is
+/// The verdict on two texts: that they agree, a smallest counterexample, or that the budget is
 /// spent.
 pub(crate) fn judge(alloc: Global, asked: &Asked) -> Result<RaAnswer, NoMemory>
     requires sound { IsAsked asked.now }

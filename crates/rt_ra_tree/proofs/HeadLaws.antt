@@ -1,4 +1,4 @@
--- The operator at the front: its word is found, and no name is taken for it.
+-- The operator at the front: its keyword is found, and no name is taken for it.
 use Rattle.std.proofs.Common.{◌≡◌, ◌∙◌, ◌≤◌, ap, subst, List, [], ◌∷◌, refl, Bool, true, false, Option, Some, None, cond, arith, ◌==◌}
 use Rattle.std.specs.Prelude.{bytes_eq}
 use Rattle.std.proofs.lemmas.Slice.Eq.{bytes_eq-Decides}
@@ -54,7 +54,7 @@ opened-sound : (b : Bool) (k : Terminal) (ks : Kinds) (q : Head × Kinds) → co
 opened-sound true k ks q e = before-sound k ks (head_of k) q refl e
 opened-sound false k ks q e = cc e
 
--- the operator that is found stands there
+-- the operator that is found is there
 pub head-sound : (ks : Kinds) (q : Head × Kinds) → head_at ks ≡ Some q → ks ≡ head_terminal q.0 ∷ q.1
 head-sound [] q e = cc e
 head-sound (k ∷ ks) q e = opened-sound (starts fixed.Left ks) k ks q e
@@ -73,7 +73,7 @@ of-reads (head.Two two.Union) = refl
 of-reads (head.Two two.Except) = refl
 of-reads (head.Two two.Intersect) = refl
 
--- the operator that stands there is found
+-- the operator that is there is found
 pub head-reads : (h : Head) (ks : Kinds) → head_at (head_terminal h ∷ (terminal.Fixed fixed.Left ∷ ks)) ≡ Some (h, terminal.Fixed fixed.Left ∷ ks)
 head-reads h ks = rw (of-reads h) refl
 

@@ -4,7 +4,7 @@ use Rattle.rt_token.specs.declared.token.TokenKind.{TokenKind}
 use Rattle.rt_token.specs.declared.token.TokenKind.TheVariants as kind
 use Rattle.rt_tree.specs.Nesting.{opens_too_many}
 
--- a word whose meaning repeats its operands
+-- a keyword whose meaning repeats its operands
 abbrev pub is_doubling : TokenKind → Bool
 is_doubling (kind.Word w) = bytes_eq w (codes "leftjoin") || bytes_eq w (codes "divide")
 is_doubling (kind.Quoted t) = false
@@ -12,7 +12,7 @@ is_doubling (kind.Number n) = false
 is_doubling (kind.Str t) = false
 is_doubling (kind.Sym y) = false
 
--- more than 8 words LEFTJOIN or DIVIDE
+-- more than 8 LEFTJOINs and DIVIDEs together
 abbrev pub doubles_too_many : List TokenKind → Bool
 doubles_too_many ks = nat_lt 8 (count_by is_doubling ks)
 

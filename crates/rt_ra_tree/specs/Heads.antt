@@ -1,7 +1,7 @@
--- The operator at the front of terminals: its word, before an opening parenthesis.
+-- The operator at the front of terminals: its keyword, before an opening parenthesis.
 --
--- What the reading of a text answers is defined by it; by the law `read_is_tree` it is the tree that the
--- tokens spell.
+-- This is part of what defines the answer of reading a text. By the law `read_is_tree` that is the
+-- tree that the tokens spell.
 use Rattle.std.specs.Prelude.{ℕ, ◌==◌, if◌then◌else◌, List, [], ◌∷◌, Option, Some, None, codes, bytes_eq}
 use Rattle.rt_token.specs.declared.fixed.Fixed.{Fixed}
 use Rattle.rt_token.specs.declared.fixed.Fixed.TheVariants as fixed

@@ -1,4 +1,4 @@
--- The two operands of an operator, each with what stands beside it.
+-- The two operands of an operator, each with the punctuation around it.
 use Rattle.std.specs.Prelude.{Some}
 use Rattle.rt_token.specs.Readers.{Parser, ◌>>=◌}
 use Rattle.rt_token.specs.Terminals.{after}

@@ -1,6 +1,6 @@
 -- The grammar of algebra texts, as readers of terminals from the left.
 --
--- What the reading of a text answers is defined by them; by the law `read_is_tree` it is the tree that
+-- They define what the reading of a text answers. By the law `read_is_tree` that is the tree that
 -- the tokens spell.
 use Rattle.std.specs.Prelude.{ℕ, ℤ, zero, suc, ◌+◌, ◌&&◌, Bool, true, false, List, [], ◌∷◌, length, Option, Some, None}
 use Rattle.rt_token.specs.Comparisons.{read_op}
@@ -60,7 +60,7 @@ read_null = lead fixed.Null done
 abbrev pub read_is_null : Parser RaTest
 read_is_null = made null_of (both read_name (lead fixed.Is (flagged fixed.Not read_null)))
 
--- whether a name and IS stand there
+-- whether a name and IS come next
 abbrev pub is_null_test : Kinds → Bool
 is_null_test ks = starts_name ks && starts fixed.Is (tail_of ks)
 
@@ -117,7 +117,7 @@ read_rename inner = made rename_of (operands inner read_names)
 abbrev pub read_two : RaOp → Parser Ra → Parser Ra
 read_two o inner = made (two_of o) (operands inner inner)
 
--- what follows the word of an operator
+-- what follows the keyword of an operator
 abbrev pub read_with : Head → Parser Ra → Parser Ra
 read_with head.Select inner = read_select inner
 read_with head.Project inner = read_project inner

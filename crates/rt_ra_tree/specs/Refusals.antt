@@ -19,7 +19,7 @@ refusal tokens = refusal_of (is_deep (kinds tokens))
 abbrev pub HasNoTree : List Token → Type 0
 HasNoTree tokens = (t : RaText) → ¬ IsTreeOf tokens t
 
--- when each answer comes; want of memory may come anywhere
+-- when each answer comes; NoMemory may come anywhere
 abbrev pub IsAnswer : List Token → Result RaText RaFault → Type 0
 IsAnswer tokens (Ok t) = IsTreeOf tokens t
 IsAnswer tokens (Err fault.TooDeep) = refusal tokens ≡ Some fault.TooDeep

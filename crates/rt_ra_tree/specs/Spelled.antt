@@ -1,7 +1,7 @@
--- The terminals of an algebra text's tree (the grammar stands at the types of the tree).
+-- The terminals of an algebra text's tree. The grammar is in the comments of the tree's types.
 --
--- A tree reaches itself, so the spelling is said for one layer, with the terminals of its operands,
--- and folded over the tree.
+-- The type is recursive, so the spelling is given for one layer, with the terminals of its
+-- operands, and folded over the tree.
 use Rattle.std.specs.Prelude.{[], ◌∷◌, ◌++◌, codes}
 use Rattle.std.specs.List.{flat_map}
 use Rattle.rt_token.specs.Comparisons.{op_sign}
@@ -53,7 +53,7 @@ word_of_two two.Union = terminal.Fixed fixed.Union
 word_of_two two.Except = terminal.Fixed fixed.Except
 word_of_two two.Intersect = terminal.Fixed fixed.Intersect
 
--- a word, and in parentheses the two parts with a comma between them
+-- a keyword, and in parentheses the two parts with a comma between them
 abbrev pub applied : Terminal → Kinds → Kinds → Kinds
 applied word a b = word ∷ in_paren (a ++ terminal.Fixed fixed.Comma ∷ b)
 

@@ -1,4 +1,4 @@
-//! Tests, and lists of tests and of names.
+//! The second argument of SELECT, PROJECT and RENAME: a list of tests, or one of names.
 
 ghost use Rattle.std.specs.Prelude.{◌≡◌};
 ghost use Rattle.rt_token.specs.Readers.{both, list_of, made, read_name};
@@ -80,7 +80,7 @@ fn is_null<'t>(
     Ok((RaTest::IsNull(name, not), rest))
 }
 
-// Whether a name and IS stand there.
+// Whether a name and IS come next.
 fn is_null_test(terminals: &[Terminal]) -> bool
     ensures { result ≡ spec.is_null_test terminals.now }
 {
@@ -113,7 +113,7 @@ fn more_tests<'t>(
     Ok((items, rest))
 }
 
-/// The tests at the front.
+/// The tests at the front, joined by AND, and what follows them.
 #[tactic(auto, unfolding(crate::specs::Reads::read_tests))]
 pub fn tests<'t>(
     alloc: Global,
@@ -164,7 +164,7 @@ fn name_list<'t>(
     }
 }
 
-/// The names in parentheses at the front.
+/// The names in parentheses at the front, and what follows them.
 #[tactic(auto, unfolding(crate::specs::Reads::read_names))]
 pub fn names<'t>(
     alloc: Global,

@@ -1,4 +1,5 @@
-//! Tokens that are nested too deep.
+//! Tokens that are nested too deep: limits of our own. LEFTJOIN and DIVIDE become queries that have
+//! an operand more than once, so that nesting them multiplies the size each time.
 
 ghost use Rattle.std.specs.Prelude.{◌≡◌};
 ghost use Rattle.rt_token.specs.Words.{kinds};
@@ -7,7 +8,7 @@ ghost use Rattle.rt_ra_tree.specs.Depth as spec;
 use rt_token::{Token, TokenKind};
 use rt_tree::opens_too_many;
 
-/// The most words LEFTJOIN and DIVIDE, whose meaning repeats their operands.
+/// The most LEFTJOINs and DIVIDEs together, whose meaning repeats their operands.
 pub const DOUBLED: usize = 8;
 
 fn is_doubling(kind: &TokenKind) -> bool

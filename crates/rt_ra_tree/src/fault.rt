@@ -1,3 +1,6 @@
+//! The errors of an algebra text, from the lexer to name resolution. `parse_ra` answers TooDeep,
+//! Syntax and NoMemory alone.
+
 ghost use Rattle.std.specs.Prelude.{◌≡◌};
 ghost use Rattle.rt_ra_tree.specs.declared.fault.RaFault.TheVariants as faults;
 
@@ -8,7 +11,7 @@ use rt_value::{NoMemory, Txt};
 #[derive(Debug, Drop)]
 pub enum RaFault {
     Lex(LexFault),
-    /// More than 64 open parentheses, or more than 8 words LEFTJOIN or DIVIDE.
+    /// More than 64 open parentheses, or more than 8 LEFTJOINs and DIVIDEs together.
     TooDeep,
     /// The tokens are those of no tree. The place is the start of a token or the end of the last
     /// one.

@@ -1,4 +1,5 @@
-//! The operator at the front.
+//! The operator at the front: the only place where keywords of the algebra that SQL doesn't reserve
+//! are known.
 
 ghost use Rattle.std.specs.Prelude.{◌≡◌, bytes_eq, option_map};
 ghost use Rattle.rt_ra_tree.specs.Heads as spec;
@@ -6,7 +7,7 @@ ghost use Rattle.rt_ra_tree.specs.Heads as spec;
 use crate::tree::RaOp;
 use rt_token::{Fixed, Terminal, code, starts};
 
-/// What stands before the parenthesis of an operator.
+/// What comes before the parenthesis of an operator.
 #[derive(Clone, Copy)]
 pub enum Head {
     Select,

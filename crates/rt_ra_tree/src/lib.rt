@@ -15,8 +15,8 @@
 //! side  = name | [ "-" ] number | text
 //! ```
 //!
-//! The word of an operator before an opening parenthesis is the operator; else it is a name, if it
-//! isn't reserved.
+//! The keyword of an operator is the operator where an opening parenthesis follows it. Elsewhere it
+//! is a name, if it isn't reserved.
 #![tactic(auto)]
 
 mod conditions;

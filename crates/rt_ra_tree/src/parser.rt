@@ -1,3 +1,6 @@
+//! From tokens to an algebra text's tree. Crates above rest on the laws below, and not on how the
+//! readers in this crate branch.
+
 ghost use Rattle.std.specs.Prelude.{◌≡◌, IfSome, List, Some, Ok, Err};
 ghost use Rattle.rt_token.specs.Reads.{Answers};
 ghost use Rattle.rt_ra_tree.specs.Formed.{IsTreeOf};
@@ -37,7 +40,7 @@ fn tree(alloc: Global, tokens: &[Token]) -> Result<RaText, ReadFault>
     text(alloc, terminals.as_slice())
 }
 
-/// Reads the tree of an algebra text.
+/// The tree of an algebra text, or why the tokens are none: too deep, or else the syntax.
 pub fn parse_ra(alloc: Global, tokens: &[Token]) -> Result<RaText, RaFault>
     ensures answer { IsAnswer tokens.now result }
     ensures tree { (t : Tree) → IsTreeOf tokens.now t → Gives is_memory result (Ok t) }

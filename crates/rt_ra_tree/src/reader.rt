@@ -1,4 +1,4 @@
-//! Operators and their operands, with at most `depth` of them in one another.
+//! Operators and their operands, by recursive descent with a bound on depth that is never met.
 
 ghost use Rattle.std.specs.Prelude.{◌≡◌};
 ghost use Rattle.rt_token.specs.Reads.{Reads};
@@ -118,7 +118,7 @@ fn two<'t>(
     }
 }
 
-// What follows the word of an operator.
+// What follows the keyword of an operator.
 #[cycle(ra_reader)]
 fn applied<'t>(
     alloc: Global,
@@ -142,7 +142,7 @@ fn applied<'t>(
     }
 }
 
-/// The tree at the front.
+/// The tree at the front, with fewer than `depth` operators in one another, and what follows it.
 #[tactic(auto, unfolding(crate::specs::Reads::read_ra))]
 #[cycle(ra_reader)]
 pub fn ra<'t>(

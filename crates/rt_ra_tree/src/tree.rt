@@ -1,9 +1,9 @@
-//! The tree of an algebra text, one type a line of the grammar.
+//! The tree of an algebra text, one type for each line of the grammar.
 
 use rt_token::Name;
 use rt_value::{Boxed, List, Op, Txt};
 
-/// `name | [ "-" ] number | text`. The Bool tells whether the minus stands there.
+/// `name | [ "-" ] number | text`. The Bool is true if the minus is there.
 #[derive(Drop)]
 pub enum RaSide {
     Col(Name),
@@ -11,7 +11,7 @@ pub enum RaSide {
     Str(Txt),
 }
 
-/// `side op side | name IS [ NOT ] NULL`. The Bool tells whether NOT stands there.
+/// `side op side | name IS [ NOT ] NULL`. The Bool is true if NOT is there.
 #[derive(Drop)]
 pub enum RaTest {
     Cmp(Op, RaSide, RaSide),

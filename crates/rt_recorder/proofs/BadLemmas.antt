@@ -1,4 +1,4 @@
--- Which line is the first that cannot stand, and that a text is of one certificate.
+-- Which line is the first bad one, and that a text is of one certificate.
 use Rattle.std.proofs.Common.{◌≡◌, ◌<◌, ◌≤◌, ◌+◌, ◌^◌, ℕ, zero, suc, List, [], ◌∷◌, ◌++◌, drop, take, length-drop, Bool, true, map, refl, sym, ap, ◌∙◌, subst, append_assoc, Option, Some, None, length, length-append, arith, inl, inr}
 use Rattle.std.specs.Prelude.{◌⊎◌, ◌==◌, Result, Ok, Err}
 use Rattle.std.proofs.lemmas.Bool.Decides.{nat_tests}
@@ -71,7 +71,7 @@ front-lines (l ∷ ls) ms f = (f.0, front-lines ls ms f.1)
 pub begun-lines : (ls : List Text) → Begins ls → Each IsLine ls
 begun-lines ls (c, f, more, e) = front-lines ls more (subst (Each IsLine) e (cert-are_lines c f))
 
--- ---- a line that cannot stand
+-- ---- a bad line
 
 feed-not : (x y : Text) → IsLine (x ++ 10 ∷ y) → ⊥
 feed-not [] y f = f.0 refl

@@ -5,6 +5,7 @@ use Rattle.std.specs.Fmt.{decimal}
 use Rattle.std.specs.List.{AllByRecursion as Each}
 use Rattle.std.specs.List.Sorted.{IsStrictlyIncreasing}
 use Rattle.std.specs.Option.{IfSome}
+use Rattle.rt_value.specs.Bytes.{line_feed, space, plus_sign, minus_sign}
 use Rattle.rt_clause.specs.Literal.{Literal}
 use Rattle.rt_recorder.specs.declared.cert.Cert.{Cert}
 use Rattle.rt_recorder.specs.declared.cert.Step.{Step}
@@ -14,14 +15,14 @@ Text = List ℕ
 
 -- ---- pieces
 
--- each piece behind a space
+-- each piece after a space
 abbrev pub spaced : {X : Type 0} → (X → Text) → List X → Text
 spaced spell [] = []
-spaced spell (x ∷ xs) = 32 ∷ (spell x ++ spaced spell xs)
+spaced spell (x ∷ xs) = space ∷ (spell x ++ spaced spell xs)
 
 -- + where the literal is true at true, and - where it is true at false
 abbrev pub literal : Literal → Text
-literal l = (if l.on then 43 else 45) ∷ decimal l.var
+literal l = (if l.on then plus_sign else minus_sign) ∷ decimal l.var
 
 -- ---- lines
 
@@ -58,7 +59,7 @@ cert_lines c = header ∷ (verdict_lines c.keep ++ added_line c.added ∷ (map s
 -- each line ends with LF
 abbrev pub text_of : List Text → Text
 text_of [] = []
-text_of (line ∷ lines) = line ++ 10 ∷ text_of lines
+text_of (line ∷ lines) = line ++ line_feed ∷ text_of lines
 
 abbrev pub cert_text : Cert → Text
 cert_text c = text_of (cert_lines c)

@@ -2,6 +2,7 @@
 use Rattle.std.specs.Prelude.{◌≡◌, ◌≢◌, ℕ, ◌==◌, Bool, false, if◌then◌else◌, List, [], ◌∷◌, ◌++◌, map, Option, Some, None}
 use Rattle.std.specs.List.{AllByRecursion as Each}
 use Rattle.std.specs.Option.{IfSome}
+use Rattle.rt_value.specs.Bytes.{zero_digit}
 use Rattle.rt_value.specs.Numeral.{all_digits}
 use Rattle.rt_recorder.specs.Certificate.{Text, IsNumber, ArePlaces, IsCert, IsStep, added_line, agree, cert_lines, header, literal, spaced, step_line, verdict_lines, witness}
 use Rattle.std.specs.Fmt.{decimal}
@@ -34,7 +35,7 @@ claim_line Agree = agree
 abbrev pub numeral : Text → Bool
 numeral [] = false
 numeral (b ∷ []) = all_digits (b ∷ [])
-numeral (b ∷ c ∷ bs) = if b == 48 then false else all_digits (b ∷ c ∷ bs)
+numeral (b ∷ c ∷ bs) = if b == zero_digit then false else all_digits (b ∷ c ∷ bs)
 
 abbrev pub IsAhead : ℕ → Text → Type 0
 IsAhead at [] = Unit {0}

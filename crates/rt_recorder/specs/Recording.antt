@@ -16,7 +16,7 @@ pub record IsAccepted (lines : List (List Literal)) (s : Step) : Type 0 where
   pub known : Each (λ h. h < length lines) s.hints
   pub follows : follows lines s.lits s.hints ≡ true
 
--- behind the lines before, the clauses of the steps are in order the lines that were derived, and
+-- after the lines before, the clauses of the steps are in order the lines that were derived, and
 -- each step is accepted over the lines before its own
 abbrev pub AreStepsBehind : List (List Literal) → List (List Literal) → List Bool → List Step → Type 0
 AreStepsBehind before [] [] [] = Unit {0}

@@ -1,3 +1,5 @@
+//! The check of a certificate's steps: the checker of `rt_derive` takes them one after another.
+
 ghost use Rattle.std.specs.Prelude.{◌≡◌, ◌<◌, ◌++◌, ◌∷◌, [], IfOk, IsTrue, ◌↔◌, if◌then◌else◌, length, MatchOption};
 ghost use Rattle.std.specs.List.{All as Each};
 ghost use Rattle.rt_recorder.specs.Recording.{IsAccepted};
@@ -10,8 +12,8 @@ use rt_derive::Checker;
 use rt_value::{List, NoMemory};
 use std::alloc::Global;
 
-/// What the check of a certificate's steps says: all are accepted and refute, the first that is
-/// not accepted, counted from 1, or all are accepted and do not refute.
+/// The outcome of the check of a certificate's steps. All are accepted and refute, or one is the
+/// first that is not accepted, counted from 1, or all are accepted and do not refute.
 #[derive(Clone, Copy, PartialEq, Eq, Debug)]
 pub enum Checked {
     Yes,
@@ -44,8 +46,8 @@ fn accept(alloc: Global, to: &mut Checker, step: &Step) -> Result<bool, NoMemory
     to.derive(step.lits.as_slice(), hints.as_slice())
 }
 
-/// Checks the steps of the certificate one after another over the checker's lines. The clauses of the
-/// accepted steps become lines of the checker.
+/// Checks the steps of the certificate one after another over the checker's lines. The clauses of
+/// the accepted steps become lines of the checker.
 pub fn check_steps(
     alloc: Global,
     to: &mut Checker,

@@ -1,11 +1,12 @@
+//! A holder of an encoding's lines, for writing them out.
+
 ghost use Rattle.std.specs.Prelude.{◌≡◌, [], None};
 
 use rt_clause::{Adds, Clauses, Lit};
 use rt_value::NoMemory;
 use std::alloc::Global;
 
-/// An encoding as it is kept: its lines in order, and the literal that is assumed, where there is
-/// one.
+/// An encoding's lines in order, and the literal that is assumed, if there is one.
 #[derive(Drop)]
 pub struct Encoded {
     pub lines: Clauses,

@@ -1,3 +1,5 @@
+//! The errors of reading a certificate.
+
 ghost use Rattle.std.specs.Prelude.{◌≡◌};
 ghost use Rattle.rt_recorder.specs.declared.fault.CertFault.TheVariants as faults;
 
@@ -6,8 +8,8 @@ use rt_value::NoMemory;
 /// Why a text is no certificate.
 #[derive(Clone, Copy, PartialEq, Eq, Debug)]
 pub enum CertFault {
-    /// The first line that cannot stand there, counted from 1. Where the text ends too early it is
-    /// the line behind the last one.
+    /// The first line that no certificate has there, counted from 1. If the text ends too early,
+    /// it is the line after the last one.
     BadLine(usize),
     NoMemory,
 }

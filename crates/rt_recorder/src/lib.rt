@@ -1,6 +1,7 @@
-//! Certificates as texts, a checker that records its accepted steps, and the check of recorded steps.
+//! Certificates as texts, a checker that records its accepted steps, and the check of recorded
+//! steps.
 //!
-//! A certificate says which rows make a smallest witness, or that there is none, and has the steps
+//! A certificate says which rows make a smallest witness, or that there is none. It has the steps
 //! of a proof by reverse unit propagation, as in LRAT, that there is none with fewer rows.
 #![tactic(auto)]
 

@@ -1,4 +1,6 @@
-//! The lines of a certificate.
+//! The lines of a certificate, each read whole from its bytes without the line feed. A reader
+//! answers none exactly where no writer could have written the line.
+
 ghost use Rattle.std.specs.Prelude.{◌≡◌, ◌≢◌, IfOk, IsTrue, ◌↔◌, MatchBool, length};
 ghost use Rattle.std.specs.List.Sorted.{IsStrictlyIncreasing};
 ghost use Rattle.rt_recorder.specs.Certificate as spec;
@@ -10,13 +12,14 @@ use crate::pieces::{after, before_space, literals, number, numbers, span};
 use rt_value::{List, NoMemory};
 use std::alloc::Global;
 
-/// Whether the line is this one.
+/// Whether the line is this text, byte by byte.
 pub fn is(line: &[u8], text: &[u8]) -> bool
     ensures { MatchBool result (line.now ≡ text.now) (line.now ≢ text.now) }
 {
     line == text
 }
 
+/// The claim of a line `verdict agree` or `verdict witness N`.
 pub fn claim(line: &[u8]) -> Option<Claim>
     ensures { Reads IsClaim claim_line line.now result }
 {
@@ -51,7 +54,7 @@ fn suit(places: &[u64], rows: u64) -> bool
     places.len() as u64 == rows && is_rising(places)
 }
 
-/// The places of a witness of so many rows.
+/// The places of a line `keep ..`, which rise, of a witness of so many rows.
 pub fn places(alloc: Global, line: &[u8], rows: u64) -> Result<Option<List<u64>>, NoMemory>
     requires { spec.IsNumber rows }
     ensures { IfOk result (Reads (λ ps. spec.ArePlaces ps × (length ps ≡ rows)) spec.keep_line line.now) }
@@ -69,7 +72,7 @@ pub fn places(alloc: Global, line: &[u8], rows: u64) -> Result<Option<List<u64>>
     }
 }
 
-/// The number of lines that the steps stand on.
+/// The number of given lines that the steps go on from, of a line `added N`.
 pub fn added(line: &[u8]) -> Option<u64>
     ensures { Reads spec.IsNumber spec.added_line line.now result }
 {
@@ -91,7 +94,8 @@ fn step_of(alloc: Global, lits: &[u8], hints: &[u8]) -> Result<Option<Step>, NoM
     Ok(Some(Step { lits, hints }))
 }
 
-/// The literals of a step stand before the first semicolon, its hints behind it.
+/// The step of a line such as `d +3 -5 ; 0 12`: the literals x3 and not x5, by lines 0 and 12. Its
+/// literals come before the first semicolon, its hints after it.
 pub fn step(alloc: Global, line: &[u8]) -> Result<Option<Step>, NoMemory>
     ensures { IfOk result (Reads spec.IsStep spec.step_line line.now) }
 {

@@ -1,4 +1,5 @@
-//! The pieces of a line.
+//! The pieces of a line: numbers, literals, and lists of them, each after one space.
+
 ghost use Rattle.std.specs.Prelude.{◌≡◌, ◌≤◌, ◌++◌, ◌∷◌, [], List as Seq, ℕ, IfOk, MatchOption, take, drop, length};
 ghost use Rattle.std.specs.List.{AllByRecursion as Each};
 ghost use Rattle.std.specs.Fmt.{decimal};
@@ -9,7 +10,7 @@ use rt_clause::{Lit, LitList};
 use rt_value::{List, NoMemory, all_digits, decimal_up_to};
 use std::alloc::Global;
 
-/// How many bytes stand before the first that is `at`.
+/// The number of bytes before the first that is `at`: of all, if none is.
 pub fn span(text: &[u8], at: u8) -> usize
     ensures within { result ≤ length text.now }
     ensures cut { IsCut at text.now (take result text.now) (drop result text.now) }
@@ -31,7 +32,7 @@ fn is_numeral(word: &[u8]) -> bool
     }
 }
 
-/// A number below 2^62.
+/// A decimal number below 2^62 without leading zeros.
 pub fn number(word: &[u8]) -> Option<u64>
     ensures { Reads spec.IsNumber decimal word.now result }
 {
@@ -63,14 +64,14 @@ fn literal_of(digits: &[u8], on: bool) -> Option<Lit>
     }
 }
 
-/// What stands behind the front, where the text begins with it.
+/// What follows the front, if the text begins with it.
 pub fn after<'a>(text: &'a [u8], front: &[u8]) -> Option<&'a [u8]>
     ensures { MatchOption result ((rest : Seq ℕ) → text.entry.now ≡ front.entry.now ++ rest → ⊥) (λ rest. text.entry.now ≡ front.entry.now ++ rest.now) }
 {
     text.strip_prefix(front)
 }
 
-/// Numbers below 2^62, each behind a space.
+/// Numbers below 2^62, each after a space.
 pub fn numbers(alloc: Global, text: &[u8]) -> Result<Option<List<u64>>, NoMemory>
     ensures { IfOk result (Reads (Each spec.IsNumber) (spec.spaced decimal) text.now) }
 {
@@ -90,7 +91,7 @@ pub fn numbers(alloc: Global, text: &[u8]) -> Result<Option<List<u64>>, NoMemory
     Ok(Some(out))
 }
 
-/// Literals, each behind a space.
+/// Literals, each after a space: `+` or `-`, and the variable.
 pub fn literals(alloc: Global, text: &[u8]) -> Result<Option<LitList>, NoMemory>
     ensures { IfOk result (Reads (Each (λ l. spec.IsNumber l.var)) (spec.spaced spec.literal) text.now) }
 {
@@ -110,7 +111,7 @@ pub fn literals(alloc: Global, text: &[u8]) -> Result<Option<LitList>, NoMemory>
     Ok(Some(out))
 }
 
-/// What stands before a space at the end, where there is one.
+/// What comes before a space at the end, if there is one.
 pub fn before_space(text: &[u8]) -> Option<&[u8]>
     ensures { MatchOption result ((front : Seq ℕ) → text.now ≡ front ++ 32 ∷ [] → ⊥) (λ front. text.now ≡ front.now ++ 32 ∷ []) }
 {

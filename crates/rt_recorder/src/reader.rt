@@ -1,3 +1,5 @@
+//! The text of a certificate, line by line. What may come next is the state of `reading`.
+
 ghost use Rattle.std.specs.Prelude.{◌≡◌, ℕ};
 ghost use Rattle.rt_recorder.specs.Certificate.{IsCert, cert_text};
 ghost use Rattle.rt_recorder.specs.Lines.{IsBadLine, IsFirstBad, IsOfCert, IsRead};
@@ -34,7 +36,7 @@ fn read(alloc: Global, text: &[u8]) -> Result<Cert, CertFault>
     }
 }
 
-/// The certificate of which this is the text.
+/// The certificate of which this is the text, or the number of its first bad line.
 pub fn read_cert(alloc: Global, text: &[u8]) -> Result<Cert, CertFault>
     ensures read { IsRead text.now result }
     ensures one { (c : Cert) → IsCert c → text.now ≡ cert_text c → IsOfCert c result }

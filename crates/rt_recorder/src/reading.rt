@@ -1,3 +1,5 @@
+//! The states of reading: which kind of line comes next, and what has been read so far.
+
 ghost use Rattle.std.specs.Prelude.{◌≡◌, ◌++◌, ◌∷◌, [], IfOk};
 ghost use Rattle.rt_recorder.specs.Reading.{IsNext, IsReading};
 
@@ -87,7 +89,7 @@ fn behind_steps(alloc: Global, line: &[u8], cert: Cert) -> Result<Option<Reading
 }
 
 impl Reading {
-    /// What is read with the line, or none where the line cannot stand there.
+    /// What is read with the line, or none if no certificate has that line there.
     pub fn next(self, alloc: Global, line: &[u8]) -> Result<Option<Reading>, NoMemory>
         requires { IsReading self }
         ensures { IfOk result (λ o. IsNext self line.now o) }

@@ -1,3 +1,5 @@
+//! A checker that records: what the solver derives, in the form of a certificate's steps.
+
 ghost use Rattle.std.specs.Prelude.{◌≡◌, ◌<◌, ◌^◌, [], IfOk};
 ghost use Rattle.std.specs.List.{AllByRecursion as Each};
 ghost use Rattle.rt_recorder.specs.Certificate.{IsNumber, IsStep};
@@ -10,7 +12,8 @@ use rt_value::{List, NoMemory};
 use std::alloc::Global;
 use std::marker::Model;
 
-// A hint of this size or more finds no memory for its line.
+// No line has a number of this size or more: its hint is answered as out of memory, and is not
+// recorded, since a certificate could not spell it.
 const MOST_LINES: usize = 1 << 62;
 
 /// A checker that keeps each accepted step with its hints.

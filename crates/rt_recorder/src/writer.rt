@@ -1,3 +1,5 @@
+//! The text of a certificate, line by line, as `reader` reads it.
+
 ghost use Rattle.std.specs.Prelude.{◌≡◌, ◌++◌, ◌∷◌, [], IfOk, OnOk, Some, map};
 ghost use Rattle.std.specs.Fmt.{decimal};
 ghost use Rattle.rt_recorder.specs.Certificate as spec;
@@ -88,7 +90,7 @@ fn put_added(alloc: Global, text: &mut Bytes, added: u64) -> Result<(), NoMemory
     text.push(b'\n')
 }
 
-/// The text of a certificate.
+/// The text of a certificate, each line ended by a line feed.
 pub fn cert_text(alloc: Global, cert: &Cert) -> Result<Bytes, NoMemory>
     requires { spec.IsCert cert.now }
     ensures { IfOk result (λ text. text ≡ spec.cert_text cert.now) }

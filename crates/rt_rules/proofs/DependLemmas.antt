@@ -1,5 +1,6 @@
--- A functional dependency, one row at a time: where it holds for the later rows, all of them that agree
--- with a row on the determining columns are the same in the others, so one that is the same is enough.
+-- A functional dependency, one row at a time. Where it holds for the later rows, all of them that
+-- agree with a row on the determining columns are the same in the others. So one that is the same
+-- is enough.
 use Rattle.std.proofs.Common.{◌≡◌, ℕ, Bool, true, false, cond, not, ◌&&◌, ◌||◌, List, [], ◌∷◌, ◌++◌, refl, sym, ap, ap₂, ◌∙◌, inl, inr}
 use Rattle.std.proofs.lemmas.Bool.{cases_Bool}
 use Rattle.std.specs.List.{list_all, list_any}

@@ -1,4 +1,5 @@
--- The least closed set that has the rows of a first one is the step whose number is the set's length.
+-- The least closed set that has the rows of a first one is the step whose number is the set's
+-- length.
 use Rattle.std.proofs.Common.{◌≡◌, ℕ, zero, suc, ◌+◌, ◌<◌, ◌≤◌, Bool, true, false, cond, List, [], ◌∷◌, length, slice_set, refl, sym, subst, ap, arith, ◌∙◌, ◌⊎◌, inl, inr}
 use Rattle.std.proofs.lemmas.List.{length-set}
 use Rattle.std.specs.List.{All as Each}

@@ -1,5 +1,5 @@
--- Which rows can matter to a formula at lawful choices: those that it names, and with each row those
--- that it refers to by a foreign key.
+-- Which rows can matter to a formula at lawful choices: those that it names, and with each row
+-- those that it refers to by a foreign key.
 use Rattle.std.specs.Prelude.{◌≡◌, ℕ, zero, suc, ◌+◌, Bool, true, cond, List, [], ◌∷◌, ◌++◌, map, length, slice_set}
 use Rattle.rt_value.specs.declared.value.Value.{Value}
 use Rattle.rt_schema.specs.Given.{Rows, Tables, rows_at, base_of}
@@ -19,8 +19,8 @@ places_where test place (row ∷ rows) = cond (test row) (place ∷ places_where
 abbrev pub link : ℕ → ℕ → Link
 link from to = record { from = from; to = to }
 
--- from each row of a table to the rows that match it by a foreign key, none for a row with NULL in a
--- referencing column, `base` and `others_base` being the places of the first rows
+-- From each row of a table to the rows that match it by a foreign key, none for a row with NULL
+-- in a referencing column. `base` and `others_base` are the places of the first rows.
 abbrev pub foreign_links : List ℕ → List ℕ → ℕ → Rows → ℕ → Rows → List Link
 foreign_links from to others_base others base [] = []
 foreign_links from to others_base others base (row ∷ rows) =
@@ -58,8 +58,8 @@ abbrev pub step : List Link → List Bool → ℕ → List Bool
 step links first zero = first
 step links first (suc n) = next links (step links first n)
 
--- step 0 is the rows whose variables stand under the goal, and each next step adds all rows that rows
--- of the set refer to; the cone is the step whose number is that of the rows
+-- Step 0 is the rows whose variables are under the goal, and each next step adds all rows that
+-- rows of the set refer to. The cone is the step whose number is that of the rows.
 pub record IsCone (schema : List Table) (tables : Tables) (d : Shared) (goal : ℕ) (cone : List Bool) : Type 0 where
   pub first : List Bool
   pub stand : AreRowsUnder d goal first

@@ -51,7 +51,7 @@ abbrev pub met : List ℕ → List ℕ → List Value → ℕ → Rows → ℕ �
 met from to row place others base keep =
     not (bool_at keep place) || (list_any is_null (cells from row) || list_any (agree from to row) (kept_rows others (drop base keep)))
 
--- it is not kept, or the check lets it stand
+-- it is not kept, or the check passes
 abbrev pub allowed : Check → List Value → ℕ → List Bool → Bool
 allowed check row place keep = not (bool_at keep place) || passes (check_truth row check)
 

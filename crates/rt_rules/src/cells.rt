@@ -1,3 +1,5 @@
+//! The values of a row in some columns, as the key by which rows are grouped.
+
 ghost use Rattle.std.specs.Prelude.{◌≡◌, IfOk};
 ghost use Rattle.rt_schema.specs.Cells.{cell, cells};
 
@@ -13,7 +15,7 @@ fn cell(alloc: Global, row: &Row, column: usize) -> Result<Value, NoMemory>
     }
 }
 
-/// The values of a row in several columns.
+/// The values of a row in several columns, in the order of the columns; NULL past the row's end.
 pub(crate) fn cells(alloc: Global, columns: &[usize], row: &Row) -> Result<Row, NoMemory>
     ensures { IfOk result (λ r. r ≡ cells columns.now row.now) }
 {

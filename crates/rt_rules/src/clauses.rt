@@ -1,4 +1,6 @@
-//! The clauses of one rule, one for each row.
+//! The clauses of one rule, one for each row, from the last row to the first. For a key, a row
+//! meets the group of the rows after it, and not each of them.
+
 ghost use Rattle.std.specs.Prelude.{◌≡◌, ◌<◌, ◌≤◌, ◌+◌, length, drop, IfOk};
 ghost use Rattle.rt_schema.specs.Kept.{kept_rows};
 ghost use Rattle.rt_schema.specs.Law.{not_null_holds, key_holds, foreign_holds, check_holds};
@@ -46,7 +48,8 @@ fn filled(dag: &mut Dag, column: usize, row: &Row, place: usize) -> Result<Node,
     dag.not(kept)
 }
 
-/// That the check lets each kept row stand, `base` being the place of the first row.
+/// That no kept row fails the check, `base` being the place of the first row. A check that is
+/// unknown passes (ISO/IEC 9075-2, check constraint definition).
 pub(crate) fn check(
     alloc: Global,
     dag: &mut Dag,
@@ -68,7 +71,7 @@ pub(crate) fn check(
     dag.all(clauses.as_slice())
 }
 
-// That the row is not kept, or the check lets it stand.
+// That the row is not kept, or the check passes.
 fn allowed(dag: &mut Dag, check: &Check, row: &Row, place: usize) -> Result<Node, NoMemory>
     requires { place < dag.old.rows }
     ensures grown { IsGrown dag.old dag.new }
@@ -81,7 +84,8 @@ fn allowed(dag: &mut Dag, check: &Check, row: &Row, place: usize) -> Result<Node
     dag.not(kept)
 }
 
-/// That no two kept rows agree on the columns of a key.
+/// That no two kept rows agree on the columns of a key, `base` being the place of the first row.
+/// Rows with NULL there agree with none (ISO/IEC 9075-2, unique constraint definition).
 pub(crate) fn key(
     alloc: Global,
     dag: &mut Dag,
@@ -148,9 +152,10 @@ fn apart(
     Ok(clause)
 }
 
-/// That each kept row has NULL in a referencing column or agrees with a kept one of `others`,
-/// which are grouped by their values in the referenced columns; `others_base` is the place of the
-/// first of them.
+/// That each kept row has NULL in a referencing column or agrees with a kept one of `others`
+/// (ISO/IEC 9075-2, referential constraint definition, MATCH SIMPLE). `base` and `others_base`
+/// are the places of the first rows. `groups` has the others by their values in the referenced
+/// columns.
 pub(crate) fn foreign(
     alloc: Global,
     dag: &mut Dag,
@@ -186,7 +191,8 @@ pub(crate) fn foreign(
     dag.all(clauses.as_slice())
 }
 
-// That the row is not kept, has NULL in a referencing column, or agrees with a kept one of `others`.
+// That the row is not kept, has NULL in a referencing column, or agrees with a kept one of
+// `others`.
 fn met(
     alloc: Global,
     dag: &mut Dag,

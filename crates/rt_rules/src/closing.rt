@@ -1,4 +1,6 @@
-//! The least set of rows with those of a first one that has, with each row, those that it refers to.
+//! Closing a set of rows under references: the least set with its rows that has, with each row,
+//! those that it refers to.
+
 ghost use Rattle.std.specs.Prelude.{◌≡◌, ◌<◌, Bool, List, true, length};
 ghost use Rattle.std.specs.List.{All as Each};
 ghost use Rattle.rt_formula.specs.Under.{is_marked, MarksStay};

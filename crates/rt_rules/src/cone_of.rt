@@ -1,3 +1,5 @@
+//! The cone of a goal: its own rows, and then whatever they refer to, step by step.
+
 ghost use Rattle.std.specs.Prelude.{◌≡◌, ◌<◌, Bool, List, true, length, IfOk};
 ghost use Rattle.rt_schema.specs.Given.{IsOf, places};
 ghost use Rattle.rt_schema.specs.Kept.{kept};
@@ -13,8 +15,9 @@ use rt_schema::{Given, Schema};
 use rt_value::{Keep, NoMemory};
 use std::alloc::Global;
 
-/// The rows that can matter to the goal at lawful choices. Takes time in the number of rows by that
-/// of matching pairs of rows at most.
+/// The rows that can matter to the goal at lawful choices, one Bool for each place. A lawful
+/// choice stays lawful, and the goal keeps its value, without the rows outside of it. Takes at
+/// most time in the number of rows times that of pairs of rows that match by a foreign key.
 pub fn cone(
     alloc: Global,
     dag: &Dag,

@@ -1,8 +1,7 @@
-//! The clauses of a functional dependency, one for each row.
-//!
-//! Where the dependency holds for the later rows, all of them that agree with a row on the determining
-//! columns are the same in the others. So it is enough that one of them is the same as the row, and a
-//! group of rows has a few gates a row and not one for each pair.
+//! The clauses of a functional dependency, one for each row. If the dependency holds for the later
+//! rows, those that agree with a row on the determining columns are all the same in the others. So
+//! one that is the same as the row is enough: a few gates a row, and none for each pair.
+
 ghost use Rattle.std.specs.Prelude.{◌≡◌, ◌<◌, ◌≤◌, ◌+◌, ◌++◌, ◌&&◌, not, length, drop, IfOk};
 ghost use Rattle.rt_schema.specs.Kept.{kept_rows};
 ghost use Rattle.rt_schema.specs.Law.{depend_holds};
@@ -16,8 +15,8 @@ use rt_schema::{Depend, has_null};
 use rt_value::{List, NoMemory, Row};
 use std::alloc::Global;
 
-/// That kept rows that agree on the columns `from` are the same in the columns `to`, `base` being the
-/// place of the first row.
+/// That kept rows that agree on the columns `from` are the same in the columns `to`, `base` being
+/// the place of the first row.
 pub(crate) fn depend(
     alloc: Global,
     dag: &mut Dag,
@@ -84,7 +83,8 @@ fn all_determined(
 }
 
 // That the row is not kept, or agrees with no kept one of the later rows, or with one that is the
-// same. These rows are grouped by the determining columns in `alike`, and by all columns in `same`.
+// same. These rows are grouped by the determining columns in `alike`, and by all columns in
+// `same`.
 fn determined(
     alloc: Global,
     dag: &mut Dag,

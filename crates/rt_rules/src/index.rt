@@ -1,4 +1,6 @@
-//! The rows of a table, grouped by their values in some columns.
+//! The rows of a table, grouped by their values in some columns. For rows 4, 7 and 9 with the
+//! value x, noted from the last: x has 9, then 7|9, then 4|(7|9), one node at a time.
+
 ghost use Rattle.std.specs.Prelude.{◌≡◌, ℕ, List, ◌<◌, ◌≤◌, ◌+◌, length, drop, IfOk, OnOk};
 ghost use Rattle.std.specs.List.{list_any};
 ghost use Rattle.rt_value.specs.Row.{row_eq};
@@ -13,9 +15,9 @@ use rt_formula::{Dag, Groups, Node};
 use rt_value::{NoMemory, Row};
 use std::alloc::Global;
 
-/// Notes the row at a place under its values in the columns. A group is one gate, over the row that
-/// was noted last and the gate of those noted before it, so that a row costs one gate however large
-/// its group is.
+/// Notes the row at a place under its values in the columns. A group is one gate, over the row
+/// that was noted last and the gate of those noted before it. So a row costs one gate, however
+/// large its group is.
 pub(crate) fn note(
     alloc: Global,
     dag: &mut Dag,

@@ -2,8 +2,8 @@
 //! are lawful.
 //!
 //! Rows are grouped by their values in the columns of a key, and a group is one gate, which each
-//! further row joins by one more. So the formula has a few gates a row, and takes time near the number
-//! of rows. By foreign keys rows also say which of them can matter to a formula at lawful choices: its
+//! further row joins by one more. So the formula has a few gates a row, and takes time near the
+//! number of rows. Foreign keys also say which rows can matter to a formula at lawful choices: its
 //! cone.
 #![tactic(auto)]
 

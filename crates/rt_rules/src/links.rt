@@ -1,4 +1,5 @@
 //! Which row refers to which, by the foreign keys of a schema.
+
 ghost use Rattle.std.specs.Prelude.{◌≡◌, ◌<◌, ◌≤◌, ◌+◌, ◌^◌, ◌++◌, ◌∷◌, [], List as Values, map, length, OnOk, IfOk};
 ghost use Rattle.rt_value.specs.Row.{row_eq};
 ghost use Rattle.rt_value.specs.declared.value.Value.{Value};
@@ -22,7 +23,7 @@ pub struct Link {
     pub to: usize,
 }
 
-/// All links of the given rows.
+/// All links of the given rows, table by table, rule by rule, and row by row.
 pub(crate) fn references(
     alloc: Global,
     schema: &Schema,
@@ -128,8 +129,8 @@ fn link_foreign(
     Ok(())
 }
 
-// The links of the row at a place to those of `others`, which are grouped by their values in the
-// referenced columns; `others_base` is the place of the first of them.
+// The links of the row at a place to those of `others`, which `groups` has by their values in the
+// referenced columns. `others_base` is the place of the first of them.
 fn link_row(
     alloc: Global,
     foreign: &Foreign,

@@ -1,3 +1,6 @@
+//! An index of rows by their values in some columns. The map behind it is private: contracts see
+//! the list of places of each key.
+
 ghost use Rattle.std.specs.Prelude.{◌≡◌, ◌<◌, ◌≤◌, ◌+◌, ◌^◌, ◌++◌, ◌∷◌, [], List, cond, length, IfOk, OnOk};
 ghost use Rattle.rt_value.specs.Row.{row_eq};
 ghost use Rattle.rt_value.specs.declared.value.Value.{Value};
@@ -28,6 +31,7 @@ impl Model for PlaceGroups {
 }
 
 impl PlaceGroups {
+    // No groups, which takes no memory.
     fn new(alloc: Global) -> PlaceGroups
         ensures { (key : List Value) → group_at result key ≡ [] }
     {
@@ -47,7 +51,8 @@ impl PlaceGroups {
         Ok(())
     }
 
-    /// The rows of a table by their values in the columns, `base` being the place of the first row.
+    /// The rows of a table by their values in the columns, `base` being the place of the first
+    /// row.
     pub(crate) fn of(
         alloc: Global,
         columns: &[usize],
@@ -65,6 +70,7 @@ impl PlaceGroups {
         Ok(groups)
     }
 
+    /// The places of the rows with these values, rising; none if no row has them.
     pub(crate) fn get(&self, key: &Row) -> &[usize]
         ensures { result.now ≡ group_at self.now key.now }
     {

@@ -1,3 +1,6 @@
+//! The law of a schema, from tables to rules. The place of a row is its number among the rows of
+//! all tables, in the order of the tables; that is also its variable.
+
 ghost use Rattle.std.specs.Prelude.{◌≡◌, ◌<◌, ◌≤◌, ◌+◌, ◌^◌, Bool, List, length, drop, IfOk};
 ghost use Rattle.rt_schema.specs.Given.{IsOf, base_of, places, rows_at};
 ghost use Rattle.rt_schema.specs.Kept.{kept, kept_rows};
@@ -25,7 +28,8 @@ pub fn law(alloc: Global, dag: &mut Dag, schema: &Schema, given: &Given) -> Resu
     tables_node(alloc, dag, schema.tables(), all, 0, all)
 }
 
-// That the rules of these tables hold; `rest` has their rows, and `base` is the place of the first.
+// That the rules of these tables hold; `rest` has their rows, and `base` is the place of the
+// first.
 fn tables_node(
     alloc: Global,
     dag: &mut Dag,
@@ -114,7 +118,8 @@ fn rule_node(
     }
 }
 
-// The rows of a table and the place of the first, `base` being the place of the first row of all.
+/// The rows of the table with this number and the place of the first. `base` is the place of the
+/// first row of all.
 pub(crate) fn table_at<'a>(all: &'a [List<Row>], table: usize, base: usize) -> (&'a [Row], usize)
     requires { base + places all.now < 2 ^ 64 }
     ensures in_range { result.1 + length result.0.now ≤ base + places all.now }

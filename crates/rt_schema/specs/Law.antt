@@ -1,6 +1,6 @@
--- When rows meet the rules of a schema (ISO/IEC 9075-2, unique constraint definition with
--- NULLS DISTINCT, referential constraint definition with MATCH SIMPLE, check constraint definition;
--- 4.18 of it, known functional dependencies).
+-- When rows meet the rules of a schema. Source: ISO/IEC 9075-2, unique constraint definition with
+-- NULLS DISTINCT, referential constraint definition with MATCH SIMPLE, and check constraint
+-- definition; also 4.18, functional dependencies.
 use Rattle.std.specs.Prelude.{ℕ, Bool, true, false, not, ◌&&◌, ◌||◌, List, [], ◌∷◌}
 use Rattle.std.specs.List.{list_all, list_any}
 use Rattle.rt_value.specs.declared.truth.Truth.{Truth}

@@ -1,5 +1,5 @@
--- Which lists of tables are a schema: each rule names columns and tables that are there, and compares
--- values of one kind (ISO/IEC 9075-2, table definition, table constraint definition).
+-- Which lists of tables are a schema: each rule names columns and tables that are there, and
+-- compares values of one kind (ISO/IEC 9075-2, table definition, table constraint definition).
 use Rattle.std.specs.Prelude.{ℕ, Bool, true, false, ◌&&◌, List, [], ◌∷◌, length, map, Option, None, Some, nat_lt, slice_get}
 use Rattle.std.specs.Option.{option_map}
 use Rattle.rt_value.specs.declared.value.Value.TheVariants as v

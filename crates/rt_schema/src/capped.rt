@@ -1,10 +1,12 @@
+//! Arithmetic on counts of work that stops at 2^127 - 1 and never overflows.
+
 ghost use Rattle.std.specs.Prelude.{◌≡◌, ◌+◌, ◌*◌};
 ghost use Rattle.rt_schema.specs.Capped.{capped};
 
-/// Where a count of work stops.
+// Where a count of work stops.
 const MOST: u128 = (1 << 127) - 1;
 
-/// The sum of two counts of work.
+/// The sum of two counts of work, or 2^127 - 1 where it is more.
 pub fn capped_add(a: u128, b: u128) -> u128
     ensures { result ≡ capped (a + b) }
 {
@@ -14,7 +16,7 @@ pub fn capped_add(a: u128, b: u128) -> u128
     }
 }
 
-/// The product of two counts of work.
+/// The product of two counts of work, or 2^127 - 1 where it is more.
 pub fn capped_mul(a: u128, b: u128) -> u128
     ensures { result ≡ capped (a * b) }
 {

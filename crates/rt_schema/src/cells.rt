@@ -1,3 +1,6 @@
+//! When two rows have the same values in some columns: keys, foreign keys and dependencies are
+//! built from this. A column past the end of a row reads as NULL.
+
 ghost use Rattle.std.specs.Prelude.{◌≡◌, ◌≤◌, length, slice_index_or};
 ghost use Rattle.std.specs.List.{list_any};
 ghost use Rattle.rt_value.specs.Value.{value_eq};

@@ -1,4 +1,5 @@
-//! CHECKs, each type with a drop of its own as in `table`.
+//! CHECKs, as the parser hands them over: OR of ANDs of atoms. Each type has a drop of its own, as
+//! in `table`.
 
 use rt_value::{List, Op, Value};
 

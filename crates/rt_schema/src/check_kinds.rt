@@ -1,4 +1,4 @@
-//! Whether a CHECK compares values of one kind.
+//! Whether a CHECK compares values of one kind: part of what makes a schema sound.
 ghost use Rattle.std.specs.Prelude.{◌≡◌};
 ghost use Rattle.std.specs.List.{list_all};
 ghost use Rattle.rt_schema.specs.Schema.{check_typed, kinds_match, leaf_typed, part_typed, side_kind, sides_fit};
@@ -52,7 +52,7 @@ fn sides_fit(columns: &[Column], a: &Side, b: &Side) -> bool
     comparable(side_kind(columns, a), side_kind(columns, b))
 }
 
-/// Equal kinds, or one that NULL lacks.
+/// Whether values of these kinds may be compared: equal kinds, or one is None, the kind of NULL.
 pub fn comparable(a: Option<ColKind>, b: Option<ColKind>) -> bool
     ensures { result ≡ kinds_match a b }
 {

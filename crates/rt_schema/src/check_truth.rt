@@ -10,7 +10,7 @@ ghost use Rattle.rt_schema.specs.Law.{passes};
 use crate::check::{Check, CheckAtom, CheckLeaf, CheckPart, Side};
 use rt_value::{Op, Row, Truth, Value, compare, null_truth};
 
-/// Whether a check lets a row stand: what is unknown passes.
+/// Whether a row passes a check: what is unknown passes, as what is true.
 pub fn passes(check: &Check, row: &Row) -> bool
     ensures { result ≡ passes (check_truth row.now check.now) }
 {
@@ -60,7 +60,7 @@ fn leaf_truth(row: &Row, leaf: &CheckLeaf) -> Truth
     }
 }
 
-/// Whether a side compares equal to one of the items.
+// Whether a side compares equal to one of the items.
 fn one_of_truth(row: &Row, a: &Side, items: &[Side]) -> Truth
     ensures { result ≡ truth_any (map (λ b. value_truth Eq (side_value row.now a.now) (side_value row.now b)) items.now) }
 {
@@ -80,7 +80,7 @@ fn compared(row: &Row, a: &Side, b: &Side, op: Op) -> Truth
     }
 }
 
-/// The value of a side, and none for NULL where the row has no such column.
+// The value of a side. None means NULL: the row has no such column.
 fn side_value<'a>(row: &'a Row, side: &'a Side) -> Option<&'a Value>
     ensures { MatchOption result (side_value row.now side.now ≡ Null) (λ value. value.now ≡ side_value row.now side.now) }
 {

@@ -1,3 +1,5 @@
+//! The rows of the given instance, all of the right kinds, and the numbering of all its rows.
+
 ghost use Rattle.std.specs.Prelude.{◌≡◌, ◌+◌, ◌<◌, ◌≤◌, [], Some, IsTrue, IfOk, length, replicate, slice_get, slice_index_or, slice_set};
 ghost use Rattle.rt_schema.specs.Given.{IsOf, is_instance, rows_suit, rows_at, places, base_of, row_limit};
 ghost use Rattle.rt_schema.specs.Schema.{kinds_of, schema_kinds};
@@ -12,7 +14,8 @@ use std::marker::Model;
 pub const ROW_LIMIT: usize = 2000;
 
 /// The rows given for the tables of a schema, with the kinds of the tables' columns. Each row
-/// suits its table. A place is a row's number from 0, table by table in schema order.
+/// suits its table. A place is a row's number from 0, table by table in schema order: after a
+/// first table of 3 rows, row 0 of the second table has place 3.
 #[derive(Debug)]
 pub struct Given {
     kinds: List<List<ColKind>>,
@@ -127,7 +130,7 @@ impl Given {
     }
 }
 
-/// The kinds of all columns, table by table.
+// The kinds of all columns, table by table.
 fn schema_kinds(alloc: Global, tables: &[Table]) -> Result<List<List<ColKind>>, NoMemory>
     ensures { IfOk result (λ kinds. kinds ≡ schema_kinds tables.now) }
 {
@@ -138,7 +141,7 @@ fn schema_kinds(alloc: Global, tables: &[Table]) -> Result<List<List<ColKind>>, 
     Ok(kinds)
 }
 
-/// As many tables without rows.
+// As many tables without rows.
 fn no_rows(alloc: Global, count: usize) -> Result<List<List<Row>>, NoMemory>
     ensures { IfOk result (λ tables. tables ≡ replicate count []) }
 {
@@ -169,7 +172,7 @@ pub fn rows_at(tables: &[List<Row>], table: usize) -> &[Row]
     }
 }
 
-/// The number of rows before those of a table.
+// The number of rows before those of a table.
 fn base_of(tables: &[List<Row>], table: usize) -> usize
     requires { places tables.now ≤ row_limit }
     ensures { result ≡ base_of table tables.now }

@@ -1,3 +1,6 @@
+//! Which sub-instances are lawful, tested rule by rule on the kept rows. Pairs of rows are
+//! compared one by one; a faster way with the same value would change no proof of a crate above.
+
 ghost use Rattle.std.specs.Prelude.{◌≡◌, ◌+◌, ◌≤◌, ◌||◌, [], drop, length, not};
 ghost use Rattle.std.specs.List.{list_all, list_any};
 ghost use Rattle.rt_schema.specs.Given.{IsOf, places, rows_at};
@@ -13,7 +16,9 @@ use crate::schema::Schema;
 use crate::table::{Depend, Foreign, Rule};
 use rt_value::{Keep, List, Row};
 
-/// Whether the kept rows meet the rules of the schema.
+/// Whether the kept rows meet the rules of the schema (ISO/IEC 9075-2, unique, referential and
+/// check constraint definition). Rows with NULL in a key break no key; a row with NULL in a
+/// referencing column needs no referenced row.
 pub fn lawful(schema: &Schema, given: &Given, keep: &Keep) -> bool
     requires of_schema { IsOf schema.now given.now }
     requires places { places given.now.tables ≡ length keep.now }
@@ -33,7 +38,7 @@ pub fn lawful(schema: &Schema, given: &Given, keep: &Keep) -> bool
     true
 }
 
-/// Whether the rules hold for the kept rows of a table. `base` is the place of its first row.
+// Whether the rules hold for the kept rows of a table. `base` is the place of its first row.
 fn rules_hold(rules: &[Rule], rows: &[Row], base: usize, all: &[List<Row>], keep: &Keep) -> bool
     requires rows { base + length rows.now ≤ length keep.now }
     requires all { places all.now ≡ length keep.now }
@@ -89,7 +94,7 @@ fn key_holds(key: &[usize], rows: &[Row], base: usize, keep: &Keep) -> bool
     true
 }
 
-/// Whether a row agrees with a kept one of the rows `others`.
+// Whether a row agrees with a kept one of the rows `others`.
 fn agrees_with_one(
     from: &[usize],
     to: &[usize],
@@ -164,7 +169,7 @@ fn depend_holds(depend: &Depend, rows: &[Row], base: usize, keep: &Keep) -> bool
     true
 }
 
-/// Whether the kept ones of the rows `others` that agree with a row on `from` are the same on `to`.
+// Whether the kept ones of the rows `others` that agree with a row on `from` are the same on `to`.
 fn determines(
     from: &[usize],
     to: &[usize],
@@ -185,7 +190,7 @@ fn determines(
     true
 }
 
-/// The rows of a table and the place of the first; `base` is the place of the first row of all.
+// The rows of a table and the place of the first; `base` is the place of the first row of `all`.
 fn table_at<'a>(all: &'a [List<Row>], table: usize, base: usize, keep: &Keep) -> (&'a [Row], usize)
     requires { base + places all.now ≤ length keep.now }
     ensures in_range { result.1 + length result.0.now ≤ length keep.now }

@@ -1,7 +1,7 @@
 //! Schemas, the rows given for their tables, and the law that the rules of a schema are.
 //!
-//! Tables, columns, keys, foreign keys and checks are those of SQL (ISO/IEC 9075-2, table definition);
-//! `specs/` says when kept rows are lawful.
+//! Tables, columns, keys, foreign keys and checks are those of SQL (ISO/IEC 9075-2, table
+//! definition); `specs/` says when kept rows are lawful.
 #![tactic(auto)]
 
 mod capped;

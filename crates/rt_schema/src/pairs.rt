@@ -1,3 +1,5 @@
+//! How much work the law is, counted before it is encoded. Only the value is public.
+
 ghost use Rattle.std.specs.Prelude.{◌≡◌, count_by};
 ghost use Rattle.rt_schema.specs.Capped.{capped};
 ghost use Rattle.rt_schema.specs.Given.{IsOf};
@@ -11,8 +13,8 @@ use crate::schema::Schema;
 use crate::table::Rule;
 use rt_value::{List, Row};
 
-/// The pairs of given rows that agree on a key or on the determining columns of a dependency, those
-/// that match by a foreign key, and a table's rows for each check, summed over all rules.
+/// The work of the law, summed over all rules. A key or a dependency counts the pairs of rows that
+/// agree on its columns, a foreign key the pairs that match, and a check the rows of its table.
 pub fn law_work(schema: &Schema, given: &Given) -> u128
     requires of_schema { IsOf schema.now given.now }
     ensures { result ≡ law_work schema.now given.now.tables }
@@ -76,7 +78,7 @@ fn foreign_pairs(from: &[usize], to: &[usize], others: &[Row], rows: &[Row]) -> 
     pairs
 }
 
-/// How many of the rows `others` the row agrees with.
+// How many of the rows `others` the row agrees with.
 fn agreeing(from: &[usize], to: &[usize], row: &Row, others: &[Row]) -> u128
     ensures { result ≡ count_by (agree from.now to.now row.now) others.now }
 {

@@ -1,3 +1,5 @@
+//! Sound schemas: whoever has a `Schema` need not test that a column or a table is there.
+
 ghost use Rattle.std.specs.Prelude.{◌≡◌, IsTrue};
 ghost use Rattle.rt_schema.specs.Schema.{is_sound};
 
@@ -5,8 +7,8 @@ use crate::table::Table;
 use rt_value::List;
 use std::marker::Model;
 
-/// A list of tables whose rules name only columns and tables that are there, each foreign key with
-/// columns of the same kinds on both sides and no check comparing a whole number with a text.
+/// A list of tables whose rules name only columns and tables that are there. Each foreign key has
+/// columns of the same kinds on both sides, and no check compares a whole number with a text.
 /// Contracts see the list of the tables.
 pub struct Schema {
     tables: List<Table>,
@@ -31,6 +33,7 @@ impl Model for Schema {
 }
 
 impl Schema {
+    /// The schema of these tables, which have to be sound.
     pub fn new(tables: List<Table>) -> Schema
         requires { IsTrue (is_sound tables) }
         ensures { result ≡ tables }
@@ -38,6 +41,7 @@ impl Schema {
         Schema { tables }
     }
 
+    /// The tables, in the order in which they were given.
     pub fn tables(&self) -> &[Table]
         ensures same { result.now ≡ self.now }
         ensures sound { IsTrue (is_sound self.now) }

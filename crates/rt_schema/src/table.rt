@@ -1,5 +1,5 @@
-//! Tables and their rules, each type with a drop of its own: one call wherever a value goes, where a
-//! derived one is made anew in each crate.
+//! Tables and their rules. Each type has a drop of its own: one call wherever a value goes, while a
+//! derived one would be made anew in each crate.
 
 use crate::check::Check;
 use rt_value::{List, Txt};
@@ -11,6 +11,7 @@ pub enum ColKind {
     Text,
 }
 
+/// A column. A name that wasn't quoted in the schema is in lower case.
 #[derive(PartialEq, Eq)]
 pub struct Column {
     pub name: Txt,
@@ -78,6 +79,7 @@ impl Drop for Rule {
     }
 }
 
+/// A table: its columns in the order of its definition, and its rules.
 #[derive(PartialEq, Eq)]
 pub struct Table {
     pub name: Txt,

@@ -132,7 +132,8 @@ before-keeps p keep other a here b =
       | inr y ↦ absurd (let h : b.place ≤ p = search rules in let q : b.place ≡ p = omega (arith, h, f) in clash (ap (λ i. slice_index_or other i false) q ∙ here) b.leaves)
     ]
 
--- where two agree up to a place and the other one keeps no row from there on, the one has more rows
+-- where two agree up to a place and the other one keeps no row from there on, the one has more
+-- rows
 pub before-more : (p : ℕ) (keep other : List Bool) → length keep ≡ length other → AgreeBelow p keep other → p ≤ length other → IsBare p (length other) other → ComesBefore keep other → size other < size keep
 before-more p keep other e a w bare b =
     let l = before-place keep other b in
@@ -177,7 +178,8 @@ before-all keep other s e b =
     let l = before-place keep other b in
     clash (all-kept (length other) other (kept-size other ∙ s) b.place (omega (arith, l, e))) b.leaves
 
--- a choice that comes before one that keeps an earlier row comes before the one of the later row too
+-- a choice that comes before one that keeps an earlier row comes before the one of the later row
+-- too
 pub before-later : (p q : ℕ) (keep mid other : List Bool) → p ≤ q → AgreeBelow p mid other → IsBare p q other → kept_below p mid < kept_below q mid → ComesBefore keep mid
     → (b : ComesBefore keep other) × (b.place < q)
 before-later p q keep mid other h a bare k b =

@@ -210,8 +210,8 @@ asked-model d goal cone lines best place kept end row held asked mid g q t n = (
       let m = kept-some place b.0.place end s best a (before-from place s best a b.0) b.1 b.0.keeps in
       true-both (l.value s) (nat_le (kept + 1) (kept_below end s)) v (le-true (kept + 1) (kept_below end s) (omega (arith, m, k)))
 
--- where no row from the place to an end is kept, by the best or by a choice that makes the held literal
--- true, these rows are settled too
+-- where no row from the place to an end is kept, by the best or by a choice that makes the held
+-- literal true, these rows are settled too
 unfoldable pub leading-moved : (d : Shared) (goal : ℕ) (cone : List Bool) (lines : List (List Literal)) (best : List Bool) (place kept end : ℕ) (held : Literal) → (l : IsLeading d goal cone lines best place kept held) → place ≤ end → IsBare place end best
     → ((s : List Bool) → IsSought d goal cone s → l.value s ≡ true → IsBare place end s) → IsLeading d goal cone lines best end kept held
 leading-moved d goal cone lines best place kept end held l f b none = record {

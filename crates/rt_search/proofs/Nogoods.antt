@@ -1,4 +1,4 @@
--- What a spent budget leaves behind.
+-- What a spent budget leaves.
 use Rattle.std.proofs.Common.{◌≡◌, ℕ, ◌<◌, ◌≤◌, ◌^◌, Bool, true, false, not, ◌||◌, ◌⊎◌, inl, inr, List, [], ◌∷◌, ◌++◌, map, length, length-append, refl, sym, ap, subst, ◌∙◌, Option, Some, None, IfSome, IsSomeAnd, arith}
 use Rattle.std.specs.Bool.{beq}
 use Rattle.rt_value.specs.Keep.{size}
@@ -96,7 +96,7 @@ clause-agrees n xs ys (l ∷ ls) a b =
     let q = clause-agrees n xs ys ls a (λ k h. b k (has-tail l k ls h)) in
     ap (λ x. x || clause_true xs ls) p ∙ ap (λ x. lit_true ys l || x) q
 
--- a literal that propagation over the lines gives stands in no fresh clause
+-- a literal that propagation over the lines gives is in no fresh clause
 pub fresh-without : (lines : List (List Literal)) (assume : Option Literal) (given : Literal) (cs : List (List Literal)) → ((set : List Literal) → Closed lines set → has set given ≡ true) → AreFresh lines assume cs
     → EachLine (λ c. has c given ≡ false) cs
 fresh-without lines assume given [] h f = each-none (λ c. has c given ≡ false)

@@ -1,4 +1,5 @@
--- Where the lines refute that another choice of as few rows leaves out a row of the best, there is none.
+-- Where the lines refute that another choice of as few rows leaves out a row of the best, there
+-- is none.
 use Rattle.std.proofs.Common.{◌≡◌, ℕ, suc, ◌+◌, ◌<◌, ◌≤◌, nat_lt, Bool, true, false, cond, not, ◌&&◌, inl, inr, List, [], ◌∷◌, ◌++◌, append_assoc, length, slice_index_or, refl, sym, ap, subst, ◌∙◌, Some, arith, rules}
 use Rattle.std.specs.List.{list_all}
 use Rattle.std.proofs.lemmas.List.Sums.{sum_by-cons}
@@ -127,7 +128,8 @@ other-aimed d goal cone lines first given new next best lits held all asked o =
     let a = o.asked_var in
     o.grown.aims d goal cone (omega (arith, a)) (subst N e two)
 
--- a model over another choice of as few rows makes the assumption true, or keeps the rows of the best
+-- a model over another choice of as few rows makes the assumption true, or keeps the rows of the
+-- best
 pub other-alone : (d : Shared) (goal : ℕ) (cone : List Bool) (lines first given new : List (List Literal)) (next : ℕ) (best : List Bool) (lits : List Literal) (held all asked : Literal) → IsOther d goal cone lines first given new next best lits held all asked → IsRefuted new (Some asked)
     → IsAlone (IsSought d goal cone) best
 other-alone d goal cone lines first given new next best lits held all asked o r s g e = keeps-same s best (g.0 ∙ sym o.few.0.best_is.0) (omega (arith, e)) keeps where

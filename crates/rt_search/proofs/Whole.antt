@@ -1,5 +1,5 @@
--- From the choices within the cone to all choices: a choice that is cut to the cone keeps no more rows,
--- and the goal stays true.
+-- From the choices within the cone to all choices: a choice that is cut to the cone keeps no more
+-- rows, and the goal stays true.
 use Rattle.std.proofs.Common.{◌≡◌, ℕ, ◌+◌, ◌<◌, ◌≤◌, Bool, true, false, cond, inl, inr, List, [], ◌∷◌, refl, sym, ap, subst, ◌∙◌, Option, Some, None, IfSome, IsSomeAnd, arith}
 use Rattle.std.proofs.lemmas.List.Sums.{sum_by-cons}
 use Rattle.std.specs.Bool.{beq}
@@ -65,8 +65,8 @@ whole-least d goal cone keep enough l = record {
       l.first other (subst S (cut-same other cone (omega (arith, m, e))) s) e b;
 }
 
--- a clause that is true at a cut choice is true before the cut, where it does not have the literal that a
--- row outside of the cone is not kept
+-- a clause that is true at a cut choice is true before the cut, where it does not have the
+-- literal that a row outside of the cone is not kept
 true-uncut : (rows : ℕ) (cone keep : List Bool) (c : List Literal) → IsBelow rows c → ((v : ℕ) → v < rows → bool_at cone v ≡ false → has c (not_kept v) ≡ false) → clause_true (cut keep cone) c ≡ true → clause_true keep c ≡ true
 true-uncut rows cone keep [] b n h = h
 true-uncut rows cone keep (l ∷ ls) b n h = elim (or-cases (lit_true (cut keep cone) l) (clause_true (cut keep cone) ls) h) [

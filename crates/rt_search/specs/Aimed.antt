@@ -10,8 +10,8 @@ use Rattle.rt_totalizer.specs.Outputs.{output_at, CountsFirst, CountsRows}
 use Rattle.rt_totalizer.specs.declared.counter.Outputs.{Outputs}
 use Rattle.rt_search.specs.Sought.{IsSought, IsWithin, not_kept}
 
--- the lines have a model over a choice exactly where it is sought, the rows determine the other
--- variables, and propagation gives that no row outside of the cone is kept
+-- The lines have a model over a choice exactly where it is sought, and the rows determine the
+-- other variables. Propagation gives that no row outside of the cone is kept.
 pub record IsAimed (d : Shared) (goal : ℕ) (cone : List Bool) (lines : List (List Literal)) (next : ℕ) : Type 0 where
   pub wide : d.rows ≤ next
   pub below : AreBelow next lines
@@ -29,9 +29,9 @@ pub record IsCounted (d : Shared) (lines : List (List Literal)) (next : ℕ) (ou
 abbrev pub fewer_than : List Literal → ℕ → Literal
 fewer_than outs most = negated (output_at outs most)
 
--- a search under way: the lines ask for the goal within the cone, the counter counts under them up to
--- as many rows as the best choice keeps, and to one more where there are more, and the best choice is
--- one that is sought
+-- A search under way. The lines ask for the goal within the cone, and the best choice is one that
+-- is sought. The counter counts under the lines, up to as many rows as the best choice keeps, and
+-- to one more if there are more rows.
 pub record IsUnderWay (d : Shared) (goal : ℕ) (cone : List Bool) (lines : List (List Literal)) (next : ℕ) (counter : Outputs) (best : List Bool) : Type 0 where
   pub long : length cone ≡ d.rows
   pub aimed : IsAimed d goal cone lines next

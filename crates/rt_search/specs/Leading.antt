@@ -14,9 +14,9 @@ use Rattle.rt_search.specs.Order.{ComesBefore}
 abbrev pub HasValue : Shared → List (List Literal) → Literal → (List Bool → Bool) → Type 0
 HasValue d lines l value = (keep bools : List Bool) → length keep ≡ d.rows → AgreeBelow d.rows keep bools → IsModel lines bools → lit_true bools l ≡ value keep
 
--- the best choice has the fewest rows; where the goal and the held literal are true, a choice has no
--- more rows and agrees with the best one up to a place; and each choice that would come before the
--- best one makes the held literal true
+-- The best choice has the fewest rows. Where the goal and the held literal are true, a choice has
+-- no more rows and agrees with the best one up to a place. Each choice that would come before the
+-- best one makes the held literal true.
 pub record IsLeading (d : Shared) (goal : ℕ) (cone : List Bool) (lines : List (List Literal)) (best : List Bool) (place kept : ℕ) (held : Literal) : Type 0 where
   pub best_is : IsSought d goal cone best
   pub fewest : HasFewest (IsSought d goal cone) best

@@ -31,9 +31,9 @@ pub record IsLeast (IsTarget : List Bool → Type 0) (keep : List Bool) : Type 0
 abbrev pub IsNever : Shared → ℕ → Type 0
 IsNever d goal = (keep : List Bool) → length keep ≡ d.rows → val d keep goal ≡ false
 
--- the budget is below the number of choices; the best choice is a target, where there is one; where
--- that one is said to have the fewest rows, it is there and has; and there are as many nogoods as the
--- budget says
+-- The budget is below the number of choices. The best choice, if there is one, is a target. If it
+-- is said to have the fewest rows, it is there and has. There are as many nogoods as the budget
+-- says.
 pub record IsSpentBest (rows : ℕ) (IsTarget : List Bool → Type 0) (budget : ℕ) (best : Option (List Bool)) (least : Bool) (nogoods : List (List Literal)) : Type 0 where
   pub small : budget < 2 ^ rows
   pub best_is : IfSome best IsTarget

@@ -11,8 +11,8 @@ abbrev pub IsFewer : Bool → ℕ → ℕ → Type 0
 IsFewer false n most = n < most
 IsFewer true n most = n ≤ most
 
--- it has fewer rows than the best choice, where there is one; or at most as many, where the best is
--- known to have the fewest
+-- it has fewer rows than the best choice, where there is one; or at most as many, where the best
+-- is known to have the fewest
 abbrev pub IsBetter : Option (List Bool) → Bool → List Bool → Type 0
 IsBetter best least keep = IfSome best (λ b. IsFewer least (size keep) (size b))
 

@@ -1,3 +1,6 @@
+//! The question whether the best choice is the only one of its size. Mostly it is, and then no
+//! search for the first one is needed.
+
 ghost use Rattle.std.specs.Prelude.{◌≡◌, ◌≤◌, ◌<◌, ◌^◌, IfOk, IsTrue, length};
 ghost use Rattle.rt_search.specs.Aimed.{IsAimed};
 ghost use Rattle.rt_search.specs.Alone.{AreKept, IsAlone, IsLonger};
@@ -13,7 +16,7 @@ use rt_solver::Solver;
 use rt_value::{Keep, List, NoMemory};
 use std::alloc::Global;
 
-// The literals that say of each row of a choice that it is kept.
+// For each row that the choice keeps, the literal that says so.
 fn kept_rows(alloc: Global, keep: &Keep) -> Result<LitList, NoMemory>
     requires { length keep.now ≤ 2 ^ 61 }
     ensures { IfOk result (AreKept keep.now (length keep.now)) }
@@ -27,8 +30,9 @@ fn kept_rows(alloc: Global, keep: &Keep) -> Result<LitList, NoMemory>
     Ok(kept)
 }
 
-/// Whether the best choice is known to be the only one of its size, after one question: is there one
-/// of as few rows that leaves out a row of the best?
+/// Whether the best choice is known to be the only one of its size, after one question. It asks
+/// for one of as few rows that leaves out a row of the best. `held` says that no more rows are
+/// kept.
 pub(crate) fn is_alone(
     alloc: Global,
     solver: &mut Solver<Counted>,

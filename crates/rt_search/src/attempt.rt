@@ -1,3 +1,5 @@
+//! One call of the solver, or two where a budget can be spent.
+
 ghost use Rattle.std.specs.Prelude.{◌≡◌, ◌≤◌, IfOk, IfSome};
 ghost use Rattle.rt_search.specs.Attempts.{IsGrown, IsTold};
 
@@ -6,7 +8,8 @@ use rt_clause::Lit;
 use rt_solver::{Found, Order, Solver};
 use rt_value::NoMemory;
 
-/// Whether a search over the rows can spend the budget.
+/// Whether a search with clauses over the rows can spend the budget: there are more choices of the
+/// rows than clauses in the budget.
 pub(crate) fn is_small(budget: Option<u64>, rows: usize) -> bool {
     match budget {
         None => false,
@@ -14,8 +17,9 @@ pub(crate) fn is_small(budget: Option<u64>, rows: usize) -> bool {
     }
 }
 
-/// Searches with clauses over all variables. Where that spends a budget, it searches once more, from
-/// the lines that came, with clauses over the rows.
+/// Searches with clauses over all variables. If that spends the budget, it searches once more,
+/// from the lines so far, with clauses over the rows. A budget that can't be spent over the rows
+/// is left out.
 pub(crate) fn attempt(
     solver: &mut Solver<Counted>,
     assume: &Option<Lit>,

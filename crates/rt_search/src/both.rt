@@ -1,3 +1,5 @@
+//! A conjunction of two literals in a new variable, to assume both at once.
+
 ghost use Rattle.std.specs.Prelude.{◌≡◌, ◌<◌, ◌^◌, ◌∷◌, ◌++◌, [], IfOk};
 ghost use Rattle.rt_clause.specs.Gates.{gate};
 
@@ -7,6 +9,7 @@ use rt_solver::Solver;
 use rt_value::NoMemory;
 use std::alloc::Global;
 
+/// Variables stay below this, so that each fits a literal; beyond it the answer is out of memory.
 pub(crate) const MOST_VARIABLES: usize = 1 << 61;
 
 /// Adds a literal of this variable that is true exactly where both of two are.

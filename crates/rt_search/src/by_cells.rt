@@ -1,3 +1,6 @@
+//! The first of the smallest choices without a budget: few questions, by the counter's literals
+//! that count the rows kept up to a place.
+
 ghost use Rattle.std.specs.Prelude.{◌≡◌, ◌≤◌, ◌<◌, ◌^◌, Some, IfOk, length};
 ghost use Rattle.rt_value.specs.Keep.{size};
 ghost use Rattle.rt_totalizer.specs.Outputs.{CountsFirst};
@@ -32,7 +35,8 @@ fn next_kept(keep: &Keep, place: usize) -> usize
     keep.len()
 }
 
-// Asks for a choice of the rows at which a literal is true.
+// Asks for a choice of the rows at which a literal is true, or the checked answer that there is
+// none.
 fn ask(
     alloc: Global,
     solver: &mut Solver<Counted>,
@@ -60,11 +64,18 @@ fn ask(
 }
 
 /// Goes on from a choice of the fewest rows to the first of them in the order of rows. Every row
-/// below `place` is settled, and `kept` of them are kept; `held` says so, and that no more rows are
-/// kept than in the best choice. Each round asks for one that keeps one more of the rows before
-/// `end`, which is at most `row`, the next one that the best keeps. A model is the best from then on,
-/// and half of the rows before its next one are asked about; a refutation settles those before `end`,
-/// and then all up to `row` are asked about, since mostly there is no other choice.
+/// below `place` is settled, and `kept` of them are kept. `held` says so, and that no more rows
+/// are kept than in the best choice.
+///
+/// Each round asks for a choice that keeps one more of the rows before `end`, which is at most
+/// `row`, the next one that the best keeps. A model is the best from then on, and half of the
+/// rows before its next one are asked about. A refutation settles the rows before `end`. Then all
+/// up to `row` are asked about, since mostly there is no other choice.
+///
+/// Of six rows with the best {2, 5}, where the first of the smallest is {1, 4}:
+///     is row 0 or 1 kept?              yes, by {1, 4}, which is the best now
+///     is row 0 kept?                   no: row 0 is left out, and row 1 is kept
+///     row 1, and is row 2 or 3 kept?   no: both are left out, and row 4 is kept
 pub(crate) fn by_cells(
     alloc: Global,
     solver: &mut Solver<Counted>,

@@ -1,3 +1,6 @@
+//! The first of the smallest choices within a budget: a question for each row, so that what a
+//! question learned is of use in the nogoods.
+
 ghost use Rattle.std.specs.Prelude.{◌≡◌, ◌≤◌, ◌<◌, ◌^◌, IfOk, IfSome, length};
 ghost use Rattle.rt_value.specs.Keep.{size};
 ghost use Rattle.rt_search.specs.Aimed.{IsAimed};
@@ -17,10 +20,12 @@ use rt_value::{Keep, List, NoMemory};
 use std::alloc::Global;
 
 /// Goes on from a choice of the fewest rows to the first of them in the order of rows, within a
-/// budget. Every row below `place` is settled; `held` says that those of them are kept whose
-/// negations are `left`, and that no more rows are kept than in the best choice. Each round asks for
-/// one that keeps the next row too. So a clause that a round learned is with `left` and that row's
-/// negation true at each choice of as few rows.
+/// budget. Every row below `place` is settled. `held` says that those of them are kept whose
+/// negations are `left`, and that no more rows are kept than in the best choice.
+///
+/// Each round asks for one that keeps the next row too. If it spends the budget, its clauses hold
+/// for such choices alone; with `left` and that row's negation added, for each choice of as few
+/// rows.
 pub(crate) fn by_rows(
     alloc: Global,
     solver: &mut Solver<Counted>,

@@ -1,3 +1,5 @@
+//! From a model of the clauses to a choice of rows: row r is variable r.
+
 ghost use Rattle.std.specs.Prelude.{◌≡◌, ◌≤◌, IfOk, length, take};
 
 use rt_value::{Keep, NoMemory};

@@ -1,3 +1,5 @@
+//! The checker with two numbers for measurements. The solver's lines are held here alone.
+
 ghost use Rattle.std.specs.Prelude.{◌≡◌, [], IsTrue, ◌↔◌};
 ghost use Rattle.rt_clause.specs.Refuting.{IsRefuted};
 
@@ -7,8 +9,8 @@ use rt_value::NoMemory;
 use std::alloc::Global;
 use std::marker::Model;
 
-/// A checker's lines, with how many of them were given and how many derived. Contracts see the
-/// checker alone: the numbers are for measurements.
+/// A checker, and how many of its lines were given and how many derived. Contracts see the checker
+/// alone. At its type's greatest value a number rises no more.
 #[derive(Drop)]
 pub struct Counted {
     checker: Checker,

@@ -1,3 +1,5 @@
+//! The clauses of a search: those of the goal, and one for each row that cannot matter.
+
 ghost use Rattle.std.specs.Prelude.{◌≡◌, ◌<◌, ◌^◌, ◌++◌, [], ◌∷◌, IfOk, OnOk, length};
 ghost use Rattle.rt_search.specs.Aimed.{IsAimed};
 ghost use Rattle.rt_search.specs.Sought.{left_out};
@@ -8,9 +10,10 @@ use rt_formula::{Dag, Node};
 use rt_value::{Keep, NoMemory};
 use std::alloc::Global;
 
+// Rows beyond this many would not fit literals; the answer is out of memory.
 const MOST_ROWS: usize = 1 << 61;
 
-// Adds, where a row is outside of the cone, the clause that it is not kept.
+// If the row is outside of the cone, adds the clause that it is not kept.
 fn leave_one<A: Adds>(inside: bool, place: usize, to: &mut A) -> Result<(), NoMemory>
     requires { place < 2 ^ 61 }
     ensures { OnOk result (A.lines to.new ≡ A.lines to.old ++ left_out place (inside ∷ [])) }
@@ -22,7 +25,7 @@ fn leave_one<A: Adds>(inside: bool, place: usize, to: &mut A) -> Result<(), NoMe
     to.add(line.as_slice())
 }
 
-// Adds these clauses for each row.
+// Adds that clause for each row outside of the cone.
 fn leave_out<A: Adds>(cone: &Keep, to: &mut A) -> Result<(), NoMemory>
     ensures { OnOk result (A.lines to.new ≡ A.lines to.old ++ left_out 0 cone.now) }
 {

@@ -1,3 +1,5 @@
+//! From the fewest rows to the first choice of as many: which way is taken.
+
 ghost use Rattle.std.specs.Prelude.{◌≡◌, ◌≤◌, IfOk, IfSome};
 ghost use Rattle.rt_search.specs.Aimed.{IsUnderWay};
 ghost use Rattle.rt_search.specs.Least.{HasFewest};
@@ -18,8 +20,8 @@ use rt_totalizer::Outputs;
 use rt_value::{Keep, NoMemory};
 use std::alloc::Global;
 
-/// Goes on from a choice of the fewest rows to the first of them in the order of rows, or until the
-/// budget is spent. Mostly there is no other one, which takes a single question.
+/// Goes on from a choice of the fewest rows to the first of them in the order of rows, or until
+/// the budget is spent. Mostly there is no other one, which a single question settles.
 pub(crate) fn first(
     alloc: Global,
     solver: &mut Solver<Counted>,

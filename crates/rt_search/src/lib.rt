@@ -1,13 +1,14 @@
 //! The search for the least choice of rows at which a formula is true, the first in order of rows.
 //!
 //! One solver is kept from round to round. The formula is encoded once, with a clause for each row
-//! that cannot matter. The first model is made smaller by leaving rows out, and then a counter of the
-//! kept rows is added, up to one more than that model's size. Each further round assumes that fewer
-//! rows are kept than in the best choice so far. When there is none of fewer, one round asks whether
-//! there is any other of as many rows, and if so, each further one asks for one that keeps an earlier
-//! row, by the counter's own literals. Within a budget that is asked row by row, so that what was
-//! learned holds at every choice of as few rows. A refutation counts only where the checker's own
-//! lines have it.
+//! that cannot matter. The first model is made smaller by leaving rows out. Then a counter of the
+//! kept rows is added, up to one more than that model's size. Each further round assumes that
+//! fewer rows are kept than in the best choice so far.
+//!
+//! When there is none of fewer, one round asks whether there is any other of as many rows. If so,
+//! each further one asks for one that keeps an earlier row, by the counter's own literals. Within
+//! a budget that is asked row by row, so that what was learned holds at every choice of as few
+//! rows. A refutation counts only if the checker's own lines have it.
 #![tactic(auto)]
 
 mod alone;

@@ -1,3 +1,6 @@
+//! From a choice to one of the fewest rows: each round assumes that fewer are kept than in the
+//! best.
+
 ghost use Rattle.std.specs.Prelude.{◌≡◌, ◌≤◌, ◌<◌, IfOk, IfSome, length};
 ghost use Rattle.rt_search.specs.Aimed.{IsUnderWay, fewer_than};
 ghost use Rattle.rt_search.specs.Sought.{IsBestWithin};
@@ -14,7 +17,7 @@ use rt_totalizer::Outputs;
 use rt_value::{Keep, NoMemory};
 use std::alloc::Global;
 
-// The literal that says that fewer than `most` rows are kept.
+/// The literal that says that fewer than `most` rows are kept.
 pub(crate) fn fewer(outs: &LitList, most: usize) -> Lit
     requires some { 0 < most }
     requires within { most ≤ length outs.now }
@@ -23,8 +26,8 @@ pub(crate) fn fewer(outs: &LitList, most: usize) -> Lit
     outs.as_slice()[most - 1].negated()
 }
 
-/// Goes on from a choice to ones of fewer rows, until there is none, and then to the first of those
-/// of as many rows; or until the budget is spent.
+/// Goes on from a choice to ones of fewer rows, until there is none, and then to the first of
+/// those of as many rows. It ends early when the budget is spent.
 pub(crate) fn lower(
     alloc: Global,
     solver: &mut Solver<Counted>,

@@ -1,3 +1,6 @@
+//! The two entries of the crate, and the first round. Which rounds follow, and in which order, may
+//! change: the contracts speak of the outcome alone.
+
 ghost use Rattle.std.specs.Prelude.{◌≡◌, ◌≤◌, ◌<◌, [], IfOk, IfSome, length};
 ghost use Rattle.rt_search.specs.Aimed.{IsAimed};
 ghost use Rattle.rt_search.specs.Least.{IsBest, IsEnough};
@@ -90,8 +93,8 @@ fn search(
     Ok(best)
 }
 
-/// What a search found, with how many clauses it was given, those of the formula and of the counter,
-/// and after how many conflicts it ended: in each a clause was derived.
+/// What a search found, and two numbers. `clauses` counts those of the formula and the counter.
+/// `conflicts` counts the clauses that were derived, one in each conflict.
 #[derive(Drop)]
 pub struct Searched {
     pub best: Best,
@@ -125,10 +128,10 @@ pub fn smallest_counted(
     })
 }
 
-/// The first of the least choices of rows at which the goal is true. The cone has one Bool for each
-/// row: where the goal is true it stays true without the rows outside of it, so that these need no
-/// search. The budget, where there is one, is the number of clauses that each round of the search may
-/// learn, and at least 1.
+/// The first of the least choices of rows at which the goal is true. The cone has one Bool for
+/// each row: where the goal is true it stays true without the rows outside of it, so that these
+/// need no search. The budget, if there is one, is the number of clauses that each round of the
+/// search may learn. It is at least 1. The only error is out of memory.
 pub fn smallest(
     alloc: Global,
     dag: &Dag,

@@ -1,13 +1,15 @@
+//! A first choice made smaller before anything is counted, so that the counter is small.
+
 ghost use Rattle.std.specs.Prelude.{◌≡◌, ◌<◌, IfOk, OnOk, true, false, length, slice_index_or};
 ghost use Rattle.rt_search.specs.Sought.{IsSought};
 
 use rt_formula::{Dag, Node};
 use rt_value::{Keep, NoMemory};
 
-// How many nodes may be evaluated to make a choice smaller.
+// The number of nodes that may be evaluated to make a choice smaller.
 const MOST_STEPS: usize = 1 << 27;
 
-// Leaves a row out, where the goal stays true without it.
+// Leaves a row out if the goal stays true without it.
 fn leave_out(
     dag: &Dag,
     goal: Node,
@@ -29,7 +31,8 @@ fn leave_out(
     Ok(())
 }
 
-/// Leaves rows out one by one, the last first, while the goal stays true and that costs little.
+/// Leaves rows out one by one, the last first, if the goal stays true without them. It stops when
+/// `MOST_STEPS` nodes have been evaluated.
 pub(crate) fn smaller(dag: &Dag, goal: Node, cone: &Keep, best: Keep) -> Result<Keep, NoMemory>
     requires goal { goal < length dag.now.entries }
     requires best { IsSought dag.now goal cone.now best }

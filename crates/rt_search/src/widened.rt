@@ -1,3 +1,5 @@
+//! Nogoods of a question, made to hold without what the question assumed.
+
 ghost use Rattle.std.specs.Prelude.{◌≡◌, IfOk, map};
 ghost use Rattle.rt_clause.specs.Lists.{has};
 ghost use Rattle.rt_search.specs.Widened.{widened};
@@ -12,7 +14,7 @@ fn has(clause: &LitList, lit: Lit) -> bool
     clause.as_slice().iter().any(|l| lit == *l)
 }
 
-// The clause after those of the literals that it does not have.
+// Those of the literals that the clause does not have, and then the clause.
 fn widened(alloc: Global, lits: &LitList, clause: &LitList) -> Result<LitList, NoMemory>
     ensures { IfOk result (λ c. c ≡ widened lits.now clause.now) }
 {
@@ -26,7 +28,7 @@ fn widened(alloc: Global, lits: &LitList, clause: &LitList) -> Result<LitList, N
     Ok(wide)
 }
 
-/// Each clause after those of the literals that it does not have.
+/// For each clause, those of the literals that it does not have, and then the clause.
 pub(crate) fn all_widened(
     alloc: Global,
     lits: &LitList,

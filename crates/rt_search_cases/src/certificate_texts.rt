@@ -1,3 +1,6 @@
+//! Texts of certificates: each form of a line is read and written back, and of each broken text
+//! the first bad line is named.
+
 use rt_recorder::{CertFault, cert_text, read_cert};
 use std::alloc::Global;
 use std::process::Abort;
@@ -37,7 +40,7 @@ const BROKEN: [(&str, &str, usize); 36] = [
         "verdict witness 0\nkeep\nadded 0\nd ;\n",
         6,
     ),
-    // Behind the end.
+    // After the end.
     (
         "ratest certificate 1\n",
         "verdict agree\nadded 0\nend\n\n",
@@ -184,7 +187,7 @@ fn the_first_line_that_cannot_stand(rt: HostRuntime) {
     }
 }
 
-/// The fault of a text in two parts, if it has one.
+// The error of a text in two parts, if it has one.
 fn told_of(rt: &impl Abort, alloc: Global, head: &str, rest: &str) -> Option<CertFault> {
     let text = format!(in alloc; "{head}{rest}").expect(rt, "memory");
     let read = read_cert(alloc, text.as_str().as_bytes());

@@ -1,3 +1,6 @@
+//! Steps that are checked over two lines, the recording of accepted ones, and an encoding that is
+//! kept.
+
 use rt_clause::{Adds, Lines, Lit};
 use rt_derive::Checker;
 use rt_recorder::{Cert, Checked, Encoded, Recorder, Step, check_steps};

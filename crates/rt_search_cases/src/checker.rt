@@ -1,3 +1,5 @@
+//! What the checker accepts and refuses, on two or three lines that can be followed by hand.
+
 ghost use Rattle.std.specs.Prelude.{◌≡◌, length};
 
 use rt_clause::{Adds, Lines, Lit};

@@ -1,3 +1,5 @@
+//! Lists of clauses, and one clause in its block of memory.
+
 use rt_clause::{Clauses, Lit, ThinClause};
 use std::mem::size_of;
 

@@ -1,4 +1,5 @@
 //! A formula as a test draws it, node by node.
+
 ghost use Rattle.std.specs.Prelude.{◌≤◌, ◌<◌, ◌^◌, IfSome, length};
 
 use rt_clause::{Adds, Lit};
@@ -11,7 +12,7 @@ use rt_value::Keep;
 use std::alloc::Global;
 use std::process::Abort;
 
-/// What a step draws. Older nodes are told by the numbers of their steps.
+/// What a step draws. Older nodes are named by the numbers of their steps, counted from 0.
 #[derive(Clone, Copy)]
 pub enum Step<'a> {
     Yes,
@@ -22,7 +23,7 @@ pub enum Step<'a> {
     Any(&'a [usize]),
 }
 
-/// A formula, and the node of each step. Where memory is wanting, its calls end the process.
+/// A formula, and the node of each step. When out of memory, its calls end the process.
 #[derive(Drop)]
 pub struct Drawing {
     dag: Dag,
@@ -31,6 +32,7 @@ pub struct Drawing {
 }
 
 impl Drawing {
+    /// A formula over so many rows, without steps.
     pub fn new(rt: &impl Abort, alloc: Global, rows: usize) -> Drawing
         requires { rows ≤ 2000 }
     {
@@ -41,7 +43,7 @@ impl Drawing {
         }
     }
 
-    /// How many nodes the formula has.
+    /// The number of nodes of the formula.
     pub fn len(&self) -> usize
         ensures { result < 2 ^ 60 }
     {
@@ -53,7 +55,7 @@ impl Drawing {
         self.node(step).number()
     }
 
-    /// Where there is no such step, the node that is always true.
+    // Where there is no such step, the node that is always true.
     fn node(&self, step: usize) -> Node
         ensures { result < length self.now.dag.entries }
     {
@@ -121,8 +123,8 @@ impl Drawing {
         last
     }
 
-    /// A row or another one, the negation of that or the other one, and so on, so many times. Gives
-    /// the steps of the gates.
+    /// A row or another one, the negation of that or the other one, and so on, so many times.
+    /// Gives the steps of the gates.
     pub fn ladder(&mut self, rt: &impl Abort, rungs: usize) -> Vec<usize> {
         let mut gates = Vec::new(self.alloc);
         let mut last = self.draw(rt, Step::Row(0));
@@ -147,7 +149,7 @@ impl Drawing {
         self.dag.value(self.node(step), &keep).expect(rt, "memory")
     }
 
-    /// How many variables the clauses of a goal have.
+    /// The number of variables of the clauses of a goal.
     pub fn variables(&self, rt: &impl Abort, goal: usize) -> usize {
         let mut checker = Checker::new(self.alloc);
         let named = clausify(self.alloc, &self.dag, self.node(goal), &mut checker);

@@ -1,10 +1,12 @@
+//! A formula as clauses: its variables are counted, and its models are the choices of the goal.
+
 use crate::drawing::{Drawing, Step};
 
 #[test]
 fn only_nodes_under_the_goal_have_variables(rt: HostRuntime) {
     let mut drawing = Drawing::new(&rt, rt.alloc(), 2);
     let goal = drawing.draw_all(&rt, &[Step::Row(0), Step::Row(1), Step::Any(&[0, 1])]);
-    // The gate alone has a variable beside the rows: the nodes yes and no are not under the goal.
+    // Only the gate has a variable besides the rows: the nodes yes and no are not under the goal.
     assert!(rt; drawing.variables(&rt, goal) == 3);
 }
 

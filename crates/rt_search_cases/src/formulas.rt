@@ -1,6 +1,8 @@
+//! Gates that are simplified as they are made. Two steps with one node are the test of a rule.
+
 use crate::drawing::{Drawing, Step};
 
-/// Kept rows, and whether the first of two is among them.
+// Kept rows, and whether the first of two is among them.
 const CHOICES: [(&[usize], bool); 4] = [(&[], false), (&[0], true), (&[0, 1], true), (&[1], false)];
 
 #[test]
@@ -111,7 +113,8 @@ fn an_entry_has_one_node(rt: HostRuntime) {
     }
 }
 
-/// Children, the node of their gate after those that are drawn, and how many nodes there are then.
+// Children, the node of their gate counted after those that are drawn, and the number of nodes
+// then.
 const GATES: [(&[usize], usize, usize); 4] = [
     (&[5, 8], 0, 1),
     (&[2, 5, 6, 7, 8], 4, 5),
@@ -119,8 +122,8 @@ const GATES: [(&[usize], usize, usize); 4] = [
     (&[5, 8, 7], 5, 6),
 ];
 
-// Of children that come one after another and are an `all` over the same first child, that child is
-// written once.
+// Of children that come one after another and are an `all` over the same first child, that child
+// is written once.
 #[test]
 fn a_run_shares_its_first_child(rt: HostRuntime) {
     let mut drawing = Drawing::new(&rt, rt.alloc(), 5);

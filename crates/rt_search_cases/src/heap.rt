@@ -1,3 +1,5 @@
+//! The solver's heap of variables: the order in which they come out, by their counters.
+
 ghost use Rattle.std.specs.Prelude.{◌≡◌, ◌<◌, length};
 
 use rt_solver::Heap;
@@ -70,7 +72,7 @@ fn the_greatest_counter_comes_first(rt: HostRuntime) {
     assert!(rt; came);
 }
 
-// Forty times a thirty-second part is more than twice as much.
+// After forty agings of a thirty-second part each, one raise counts for more than two before.
 #[test]
 fn later_raises_count_for_more(rt: HostRuntime) {
     let mut heap = full(&rt, rt.alloc(), 5);

@@ -1,8 +1,7 @@
-//! The tests of the search: formulas, clauses and their checker, formulas as clauses, the solver,
-//! the counter, the least choice of rows, and certificates: their texts, the recording of steps and
-//! the check of steps.
+//! The tests of the crates from formulas to certificates: formulas, clauses, the checker and the
+//! solver, the counter, the search for the least choice, and certificates.
 //!
-//! They stand in a crate of their own, since a crate with tests is proved twice.
+//! They are a crate of their own, since a crate with tests is proved twice.
 #![tactic(auto)]
 
 #[cfg(test)]

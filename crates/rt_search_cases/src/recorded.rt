@@ -1,4 +1,5 @@
 //! A checker's lines with a copy of each, so that a test can read them.
+
 ghost use Rattle.std.specs.Prelude.{◌≡◌, []};
 
 use rt_clause::{Adds, Clauses, Lines, Lit};
@@ -7,6 +8,7 @@ use rt_value::NoMemory;
 use std::alloc::Global;
 use std::marker::Model;
 
+/// A checker, and a copy of each of its lines.
 #[derive(Drop)]
 pub struct Recorded {
     checker: Checker,
@@ -25,6 +27,7 @@ impl Model for Recorded {
 }
 
 impl Recorded {
+    /// No lines.
     pub fn new(alloc: Global) -> Recorded
         ensures { result.lines ≡ [] }
     {
@@ -34,11 +37,12 @@ impl Recorded {
         }
     }
 
+    /// Whether the checker's lines refute what is assumed.
     pub fn refutes(&self, assume: Option<Lit>) -> bool {
         self.checker.refutes(assume)
     }
 
-    /// How many lines there are.
+    /// The number of lines.
     pub fn len(&self) -> usize {
         self.copies.len()
     }

@@ -1,3 +1,6 @@
+//! The outputs of the counter, and the search on small formulas: the least choice, the first of
+//! them, and budgets of one clause.
+
 ghost use Rattle.std.specs.Prelude.{◌<◌, ◌≤◌, IfSome};
 
 use crate::drawing::{Drawing, Step};
@@ -47,7 +50,7 @@ fn outputs_of_three_rows(rt: HostRuntime) {
     assert!(rt; outputs(&rt, alloc, [false, false, false]) == [false, false]);
 }
 
-// How many rows the least choice has, and None where the goal is true nowhere.
+// The number of rows of the least choice, and None if the goal is true nowhere.
 fn least_size(rt: &impl Abort, drawing: &Drawing, goal: usize) -> Option<usize> {
     match drawing.search(rt, goal, None).best {
         Best::Least(keep) => Some(keep.size()),
@@ -85,9 +88,9 @@ fn keeps_the_outer(rt: &impl Abort, drawing: &Drawing, goal: usize, budget: Opti
     }
 }
 
-// The goal is true with the two rows in the middle and with the two others. The first row's pair comes
-// first: without a budget, within one that a search over the rows could spend, and within one that it
-// could not.
+// The goal is true with the two rows in the middle and with the two others. The first row's pair
+// comes first. That is so without a budget, within one that a search over the rows could spend,
+// and within one that it could not.
 #[test]
 fn first_of_two_pairs(rt: HostRuntime) {
     let mut drawing = Drawing::new(&rt, rt.alloc(), 4);
@@ -118,9 +121,10 @@ fn is_spent_by_one_clause(rt: &impl Abort, drawing: &Drawing, goal: usize) -> bo
     }
 }
 
-// Two pairs of rows, of each the first alone, or not the second one with it: what is decided first
-// fails in either pair, and each time that teaches one clause. The first one spends the budget of the
-// search with all variables, and the other one that of the search with the rows.
+// Two pairs of rows. Of each the first is kept alone, or the second isn't kept with it. What is
+// decided first fails in either pair, and each time that teaches one clause. The first one spends
+// the budget of the search with all variables, and the other one that of the search with the
+// rows.
 #[test]
 fn a_budget_of_one(rt: HostRuntime) {
     let mut drawing = Drawing::new(&rt, rt.alloc(), 4);
@@ -163,9 +167,9 @@ fn is_spent_on_the_first(rt: &impl Abort, drawing: &Drawing, goal: usize) -> boo
     }
 }
 
-// The last two rows, or the first one with one of the next four and one of three more. That no row
-// alone will do is known without a clause to be kept; whether two rows will do, the first among them,
-// takes more than one.
+// The last two rows, or the first one with one of the next four and one of three more. That no
+// row alone will do is known without a clause to be kept. Whether two rows will do, the first
+// among them, takes more than one.
 #[test]
 fn a_budget_for_the_least_size(rt: HostRuntime) {
     let mut drawing = Drawing::new(&rt, rt.alloc(), 10);
@@ -203,13 +207,13 @@ fn any_of_five(rt: &impl Abort, drawing: &mut Drawing, group: usize) -> usize
     drawing.draw(rt, Step::Any(&rows))
 }
 
-// After how many conflicts the search ends.
+// The number of conflicts after which the search ends.
 fn conflicts(rt: &impl Abort, drawing: &Drawing, goal: usize) -> u64 {
     drawing.search(rt, goal, None).conflicts
 }
 
-// One row of each of twenty groups of five: clauses over all variables refute the bound in about as
-// many conflicts as there are groups, where clauses over rows would be some hundred thousand.
+// One row of each of twenty groups of five. Clauses over all variables refute the bound in about
+// as many conflicts as there are groups. Clauses over rows would take some hundred thousand.
 #[test]
 fn twenty_groups_of_five(rt: HostRuntime) {
     let mut drawing = Drawing::new(&rt, rt.alloc(), 100);

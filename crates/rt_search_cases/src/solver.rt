@@ -1,3 +1,6 @@
+//! The solver on clauses whose answer is known: two variables, pigeons in holes, and 200 clauses
+//! with a model.
+
 ghost use Rattle.std.specs.Prelude.{◌<◌, ◌≤◌, IfSome};
 
 use crate::recorded::Recorded;
@@ -149,7 +152,7 @@ fn spent(rt: &impl Abort, solver: &mut Solver<Recorded>) -> List<List<Lit>> {
     }
 }
 
-// Whether the clause that spends a budget of one stands after the 22 given lines, and stays there.
+// Whether the clause that spends a budget of one comes after the 22 given lines, and stays there.
 fn keeps_its_clause(rt: &impl Abort, solver: &mut Solver<Recorded>, spent: &[List<Lit>]) -> bool {
     let [learned] = spent else {
         return false;

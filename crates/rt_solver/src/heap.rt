@@ -1,3 +1,6 @@
+//! The heap of variables by their counters. The counters and the order are private: no contract above
+//! rests on which variable comes first.
+
 ghost use Rattle.std.specs.Prelude.{◌≡◌, [], ◌<◌, ◌-◌, ◌++◌, true, false, length, replicate, slice_set, slice_index_or, OnOk, OnErr, MatchOption};
 ghost use Rattle.rt_solver.specs.Members.{IsEmpty};
 
@@ -7,7 +10,7 @@ use rt_value::NoMemory;
 use std::alloc::Global;
 use std::marker::Model;
 
-// Large enough that a thirty-second part of it counts.
+// Large enough that a sixty-fourth part of it counts.
 const FIRST_STEP: u64 = 64;
 
 // No counter and no step grows past this number.
@@ -79,6 +82,7 @@ impl Heap {
         self.order.place(var) < self.count
     }
 
+    /// Puts a variable in, unless it is there.
     pub fn put(&mut self, var: usize)
         requires { var < length self.old }
         ensures { self.new ≡ slice_set self.old var true }
@@ -128,14 +132,14 @@ impl Heap {
         }
     }
 
-    /// Lets the step grow by a thirty-second part, so that later raises count for more.
+    /// Lets the step grow by a sixty-fourth part, so that later raises count for more.
     pub fn age(&mut self)
         ensures { self.new ≡ self.old }
     {
         if self.step > LIMIT / 2 {
             self.halve();
         }
-        self.step = self.step.saturating_add(self.step / 32 + 1);
+        self.step = self.step.saturating_add(self.step / 64 + 1);
     }
 
     // Halves the step and all counters. Where two counters become equal, the greater variable may

@@ -68,7 +68,7 @@ module _ (fit : ℤ → ℤ) (db : Tables) (env : Env) (test rest : List Value �
   never_product (rows ∷ members) (w ∷ widths) front l n =
       never_product members widths (pairs front rows) (and-right (list_all (λ row. nat_eq (length row) w) rows) _ l) (never_pairs w widths front rows (and-left _ (are_wide widths members) l) n)
 
-  -- a row that begins with these values passes where the members' parts hold and the other test does
+  -- a row that begins with these values passes where the members' parts and the other test hold
   abbrev Parted : List ℕ → List (List Pred) → List (List KeyPair) → List Value → Type 0
   Parted widths own keys x = (ys : Rows) → map length ys ≡ widths → test (whole x ys) ≡ (members_yes fit own keys x ys db env && rest (whole x ys))
 
@@ -143,7 +143,7 @@ module _ (fit : ℤ → ℤ) (db : Tables) (env : Env) (test rest : List Value �
   simple_later [] s = tt
   simple_later (ps ∷ own) s = s.1
 
-  -- on the rows of all members one test may stand in the place of another
+  -- on the rows of all members one test may take the place of another
   abbrev Ends : (List Value → Bool) → Type 0
   Ends last = (own : List (List Pred)) (keys : List (List KeyPair)) (front : Rows) → Every (Parted [] own keys) front → filter test front ≡ filter last front
 

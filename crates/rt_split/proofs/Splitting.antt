@@ -1,4 +1,4 @@
--- A condition over members side by side is Yes exactly where each of its parts is.
+-- A condition over the members of a product is Yes exactly where each of its parts is.
 use Rattle.std.proofs.Common.{◌≡◌, ℕ, ℤ, zero, suc, ◌+◌, ◌-◌, ◌<◌, ◌≤◌, Bool, true, false, cond, not, ◌&&◌, ◌||◌, List, [], ◌∷◌, ◌++◌, map, length, Option, None, Some, refl, sym, subst, ap, ap₂, ◌∙◌, slice_index_or, length-append, arith}
 use Rattle.std.specs.Prelude.{◌↔◌, nat_eq, nat_lt, is_some, if◌then◌else◌}
 use Rattle.std.specs.List.{filter, filter_map, cons_option, list_all}

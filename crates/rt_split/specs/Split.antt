@@ -1,5 +1,5 @@
--- A condition over members side by side, taken apart: what concerns one member alone, the columns
--- of two members that have to be equal, and whether that is all of it.
+-- A condition over the members of a product, taken apart: what concerns one member alone, the
+-- columns of two members that have to be equal, and whether that is all of it.
 use Rattle.std.specs.Prelude.{◌≡◌, ℕ, ℤ, ◌+◌, ◌-◌, Bool, true, false, not, ◌&&◌, ◌||◌, nat_eq, nat_le, nat_lt, List, [], ◌∷◌, ◌++◌, map, length, Option, None, Some, is_some, if◌then◌else◌, slice_index_or}
 use Rattle.std.specs.Option.{option_map}
 use Rattle.std.specs.List.{filter, filter_map, list_all, list_any}
@@ -265,9 +265,9 @@ members_yes fit own keys before (row ∷ rows) db env =
 abbrev pub rest_of : Pred → List ℕ → List Pred
 rest_of p widths = filter (λ q. not (is_taken 0 widths q)) (conjuncts p)
 
--- over rows of these widths the condition is Yes on the concatenated row exactly where each own
--- conjunct is Yes on its member's row, each key pair compares Yes, and each conjunct of the rest is
--- Yes on the concatenated row
+-- over rows of these widths the condition is Yes on the concatenated row exactly where three things
+-- hold: each own conjunct is Yes on its member's row; each key pair compares Yes; each conjunct of
+-- the rest is Yes on the concatenated row
 abbrev pub Splits : Pred → List ℕ → Split → Type 0
 Splits p widths s = (fit : ℤ → ℤ) (db : Tables) (env : Env) (rows : Rows) → map length rows ≡ widths
     → is_yes (pred_by fit p db (whole [] rows ∷ env)) ≡ (members_yes fit s.own s.keys [] rows db env && all_yes fit (rest_of p widths) db (whole [] rows ∷ env))

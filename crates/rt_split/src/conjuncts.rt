@@ -1,4 +1,5 @@
-//! The conjuncts of a condition over members side by side.
+//! The conjuncts of a condition over the members of a product, sorted into own conditions, keys and
+//! the rest.
 ghost use Rattle.std.specs.Prelude.{◌≡◌, ◌↔◌, ◌+◌, [], map, is_some, IfOk, IsTrue};
 ghost use Rattle.std.specs.List.{filter_map, list_all};
 ghost use Rattle.rt_split.specs.Join.{Joins, JoinsWhole};
@@ -11,7 +12,12 @@ use rt_value::{List, NoMemory, Op};
 use std::alloc::Global;
 use std::slice;
 
-/// The condition over members of these widths, taken apart.
+/// The condition over members of these widths, taken apart. For members s(id, dept) and r(id, num)
+/// the whole row has columns 0 to 3, and `s.dept = 'CS' AND s.id = r.id AND r.num > s.id` gives
+///
+/// - `own`: column 1 = 'CS' for s, nothing for r;
+/// - `keys`: nothing for s, the pair (before 0, own 0) for r;
+/// - `is_whole`: false, since `r.num > s.id` is neither.
 pub fn split(alloc: Global, pred: &Pred, widths: &[usize]) -> Result<Split, NoMemory>
     ensures parts { IfOk result (λ s. s ≡ split_of pred.now widths.now) }
     ensures law { IfOk result (λ s. Splits pred.now widths.now s) }
@@ -36,7 +42,7 @@ fn apart(alloc: Global, conjuncts: &[Pred], widths: &[usize]) -> Result<Split, N
     })
 }
 
-/// Each member's own conjuncts.
+// Each member's own conjuncts.
 fn each_owns(
     alloc: Global,
     conjuncts: &[Pred],
@@ -53,7 +59,7 @@ fn each_owns(
     Ok(out)
 }
 
-/// Each member's keys.
+// Each member's keys.
 fn each_keys(
     alloc: Global,
     conjuncts: &[Pred],
@@ -70,7 +76,7 @@ fn each_keys(
     Ok(out)
 }
 
-/// The members of an outermost AND, else the condition itself.
+// The members of an outermost AND, else the condition itself.
 fn conjuncts(pred: &Pred) -> &[Pred]
     ensures { result.now ≡ conjuncts pred.now }
 {
@@ -80,14 +86,14 @@ fn conjuncts(pred: &Pred) -> &[Pred]
     }
 }
 
-/// Where the next member begins. No row is as wide as the machine's word allows.
+// Where the next member begins. An overflow counts as out of memory: no row is so wide.
 fn after(base: usize, width: usize) -> Result<usize, NoMemory>
     ensures { IfOk result (λ next. next ≡ base + width) }
 {
     base.checked_add(width).ok_or(NoMemory)
 }
 
-/// The member's own conjuncts, over its row.
+// The member's own conjuncts, over its row.
 fn owns(
     alloc: Global,
     conjuncts: &[Pred],
@@ -124,7 +130,7 @@ fn keys_of(
     Ok(out)
 }
 
-/// The pair of columns that have to be equal, of which one lies in the member and one before it.
+// The pair of columns that have to be equal, of which one lies in the member and one before it.
 fn key_of(pred: &Pred, base: usize, width: usize) -> Option<KeyPair>
     ensures { result ≡ key_of base width pred.now }
 {
@@ -159,7 +165,7 @@ fn pair(a: Option<usize>, b: Option<usize>, base: usize, width: usize) -> Option
     }
 }
 
-/// Whether each of the conjuncts is own to a member or a key of one.
+// Whether each of the conjuncts is own to a member or a key of one.
 fn are_taken(alloc: Global, conjuncts: &[Pred], widths: &[usize]) -> Result<bool, NoMemory>
     ensures { IfOk result (λ b. b ≡ list_all (is_taken 0 widths.now) conjuncts.now) }
 {
@@ -171,7 +177,7 @@ fn are_taken(alloc: Global, conjuncts: &[Pred], widths: &[usize]) -> Result<bool
     Ok(true)
 }
 
-/// Whether the conjunct speaks of the columns of one member alone, the first of which is `base`.
+// Whether the conjunct speaks of the columns of one member alone, the first of which is `base`.
 fn is_own(alloc: Global, conjunct: &Pred, base: usize, width: usize) -> Result<bool, NoMemory>
     ensures { IfOk result (λ b. b ≡ is_some (own_of base width conjunct.now)) }
 {

@@ -1,3 +1,5 @@
+//! Places by key. That it is a `BTreeMap` is private; what is promised is the order of the places.
+
 ghost use Rattle.std.specs.Prelude.{◌≡◌, ◌++◌, ◌∷◌, [], List, cond, OnOk};
 ghost use Rattle.rt_value.specs.Row.{row_eq};
 ghost use Rattle.rt_value.specs.declared.value.Value.{Value};
@@ -8,8 +10,9 @@ use std::alloc::Global;
 use std::collections::BTreeMap;
 use std::marker::Model;
 
-/// For each key the places of the rows that have it, in the order in which they were put. To find
-/// them takes time in the logarithm of the number of different keys.
+/// For each key the places of the rows that have it, in the order in which they were put. Finding
+/// them takes time in the logarithm of the number of different keys. The rows (1, 'a'), (2, 'b')
+/// and (1, 'c') with the first column as key make {1: [0, 2], 2: [1]}.
 #[derive(Drop)]
 pub struct Index {
     places: BTreeMap<Row, List<usize>>,
@@ -45,7 +48,7 @@ impl Index {
         Ok(())
     }
 
-    /// The places of the rows with the key.
+    /// The places of the rows with the key, none where no row has it.
     pub fn get(&self, key: &Row) -> &[usize]
         ensures { result.now ≡ places_at self.now key.now }
     {

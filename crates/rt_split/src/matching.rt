@@ -1,4 +1,5 @@
-//! Which rows of a member match the rows before it.
+//! Which rows of a member match the rows before it: an equi-join by an index. Another way to find
+//! the same places in the same order changes no proof of a crate above.
 ghost use Rattle.std.specs.Prelude.{◌≡◌, List, map, cond, [], slice_index_or, IfOk};
 ghost use Rattle.rt_value.specs.declared.value.Value.{Value};
 ghost use Rattle.rt_value.specs.declared.value.Value.TheVariants as v;
@@ -12,8 +13,9 @@ use rt_schema::is_null;
 use rt_value::{List, NoMemory, Row, Value};
 use std::alloc::Global;
 
-/// For each of the rows before a member the places of the member's rows that match it by the keys.
-/// This takes about n log n steps for n rows, besides the places that it gives.
+/// For each of the rows before a member the places, from 0, of the member's rows that match it by
+/// the keys; NULL matches nothing. This takes about n log n steps for n rows, and one for each
+/// place that it gives.
 pub fn matches(
     alloc: Global,
     keys: &[KeyPair],
@@ -28,7 +30,7 @@ pub fn matches(
     out
 }
 
-/// The places of the rows that match each of the rows before a member.
+// The places of the rows that match each of the rows before a member.
 fn found_for(
     alloc: Global,
     index: &Index,
@@ -45,7 +47,7 @@ fn found_for(
     Ok(out)
 }
 
-/// The places of the rows by their keys.
+// The places of the rows by their keys.
 fn index(alloc: Global, keys: &[KeyPair], rows: &[&Row]) -> Result<Index, NoMemory>
     ensures { IfOk result (λ i. (key : List Value) → places_at i key ≡ places_where (λ row. row_eq key (own_key keys.now row)) 0 (map (λ r. r.now) rows.now)) }
 {
@@ -57,7 +59,7 @@ fn index(alloc: Global, keys: &[KeyPair], rows: &[&Row]) -> Result<Index, NoMemo
     Ok(index)
 }
 
-/// The places of the rows with the key of `before`; NULL is equal to nothing.
+// The places of the rows with the key of `before`; NULL is equal to nothing.
 fn found(
     alloc: Global,
     index: &Index,

@@ -1,4 +1,5 @@
-//! Conditions over the row of one member of a product.
+//! A condition on the whole row as one on the row of a single member, if it names no other
+//! member: columns move down by the place where the member begins.
 ghost use Rattle.std.specs.Prelude.{◌≡◌, [], map, nat_eq, IfOk};
 ghost use Rattle.rt_split.specs.Split.{names, names_term, names_pred, some_true, lies, moved, moved_column, moved_term, moved_pred, all_from, both, own_of};
 ghost use Rattle.rt_algebra.specs.declared.query.Pred.TheVariants as p;
@@ -7,7 +8,7 @@ use rt_algebra::{Expr, Pred, Term};
 use rt_value::{Boxed, List, NoMemory, Op};
 use std::alloc::Global;
 
-/// Whether a column of the innermost row is named.
+// Whether a column of the innermost row is named.
 #[cycle(names_value)]
 fn names(expr: &Expr) -> bool
     ensures { result ≡ names expr.now }
@@ -90,7 +91,7 @@ fn moved_column(base: usize, width: usize, up: usize, at: usize) -> Option<Expr>
     }
 }
 
-/// The expression over the member's row alone, and None where a column lies outside the member.
+// The expression over the member's row alone, and None where a column lies outside the member.
 #[cycle(moved_value)]
 fn moved(alloc: Global, expr: &Expr, base: usize, width: usize) -> Result<Option<Expr>, NoMemory>
     ensures { IfOk result (λ o. o ≡ moved base width expr.now) }
@@ -210,8 +211,8 @@ fn moved_one_of(
     Ok(one_of(moved(alloc, expr, base, width)?, items))
 }
 
-/// The condition over the member's row alone, and None where it has a subquery or a column lies
-/// outside the member.
+// The condition over the member's row alone, and None where it has a subquery or a column lies
+// outside the member.
 #[cycle(moved)]
 fn moved_pred(
     alloc: Global,
@@ -263,7 +264,8 @@ fn moved_preds(
     Ok(Some(out))
 }
 
-/// The condition as one of the member's own, over the member's row.
+/// The condition over the member's row, or None where it isn't one of the member's own. It is one
+/// if it names a column, all columns are the member's, and it has no subquery.
 pub fn own_of(
     alloc: Global,
     pred: &Pred,

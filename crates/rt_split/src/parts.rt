@@ -1,3 +1,5 @@
+//! A condition taken apart, as data: what the crates above choose and join rows by.
+
 ghost use Rattle.std.specs.Prelude.{◌≡◌, drop};
 ghost use Rattle.rt_split.specs.Split.{first};
 
@@ -5,15 +7,15 @@ use rt_algebra::Pred;
 use rt_value::List;
 
 /// Two columns that have to be equal: column `own` of a member's row, and column `before` of the
-/// whole row, which lies in an earlier member.
+/// whole row, which is of an earlier member. Both are counted from 0.
 #[derive(Drop)]
 pub struct KeyPair {
     pub before: usize,
     pub own: usize,
 }
 
-/// A condition over members side by side, taken apart: for each member the conditions on its row
-/// alone and its keys, and whether these are the whole of it.
+/// A condition over the members of a product, taken apart: for each member the conditions on its
+/// row alone and its keys, and whether these are the whole of it.
 pub struct Split {
     pub own: List<List<Pred>>,
     pub keys: List<List<KeyPair>>,

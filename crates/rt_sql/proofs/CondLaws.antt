@@ -43,7 +43,7 @@ use Rattle.rt_tree.proofs.SumLaws.{not-front, starts_sum, sum-at-law, sum-front}
 use Rattle.rt_sql.proofs.StartLemmas.{chain-begins, cond-group, sum-begins-not, sum-no-group}
 use Rattle.rt_token.proofs.CalmLemmas.{IsCalm, calm-name}
 
--- readers of what stands in parentheses, for trees of fewer than n terminals
+-- readers of what is in parentheses, for trees of fewer than n terminals
 pub record InnerLaw (inner : Inner) (n : ℕ) : Type 0 where
   pub cond : Lawful true inner.cond spelled_cond n 22
   pub chain : Lawful true inner.chain spelled_chain n 33

@@ -1,4 +1,4 @@
--- How chains begin, and how parenthesised sums and conditions are told apart.
+-- How chains begin, and how parenthesised sums differ from conditions.
 use Rattle.std.proofs.Common.{◌≡◌, ◌∙◌, ◌≤◌, ◌<◌, ◌+◌, sym, ap, subst, ℕ, zero, suc, List, [], ◌∷◌, ◌++◌, length, refl, Bool, true, false, Option, Some, None, append_assoc, arith, length-append}
 use Rattle.std.proofs.lemmas.Bool.Decides.{nat_tests}
 use Rattle.std.specs.Prelude.{nat_le}
@@ -109,7 +109,7 @@ begins-not-below (suc n) x more h = sum-start (λ ks. begins_chain ks ≡ false)
 pub sum-begins-not : (x : Sum) (more : Kinds) → begins_chain (spelled_sum x ++ more) ≡ false
 sum-begins-not x more = begins-not-below (length (spelled_sum x) + 1) x more (omega arith)
 
--- ---- what follows a parenthesis tells what it holds
+-- ---- what follows a parenthesis decides what it holds
 
 pub group-follows : (ks rest : Kinds) → Passed ks → is_group (in_paren ks ++ rest) ≡ nat_le 20 (front rest)
 group-follows ks rest p = rw (append_assoc ks (terminal.Fixed fixed.Right ∷ []) rest, p.passes 0 (terminal.Fixed fixed.Right ∷ rest)) refl

@@ -20,7 +20,7 @@ is_word word (kind.Sym y) = false
 abbrev pub is_minus : TokenKind → Bool
 is_minus k = is_sign is_minus_sign k
 
--- more than 64 words SELECT
+-- more than 64 SELECTs
 abbrev pub selects_too_many : List TokenKind → Bool
 selects_too_many ks = nat_lt 64 (count_by (is_word (codes "select")) ks)
 

@@ -1,6 +1,6 @@
 -- The grammar of queries above sums and items, as readers of terminals from the left.
 --
--- What the reading of a query answers is defined by them; by the law `read_is_tree` it is the tree that
+-- They define what the reading of a query answers. By the law `read_is_tree` that is the tree that
 -- the tokens spell.
 use Rattle.std.specs.Prelude.{ℕ, zero, suc, ◌+◌, ◌==◌, nat_le, ◌&&◌, ◌||◌, Bool, true, false, if◌then◌else◌, List, [], ◌∷◌, length, Option, Some, None, option_map}
 use Rattle.rt_token.specs.Readers.{Parser, Step, both, done, either, flagged, lead, list_of, made, optional, paren, read_end, read_name, repeated, starts, starts_name, step_after, step_when, ◌>>=◌}
@@ -36,7 +36,7 @@ use Rattle.rt_tree.specs.declared.tree.Meet.{Meet, roll-Meet}
 use Rattle.rt_tree.specs.declared.tree.ChainLink.{ChainLink, roll-ChainLink}
 use Rattle.rt_tree.specs.declared.tree.Chain.{Chain, roll-Chain}
 
--- ---- conditions, over readers of what stands in parentheses
+-- ---- conditions, over readers of what is in parentheses
 
 pub record Inner : Type 0 where
   pub cond : Parser Cond
@@ -57,7 +57,8 @@ abbrev pub begins_chain : Kinds → Bool
 begins_chain [] = false
 begins_chain (k ∷ ks) = if code_of k == code fixed.Left then begins_chain ks else code_of k == code fixed.Select
 
--- whether the parenthesis at the front holds a condition: what follows it is no sign of a sum or of a test
+-- whether the parenthesis at the front holds a condition: what follows it is no sign of a sum or of
+-- a test
 abbrev pub is_group : Kinds → Bool
 is_group ks = starts fixed.Left ks && nat_le (code fixed.And) (front (skip (tail_of ks) 0))
 

@@ -63,7 +63,7 @@ refusal tokens = refusal_of (unsupported tokens) (is_deep (kinds tokens))
 abbrev pub HasNoTree : List Token → Type 0
 HasNoTree tokens = (t : Sql) → ¬ IsTreeOf tokens t
 
--- when each answer comes; want of memory may come anywhere
+-- when each answer comes; NoMemory may come anywhere
 abbrev pub IsAnswer : List Token → Result Sql SqlFault → Type 0
 IsAnswer tokens (Ok t) = IsTreeOf tokens t
 IsAnswer tokens (Err (fault.Unsupported w at)) = refusal tokens ≡ Some (fault.Unsupported w at)

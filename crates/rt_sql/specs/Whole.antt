@@ -1,5 +1,5 @@
--- What tokens say, as a value: the law `read_is_tree` says that the tree that is read here is just
--- the one formed tree that the tokens have.
+-- What tokens say, as a value. By the law `read_is_tree` the tree that is read here is just the one
+-- formed tree that the tokens have.
 use Rattle.std.specs.Prelude.{Bool, true, false, List, Option, Some, None, Result, Ok, Err}
 use Rattle.std.specs.Option.{option_and_then}
 use Rattle.rt_token.specs.Words.{kinds, marks}
@@ -27,12 +27,12 @@ abbrev pub unless_refused : Option SqlFault → Option Sql → Result Sql SqlFau
 unless_refused (Some f) o = Err f
 unless_refused None o = of_tree o
 
--- the tree of the tokens, or their first fault; the place of a syntax fault is left open, and 0
--- stands for it
+-- the tree of the tokens, or their first error; the place of a syntax error is left open, and given
+-- as 0
 abbrev pub sql_read : List Token → Result Sql SqlFault
 sql_read tokens = unless_refused (refusal tokens) (tree_read tokens)
 
--- an answer without the place of a syntax fault
+-- an answer without the place of a syntax error
 abbrev pub placeless : Result Sql SqlFault → Result Sql SqlFault
 placeless (Ok t) = Ok t
 placeless (Err (fault.Unsupported w at)) = Err (fault.Unsupported w at)

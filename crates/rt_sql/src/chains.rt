@@ -1,4 +1,5 @@
-//! SELECT and the set operators, with at most `depth` parentheses in one another.
+//! SELECT and the set operators, with at most `depth` parentheses in one another. INTERSECT binds
+//! more tightly than UNION and EXCEPT, which group from the left.
 
 ghost use Rattle.std.specs.Prelude.{◌≡◌};
 ghost use Rattle.rt_token.specs.Readers.{list_of, paren};
@@ -198,7 +199,7 @@ fn chain<'t>(
     }
 }
 
-/// The chain between parentheses, or the whole one.
+/// A chain without the parentheses around it: the whole query, or what is inside parentheses.
 #[cycle(chain_reader)]
 pub fn inner_chain<'t>(
     alloc: Global,

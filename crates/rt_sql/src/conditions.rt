@@ -177,6 +177,7 @@ fn more_conjs<'t>(
     Ok((items, rest))
 }
 
+/// The condition at the front, and what follows it.
 #[tactic(auto, unfolding(crate::specs::Reads::read_cond))]
 #[cycle(chain_reader)]
 pub fn cond<'t>(

@@ -1,4 +1,4 @@
-//! Tokens that are nested too deep.
+//! Tokens that are nested too deep: limits of our own, tested before the grammar is.
 
 ghost use Rattle.std.specs.Prelude.{◌≡◌, codes};
 ghost use Rattle.rt_token.specs.Words.{kinds};
@@ -7,10 +7,10 @@ ghost use Rattle.rt_sql.specs.Depth as spec;
 use rt_token::{Sym, Token, TokenKind};
 use rt_tree::opens_too_many;
 
-/// The most words SELECT.
+/// The most SELECTs.
 pub const SELECTS: usize = 64;
 
-/// The most words NOT, and the most signs `-`, directly after one another.
+/// The most NOTs, and the most minus signs, directly after one another.
 pub const REPEATED: usize = 8;
 
 fn is_minus(kind: &TokenKind) -> bool

@@ -1,7 +1,7 @@
 //! Parsing a query (ISO/IEC 9075-2, query expression): from tokens to the tree that they spell.
 //!
 //! `specs/Formed.antt` says which trees are formed and which tokens a tree has, and
-//! `specs/Refusals.antt` when each fault comes.
+//! `specs/Refusals.antt` when each error comes.
 #![tactic(auto)]
 
 mod chains;

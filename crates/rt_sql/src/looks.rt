@@ -1,4 +1,5 @@
-//! Looks at the terminals at the front.
+//! Looks that decide between rules, some over many terminals: `(` may open a chain, a condition or
+//! a sum.
 
 ghost use Rattle.std.specs.Prelude.{◌≡◌};
 ghost use Rattle.rt_token.specs.Terminals as terminal_spec;
@@ -6,12 +7,14 @@ ghost use Rattle.rt_sql.specs.Reads as spec;
 
 use rt_token::{Fixed, Terminal, after, code, code_of, front, starts, tail};
 
+/// Whether a sign of comparison is at the front.
 pub fn is_op(terminals: &[Terminal]) -> bool
     ensures { result ≡ spec.is_op terminals.now }
 {
     code(Fixed::Equal) <= front(terminals) && front(terminals) <= code(Fixed::AtLeast)
 }
 
+/// Whether JOIN, INNER or CROSS is at the front.
 pub fn is_join(terminals: &[Terminal]) -> bool
     ensures { result ≡ spec.is_join terminals.now }
 {
@@ -19,6 +22,7 @@ pub fn is_join(terminals: &[Terminal]) -> bool
         || (starts(terminals, Fixed::Join) || starts(terminals, Fixed::Cross))
 }
 
+/// Whether UNION or EXCEPT is at the front.
 pub fn is_union(terminals: &[Terminal]) -> bool
     ensures { result ≡ spec.is_union terminals.now }
 {
@@ -36,7 +40,7 @@ fn begins_chain(terminals: &[Terminal]) -> bool
     starts(rest, Fixed::Select)
 }
 
-/// Whether IN stands there and a chain after it.
+/// Whether IN and a chain after it are at the front.
 pub fn is_in_chain(terminals: &[Terminal]) -> bool
     ensures { result ≡ spec.is_in_chain terminals.now }
 {
@@ -64,7 +68,8 @@ fn skip<'t>(terminals: &'t [Terminal]) -> &'t [Terminal]
     rest
 }
 
-/// Whether the parenthesis at the front holds a condition, and not a sum.
+/// Whether the parenthesis at the front holds a condition, and not a sum. What follows its closing
+/// one decides: AND in `(a = b) AND c = d`, but `>` in `(a + b) > c`.
 pub fn is_group(terminals: &[Terminal]) -> bool
     ensures { result ≡ spec.is_group terminals.now }
 {

@@ -1,3 +1,6 @@
+//! From tokens to a query's tree: words that are refused, nesting, and then the grammar. Crates
+//! above rest on the laws below, and not on how the readers in this crate branch.
+
 ghost use Rattle.std.specs.Prelude.{◌≡◌, IfSome, List, Some, Ok, Err};
 ghost use Rattle.rt_token.specs.Reads.{Answers};
 ghost use Rattle.rt_sql.specs.Formed.{IsTreeOf};
@@ -38,7 +41,7 @@ fn tree(alloc: Global, tokens: &[Token]) -> Result<Sql, ReadFault>
     query(alloc, terminals.as_slice())
 }
 
-/// Reads the tree of a query.
+/// The tree of a query (ISO/IEC 9075-2, query expression), or why the tokens are none.
 pub fn parse(alloc: Global, tokens: &[Token]) -> Result<Sql, SqlFault>
     ensures answer { IsAnswer tokens.now result }
     ensures tree { (t : Tree) → IsTreeOf tokens.now t → Gives is_memory result (Ok t) }

@@ -1,4 +1,4 @@
-//! Lists of sums, and the tests that hold no chain.
+//! The tests that hold no chain: comparisons, IS NULL, BETWEEN, and IN with a list of sums.
 
 ghost use Rattle.std.specs.Prelude.{◌≡◌};
 ghost use Rattle.rt_token.specs.Readers.{list_of};

@@ -192,7 +192,7 @@ fn maybe_where<'t>(
     Ok((Some(cond), rest))
 }
 
-/// What stands after FROM.
+/// What follows FROM: the sources and the condition after WHERE, if there is one.
 #[cycle(chain_reader)]
 pub fn sources_where<'t>(
     alloc: Global,

@@ -1,4 +1,4 @@
-//! Words that no query may have.
+//! Words that no query may have: SQL that is not read, refused by name and not as a syntax error.
 
 ghost use Rattle.std.specs.Prelude.{◌≡◌, bytes_eq, option_map};
 ghost use Rattle.rt_sql.specs.Refusals as spec;
@@ -50,7 +50,7 @@ fn begins_left(tokens: &[Token]) -> bool
     }
 }
 
-// The word, where it is refused before the tokens that follow it.
+// The word, where it is refused given the tokens that follow it: `count(` is a call.
 fn refused_word<'t>(kind: &'t TokenKind, next: &[Token]) -> Option<&'t Txt>
     ensures { option_map (λ word. word.now) result ≡ spec.refused_word kind.now next.now }
 {
@@ -66,7 +66,7 @@ fn refused_word<'t>(kind: &'t TokenKind, next: &[Token]) -> Option<&'t Txt>
     }
 }
 
-/// The first word that is refused, and its place.
+/// The first word that is refused, and the place of its first byte, from 0.
 pub fn unsupported(tokens: &[Token]) -> Option<(&Txt, usize)>
     ensures { option_map (λ u. (u.0.now, u.1)) result ≡ spec.unsupported tokens.now }
 {

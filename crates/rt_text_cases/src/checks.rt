@@ -1,5 +1,5 @@
-//! The checks and dependencies of a table as a short text, for tests: columns by their numbers, each
-//! condition in square brackets, `!` before a negation, `&` for AND and `|` for OR.
+//! The checks and dependencies of a table as a short text, for tests. Columns are given by their
+//! numbers and conditions in square brackets; `!` is NOT, `&` is AND and `|` is OR.
 
 use crate::told::Told;
 use rt_schema::{Check, CheckAtom, CheckLeaf, CheckPart, Depend, Rule, Side};

@@ -1,3 +1,5 @@
+//! Reading and writing, over the system's files and over those in memory, with calls that fail.
+
 ghost use Rattle.std.specs.Prelude.{◌<◌, ◌^◌};
 
 use rt_io::{

@@ -1,6 +1,7 @@
-//! The tests of what reads: values, files and words, tokens, and the texts of schemas and queries.
+//! The tests of what reads: values, files and arguments, tokens, and the texts of schemas and
+//! queries.
 //!
-//! They stand in a crate of their own, since a crate with tests is proved twice.
+//! They are a crate of their own, since a crate with tests is proved twice.
 #![tactic(auto)]
 
 #[cfg(test)]

@@ -1,3 +1,6 @@
+//! Parsing queries: one text for each rule of the grammar, errors and their places, and the limits
+//! of nesting.
+
 use crate::shape::shape;
 use crate::told::Told;
 use rt_sql::{SqlFault, parse};
@@ -30,7 +33,7 @@ fn put_fault(out: &mut Told, fault: &SqlFault) {
     }
 }
 
-// Puts the tree's short text, or the fault.
+// Puts the tree's short text, or the error.
 fn put_read(rt: &impl Abort, alloc: Global, out: &mut Told, text: &str) {
     match parsed(rt, alloc, text) {
         Ok(sql) => {
@@ -50,7 +53,7 @@ fn is_told(rt: &impl Abort, alloc: Global, text: &str, wanted: &str) -> bool {
     out.is(wanted)
 }
 
-// Texts of the grammar, what tree they have, and beside each one that has none: a syntax fault.
+// Texts of the grammar, the tree that each has, and with each a text that has none: a syntax error.
 const RULES: [(&str, &str, &str); 25] = [
     ("SELECT a FROM t;", "<S a F t>;", "SELECT a FROM t;;"),
     (
@@ -194,7 +197,7 @@ fn tells_faults(rt: HostRuntime) {
     }
 }
 
-// `open` as often as told, the middle, and `close` as often.
+// `open` so many times, the middle, and `close` as many times.
 fn nested(
     rt: &impl Abort,
     alloc: Global,
@@ -274,8 +277,8 @@ fn is_deepest(
     read == Ending::Read && more == Ending::TooDeep
 }
 
-// Texts before what is nested, what opens a nest, how many nests a query may have, and what stands in
-// the innermost one and closes each.
+// Texts before what is nested, what opens a nest, how many nests a query may have, what is in the
+// innermost one, and what closes each.
 const DEEPEST: [(&str, &str, usize, &str, &str); 5] = [
     ("SELECT a FROM t WHERE ", "(", 64, "a = 1", ")"),
     ("SELECT a FROM t WHERE ", "NOT ", 8, "a = 1", ""),
@@ -316,7 +319,7 @@ fn sixty(rt: &impl Abort, alloc: Global, front: &str, back: &str) -> String {
     text
 }
 
-// The parentheses are those of a sum, as the comparison behind the last one says.
+// The parentheses are those of a sum, as the comparison after the last one says.
 #[test]
 fn reads_a_sum_in_sixty_parentheses(rt: HostRuntime) {
     let alloc = rt.alloc();

@@ -1,3 +1,5 @@
+//! Reading schemas: what a text makes, each error, and the order of the errors.
+
 use crate::checks::rules;
 use crate::told::Told;
 use rt_ddl::{Excess, SchemaFault, read_schema};
@@ -82,7 +84,7 @@ fn says_students(alloc: Global, text: &str, wanted: &[Table]) -> bool {
     }
 }
 
-// Texts of one schema: with no more words than it takes, and with words that have no effect.
+// Texts of one schema: with no more keywords than it takes, and with some that have no effect.
 #[test]
 fn reads_the_students(rt: HostRuntime) {
     let students = students(&rt, rt.alloc());
@@ -106,7 +108,7 @@ fn put_named(out: &mut Told, word: &str, name: &Txt) {
     out.put(name.as_str());
 }
 
-// The fault's kind and name, or its place.
+// The error's kind and name, or its place.
 fn put_fault(out: &mut Told, fault: &SchemaFault) {
     match fault {
         SchemaFault::Lex(_) => out.put("lex"),
@@ -125,7 +127,7 @@ fn put_fault(out: &mut Told, fault: &SchemaFault) {
     }
 }
 
-// How many tables the text has, or its fault.
+// How many tables the text has, or its error.
 fn put_read(out: &mut Told, alloc: Global, text: &str) {
     match read_schema(alloc, text.as_bytes()) {
         Ok(schema) => {
@@ -253,7 +255,7 @@ fn is_syntax_fault(alloc: Global, text: &str) -> bool {
     )
 }
 
-// Nesting, arithmetic, names of tables, and rules that stand in the wrong place.
+// Nesting, arithmetic, names of tables, and rules in the wrong place.
 #[test]
 fn tells_what_is_no_check(rt: HostRuntime) {
     for text in &[
@@ -276,7 +278,7 @@ fn tells_what_is_no_check(rt: HostRuntime) {
     }
 }
 
-// The order of the faults of checks and dependencies.
+// The order of the errors of checks and dependencies.
 const FAULTS_OF_CHECKS: [(&str, &str); 13] = [
     ("CREATE TABLE h (dependency INTEGER)", "tables 1"),
     (

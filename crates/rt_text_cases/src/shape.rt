@@ -1,4 +1,4 @@
-//! A tree as a short text, for tests: `<` and `>` round a chain, `{` and `}` round a condition.
+//! A tree as a short text, for tests: `<` and `>` around a chain, `{` and `}` around a condition.
 
 use crate::told::Told;
 use rt_token::Name;

@@ -1,3 +1,5 @@
+//! From tokens to terminals, and the places of syntax errors.
+
 use rt_token::{Fixed, ReadFault, Terminal, name, syntax_place, terminals, tokens};
 use rt_value::List;
 use std::alloc::Global;

@@ -1,3 +1,5 @@
+//! The lexer: each kind of token with its place, and the leftmost error.
+
 use crate::told::Told;
 use rt_token::{LexFault, Sym, Token, TokenKind, tokens};
 use std::alloc::Global;

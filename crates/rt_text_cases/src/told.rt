@@ -3,7 +3,7 @@
 use std::alloc::Global;
 use std::fmt::Write;
 
-/// A text, and whether memory was wanting for a part of it.
+/// A text, and whether a part of it is missing since memory ran out.
 #[derive(Drop)]
 pub struct Told {
     text: String,
@@ -18,6 +18,7 @@ impl Told {
         }
     }
 
+    /// Puts a part at the end.
     pub fn put(&mut self, part: &str) {
         if self.text.push_str(part).is_err() {
             self.is_cut = true;

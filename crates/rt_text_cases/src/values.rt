@@ -1,3 +1,5 @@
+//! Values, rows, texts and lists: comparisons, orders and copies.
+
 use rt_value::{Boxed, Keep, List, Op, Row, Truth, Txt, Value, compare};
 use std::alloc::Global;
 use std::cmp::Ordering;
@@ -68,7 +70,7 @@ fn a_copy_is_its_source(rt: HostRuntime) {
     }
 }
 
-// Whether a list, and a box of it, holds an item that was pushed and two behind it.
+// Whether a list, and a box of it, holds an item that was pushed and two after it.
 fn is_filled(rt: &impl Abort, alloc: Global) -> bool {
     let mut list = List::new(alloc);
     list.push(7u8).expect(rt, "memory");

@@ -1,9 +1,11 @@
+//! The command line of `ratest`: what is read and what is a usage error.
+
 use rt_io::{WordFault, Words, read_words};
 use rt_value::{List, Txt};
 use std::alloc::Global;
 use std::process::Abort;
 
-// What the words, one after each space, ask for.
+// What the arguments, split at each space, ask for.
 fn read(rt: &impl Abort, alloc: Global, line: &str) -> Result<Words, WordFault> {
     let mut words = List::new(alloc);
     for word in line.split(' ') {
@@ -17,7 +19,7 @@ fn is_usage_fault(rt: &impl Abort, alloc: Global, line: &str) -> bool {
     matches!(read(rt, alloc, line), Err(WordFault::Usage))
 }
 
-// The paths, each behind a `|`, and the numbers.
+// The paths, each after a `|`, and the numbers.
 fn shown(rt: &impl Abort, alloc: Global, words: &Words) -> String {
     let mut text = String::new(alloc);
     for path in words.paths.as_slice() {

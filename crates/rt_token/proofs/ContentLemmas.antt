@@ -67,7 +67,7 @@ double-of q (c ∷ d ∷ z) l e h =
 quote-at : (q b : ℕ) → not (b == q) ≡ false → b ≡ q
 quote-at q b h = grind (arith, nat_tests)
 
--- the first byte behind the run is a quote
+-- the first byte after the run is a quote
 pub run-stops : (q : ℕ) (z : Text) → run q z < length z → get_or z (run q z) 0 ≡ q
 run-stops q z h = quote-at q (get_or z (run q z) 0) (prefix_len_stops (λ c. not (c == q)) z 0 h)
 

@@ -17,7 +17,7 @@ fixed_at [] n = fixed.Dot
 fixed_at (f ∷ fs) zero = f
 fixed_at (f ∷ fs) (suc n) = fixed_at fs n
 
--- by their codes; `Dot` stands where a code is not that of a fixed terminal
+-- by their codes; `Dot` fills in where a code is not that of a fixed terminal
 all_fixed : List Fixed
 all_fixed = fixed.Left ∷ fixed.Dot ∷ fixed.Star ∷ fixed.Plus ∷ fixed.Minus ∷ fixed.Constraint ∷ fixed.Null ∷ fixed.Primary ∷ fixed.Unique ∷ fixed.References ∷ fixed.Equal ∷ fixed.NotEqual ∷ fixed.Below ∷ fixed.AtMost ∷ fixed.Above ∷ fixed.AtLeast ∷ fixed.Is ∷ fixed.Not ∷ fixed.In ∷ fixed.Between ∷ fixed.And ∷ fixed.Or ∷ fixed.As ∷ fixed.Dot ∷ fixed.Inner ∷ fixed.Join ∷ fixed.Cross ∷ fixed.Check ∷ fixed.Comma ∷ fixed.Where ∷ fixed.Intersect ∷ fixed.Union ∷ fixed.Except ∷ fixed.Right ∷ fixed.Semi ∷ fixed.Dot ∷ fixed.From ∷ fixed.On ∷ fixed.Select ∷ fixed.Distinct ∷ fixed.Exists ∷ fixed.Create ∷ fixed.Table ∷ fixed.Foreign ∷ fixed.Dot ∷ fixed.Dot ∷ []
 

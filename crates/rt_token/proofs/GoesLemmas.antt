@@ -37,7 +37,7 @@ inside-drop zero at z h = ap (λ (k : ℕ). lexed_from 0 k z) (omega arith)
 inside-drop (suc n) at [] h = absurd (omega arith)
 inside-drop (suc n) at (b ∷ z) h = inside-drop n (at + 1) z (omega arith) ∙ ap (λ (k : ℕ). lexed_from 0 k (drop n z)) (omega arith)
 
--- a lexeme at the front, and the rest behind it
+-- a lexeme at the front, and the rest after it
 turn : (at n : ℕ) (z : Text) → 0 < n → n ≤ length z → lexed_from (n - 1) (at + 1) (drop 1 z) ≡ lexed_from 0 (at + n) (drop n z)
 turn at n [] p h = absurd (omega arith)
 turn at zero (b ∷ z) p h = absurd (omega arith)
@@ -82,6 +82,6 @@ passes-if : (b : Bool) (A B : Type 0) → (A → B) → MatchBool b (Unit {0}) A
 passes-if true A B f h = tt
 passes-if false A B f h = f h
 
--- a fault of a part is the whole's, where the definitions agree
+-- an error of a part is the whole's, where the definitions agree
 pub passes : (e : LexFault) {T U : Type 0} (part : Result T LexFault) (whole : Result U LexFault) → (part ≡ Err e → whole ≡ Err e) → Gives {T = T} is_memory (Err e) part → Gives {T = U} is_memory (Err e) whole
 passes e part whole f h = passes-if (is_memory e) (part ≡ Err e) (whole ≡ Err e) f h

@@ -16,9 +16,9 @@ use Rattle.rt_token.proofs.CalmLemmas.{IsCalm, calm-name, calm-replicate}
 abbrev pub Sound : {A : Type 0} → Parser A → (A → Kinds) → Type 0
 Sound {A = A} p spell = (ks : Kinds) (q : A × Kinds) → p ks ≡ Some q → ks ≡ spell q.0 ++ q.1
 
--- A reader keeps to a spelling: what it reads is spelled so; a tree of fewer than n terminals is read
--- wherever a terminal of code `low` or more follows it; and in a strict grammar its parentheses match,
--- and no name stands in it directly before an opening parenthesis.
+-- A reader keeps to a spelling. What it reads is spelled so, and a tree of fewer than n terminals
+-- is read wherever a terminal of code `low` or more follows it. In a strict grammar its parentheses
+-- match, and no name in it comes directly before an opening parenthesis.
 pub record Lawful {A : Type 0} (strict : Bool) (p : Parser A) (spell : A → Kinds) (n low : ℕ) : Type 0 where
   pub sound : Sound p spell
   pub reads : (x : A) (rest : Kinds) → length (spell x) < n → low ≤ front rest → p (spell x ++ rest) ≡ Some (x, rest)

@@ -11,7 +11,8 @@ use Rattle.rt_token.proofs.FrontLemmas.{Passed, after-fixed, after-none, after-s
 use Rattle.rt_token.proofs.CalmLemmas.{IsCalm}
 use Rattle.rt_token.proofs.Laws.{Lawful}
 
--- a step keeps to a spelling, may be followed by itself, and stops where a terminal of code `high` or more stands
+-- a step keeps to a spelling, may be followed by itself, and stops at a terminal of code `high` or
+-- more
 pub record StepLaw {A : Type 0} (strict : Bool) (step : Step A) (spell : A → Kinds) (n low high : ℕ) : Type 0 where
   pub sound : (ks : Kinds) (x : A) (rest : Kinds) → step ks ≡ Some (Some (x, rest)) → ks ≡ spell x ++ rest
   pub reads : (x : A) (rest : Kinds) → length (spell x) < n → low ≤ front rest → step (spell x ++ rest) ≡ Some (Some (x, rest))

@@ -61,12 +61,12 @@ fail-of step items rest (suc n) l p e = rw e refl
 pub goes-fails : {A : Type 0} (step : Step A) (items : List A) (rest start : Kinds) → Goes step items rest start → 0 < length rest → step rest ≡ Some None → many step (length start) start ≡ None
 goes-fails step items rest start g p e = sym g.so_far ∙ fail-of step items rest g.turns g.enough p e
 
--- a fault is passed on
+-- an error is passed on
 pub passes : {A B : Type 0} (e : ReadFault) (o : Option (A × Kinds)) (d : Option (B × Kinds)) → Reads {A = A} (Err e) o → (o ≡ None → d ≡ None) → Reads {A = B} (Err e) d
 passes (Syntax left) o d r f = f r
 passes NoMemory o d r f = tt
 
--- the fault that `?` returns is the one that it met
+-- the error that `?` returns is the one that it met
 pub passed-on : {A : Type 0} (r : Result (A × Bor Kinds) ReadFault) (e : ReadFault) (o : Option (A × Kinds)) → IsErrAnd r (λ x. x ≡ e) → Reads {A = A} (Err e) o → Reads r o
 passed-on r e o f a = let p = err_from_is_err_and r f in rw (p.1, p.2) a
 

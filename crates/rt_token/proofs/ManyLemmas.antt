@@ -11,7 +11,7 @@ bind-some (Some x) f y e = (x, refl, e)
 pub some-is : {A : Type 0} (x y : A) → Some x ≡ Some y → x ≡ y
 some-is x y e = cc
 
--- what a step reads is what stands there
+-- what a step reads is what is there
 pub record StepSound {A : Type 0} (step : Step A) (spell : A → Kinds) : Type 0 where
   pub spelled : (ks : Kinds) (x : A) (rest : Kinds) → step ks ≡ Some (Some (x, rest)) → ks ≡ spell x ++ rest
 

@@ -1,4 +1,4 @@
--- That what stands at the front of a text is read from its bytes.
+-- That the token at the front of a text is read from its bytes.
 use Rattle.std.proofs.Common.{◌≡◌, ◌<◌, ◌+◌, ◌-◌, ◌≤◌, ◌∙◌, subst, ℕ, zero, suc, List, [], ◌∷◌, ◌++◌, length, refl, Option, Some, None, arith, IsTrue, true, false, Bool, take, drop, get_or, ap, sym, drop-drop, length-drop}
 use Rattle.std.specs.Prelude.{option_map, ◌==◌, ◌||◌, if◌then◌else◌, nat_le, IfOk, Ok, Err}
 use Rattle.std.specs.List.{prefix_len}
@@ -38,7 +38,7 @@ word-reading text at n l h e = word-front (drop at text) n (omega (arith, length
 word-byte-ascii : (b : ℕ) → is_word_byte b ≡ true → b < 128
 word-byte-ascii b h = grind (arith, nat_tests)
 
--- a text may be cut behind a word
+-- a text may be cut after a word
 pub word-boundary : (text : Text) (at n : ℕ) → IsUtf8 text → at < length text → is_letter (get_or text at 0) ≡ true → n ≡ prefix_len is_word_byte (drop at text) → at + n ≤ length text
     → IsCharBoundary text (at + n)
 word-boundary text at zero u l h e w = let a : at + 0 ≡ at = omega arith in rw a (IsCharBoundary-before_ascii text at l (let b : is_word_byte (get_or text at 0) ≡ true = grind arith in word-byte-ascii (get_or text at 0) b))

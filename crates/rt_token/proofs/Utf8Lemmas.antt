@@ -1,4 +1,4 @@
--- Of a text that is UTF-8, no fault says that it isn't.
+-- Of a text that is UTF-8, no error says that it isn't.
 use Rattle.std.proofs.Common.{◌≡◌, ◌+◌, ◌-◌, ℕ, zero, suc, [], ◌∷◌, drop, refl, Option, Some, None, Bool, true, false, Result, Ok, Err, subst, take}
 use Rattle.std.specs.Prelude.{◌==◌, ◌&&◌, if◌then◌else◌, nat_lt, slice_index}
 use Rattle.std.specs.Char.{is_ascii_digit}

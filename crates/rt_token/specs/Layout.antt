@@ -1,4 +1,4 @@
--- Where tokens stand in their text, and what a fault says of it.
+-- Where tokens are in their text, and what an error says of it.
 use Rattle.std.specs.Prelude.{◌≤◌, ◌<◌, ℕ, Bool, true, false, List, [], ◌∷◌, Ok, Err}
 use Rattle.std.specs.Str.{IsUtf8, IsValidUpTo}
 use Rattle.rt_token.specs.declared.token.Token.{Token}

@@ -1,4 +1,4 @@
--- Where a text can be at fault.
+-- Which places a syntax error can name.
 use Rattle.std.specs.Prelude.{ℕ, List, [], ◌∷◌, map, Contains}
 use Rattle.rt_token.specs.declared.token.Token.{Token}
 

@@ -1,7 +1,7 @@
 -- Readers of terminals from the left, and how a grammar's rules are put together of them.
 --
--- What a text is, the spellings of a grammar's trees say; by its law `read_is_tree` its readers give just
--- the tree that the tokens spell.
+-- A grammar is defined by the spellings of its trees. By its law `read_is_tree` its readers give
+-- just the tree that the tokens spell.
 use Rattle.std.specs.Prelude.{◌&&◌, bytes_eq, not, ℕ, zero, suc, ◌==◌, Bool, true, false, if◌then◌else◌, List, [], ◌∷◌, length, Option, Some, None, option_and_then}
 use Rattle.rt_token.specs.declared.fixed.Fixed.{Fixed}
 use Rattle.rt_token.specs.declared.fixed.Fixed.TheVariants as fixed
@@ -36,18 +36,18 @@ abbrev pub flag_from : Kinds → Option Kinds → Bool × Kinds
 flag_from ks None = (false, ks)
 flag_from ks (Some r) = (true, r)
 
--- whether the terminal stands at the front, and what follows it, or all
+-- whether the terminal is at the front, and what follows it, or all
 abbrev pub flag_at : Fixed → Kinds → Bool × Kinds
 flag_at f ks = flag_from ks (after f ks)
 
 abbrev pub flagged_from : {A : Type 0} → Parser A → Kinds → Option Kinds → Option ((Bool × A) × Kinds)
 flagged_from p ks o = p (flag_from ks o).1 >>= λ a. Some (((flag_from ks o).0, a.0), a.1)
 
--- whether the terminal stands there, then the rest
+-- whether the terminal is there, then the rest
 abbrev pub flagged : {A : Type 0} → Fixed → Parser A → Parser (Bool × A)
 flagged f p ks = flagged_from p ks (after f ks)
 
--- how often the terminal stands there, then the rest
+-- how often the terminal comes there, then the rest
 abbrev pub repeated : {A : Type 0} → Fixed → Parser A → Parser (ℕ × A)
 repeated f p ks = p (counted f ks).1 >>= λ a. Some (((counted f ks).0, a.0), a.1)
 
@@ -55,7 +55,7 @@ repeated f p ks = p (counted f ks).1 >>= λ a. Some (((counted f ks).0, a.0), a.
 abbrev pub optional : {A : Type 0} → (Kinds → Bool) → Parser A → Parser (Option A)
 optional test p ks = if test ks then (p ks >>= λ a. Some (Some a.0, a.1)) else Some (None, ks)
 
--- whether the terminal stands at the front
+-- whether the terminal is at the front
 abbrev pub starts : Fixed → Kinds → Bool
 starts f ks = front ks == code f
 
@@ -66,7 +66,7 @@ abbrev pub or_else_read : {A : Type 0} → Parser A → Parser A → Kinds → O
 or_else_read p r ks None = r ks
 or_else_read p r ks (Some rest) = p rest
 
--- the one after the terminal, where it stands there, and else the other
+-- the one after the terminal, where it is there, and else the other
 abbrev pub alternative : {A : Type 0} → Fixed → Parser A → Parser A → Parser A
 alternative f p r ks = or_else_read p r ks (after f ks)
 
@@ -124,7 +124,7 @@ many step (suc n) ks = match_step (step ks) (Some ([], ks)) (λ p. many step n p
 abbrev pub list_of : {A : Type 0} → Step A → Parser (List A)
 list_of step ks = many step (length ks) ks
 
--- an item, where the test says that one stands there
+-- an item, where the test says that one is there
 abbrev pub step_when : {A : Type 0} → (Kinds → Bool) → Parser A → Step A
 step_when test p ks = if test ks then Some (p ks) else None
 

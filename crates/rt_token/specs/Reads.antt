@@ -5,7 +5,7 @@ use Rattle.rt_token.specs.Terminals.{Kinds}
 use Rattle.rt_token.specs.declared.read_fault.ReadFault.{ReadFault}
 use Rattle.rt_token.specs.declared.read_fault.ReadFault.TheVariants.{Syntax, NoMemory}
 
--- the answer is the value that is read, or Syntax where none is; want of memory may come anywhere
+-- the answer is the value that is read, or Syntax where none is; NoMemory may come anywhere
 abbrev pub Answers : {A : Type 0} → Result A ReadFault → Option A → Type 0
 Answers (Ok x) o = o ≡ Some x
 Answers (Err (Syntax left)) o = o ≡ None

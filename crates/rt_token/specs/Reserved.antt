@@ -1,5 +1,5 @@
--- The reserved words (ISO/IEC 9075-2, 5.2 <reserved word>; the list has the words that the statements
--- read here use).
+-- The reserved words (ISO/IEC 9075-2, 5.2 <reserved word>): those of the standard's list that
+-- matter for the statements read here.
 use Rattle.std.specs.Prelude.{Bool, List, [], ◌∷◌, codes}
 use Rattle.std.specs.List.{list_any}
 use Rattle.std.specs.Str.{bytes_eq}

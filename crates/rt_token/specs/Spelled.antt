@@ -1,5 +1,5 @@
--- The spellings of each token (ISO/IEC 9075-2, 5.2 and 5.3): what may stand in a text where it was
--- read.
+-- The spellings of each token (ISO/IEC 9075-2, 5.2 and 5.3): the bytes that it may be read
+-- from.
 use Rattle.std.specs.Prelude.{◌≡◌, ◌≢◌, ◌≤◌, ◌<◌, ℕ, pos, Bool, false, ◌&&◌, if◌then◌else◌, ◌==◌, List, [], ◌∷◌, ◌++◌, length, take, map, Contains, All, IfSome, IsTrue, Ok, Err, codes}
 use Rattle.std.specs.Char.{to_ascii_lowercase}
 use Rattle.std.specs.List.{between, list_all}

@@ -1,7 +1,7 @@
--- Terminals: what the two grammars are written over, and how they stand in a row.
+-- Terminals: what the two grammars are written over, and the order of their codes.
 --
--- A grammar's rule may be followed by the terminals whose code is high enough: the codes stand in
--- such an order that one number a rule says what may follow it.
+-- A grammar's rule may be followed by the terminals whose code is high enough. The codes are in
+-- such an order that one number for each rule says what may follow it.
 use Rattle.std.specs.Prelude.{ℕ, zero, suc, ◌==◌, Bool, true, false, if◌then◌else◌, List, [], ◌∷◌, ◌++◌, Option, Some, None}
 use Rattle.rt_token.specs.declared.fixed.Fixed.{Fixed}
 use Rattle.rt_token.specs.declared.fixed.Fixed.TheVariants as fixed
@@ -87,7 +87,7 @@ abbrev pub after : Fixed → Kinds → Option Kinds
 after f [] = None
 after f (k ∷ ks) = if code_of k == code f then Some ks else None
 
--- how often the terminal stands at the front, and what follows
+-- how often the terminal comes at the front, and what follows
 abbrev pub counted : Fixed → Kinds → ℕ × Kinds
 counted f [] = (0, [])
 counted f (k ∷ ks) = if code_of k == code f then (suc (counted f ks).0, (counted f ks).1) else (0, k ∷ ks)
@@ -106,7 +106,7 @@ skip (k ∷ ks) more = if code_of k == code fixed.Left then skip ks (suc more) e
 abbrev pub in_paren : Kinds → Kinds
 in_paren ks = terminal.Fixed fixed.Left ∷ (ks ++ terminal.Fixed fixed.Right ∷ [])
 
--- a word without effect
+-- the terminal where the flag is true, and else nothing
 abbrev pub flag : Fixed → Bool → Kinds
 flag f false = []
 flag f true = terminal.Fixed f ∷ []

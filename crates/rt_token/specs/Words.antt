@@ -96,7 +96,7 @@ kind_of (terminal.Str t) = kind.Str t
 abbrev pub kinds : List Token → List TokenKind
 kinds ts = map (λ t. t.kind) ts
 
--- ---- what may stand in a formed tree
+-- ---- what a formed tree may have
 
 -- a name is quoted or not reserved, and a number is from 0 to 2^127 - 1
 abbrev pub is_formed : Terminal → Bool

@@ -1,15 +1,18 @@
-//! Classes of bytes, and how many bytes of a class stand at the front of a text.
+//! Classes of bytes, and how many bytes of a class a text begins with. Loops are private to this
+//! module: `lexeme` knows them by their values alone.
 ghost use Rattle.std.specs.Prelude.{◌≡◌, ◌≤◌, ◌==◌, length, not, drop, slice_index, IfSome};
 ghost use Rattle.std.specs.Char.{is_ascii_digit};
 ghost use Rattle.std.specs.List.{prefix_len};
 ghost use Rattle.rt_token.specs.Lexed as spec;
 
+/// Whether the byte is a space, a tab, LF, CR or a form feed.
 pub fn is_space(b: u8) -> bool
     ensures { result ≡ spec.is_space b }
 {
     b == b' ' || b == b'\t' || b == b'\n' || b == b'\r' || b == 12
 }
 
+/// Whether the byte is a letter of ASCII or `_`.
 pub fn is_letter(b: u8) -> bool
     ensures { result ≡ spec.is_letter b }
 {
@@ -37,6 +40,7 @@ pub fn rest(z: &[u8], at: usize) -> &[u8]
     z.split_at(at).1
 }
 
+/// How many letters, digits and `_` there are at the front.
 pub fn word_len(z: &[u8]) -> usize
     ensures value { result ≡ prefix_len spec.is_word_byte z.now }
     ensures within { result ≤ length z.now }
@@ -48,6 +52,7 @@ pub fn word_len(z: &[u8]) -> usize
     n
 }
 
+/// How many digits there are at the front.
 pub fn digits_len(z: &[u8]) -> usize
     ensures value { result ≡ prefix_len is_ascii_digit z.now }
     ensures within { result ≤ length z.now }

@@ -1,10 +1,12 @@
+//! The six signs of comparisons, found by their code; shared by both grammars of conditions.
+
 ghost use Rattle.std.specs.Prelude.{◌≡◌};
 ghost use Rattle.rt_token.specs.Comparisons as spec;
 
 use crate::fixed::{Fixed, code};
 use rt_value::Op;
 
-/// The comparison whose sign has this code.
+/// The comparison whose sign has this code (ISO/IEC 9075-2, comparison predicate).
 pub fn op_at(place: u8) -> Option<Op>
     ensures { result ≡ spec.op_at place }
 {

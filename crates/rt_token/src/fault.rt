@@ -1,3 +1,5 @@
+//! The error of the lexer.
+
 use rt_value::NoMemory;
 
 /// Why a text has no tokens. The number is the place of a byte in the text, counted from 0.

@@ -1,9 +1,12 @@
+//! The fixed terminals and their codes. The numbers are part of every grammar's proofs: a new
+//! terminal needs a place in the order, in `specs/Terminals.antt` too.
+
 ghost use Rattle.std.specs.Prelude.{◌≡◌};
 ghost use Rattle.rt_token.specs.Terminals as spec;
 
 /// A terminal that is always spelled the same: a symbol, or a reserved word of one of the grammars.
 ///
-/// They stand in the order of their codes.
+/// The variants are in the order of their codes.
 #[derive(Clone, Copy, PartialEq, Eq, Debug)]
 pub enum Fixed {
     Left,
@@ -50,7 +53,11 @@ pub enum Fixed {
     Foreign,
 }
 
-/// The place of a terminal in the order of what may follow what.
+/// The place of a terminal in the order of what may follow what. Each rule of a grammar has a
+/// number: what it reads may be followed by each terminal of that code or a higher one. In
+/// `a.x * b + c - d, e` the number of a factor is 2, of a product 3 and of a sum 5. So `.` (1) goes
+/// on with a factor, `*` (2) with a product, `+` (3) and `-` (4) with a sum; `,` (28) ends all
+/// three.
 pub fn code(fixed: Fixed) -> u8
     ensures { result ≡ spec.code fixed }
 {

@@ -1,4 +1,5 @@
-//! What stands at a place of a text.
+//! One step of the lexer: the token, white space or comment that begins at a place. The order of
+//! the tests is private; the value is that of `Lexed.front`.
 ghost use Rattle.std.specs.Prelude.{◌≡◌, ◌≤◌, ◌<◌, ◌+◌, ◌^◌, IsTrue, length, drop, [], ◌∷◌, IfOk, IfSome, IsSome, slice_index, if◌then◌else◌, ◌==◌};
 ghost use Rattle.std.specs.Char.{is_ascii_digit};
 ghost use Rattle.std.specs.List.{prefix_len};
@@ -18,7 +19,8 @@ use crate::token::TokenKind;
 use rt_value::decimal_up_to;
 use std::alloc::Global;
 
-/// So many bytes of a text: a token, or without a kind white space or a comment.
+/// `len` bytes of a text: a token of this kind, or where there is no kind, white space or a
+/// comment.
 #[derive(Drop)]
 pub struct Lexeme {
     pub kind: Option<TokenKind>,

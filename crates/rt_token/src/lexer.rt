@@ -1,3 +1,6 @@
+//! The lexer: bytes to tokens, one at a time. How a token is found is private; what comes out is
+//! `Lexed`, the definition that the contract names.
+
 ghost use Rattle.std.specs.Prelude.{◌≡◌, ◌≤◌, ◌<◌, ◌+◌, length, IfOk};
 ghost use Rattle.rt_value.specs.Gives.{Gives};
 ghost use Rattle.rt_token.specs.Lexed.{lexed, lexed_from};
@@ -11,7 +14,8 @@ use crate::token::Token;
 use rt_value::List;
 use std::alloc::Global;
 
-/// The tokens of a text, in its order, without white space and comments; or its leftmost fault.
+/// The tokens of a text, in its order, without white space and comments; or its leftmost error
+/// (ISO/IEC 9075-2, 5.2 and 5.3).
 pub fn tokens(alloc: Global, text: &[u8]) -> Result<List<Token>, LexFault>
     ensures value { Gives is_memory result (lexed text.now) }
     ensures utf8 { TellsUtf8 result text.now }

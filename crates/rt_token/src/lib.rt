@@ -1,9 +1,9 @@
 //! The tokens of SQL text (ISO/IEC 9075-2, 5.2 and 5.3): words, quoted names, numbers, texts and
 //! symbols, each with its place; and which words are reserved.
 //!
-//! Besides, what the readers of the schema language and of queries share: terminals, the pass from
-//! tokens to terminals, looks at the terminal at the front, and readers with the laws by which rules
-//! of a grammar are put together.
+//! Also here is what the readers of the schema language and of queries share. These are terminals,
+//! the pass from tokens to terminals, looks at the terminal at the front, and readers with the laws
+//! by which rules of a grammar are put together.
 //!
 //! A grammar is read both ways: what a reader accepts is spelled so, and what is spelled so is
 //! accepted. The laws of `proofs/` say this once for each way to put readers together.

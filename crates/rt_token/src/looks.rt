@@ -1,4 +1,4 @@
-//! Looks at the terminal at the front.
+//! Looks at the terminal at the front: what readers branch on. None of these takes memory.
 
 ghost use Rattle.std.specs.Prelude.{◌≡◌, ◌≤◌, length, option_map};
 ghost use Rattle.rt_token.specs.Readers as readers;
@@ -10,7 +10,7 @@ use crate::terminal::Terminal;
 /// The code of a name.
 pub const NAME: u8 = 23;
 
-/// The code that stands for the end of the terminals.
+/// The code that `front` answers where there are no terminals left.
 pub const END: u8 = 35;
 
 const NUMBER: u8 = 44;
@@ -39,14 +39,14 @@ pub fn front(terminals: &[Terminal]) -> u8
     }
 }
 
-/// Whether the terminal stands at the front.
+/// Whether the terminal is at the front.
 pub fn starts(terminals: &[Terminal], fixed: Fixed) -> bool
     ensures { result ≡ readers.starts fixed terminals.now }
 {
     front(terminals) == code(fixed)
 }
 
-/// What follows the terminal at the front, or None where another stands there.
+/// What follows the terminal at the front, or None where another one or none is there.
 pub fn after<'t>(terminals: &'t [Terminal], fixed: Fixed) -> Option<&'t [Terminal]>
     ensures { option_map (λ rest. rest.now) result ≡ spec.after fixed terminals.now }
 {
@@ -62,7 +62,7 @@ pub fn after<'t>(terminals: &'t [Terminal], fixed: Fixed) -> Option<&'t [Termina
     }
 }
 
-/// How often the terminal stands at the front, and what follows.
+/// How often the terminal comes at the front, and what follows.
 pub fn counted(terminals: &[Terminal], fixed: Fixed) -> (usize, &[Terminal])
     ensures count { result.0 ≡ (spec.counted fixed terminals.now).0 }
     ensures rest { result.1.now ≡ (spec.counted fixed terminals.now).1 }
@@ -76,7 +76,7 @@ pub fn counted(terminals: &[Terminal], fixed: Fixed) -> (usize, &[Terminal])
     (count, rest)
 }
 
-/// Whether the terminal stands at the front, and what follows it, or all.
+/// Whether the terminal is at the front, and what follows it, or all terminals where it isn't.
 pub fn flag(terminals: &[Terminal], fixed: Fixed) -> (bool, &[Terminal])
     ensures flag { result.0 ≡ (readers.flag_at fixed terminals.now).0 }
     ensures rest { result.1.now ≡ (readers.flag_at fixed terminals.now).1 }
@@ -87,7 +87,7 @@ pub fn flag(terminals: &[Terminal], fixed: Fixed) -> (bool, &[Terminal])
     }
 }
 
-/// What follows the terminal at the front, or nothing.
+/// What follows the terminal at the front, whichever it is, or nothing.
 pub fn tail(terminals: &[Terminal]) -> &[Terminal]
     ensures { result.now ≡ spec.tail_of terminals.now }
 {

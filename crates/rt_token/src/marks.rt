@@ -1,4 +1,4 @@
-//! The terminals of tokens.
+//! From tokens to terminals: here a word becomes a keyword or a name, or is refused as reserved.
 
 ghost use Rattle.std.specs.Prelude.{◌≡◌, Some};
 ghost use Rattle.rt_token.specs.Reads.{Answers};
@@ -35,7 +35,7 @@ fn sign_of(sym: Sym) -> Fixed
     }
 }
 
-/// A name with this text.
+/// A name with a copy of this text.
 pub fn name_of(alloc: Global, text: &Txt, quoted: bool) -> Result<Name, ReadFault>
     ensures { Answers result (Some (record { text = text.now; quoted = quoted })) }
 {
@@ -70,7 +70,8 @@ fn terminal(alloc: Global, kind: &TokenKind) -> Result<Terminal, ReadFault>
     }
 }
 
-/// The terminals of the tokens. Syntax where a token is a reserved word of neither grammar.
+/// The terminals of the tokens. Syntax where a token is a reserved word of neither grammar, with
+/// how many tokens were left, that one included.
 pub fn terminals(alloc: Global, tokens: &[Token]) -> Result<List<Terminal>, ReadFault>
     ensures { Answers result (spec.marks (spec.kinds tokens.now)) }
 {

@@ -1,3 +1,5 @@
+//! From "so many tokens were left" to a place in the text, for messages.
+
 ghost use Rattle.std.specs.Prelude.{◌≡◌};
 ghost use Rattle.rt_token.specs.Places.{IsPlace, end_or};
 
@@ -15,8 +17,8 @@ fn end(tokens: &[Token]) -> usize
     end
 }
 
-/// The place of a syntax fault that was seen where `left` tokens were left: the start of the first
-/// of them, or the end of the last token where none was.
+/// The place of a syntax error that was seen where `left` tokens were left: the start of the first
+/// of them, or the end of the last token where none was. Bytes, counted from 0.
 #[tactic(auto, using(crate::proofs::PlaceLemmas::start_is_place, crate::proofs::PlaceLemmas::end_is_place))]
 pub fn syntax_place(tokens: &[Token], left: usize) -> usize
     ensures { IsPlace tokens.now result }

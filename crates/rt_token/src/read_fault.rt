@@ -1,3 +1,5 @@
+//! The error of every reader of terminals.
+
 ghost use Rattle.std.specs.Prelude.{◌≡◌};
 ghost use Rattle.rt_token.specs.declared.read_fault.ReadFault.TheVariants as faults;
 
@@ -6,7 +8,7 @@ use rt_value::NoMemory;
 /// Why terminals aren't read.
 #[derive(Clone, Copy, PartialEq, Eq, Debug)]
 pub enum ReadFault {
-    /// They aren't of the grammar. The number tells how many were left where this was seen.
+    /// They aren't of the grammar. The number is how many were left where this was seen.
     Syntax(usize),
     NoMemory,
 }

@@ -1,4 +1,4 @@
-//! Readers of one terminal, and of the end.
+//! Readers of one terminal, and of the end: what the readers of each grammar are built from.
 
 ghost use Rattle.std.specs.Prelude.{◌≡◌, option_map};
 ghost use Rattle.rt_token.specs.Readers as spec;
@@ -12,7 +12,7 @@ use crate::read_fault::ReadFault;
 use crate::terminal::{Name, Terminal};
 use std::alloc::Global;
 
-/// What follows the terminal, which has to stand at the front.
+/// What follows the terminal, which has to be at the front.
 pub fn expect<'t>(terminals: &'t [Terminal], fixed: Fixed) -> Result<&'t [Terminal], ReadFault>
     ensures { Rests result (after fixed terminals.now) }
 {
@@ -22,14 +22,14 @@ pub fn expect<'t>(terminals: &'t [Terminal], fixed: Fixed) -> Result<&'t [Termin
     }
 }
 
-/// Whether a name stands at the front.
+/// Whether a name is at the front.
 pub fn starts_name(terminals: &[Terminal]) -> bool
     ensures { result ≡ spec.starts_name terminals.now }
 {
     front(terminals) == NAME
 }
 
-/// The name at the front.
+/// The name at the front, copied, and what follows it.
 #[tactic(auto, unfolding(crate::specs::Readers::read_name))]
 pub fn name<'t>(
     alloc: Global,
@@ -45,7 +45,8 @@ pub fn name<'t>(
     }
 }
 
-/// What follows the word at the front, which isn't reserved, or None where another stands there.
+/// What follows this word at the front, or None where something else is there. The word is given in
+/// lower case and isn't reserved; quoted it is a name like others.
 pub fn after_word<'t>(terminals: &'t [Terminal], word: &str) -> Option<&'t [Terminal]>
     ensures { option_map (λ rest. rest.now) result ≡ spec.after_word word.now terminals.now }
 {
@@ -61,7 +62,7 @@ pub fn after_word<'t>(terminals: &'t [Terminal], word: &str) -> Option<&'t [Term
     }
 }
 
-/// What follows the word, which has to stand at the front.
+/// What follows this word, which has to be at the front.
 pub fn expect_word<'t>(terminals: &'t [Terminal], word: &str) -> Result<&'t [Terminal], ReadFault>
     ensures { Rests result (spec.after_word word.now terminals.now) }
 {
@@ -71,7 +72,7 @@ pub fn expect_word<'t>(terminals: &'t [Terminal], word: &str) -> Result<&'t [Ter
     }
 }
 
-/// Whether a semicolon is all that is left, or nothing.
+/// Whether a semicolon is all that is left: false where nothing is, Syntax where more is.
 pub fn end(terminals: &[Terminal]) -> Result<bool, ReadFault>
     ensures { Answers result (spec.read_end terminals.now) }
 {

@@ -1,3 +1,6 @@
+//! The list of reserved words. `specs/Reserved.antt` has the same list, and the two change
+//! together.
+
 ghost use Rattle.std.specs.Prelude.{◌≡◌};
 ghost use Rattle.rt_token.specs.Reserved.{is_reserved};
 

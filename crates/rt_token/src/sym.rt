@@ -1,3 +1,5 @@
+//! The symbols that the lexer knows; `marks` gives each its terminal.
+
 /// A symbol: `(` `)` `,` `.` `;` `*` `+` `-` `=` `<>` `<` `<=` `>` `>=`, in this order.
 #[derive(Clone, Copy, PartialEq, Eq, Debug)]
 pub enum Sym {

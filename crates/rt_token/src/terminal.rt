@@ -1,3 +1,5 @@
+//! Terminals, the letters that the grammars are written over. Readers never see bytes or places.
+
 use crate::fixed::Fixed;
 use rt_value::Txt;
 

@@ -1,3 +1,5 @@
+//! Tokens, as the lexer gives them.
+
 use crate::span::Span;
 use crate::sym::Sym;
 use rt_value::Txt;

@@ -1,4 +1,5 @@
-//! Reserved words.
+//! The keywords of the grammars, looked up in three runs by the alphabet; `specs/Words.antt` has
+//! the same three lists.
 
 ghost use Rattle.std.specs.Prelude.{◌≡◌, bytes_eq};
 ghost use Rattle.rt_token.specs.Words as spec;

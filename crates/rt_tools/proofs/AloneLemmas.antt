@@ -1,4 +1,5 @@
--- What is judged of a run on one candidate, from what is judged of the reference and of the candidate.
+-- What is judged of a run on one candidate, from what is judged of the reference and of the
+-- candidate.
 use Rattle.std.proofs.Common.{◌≡◌, ◌∙◌, ◌+◌, ℕ, List, [], ◌∷◌, Result, Ok, Err, refl, ap}
 use Rattle.std.specs.Prelude.{slice_set}
 use Rattle.rt_schema.specs.Given.{Rows, Tables, places}

@@ -1,9 +1,8 @@
 -- Which files a tool begins.
-use Rattle.std.proofs.Common.{◌≡◌, ◌∙◌, ◌<◌, ◌≤◌, ◌+◌, ◌-◌, ℕ, Bool, true, IsTrue, List, [], ◌∷◌, ◌++◌, Result, Ok, Err, length, take, drop, get_or, sym, ap, subst, arith}
+use Rattle.std.proofs.Common.{◌≡◌, ◌∙◌, ◌<◌, ◌≤◌, ◌+◌, ◌-◌, ℕ, Bool, true, IsTrue, List, [], ◌∷◌, ◌++◌, Ok, length, take, drop, get_or, sym, ap, subst, arith}
 use Rattle.std.specs.Prelude.{Option, None, Some, codes}
 use Rattle.std.specs.Str.{bytes_eq}
-use Rattle.std.proofs.lemmas.List.{take_all, take_more, take-append-drop, length-take-le}
-use Rattle.std.proofs.Math.Seq.{drop-cons}
+use Rattle.std.proofs.lemmas.List.{take_all, take_more, take-append-drop}
 use Rattle.rt_io.specs.Command.{command}
 use Rattle.rt_io.proofs.AddLemmas.{adds_first, adds_then, all_then}
 use Rattle.rt_io.specs.Edge.{AddsPrefix}
@@ -87,7 +86,7 @@ module _ (tells : Bool) (w : GradeWords) (held : Holding) (old mid new : List Te
         (subst (λ (h : Holding). AddsPrefix mid new (list_reached w h)) same (adds.told t))),
   )
 
--- ---- the words
+-- ---- the arguments
 
 pub graded_begun : (tells : Bool) (held : Holding) (o : Option GradeWords) (w : GradeWords) (old new : List Text) → o ≡ Some w → GradesFor tells held (Some w) old new → GradesFor tells held o old new
 graded_begun tells held o w old new is begins = subst (λ (p : Option GradeWords). GradesFor tells held p old new) (sym is) begins
@@ -102,7 +101,7 @@ no_tool tells held (row text args) old new same = none_for tells held (command a
 no_tool tells held (grade args) old new same = none_graded tells held (grade_words args) old new same
 no_tool tells held neither old new same = same
 
--- the words behind the name of the tool
+-- the arguments after the name of the tool
 pub row_begun : (tells : Bool) (held : Holding) (words : List Text) (old new : List Text) (name text word : Text) (b : Bool) → 2 ≤ length words → name ≡ get_or words 0 name
     → b ≡ true → b ≡ bytes_eq word (codes "row") → word ≡ name
     → BeginsFor tells held (command (take (length words - 2) (drop 2 words))) old new → ToolBegins tells held (tool_of words) old new

@@ -25,12 +25,12 @@ use Rattle.rt_tools.specs.Outcomes.{of_fault, of_verdict}
 use Rattle.rt_tools.specs.Texts.{fault_line, verdict_text}
 use Rattle.rt_tools.specs.Words.{IsGradeAnd, IsRowAnd, IsUsage, Tool, grade, row, tool_of}
 
--- ---- the words
+-- ---- the arguments
 
 pub row_words : (first text : Text) (args : List Text) → bytes_eq first (codes "row") ≡ true → tool_of (first ∷ text ∷ args) ≡ row text args
 row_words first text args is = rw is refl
 
--- the first word is `grade`
+-- the first argument is `grade`
 pub grade_words : (first : Text) (args : List Text) → bytes_eq first (codes "grade") ≡ true → tool_of (first ∷ args) ≡ grade args
 grade_words first args is =
     let same : first ≡ codes "grade" = (bytes_eq-Decides first (codes "grade")).0 is in
@@ -96,7 +96,7 @@ module _ (c : Call) (args : List Text) (is : tool_of c.words ≡ grade args) whe
     ]
   ]
 
--- ---- from the words behind the name of the tool
+-- ---- from the arguments after the name of the tool
 
 pub row_prepared : (words : List Text) (s : Seen) (name text word : Text) (b : Bool) (r : Result ToolAnswer NoMemory) → 2 ≤ length words → name ≡ get_or words 0 name → text ≡ get_or words 1 text
     → b ≡ true → b ≡ bytes_eq word (codes "row") → word ≡ name

@@ -85,7 +85,7 @@ words_stop c (outcome.ReadFault part) stop = absurd stop
 words_stop c outcome.WriteFault stop = stop
 words_stop c outcome.NoMemory stop = tt
 
--- of words that are read
+-- of arguments that are read
 pub first_stops : (s : Seen) (w : GradeWords) (o : Outcome)
     → StopsReading s (source_of w.command) (first_judged (source_of w.command) s.held) (ReachesFirst (source_of w.command) s.held) o → SpeaksOf IsFirstPart o
     → (IsKnown s.tells (source_of w.command) → Placed (text_of (source_of w.command) s.held) o) → StopsOf s (Verdict o) w

@@ -47,7 +47,7 @@ refuses_then j f outcome.NoMemory r = tt
 pub refuses_next : {S T : Type 0} (j : Result S Outcome) (x : S) (f : S → Result T Outcome) (o : Outcome) → j ≡ Ok x → Refuses (f x) o → Refuses (then_read j f) o
 refuses_next {S = S} {T = T} j x f o e r = subst (λ (k : Result S Outcome). Refuses (then_read k f) o) (sym e) r
 
--- a syntax fault of the second query stands in its text, whatever the other texts
+-- a syntax error of the second query names a place in its text, whatever the other texts
 pub placed_in : (text : Text) (o : Outcome) → PlacedIn Query2 text o → IsPlacedIn text o
 placed_in text (outcome.Refused part fault) p texts has = placed (texts part) (ap texts p.0 ∙ has)
   where

@@ -1,5 +1,5 @@
--- The outcome of a tool is the one that is judged, and over files and sinks that don't fail there is
--- no fault.
+-- The outcome of a tool is the one that is judged, and over files and sinks that don't fail there
+-- is no error.
 use Rattle.std.proofs.Common.{◌≡◌, ◌∙◌, Bool, List, Result, Ok, Err, refl, sym, ap, subst, inl, inr, arith}
 use Rattle.std.specs.Prelude.{◌<◌, ◌≤◌, ◌^◌, ℕ, IsOk, IsSome, IsSomeAnd, IsTrue, Option, None, Some, ⊤}
 use Rattle.std.specs.Option.{ForSome}
@@ -134,7 +134,7 @@ of_fault_list c fault said (row text args) stops told = absurd stops
 of_fault_list c fault said (grade args) stops told = of_list c.files fault (grade_words args) stops told
 of_fault_list c fault said neither stops told = absurd stops
 
--- the words of a list that is too long are those of a list that is refused
+-- the arguments of a list that is too long are those of a list that is refused
 long_refused : (c : Call) (t : Tool) (said : Text) → IsGradeAnd t (λ args. Stops (with_words c args) faults.ListLong × (said ≡ fault_line faults.ListLong))
     → IsGradeAnd t (λ args. IsSomeAnd (grade_words args) (RefusesList c.files faults.ListLong))
 long_refused c (row text args) said ends = ends
@@ -171,7 +171,7 @@ as_judged c (Verdict (outcome.ReadFault part)) said ends told = tt
 as_judged c (Verdict outcome.WriteFault) said ends told = tt
 as_judged c (Verdict outcome.NoMemory) said ends told = tt
 
--- ---- words of no tool
+-- ---- arguments of no tool
 
 not_none : {T : Type 0} (P : T → Type 0) (o : Option T) → IsSomeAnd o P → o ≡ None → ⊥
 not_none P None is none = is

@@ -128,7 +128,7 @@ of_known copy grade list known query c first right some same asked each are type
     let here : IsQueryGrade c first query grade = found c first (subst (λ (ks : List Known). AreKnown c first ks) (sym same) are) in
     here.each right typed kinds (sym asked)
 
--- a query and a copy of its grade are put beside the known ones, or are not
+-- a query and a copy of its grade are added to the known ones, or are not
 pub one_kept : {A E : Type 0} (r : Result A E) (known more : List Known) (query : Query) (copy grade : Grade) → copy ≡ grade → OnOk r (more ≡ known ++ record { query = query; grade = copy } ∷ [])
     → OnErr r (more ≡ known) → (c : Command) (first : First) → AreKnown c first known → IsQueryGrade c first query grade → AreKnown c first more
 one_kept (Err e) known more query copy grade copied is same c first are here = subst (λ (ks : List Known). AreKnown c first ks) (sym same) are

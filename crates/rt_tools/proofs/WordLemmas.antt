@@ -1,4 +1,5 @@
--- What the words of a call that grades say of its source, and of that of a run on one candidate.
+-- What the arguments of a call that grades say of its source, and of that of a run on one
+-- candidate.
 use Rattle.std.proofs.Common.{◌≡◌, ℕ, Bool, true, false, List, [], ◌∷◌, refl, subst, IsTrue}
 use Rattle.std.specs.Prelude.{Option, None, Some, codes, option_and_then, if◌then◌else◌}
 use Rattle.std.specs.Str.{bytes_eq}
@@ -8,7 +9,7 @@ use Rattle.rt_input.specs.Source.{IsKnown, Text, source_from, source_of}
 use Rattle.rt_tools.specs.declared.grade_words.GradeWords.{GradeWords}
 use Rattle.rt_tools.specs.GradeWords.{alone, grade_words, of_command, of_form, of_paths}
 
--- the four words of a call that grades
+-- the four arguments of a call that grades
 pub record HasWords (w : GradeWords) : Type 0 where
   pub schema : Text
   pub dir : Text

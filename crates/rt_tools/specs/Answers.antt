@@ -19,7 +19,7 @@ use Rattle.rt_tools.specs.Outcomes.{of_fault, of_verdict}
 use Rattle.rt_tools.specs.Texts.{fault_line, grades_text, place, usage_text, verdict_text}
 use Rattle.rt_tools.specs.Words.{IsGradeAnd, IsRowAnd, IsUsage, Tool, grade, neither, row, tool_of}
 
--- the call of a command of `ratest` with these words, over the same files
+-- the call of a command of `ratest` with these arguments, over the same files
 abbrev pub with_words : Call → List Text → Call
 with_words c words = record { words = words; files = c.files }
 
@@ -106,12 +106,12 @@ pub record EndsBroken (c : Call) (out err : Log) (o : ToolOutcome) : Type 0 wher
 
 -- ---- steps
 
--- how the writing of a text ended: all of it was taken, the sink failed, or memory was wanting
+-- how the writing of a text ended: all of it was taken, the sink failed, or it is out of memory
 abbrev pub WritesTo : Log → ToolOutcome → Text → ToolOutcome → Type 0
 WritesTo sink o said result =
     ((result ≡ o) × Grew sink said) ⊎ (((result ≡ Verdict outcome.WriteFault) × Broke sink × GrewPartly sink said) ⊎ ((result ≡ Verdict outcome.NoMemory) × GrewPartly sink said))
 
--- an outcome of `ratest` that is no want of memory, and its text
+-- an outcome of `ratest` other than out of memory, and its text
 abbrev pub SaysVerdict : List Text → Outcome → ToolOutcome → Text → Type 0
 SaysVerdict words o result said = (result ≡ Verdict o) × (o ≢ outcome.NoMemory) × (said ≡ verdict_text (limit_of (command words)) o)
 

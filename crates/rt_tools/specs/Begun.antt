@@ -1,5 +1,5 @@
--- Which files a tool begins: first ones of those that it names, in the order of the reading, and none
--- behind the first refusal. A refused candidate is none of these.
+-- Which files a tool begins: first ones of those that it names, in the order of the reading, and
+-- none after the first refusal. A refused candidate is none of these.
 use Rattle.std.specs.Prelude.{◌≡◌, Bool, IsTrue, List, ◌∷◌, ◌++◌, Option, None, Some}
 use Rattle.rt_io.specs.Command.{command}
 use Rattle.rt_io.specs.Edge.{AddsPrefix}
@@ -20,13 +20,14 @@ list_reached w held = w.list ∷ then_files (list_judged (held w.list)) (λ path
 abbrev pub grade_reached : GradeWords → Holding → List Text
 grade_reached w held = first_reached (source_of w.command) held ++ then_files (first_judged (source_of w.command) held) (λ first. list_reached w held)
 
--- the names begun before and after grew by first ones of these files, some paths being those of the list
+-- the names begun before and after grew by first ones of these files, some paths being those of
+-- the list
 pub record ListAdds (tells : Bool) (w : GradeWords) (held : Holding) (old new : List Text) : Type 0 where
   pub paths : List Text
   pub named : AddsPrefix old new (w.list ∷ paths)
   pub told : IsTrue tells → AddsPrefix old new (list_reached w held)
 
--- the same of the files of words that grade
+-- the same of the files of arguments that grade
 abbrev pub GradesFor : Bool → Holding → Option GradeWords → List Text → List Text → Type 0
 GradesFor tells held None old new = new ≡ old
 GradesFor tells held (Some w) old new =

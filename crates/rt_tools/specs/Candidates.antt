@@ -33,7 +33,7 @@ IsGradeOf tells held c first path TooLong = IsTrue tells → text_read Query2 (h
 abbrev pub IsAmong : Text → List Text → Type 0
 IsAmong name paths = (at : ℕ) × (slice_get paths at ≡ Some name)
 
--- what stops the reading of a candidate: its count rose, or memory was wanting
+-- what stops the reading of a candidate: its count rose, or it is out of memory
 abbrev pub CandidateStops : Seen → Text → GradeFault → Type 0
 CandidateStops s path (BadList at) = ⊥
 CandidateStops s path TooManyPaths = ⊥

@@ -1,5 +1,5 @@
--- What a call that grades answers: the grades of a list's candidates, each the answer of the run of
--- `ratest` on the reference and that candidate alone; or why there are none.
+-- What a call that grades answers: the grades of a list's candidates, or why there are none. Each
+-- is the answer of the run of `ratest` on the reference and that candidate alone.
 use Rattle.std.specs.Prelude.{◌≡◌, ◌⊎◌, List, None, Some, Ok, Err, IsTrue, IsOk, IsOkAnd, IsSomeAnd}
 use Rattle.std.specs.List.{AllZip}
 use Rattle.rt_io.specs.Edge.{Rose}
@@ -39,8 +39,8 @@ IsAnswer c (Refused part fault) = RefusedRow c part fault
 IsAnswer c (Work work) = IsTold c → judged c.words c.files.held ≡ Err (outcome.Limit (limit.Work work))
 IsAnswer c TooLong = IsTold c → judged c.words c.files.held ≡ Err (outcome.Limit (limit.TooLong Query2))
 
--- the grade of a candidate is the answer over the same files on whatever words spell SCHEMA, DATADIR,
--- REFERENCE and the candidate with the same numbers
+-- the grade of a candidate is the answer over the same files on whatever arguments spell SCHEMA,
+-- DATADIR, REFERENCE and the candidate with the same numbers
 abbrev pub IsAnswerAlone : Seen → Command → Text → Grade → Type 0
 IsAnswerAlone s k path grade = (words : List Text) → command words ≡ Some (alone k path) → IsAnswer (record { words = words; files = s }) grade
 
@@ -91,7 +91,7 @@ StopsVerdict s (outcome.ReadFault part) w = StopsFirst s (outcome.ReadFault part
 StopsVerdict s outcome.WriteFault w = ⊥
 StopsVerdict s outcome.NoMemory w = Unit {0}
 
--- what stops a call on words that are read
+-- what stops a call on arguments that are read
 abbrev pub StopsOf : Seen → GradeFault → GradeWords → Type 0
 StopsOf s (BadList at) w = RefusesList s (BadList at) w
 StopsOf s TooManyPaths w = RefusesList s TooManyPaths w
@@ -120,7 +120,7 @@ Stops c (Verdict o) = VerdictRow c o
 
 -- ---- steps
 
--- one grade for each path of the list, beside this reference
+-- one grade for each path of the list, with this reference
 pub record AreGradedBeside (s : Seen) (w : GradeWords) (first : First) (g : Graded) : Type 0 where
   pub listed : IsTrue s.tells → list_judged (s.held w.list) ≡ Ok g.paths
   pub grades : AllZip (IsGradeOf s.tells s.held w.command first) g.paths g.grades

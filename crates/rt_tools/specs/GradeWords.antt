@@ -1,4 +1,5 @@
--- The words of a call that grades: SCHEMA DATADIR REFERENCE LIST, with the options of a command.
+-- The arguments of a call that grades: SCHEMA DATADIR REFERENCE LIST, with the options of a
+-- command.
 use Rattle.std.specs.Prelude.{◌≡◌, ℕ, List, [], ◌∷◌, Option, None, Some, codes, option_and_then, if◌then◌else◌}
 use Rattle.std.specs.Str.{bytes_eq}
 use Rattle.rt_io.specs.Command.{command}
@@ -23,11 +24,11 @@ of_command c = of_form c c.made
 abbrev pub grade_words : List Text → Option GradeWords
 grade_words words = option_and_then of_command (command words)
 
--- there are words that spell it
+-- there are arguments that spell it
 abbrev pub IsSpelled : GradeWords → Type 0
 IsSpelled w = (words : List Text) × (grade_words words ≡ Some w)
 
--- what stops the reading of the words
+-- what stops the reading of the arguments
 abbrev pub WordsStop : Option GradeWords → Outcome → Type 0
 WordsStop o outcome.Usage = o ≡ None
 WordsStop o outcome.NoMemory = Unit {0}

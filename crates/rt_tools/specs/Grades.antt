@@ -1,4 +1,4 @@
--- The grade of a candidate: what is judged of its query as the second beside the reference.
+-- The grade of a candidate: what is judged of the reference with its query as the second.
 use Rattle.std.specs.Prelude.{◌≡◌, Some, Result, Ok, Err, IsTrue}
 use Rattle.rt_algebra.specs.declared.typed.Typed.{Typed}
 use Rattle.rt_io.specs.Ranges.{Command}
@@ -25,7 +25,7 @@ right_of first text = then_read (query_of Query2 first.schema text) (like_left f
 abbrev pub data_in : First → Data
 data_in first = record { schema = first.schema; given = first.given }
 
--- the reference with a query beside it
+-- the reference with a second query
 abbrev pub beside : Command → First → Typed → Accepted
 beside c first right = accepted c (data_in first) first.left right
 
@@ -57,7 +57,8 @@ Decides input TooLong = ⊥
 abbrev pub DecidesOn : Result Accepted Outcome → Grade → Type 0
 DecidesOn judged grade = (input : Accepted) × (judged ≡ Ok input) × IsAccepted input × Decides input grade
 
--- the grade is the verdict on the input, or the refusal, that is judged; what is read is not too long
+-- the grade is the verdict on the input, or the refusal, that is judged; what is read is not too
+-- long
 abbrev pub IsGrade : Result Accepted Outcome → Grade → Type 0
 IsGrade judged Agree = DecidesOn judged Agree
 IsGrade judged (Witness keep) = DecidesOn judged (Witness keep)
@@ -66,6 +67,6 @@ IsGrade judged (Refused part fault) = IsTrue (is_refusal fault) × (judged ≡ E
 IsGrade judged (Work work) = judged ≡ Err (outcome.Limit (limit.Work work))
 IsGrade judged TooLong = ⊥
 
--- a syntax fault of a candidate stands in its text
+-- a syntax error of a candidate names a place in its text
 abbrev pub IsPlacedIn : Text → Outcome → Type 0
 IsPlacedIn text o = (texts : Parts) → texts Query2 ≡ Ok text → Placed texts o

@@ -1,5 +1,5 @@
--- Where the first of two queries alone answers with a row (the smallest witness problem; Miao, Roy and
--- Yang, SIGMOD 2019).
+-- Where the first of two queries alone answers with a row (the smallest witness problem; Miao,
+-- Roy and Yang, SIGMOD 2019).
 use Rattle.std.specs.Prelude.{◌≡◌, ℕ, Bool, true, false, not, ◌&&◌, List, length, Option, IsSomeAnd}
 use Rattle.rt_value.specs.declared.value.Value.{Value}
 use Rattle.rt_schema.specs.declared.table.Table.{Table}
@@ -16,7 +16,7 @@ use Rattle.rt_search.specs.declared.best.Best.TheVariants.{Least, Never, Spent}
 abbrev pub told_at : Instance → Typed → Typed → List Value → List Bool → Bool
 told_at given left right row keep = has_row (plain left.query (kept given.tables keep)) row && not (has_row (plain right.query (kept given.tables keep)) row)
 
--- the kept rows meet the rules of the schema besides
+-- and the kept rows meet the rules of the schema
 abbrev pub holds_at : List Table → Instance → Typed → Typed → List Value → List Bool → Bool
 holds_at schema given left right row keep = lawful schema (kept given.tables keep) && told_at given left right row keep
 

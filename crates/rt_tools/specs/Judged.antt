@@ -1,4 +1,5 @@
--- What is judged of the words of a tool over files of known contents: its first refusal, or none.
+-- What is judged of the arguments of a tool over files of known contents: its first refusal, or
+-- none.
 use Rattle.std.specs.Prelude.{◌≡◌, ◌⊎◌, IsSomeAnd, IsTrue, List, Option, None, Some, Result, Ok, Err, ⊤}
 use Rattle.rt_value.specs.declared.value.Value.{Value}
 use Rattle.rt_io.specs.Edge.{Rose}
@@ -79,8 +80,8 @@ IsVerdictAsJudged refusal (outcome.ReadFault part) = ⊤
 IsVerdictAsJudged refusal outcome.WriteFault = ⊤
 IsVerdictAsJudged refusal outcome.NoMemory = ⊤
 
--- an answer where nothing is refused, and else the first refusal; a fault of reading or writing and
--- want of memory may come in their place; which place of its text a syntax fault names is left open
+-- An answer if nothing is refused, and else the first refusal. An error of reading or writing and
+-- out of memory may come instead. Which place of its text a syntax error names is left open.
 abbrev pub IsAsJudged : Option ToolOutcome → ToolOutcome → Type 0
 IsAsJudged refusal (RowWitness keep) = refusal ≡ None
 IsAsJudged refusal RowNever = refusal ≡ None
@@ -93,7 +94,7 @@ IsAsJudged refusal (FileRead name) = ⊤
 IsAsJudged refusal (Grades grades) = refusal ≡ None
 IsAsJudged refusal (Verdict o) = IsVerdictAsJudged refusal o
 
--- where the words are those of no tool: their usage, or a fault of writing, or want of memory
+-- for arguments that are those of no tool: their usage, or an error of writing, or out of memory
 abbrev pub IsUsageOrFault : ToolOutcome → Type 0
 IsUsageOrFault (Verdict outcome.Usage) = ⊤
 IsUsageOrFault (Verdict outcome.WriteFault) = ⊤
@@ -129,7 +130,7 @@ HasRoomFor c (row text args) = (input : Accepted) → IsRead (with_words c args)
 HasRoomFor c (grade args) = ⊤
 HasRoomFor c neither = ⊤
 
--- no fault of reading or writing, and no spent budget
+-- no error of reading or writing, and no spent budget
 abbrev pub IsNoFault : ToolOutcome → Type 0
 IsNoFault (RowSpent s) = ⊥
 IsNoFault (FileRead name) = ⊥

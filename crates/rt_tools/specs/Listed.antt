@@ -4,20 +4,22 @@ use Rattle.std.specs.List.{slice_split}
 use Rattle.std.specs.Str.{is_utf8}
 use Rattle.std.specs.Str.Lines.{strip_carriage_return}
 use Rattle.std.specs.Str.Lossy.{utf8_valid_len}
+use Rattle.rt_value.specs.Bytes.{line_feed}
 use Rattle.rt_tools.specs.declared.paths_fault.PathsFault.{PathsFault}
 use Rattle.rt_tools.specs.declared.paths_fault.PathsFault.TheVariants.{NotUtf8, TooMany, NoMemory}
 
 abbrev pub Text : Type 0
 Text = List ℕ
 
--- the lines of a text; the last one needs no line feed (10)
+-- the lines of a text; the last one needs no line feed
 abbrev pub lines : Text → List Text
-lines text = slice_split (λ b. b == 10) text
+lines text = slice_split (λ b. b == line_feed) text
 
 abbrev pub is_path : Text → Bool
 is_path line = nat_le 1 (length line)
 
--- the paths of these lines: each line without one carriage return (13) at its end, and no empty one
+-- the paths of these lines: each line without one carriage return (13) at its end, and no empty
+-- one
 abbrev pub paths_in : List Text → List Text
 paths_in lines = filter is_path (map strip_carriage_return lines)
 

@@ -44,8 +44,8 @@ PathsStop judged ListLong = ⊥
 PathsStop judged (FileRead name) = ⊥
 PathsStop judged (Verdict o) = o ≡ outcome.NoMemory
 
--- of its file: what is judged; or one byte more than it may have was taken; or its count rose; or
--- memory was wanting
+-- of its file: what is judged, or one byte more than it may have was taken, or its count rose, or
+-- it is out of memory
 abbrev pub ListStops : Seen → Text → GradeFault → Type 0
 ListStops s list (BadList at) = IsTrue s.tells → list_judged (s.held list) ≡ Err (BadList at)
 ListStops s list TooManyPaths = IsTrue s.tells → list_judged (s.held list) ≡ Err TooManyPaths

@@ -6,7 +6,7 @@ use Rattle.rt_tools.specs.declared.review.Review.{Review}
 use Rattle.rt_tools.specs.Known.{AreKnown}
 use Rattle.rt_tools.specs.Prepared.{IsPreparedOf}
 
--- what is prepared is this reference, and what is known are grades beside it with these numbers
+-- what is prepared is this reference, and what is known are grades with it and these numbers
 pub record IsReviewOf (c : Command) (first : First) (r : Review) : Type 0 where
   pub prepared : IfSome r.prepared (IsPreparedOf first)
   pub known : AreKnown c first r.known

@@ -1,5 +1,5 @@
--- The text of one row: its cells as they are printed, parted by commas. A cell is NULL, a whole number
--- with one minus sign at most, or a text in quotes (ISO/IEC 9075-2, 5.3).
+-- The text of one row: its cells as they are printed, parted by commas. A cell is NULL, a whole
+-- number with one minus sign at most, or a text in quotes (ISO/IEC 9075-2, 5.3).
 use Rattle.std.specs.Prelude.{ℕ, pos, ◌-ℤ◌, int_le, Bool, true, false, ◌==◌, List, [], ◌∷◌, length, Option, None, Some, Result, Ok, Err, codes, if◌then◌else◌}
 use Rattle.std.specs.List.{list_all, slice_split, zip}
 use Rattle.std.specs.Option.{option_map, option_and_then}

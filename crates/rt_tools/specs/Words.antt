@@ -1,13 +1,13 @@
--- The words of a tool: `row ROW ARGS`, or `grade` and the words of a call that grades.
+-- The arguments of a tool: `row ROW ARGS`, or `grade` and the arguments of a call that grades.
 use Rattle.std.specs.Prelude.{◌≡◌, List, [], ◌∷◌, None, codes, if◌then◌else◌}
 use Rattle.std.specs.Str.{bytes_eq}
 use Rattle.rt_io.specs.Command.{command}
 use Rattle.rt_input.specs.Source.{Text}
 use Rattle.rt_tools.specs.GradeWords.{grade_words}
 
--- the tool that the words name, and what is behind its name
+-- the tool that the arguments name, and what is after its name
 pub data Tool : Type 0 where
-  -- the text of a row, and the words of a command of `ratest`
+  -- the text of a row, and the arguments of a command of `ratest`
   row : Text → List Text → Tool
   grade : List Text → Tool
   neither : Tool
@@ -30,7 +30,7 @@ IsGradeAnd (row text args) P = ⊥
 IsGradeAnd (grade args) P = P args
 IsGradeAnd neither P = ⊥
 
--- the words behind the name are none of the tool
+-- the arguments after the name are none of the tool
 abbrev pub IsUsage : Tool → Type 0
 IsUsage (row text args) = command args ≡ None
 IsUsage (grade args) = grade_words args ≡ None

@@ -1,4 +1,5 @@
-//! The verdict on a query beside a reference.
+//! The verdict on a reference and one more query, on the reference's own Dag.
+
 ghost use Rattle.std.specs.Prelude.{◌≡◌, ◌≤◌, IfOk, IfSome};
 ghost use Rattle.rt_schema.specs.Given.{places};
 ghost use Rattle.rt_algebra.specs.Typed.{IsTypedOf};
@@ -16,8 +17,8 @@ use rt_search::{Best, smallest};
 use rt_value::NoMemory;
 use std::alloc::Global;
 
-/// The verdict on a query beside the first one, which stands on the Dag as its reference. The Dag is
-/// left as it was.
+/// The verdict on the first query, whose reference is on the Dag, and a second one. The Dag is
+/// left as it was, also after an error.
 pub(crate) fn decide_beside(
     alloc: Global,
     dag: &mut Dag,

@@ -1,3 +1,6 @@
+//! The grades of candidates, file by file in the order of the list. A refused candidate gets a
+//! grade; an unread file stops the call.
+
 ghost use Rattle.std.specs.Prelude.{◌≡◌, [], ◌∷◌, ◌++◌, IfOk, IfErr, OnOk};
 ghost use Rattle.std.specs.List.{AllZip};
 ghost use Rattle.rt_io.specs.Edge.{AddsPrefix, NoneFell, OnlyRises};
@@ -14,7 +17,7 @@ use rt_io::{Files, Words};
 use rt_value::{List, Txt};
 use std::alloc::Global;
 
-/// The grade of the candidate in the file of that name.
+// The grade of the candidate in the file of that name.
 fn grade_file<F: Files>(
     alloc: Global,
     words: &Words,
@@ -41,7 +44,7 @@ fn grade_file<F: Files>(
     }
 }
 
-/// The same of the files of these names, one after another.
+// The same of the files of these names, one after another.
 fn grade_each<F: Files>(
     alloc: Global,
     words: &Words,
@@ -66,8 +69,8 @@ fn grade_each<F: Files>(
     Ok(grades)
 }
 
-/// The grades of the candidates in the files of these names. The reference is prepared once, and so is
-/// a query decided that several of them mean.
+/// The grades of the candidates in the files of these names, in order. The reference is prepared
+/// once. A query that was decided before isn't decided again, if its grade was kept.
 pub(crate) fn grade_files<F: Files>(
     alloc: Global,
     words: &Words,

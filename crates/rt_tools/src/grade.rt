@@ -1,10 +1,12 @@
+//! The grade of one candidate.
+
 ghost use Rattle.std.specs.Prelude.{◌≡◌, IfOk, IfSome};
 
 use rt_input::{Fault, Part, Spent};
 use rt_value::{Keep, NoMemory};
 use std::alloc::Global;
 
-/// How a candidate stands to its reference: what a run of the two alone ends with.
+/// What a run of `ratest` on the reference and the candidate alone ends with.
 #[derive(Drop)]
 pub enum Grade {
     /// They agree on every lawful sub-instance.
@@ -15,15 +17,15 @@ pub enum Grade {
     Undecided(Spent),
     /// The candidate is no query over the schema, or has other columns than the reference.
     Refused(Part, Fault),
-    /// Both together are so much work, and that is above the limit.
+    /// Both together take this much work, which is above the limit.
     Work(u128),
     /// Its file has too many bytes.
     TooLong,
 }
 
 impl Grade {
-    /// The same grade once more; none where that is long or soon found again, as of one that is
-    /// undecided or refused.
+    /// A copy of the grade. None for a grade that is long or soon found again: undecided,
+    /// refused, or too long.
     pub fn again(&self, alloc: Global) -> Result<Option<Grade>, NoMemory>
         ensures { IfOk result (λ copy. IfSome copy (λ grade. grade ≡ self.now)) }
     {

@@ -1,10 +1,12 @@
+//! Why a call that grades has no grades.
+
 use rt_input::Outcome;
 use rt_value::{NoMemory, Txt};
 
 /// Why there are no grades.
 #[derive(Drop)]
 pub enum GradeFault {
-    /// The list isn't UTF-8; its longest prefix that is has so many bytes.
+    /// The list isn't UTF-8; its longest prefix that is has this many bytes.
     BadList(usize),
     /// The list has too many paths.
     TooManyPaths,
@@ -12,7 +14,7 @@ pub enum GradeFault {
     ListLong,
     /// The file of this name, the list or a candidate, could not be read.
     FileRead(Txt),
-    /// The words are no command, or what comes before the list is refused.
+    /// The arguments are no command, or what comes before the list is refused.
     Verdict(Outcome),
 }
 

@@ -1,3 +1,5 @@
+//! A call that grades: arguments, reference, list, and then each candidate.
+
 ghost use Rattle.std.specs.Prelude.{◌≡◌, IfOk, IfErr, Some};
 ghost use Rattle.rt_io.specs.Edge.{NoneFell};
 ghost use Rattle.rt_input.specs.Reading.{call};
@@ -24,7 +26,7 @@ pub struct Graded {
     pub grades: List<Grade>,
 }
 
-/// The grades beside a reference that is read.
+// The grades of the list's candidates, for a reference that is read.
 fn grades_beside<F: Files>(
     alloc: Global,
     words: &GradeWords,
@@ -43,7 +45,7 @@ fn grades_beside<F: Files>(
     Ok(Graded { paths, grades })
 }
 
-/// The same of words that are read.
+// The grades for arguments that are read.
 fn grades_of<F: Files>(
     alloc: Global,
     words: &GradeWords,
@@ -66,12 +68,13 @@ fn grades_of<F: Files>(
     }
 }
 
-/// The grades of the candidates of a list, in its order; or why there are none.
+/// The grades of the candidates of a list, in its order, or why there are none. `words` are the
+/// arguments after `grade`.
 pub fn grades<F: Files>(alloc: Global, words: &[Txt], files: &mut F) -> Result<Graded, GradeFault>
     ensures ok { IfOk result (AreGraded (call F.Files words.now files.old files.new)) }
     ensures err { IfErr result (Stops (call F.Files words.now files.old files.new)) }
-    // The files that are begun are first ones of those that the words name, in the order of the reading,
-    // and none stands behind the first refusal.
+    // The files that are begun are first ones of those that the arguments name, in the order of
+    // the reading, and none after the first refusal.
     ensures begun { GradesFor F.tells (F.held files.old) (grade_words words.now) (F.begun files.old) (F.begun files.new) }
     ensures held { F.held files.new ≡ F.held files.old }
     ensures rises { NoneFell (F.faults files.old) (F.faults files.new) }

@@ -1,3 +1,6 @@
+//! The arguments of a call that grades. They have the form of a command of `ratest`, with the
+//! list in place of the second query.
+
 ghost use Rattle.std.specs.Prelude.{◌≡◌, IfOk, IfErr, Some};
 ghost use Rattle.rt_tools.specs.GradeWords.{WordsStop, grade_words, of_command};
 
@@ -6,15 +9,15 @@ use rt_io::Words;
 use rt_value::{NoMemory, Txt};
 use std::alloc::Global;
 
-/// The words SCHEMA, DATADIR, REFERENCE and LIST with their options: a command whose second query is
-/// any candidate of the list.
+/// The arguments SCHEMA, DATADIR, REFERENCE and LIST with their options, as a command. Its second
+/// query is any candidate of the list.
 #[derive(Drop)]
 pub struct GradeWords {
     pub command: Words,
     pub list: Txt,
 }
 
-/// The same of a command that is read, if its first path isn't `made`.
+// The arguments of a command that is read, if its first path isn't `made`.
 fn of_command(alloc: Global, command: Words) -> Result<Option<GradeWords>, NoMemory>
     ensures { IfOk result (λ words. words ≡ of_command command) }
 {
@@ -25,6 +28,7 @@ fn of_command(alloc: Global, command: Words) -> Result<Option<GradeWords>, NoMem
     Ok(Some(GradeWords { command, list }))
 }
 
+/// The arguments, or the outcome `Usage`. Those that ask for a generated input are none.
 pub(crate) fn grade_words(alloc: Global, words: &[Txt]) -> Result<GradeWords, Outcome>
     ensures ok { IfOk result (λ w. grade_words words.now ≡ Some w) }
     ensures err { IfErr result (WordsStop (grade_words words.now)) }

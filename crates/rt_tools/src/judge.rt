@@ -1,3 +1,5 @@
+//! The grade of one query, once it is read: first its work, and then the search.
+
 ghost use Rattle.std.specs.Prelude.{◌≡◌, IfOk, IfErr, IfSome, Ok, Some};
 ghost use Rattle.rt_algebra.specs.Typed.{IsTypedOf};
 ghost use Rattle.rt_input.specs.First.{IsFirst};
@@ -15,7 +17,7 @@ use rt_search::Best;
 use rt_value::NoMemory;
 use std::alloc::Global;
 
-/// The query of a candidate, whose columns are as the reference's.
+/// The query of a candidate, if its columns are of the same kinds as the reference's.
 pub(crate) fn right_of(alloc: Global, first: &First, text: &[u8]) -> Result<Typed, Outcome>
     ensures typed { IfOk result (IsTypedOf first.now.schema) }
     ensures kinds { IfOk result (λ right. right.kinds ≡ first.now.left.kinds) }
@@ -27,7 +29,7 @@ pub(crate) fn right_of(alloc: Global, first: &First, text: &[u8]) -> Result<Type
     like_left(&first.left, right)
 }
 
-/// The verdict on the reference and a query beside it.
+// The verdict on the reference and a second query.
 fn decided(
     alloc: Global,
     words: &Words,
@@ -57,7 +59,7 @@ fn decided(
     }
 }
 
-/// The grade of a query beside the reference.
+/// The grade of a second query for the reference.
 pub(crate) fn grade_query(
     alloc: Global,
     words: &Words,

@@ -1,4 +1,4 @@
-//! The queries of candidates that were graded before.
+//! The queries of candidates that were graded before, with the grades that can be kept.
 
 ghost use Rattle.std.specs.Prelude.{IfOk, IfSome};
 ghost use Rattle.rt_io.specs.Ranges.{Command};
@@ -18,7 +18,7 @@ pub(crate) struct Known {
     grade: Grade,
 }
 
-/// The grade of a query among these that is the same.
+/// The grade of the first of these queries that is the same as this one.
 pub(crate) fn known_grade(
     alloc: Global,
     known: &[Known],
@@ -34,7 +34,7 @@ pub(crate) fn known_grade(
     Ok(None)
 }
 
-/// Keeps a query and its grade for those after it, unless it is large or its grade is none to copy.
+/// Keeps a query and its grade for those after it, unless it is large or its grade has no copy.
 pub(crate) fn keep(
     alloc: Global,
     known: &mut List<Known>,

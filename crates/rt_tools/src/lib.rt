@@ -1,11 +1,13 @@
-//! The tools beside `ratest`: the answer on one named row, and the grades of many candidates.
+//! Two tools that answer further questions than `ratest`: on one named row, and on many
+//! candidates.
 //!
-//! The answer on one row of a command's first query is the smallest lawful sub-instance at which the
-//! first query alone answers with it (the smallest witness problem; Miao, Roy and Yang, SIGMOD 2019).
-//! The row is named by its cells as they are printed, parted by commas.
+//! The answer on one row of a command's first query is the smallest lawful sub-instance at which
+//! that query alone answers with it. (The smallest witness problem; Miao, Roy and Yang, SIGMOD
+//! 2019.) The row is named by its cells as they are printed, with commas between them.
 //!
-//! The grade of a candidate is how its query stands to a reference over the same rows; the grades of
-//! many are those of a schema, its rows, a reference and a list of candidates' files.
+//! The grade of a candidate is what `ratest` says of a reference and the candidate over the same
+//! rows. The grades of many are those of a schema, its rows, a reference and a list of
+//! candidates' files.
 #![tactic(auto)]
 
 mod beside;

@@ -1,3 +1,5 @@
+//! The list of candidates in a file.
+
 ghost use Rattle.std.specs.Prelude.{◌≡◌, [], ◌∷◌, ◌++◌, IsTrue, IfOk, IfErr, OnOk, Ok};
 ghost use Rattle.rt_io.specs.Edge.{AddsPrefix, OnlyRises};
 ghost use Rattle.rt_input.specs.Steps.{over};
@@ -23,7 +25,7 @@ fn paths_of(alloc: Global, text: &[u8]) -> Result<List<Txt>, GradeFault>
     }
 }
 
-/// The paths of the list of that name.
+/// The paths in the list of that name.
 pub(crate) fn read_list<F: Files>(
     alloc: Global,
     list: &Txt,
@@ -36,7 +38,7 @@ pub(crate) fn read_list<F: Files>(
     ensures held { F.held files.new ≡ F.held files.old }
     ensures rises { OnlyRises list.now (F.faults files.old) (F.faults files.new) }
 {
-    // The part stands in none of the answers.
+    // The part is in none of the answers.
     match read_text(alloc, Part::Query2, list, files) {
         Ok(text) => paths_of(alloc, text.as_slice()),
         Err(Outcome::ReadFault(_)) => Err(GradeFault::FileRead(list.copy(alloc)?)),

@@ -1,3 +1,5 @@
+//! How a tool ends, with its exit status.
+
 ghost use Rattle.std.specs.Prelude.{◌≡◌};
 ghost use Rattle.rt_tools.specs.Texts.{place, status_of};
 
@@ -12,8 +14,8 @@ use rt_value::{Keep, List, Txt};
 /// How a call of `tool_run` ends.
 #[derive(Drop)]
 pub enum ToolOutcome {
-    /// The first of the smallest lawful choices of rows at which the first query alone answers with
-    /// the row.
+    /// The first of the smallest lawful choices of rows at which the first query alone answers
+    /// with the row.
     RowWitness(Keep),
     /// There is no such choice.
     RowNever,
@@ -21,7 +23,7 @@ pub enum ToolOutcome {
     RowSpent(Spent),
     /// The text is no row of the first query's columns.
     RowRefused(RowFault),
-    /// The list isn't UTF-8; its longest prefix that is has so many bytes.
+    /// The list isn't UTF-8; its longest prefix that is has this many bytes.
     BadList(usize),
     /// The list has too many paths.
     TooManyPaths,
@@ -31,12 +33,12 @@ pub enum ToolOutcome {
     FileRead(Txt),
     /// The grades of the list's candidates, in its order.
     Grades(List<Grade>),
-    /// What `ratest` too ends with where it has no verdict.
+    /// An outcome that `ratest` has too, other than a verdict.
     Verdict(Outcome),
 }
 
 impl ToolOutcome {
-    /// The status that the program ends with.
+    /// The exit status of the program: 0 to 7.
     pub fn status(&self) -> u8
         ensures { result ≡ status_of self.now }
     {
@@ -51,7 +53,7 @@ impl ToolOutcome {
         }
     }
 
-    /// The sink of its text.
+    /// The sink of its text: answers go to standard output, the rest to standard error.
     pub(crate) fn place(&self) -> Place
         ensures { result ≡ place self.now }
     {

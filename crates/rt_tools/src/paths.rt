@@ -1,3 +1,5 @@
+//! A text as a list of paths, one a line.
+
 ghost use Rattle.std.specs.Prelude.{◌≡◌, [], ◌∷◌, ◌++◌, IfOk, OnOk};
 ghost use Rattle.std.specs.Str.Lines.{strip_carriage_return};
 ghost use Rattle.rt_value.specs.Gives.{Gives};
@@ -7,17 +9,17 @@ use crate::paths_fault::PathsFault;
 use rt_value::{List, NoMemory, Txt};
 use std::alloc::Global;
 
-/// The most paths of a list.
+// The most paths of a list.
 const MOST_PATHS: usize = 256;
 
-/// The line without one carriage return at its end.
+// The line without one carriage return at its end.
 fn without_return(line: &str) -> &str
     ensures { result.now ≡ strip_carriage_return line.now }
 {
     line.strip_suffix('\r').unwrap_or(line)
 }
 
-/// Puts the path of a line behind the others, if the line isn't empty.
+// Puts the path of a line after the others, if the line isn't empty.
 fn put_path(alloc: Global, paths: &mut List<Txt>, line: &str) -> Result<(), NoMemory>
     ensures { OnOk result (paths.new ≡ paths.old ++ paths_in (line.now ∷ [])) }
 {
@@ -48,7 +50,8 @@ fn few(alloc: Global, text: &str) -> Result<List<Txt>, PathsFault>
     Ok(paths)
 }
 
-/// The paths that stand in a text, one a line; empty lines stand for none.
+/// The paths of a text, one a line, without empty lines. A carriage return at the end of a line
+/// is dropped. There are at most 256.
 pub fn read_paths(alloc: Global, text: &[u8]) -> Result<List<Txt>, PathsFault>
     ensures { Gives is_memory result (paths_read text.now) }
 {

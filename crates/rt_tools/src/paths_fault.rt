@@ -1,9 +1,11 @@
+//! The errors of a list of paths.
+
 use rt_value::NoMemory;
 
 /// Why a text is no list of paths.
 #[derive(Clone, Copy, PartialEq, Eq, Debug)]
 pub enum PathsFault {
-    /// It isn't UTF-8; its longest prefix that is has so many bytes.
+    /// It isn't UTF-8; its longest prefix that is has this many bytes.
     NotUtf8(usize),
     /// It has more paths than a list may have.
     TooMany,

@@ -1,3 +1,6 @@
+//! The reference, prepared once for all candidates. Each candidate's nodes are taken back after
+//! it.
+
 ghost use Rattle.std.specs.Prelude.{IfOk, IfSome, ◌≤◌};
 ghost use Rattle.rt_algebra.specs.Typed.{IsTypedOf};
 ghost use Rattle.rt_input.specs.First.{IsFirst};
@@ -12,7 +15,7 @@ use rt_search::Best;
 use rt_value::NoMemory;
 use std::alloc::Global;
 
-/// The law and the reference on a Dag of their own, which each candidate finds as they were made.
+/// The law and the reference on a Dag of their own. Each candidate finds the Dag as it was made.
 #[derive(Drop)]
 pub(crate) struct Prepared {
     dag: Dag,
@@ -29,7 +32,7 @@ impl Prepared {
         Ok(Prepared { dag, reference })
     }
 
-    /// The verdict on the reference and a query beside it.
+    // The verdict on the reference and a second query.
     fn decide(
         &mut self,
         alloc: Global,
@@ -55,7 +58,8 @@ impl Prepared {
     }
 }
 
-/// The same, which prepares the reference where no candidate has asked for it yet.
+/// The verdict on the first query and a second one. The reference is prepared if no candidate has
+/// asked for it yet.
 pub(crate) fn decide_prepared(
     alloc: Global,
     first: &First,

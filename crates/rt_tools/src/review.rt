@@ -1,3 +1,6 @@
+//! What the grading of one candidate leaves for the next: the prepared reference, and the grades
+//! so far.
+
 ghost use Rattle.std.specs.Prelude.{◌≡◌, IfOk};
 ghost use Rattle.rt_algebra.specs.Typed.{IsTypedOf};
 ghost use Rattle.rt_io.specs.Ranges.{Command};
@@ -18,7 +21,7 @@ use rt_value::{List, NoMemory};
 use std::alloc::Global;
 
 /// What is known of a reference for the candidates to come: the reference itself, once it is
-/// prepared, and the queries that were graded beside it.
+/// prepared, and the queries that were graded.
 #[derive(Drop)]
 pub(crate) struct Review {
     prepared: Option<Prepared>,
@@ -36,7 +39,7 @@ impl Review {
         }
     }
 
-    /// The grade of a query beside the reference.
+    // The grade of a second query for the reference.
     fn grade(
         &mut self,
         alloc: Global,
@@ -61,8 +64,8 @@ impl Review {
 }
 
 /// The grade of the candidate that a text is, with the numbers of a command. The reference is
-/// prepared for the first candidate that is decided, and stays so for those after it; a query that
-/// is the same as one before it has that one's grade.
+/// prepared for the first candidate that is decided, and stays so for those after it. A query
+/// that is the same as one before it has that one's grade.
 pub(crate) fn grade_text(
     alloc: Global,
     words: &Words,
@@ -73,7 +76,7 @@ pub(crate) fn grade_text(
     requires first { IsFirst first.now }
     requires review { IsReviewOf words.now first.now review.old }
     ensures grade { IfOk result (IsGrade (candidate_judged words.now first.now text.now)) }
-    // A syntax fault stands at a token of the text, or at the end of the last one.
+    // A syntax error names a token of the text, or the end of the last one.
     ensures place { IfOk result (λ grade. IsPlacedIn text.now (outcome_of grade)) }
     ensures review { IsReviewOf words.now first.now review.new }
 {

@@ -1,3 +1,6 @@
+//! The goal of the search for one row: the law, and that the first query alone answers with the
+//! row.
+
 ghost use Rattle.std.specs.Prelude.{◌≡◌, ◌<◌, ◌&&◌, List, Bool, IfOk, length};
 ghost use Rattle.rt_schema.specs.Given.{IsOf, places};
 ghost use Rattle.rt_schema.specs.Kept.{kept};
@@ -23,7 +26,7 @@ pub(crate) struct RowAim {
     pub(crate) goal: Node,
 }
 
-/// The node of a row: the one that is never true, where the row has none.
+// The node of a row in an answer. A row without one gets the node that is never true.
 fn node_of(dag: &Dag, answer: &Ann, row: &Row) -> Node
     requires { AreOf dag.now answer.now }
     ensures below { result < length dag.now.entries }
@@ -35,7 +38,7 @@ fn node_of(dag: &Dag, answer: &Ann, row: &Row) -> Node
     }
 }
 
-/// The node that is true at just the choices at which the first query alone answers with the row.
+// The node that is true at just the choices at which the first query alone answers with the row.
 fn told(
     alloc: Global,
     dag: &mut Dag,
@@ -59,8 +62,8 @@ fn told(
     dag.all(&[there, absent])
 }
 
-/// The node that is true at just the lawful choices of the given rows at which the first query alone
-/// answers with the row, and the part of it that leaves the law out.
+/// Both nodes: `told` is true at just the choices at which the first query alone answers with the
+/// row, and `goal` at just those of them that are lawful.
 pub(crate) fn row_aim(
     alloc: Global,
     dag: &mut Dag,

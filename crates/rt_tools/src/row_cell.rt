@@ -1,4 +1,5 @@
-//! One cell of a row.
+//! One cell of a row, from its tokens.
+
 ghost use Rattle.std.specs.Prelude.{◌≡◌, IfOk};
 ghost use Rattle.rt_tools.specs.Rows as spec;
 
@@ -6,7 +7,7 @@ use rt_token::{Sym, Token, TokenKind};
 use rt_value::{NoMemory, Value};
 use std::alloc::Global;
 
-/// The cell of one token: NULL, a number or a text.
+// The cell of one token: NULL, a number or a text.
 fn plain(alloc: Global, kind: &TokenKind) -> Result<Option<Value>, NoMemory>
     ensures { IfOk result (λ v. v ≡ spec.plain kind.now) }
 {
@@ -18,7 +19,7 @@ fn plain(alloc: Global, kind: &TokenKind) -> Result<Option<Value>, NoMemory>
     }
 }
 
-/// The cell of a minus sign before a number.
+// The cell of a minus sign before a number.
 fn negative(sign: &TokenKind, number: &TokenKind) -> Option<Value>
     ensures { result ≡ spec.negative sign.now number.now }
 {
@@ -28,7 +29,7 @@ fn negative(sign: &TokenKind, number: &TokenKind) -> Option<Value>
     }
 }
 
-/// The cell that these tokens are, and None where they are none.
+/// The cell that these tokens are, if they are one.
 pub fn cell(alloc: Global, tokens: &[Token]) -> Result<Option<Value>, NoMemory>
     ensures { IfOk result (λ v. v ≡ spec.cell tokens.now) }
 {

@@ -1,3 +1,5 @@
+//! The errors of a row's text.
+
 use rt_token::LexFault;
 use rt_value::NoMemory;
 
@@ -6,7 +8,7 @@ use rt_value::NoMemory;
 pub enum RowFault {
     /// It has no tokens.
     Lex(LexFault),
-    /// The tokens are no cells that are parted by commas.
+    /// The tokens are no cells with commas between them.
     RowSyntax,
     /// There are more cells than columns, or fewer.
     RowWidth,

@@ -1,12 +1,14 @@
+//! What is found of one named row, with its text.
+
 use crate::row_fault::RowFault;
 use rt_input::Spent;
 use rt_value::{Bytes, Keep};
 
-/// What is found of one named row.
+/// The verdict on one named row.
 #[derive(Debug, Drop)]
 pub enum RowVerdict {
-    /// The first of the smallest lawful choices of rows at which the first query alone answers with
-    /// the row.
+    /// The first of the smallest lawful choices of rows at which the first query alone answers
+    /// with the row.
     Witness(Keep),
     /// There is no such choice.
     Never,

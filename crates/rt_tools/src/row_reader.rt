@@ -1,3 +1,5 @@
+//! A row from its text, in the columns of a query.
+
 ghost use Rattle.std.specs.Prelude.{◌≡◌, IfOk};
 ghost use Rattle.rt_value.specs.Gives.{Gives};
 ghost use Rattle.rt_tools.specs.Rows as spec;
@@ -16,7 +18,7 @@ fn is_comma(token: &Token) -> bool
     matches!(&token.kind, TokenKind::Sym(Sym::Comma))
 }
 
-/// The cells that these tokens are, and None where they are no cells that are parted by commas.
+// The cells that these tokens are, if they are cells with commas between them.
 fn cells(alloc: Global, tokens: &[Token]) -> Result<Option<Row>, NoMemory>
     ensures { IfOk result (λ row. row ≡ spec.cells tokens.now) }
 {
@@ -40,7 +42,7 @@ fn has_kind(value: &Value, kind: ColKind) -> bool
     }
 }
 
-/// Whether each of the cells is NULL or of its column's kind.
+// Whether each of the cells is NULL or of its column's kind.
 fn have_kinds(row: &[Value], kinds: &[ColKind]) -> bool
     ensures { result ≡ spec.have_kinds row.now kinds.now }
 {
@@ -49,7 +51,7 @@ fn have_kinds(row: &[Value], kinds: &[ColKind]) -> bool
         .all(|(value, kind)| has_kind(value, *kind))
 }
 
-/// The row of these columns that the tokens are.
+// The row of these columns that the tokens are.
 fn row_of(alloc: Global, tokens: &[Token], kinds: &[ColKind]) -> Result<Row, RowFault>
     ensures { Gives spec.is_memory result (spec.row_of tokens.now kinds.now) }
 {
@@ -65,8 +67,8 @@ fn row_of(alloc: Global, tokens: &[Token], kinds: &[ColKind]) -> Result<Row, Row
     Ok(row)
 }
 
-/// The row of a query's columns that a text is. Its cells are NULL, whole numbers with one minus sign
-/// at most, and texts in quotes, as they are printed.
+/// The row of a query's columns that a text is, such as `-3, 'it''s'`. Its cells are NULL, whole
+/// numbers with one minus sign at most, and texts in quotes, as they are printed.
 pub fn read_row(alloc: Global, text: &[u8], typed: &Typed) -> Result<Row, RowFault>
     ensures { Gives spec.is_memory result (spec.row_read text.now typed.now.kinds) }
 {

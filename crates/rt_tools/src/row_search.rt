@@ -1,3 +1,6 @@
+//! The search for the smallest choice at which one query alone answers with a row: as `decide` of
+//! `rt_top`, with another goal.
+
 ghost use Rattle.std.specs.Prelude.{◌≤◌, IfOk, IfSome};
 ghost use Rattle.rt_schema.specs.Given.{IsOf};
 ghost use Rattle.rt_algebra.specs.Typed.{IsTyped};
@@ -12,8 +15,8 @@ use rt_search::{Best, smallest};
 use rt_value::{NoMemory, Row};
 use std::alloc::Global;
 
-/// The first of the smallest lawful choices of the given rows at which the first query alone answers
-/// with the row, or that there is none, or that the budget is spent.
+/// The first of the smallest lawful choices of the given rows at which the first query alone
+/// answers with the row. Or there is none, or the budget of each round is spent.
 pub fn smallest_row(
     alloc: Global,
     schema: &Schema,

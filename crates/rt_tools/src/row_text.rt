@@ -1,4 +1,5 @@
 //! The texts of a verdict on a row.
+
 ghost use Rattle.std.specs.Prelude.{◌≡◌, length, IfOk};
 ghost use Rattle.std.specs.Option.{ForSome};
 ghost use Rattle.rt_schema.specs.Given.{places};
@@ -31,6 +32,7 @@ pub(crate) fn rows_text(alloc: Global, input: &Input, keep: &Keep) -> Result<Byt
     )
 }
 
+/// The text of a spent budget, with the best choice so far if there is one.
 pub(crate) fn spent_text(alloc: Global, input: &Input, spent: &Spent) -> Result<Bytes, NoMemory>
     requires { ForSome spent.now.best (λ keep. places input.now.given.tables ≡ length keep) }
     ensures { IfOk result (λ text. text ≡ spent_text input.now.schema input.now.given.tables spent.now.budget spent.now.best) }

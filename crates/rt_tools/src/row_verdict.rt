@@ -1,3 +1,5 @@
+//! The verdict on a row, over the input of a command.
+
 ghost use Rattle.std.specs.Prelude.{◌≡◌, IfOk, IfErr, Ok, Some};
 ghost use Rattle.rt_io.specs.Edge.{NoneFell};
 ghost use Rattle.rt_tools.specs.Holds.{IsRowVerdict};
@@ -57,7 +59,7 @@ fn search(alloc: Global, input: &Input, row: &Row) -> Result<Best, NoMemory>
     )
 }
 
-/// What is to be said of a row of the first query's columns.
+// The answer for a row of the first query's columns.
 fn found(alloc: Global, input: &Input, row: &Row) -> Result<RowAnswer, NoMemory>
     ensures { IfOk result (λ a. Finds input.now row.now a.verdict × (a.text ≡ row_text input.now a.verdict)) }
 {
@@ -87,7 +89,7 @@ fn refused(alloc: Global, fault: RowFault) -> Result<RowAnswer, NoMemory>
     Ok(RowAnswer { verdict, text })
 }
 
-/// What is to be said of the row that a text is.
+// The answer for the row that a text is.
 fn answer_on(alloc: Global, input: &Input, row: &Txt) -> Result<RowAnswer, NoMemory>
     ensures { IfOk result (λ a. Judges input.now row.now a.verdict × (a.text ≡ row_text input.now a.verdict)) }
 {
@@ -108,7 +110,8 @@ fn or_outcome(answer: Result<RowAnswer, NoMemory>) -> Result<RowAnswer, Outcome>
     }
 }
 
-/// The answer on the row that `row` spells, over the input of a command; or why there is no input.
+/// The answer on the row that `row` spells, over the input of a command, or why there is no
+/// input. `words` are the command's arguments.
 pub fn row_answer<F: Files>(
     alloc: Global,
     row: &Txt,

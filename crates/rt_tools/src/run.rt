@@ -1,10 +1,11 @@
+//! The command of the two tools, whole: its contract is the promise of `row` and `grade`.
+
 ghost use Rattle.std.specs.Prelude.{◌≡◌, ◌⊎◌, IfOk};
 ghost use Rattle.rt_io.specs.Edge.{NoneFell};
-ghost use Rattle.rt_io.specs.Logs.{Broke, Grew, GrewPartly, IsKept, NoSinkRose, WritesNothing, at_place, log, other_place};
+ghost use Rattle.rt_io.specs.Logs.{IsKept, NoSinkRose, WritesNothing, at_place, log, other_place};
 ghost use Rattle.rt_input.specs.Begun.{BeginsFor};
-ghost use Rattle.rt_input.specs.Reading.{Stop, call, limit_of};
+ghost use Rattle.rt_input.specs.Reading.{call};
 ghost use Rattle.rt_io.specs.Command.{command};
-ghost use Rattle.rt_tools.specs.RowVerdicts.{IsRowAnswer};
 ghost use Rattle.rt_tools.specs.Answers.{Ends, EndsBegun, EndsBroken, EndsWritten, IfNoMemory, IfText, IfWriteFault, SaysGrade, SaysRow, SaysVerdict, WritesTo};
 ghost use Rattle.rt_tools.specs.Begun.{Begins, GradesFor};
 ghost use Rattle.rt_tools.specs.GradeWords.{grade_words};
@@ -23,14 +24,15 @@ use rt_io::{Files, Sink, SinkFail, write_at};
 use rt_value::{Bytes, List, NoMemory, Txt};
 use std::alloc::Global;
 
-/// An outcome and its text.
+// An outcome and its text.
 #[derive(Drop)]
 struct ToolAnswer {
     outcome: ToolOutcome,
     text: Bytes,
 }
 
-/// Why a tool has no answer of its own; the words are those of the command of `ratest`.
+// The answer of a tool that has none of its own. `words` are the arguments of the command of
+// `ratest`.
 fn stopped(alloc: Global, words: &[Txt], outcome: Outcome) -> Result<ToolAnswer, NoMemory>
     ensures { IfOk result (λ a. SaysVerdict words.now outcome a.outcome a.text) }
 {
@@ -85,7 +87,7 @@ fn grade_tool<F: Files>(alloc: Global, words: &[Txt], files: &mut F) -> Result<T
     }
 }
 
-/// What is to be said of the words of a tool.
+// The answer to the arguments of a tool.
 fn prepare<F: Files>(alloc: Global, words: &[Txt], files: &mut F) -> Result<ToolAnswer, NoMemory>
     ensures ends { IfOk result (λ a. Ends (call F.Files words.now files.old files.new) a.outcome a.text) }
     ensures begun { Begins F.Files (tool_of words.now) files.old files.new }
@@ -103,7 +105,7 @@ fn prepare<F: Files>(alloc: Global, words: &[Txt], files: &mut F) -> Result<Tool
     }
 }
 
-/// Writes the text of an answer to its sink.
+// Writes the text of an answer to its sink.
 fn speak<O: Sink, E: Sink>(out: &mut O, err: &mut E, answer: ToolAnswer) -> ToolOutcome
     ensures ends { WritesTo (at_place (place answer.outcome) (log O.Sink out.old out.new) (log E.Sink err.old err.new)) answer.outcome answer.text result }
     ensures kept { IsKept (other_place (place answer.outcome) (log O.Sink out.old out.new) (log E.Sink err.old err.new)) }
@@ -115,8 +117,9 @@ fn speak<O: Sink, E: Sink>(out: &mut O, err: &mut E, answer: ToolAnswer) -> Tool
     }
 }
 
-/// The answer on one named row, or the grades of many candidates: reads the files that the words
-/// name, and writes what is found to `out`, or to `err` why there is nothing.
+/// The answer on one named row, or the grades of many candidates. It reads the files that the
+/// arguments name. What is found goes to `out`, or to `err` why there is nothing. `words` are the
+/// arguments from `row` or `grade` on.
 pub fn tool_run<F: Files, O: Sink, E: Sink>(
     alloc: Global,
     words: &[Txt],
@@ -124,23 +127,24 @@ pub fn tool_run<F: Files, O: Sink, E: Sink>(
     out: &mut O,
     err: &mut E,
 ) -> ToolOutcome
-    // Each outcome comes only where it may; its whole text went to its sink, and nothing to the other.
+    // Each outcome comes only where it may; its whole text went to its sink, and nothing to the
+    // other.
     ensures ends { IfText result (EndsWritten (call F.Files words.now files.old files.new) (log O.Sink out.old out.new) (log E.Sink err.old err.new) result) }
-    // A refusal exactly where it is the first; an answer only where there is none.
+    // A refusal comes exactly if it is the first, and an answer only if there is none.
     ensures exact { let c = call F.Files words.now files.old files.new in IsToldTool c (tool_of words.now) → IsAsJudged (refusal_of (tool_of words.now) (F.held files.old)) result }
-    // The usage text exactly where the words are those of no tool.
+    // The usage text comes exactly for arguments that are those of no tool.
     ensures usage_exact { IsUsage (tool_of words.now) → IsUsageOrFault result }
-    // Where no file that the tool names fails, and no sink, and without a budget for a row that a search
-    // can spend, the answer comes, or the first refusal.
+    // If no file that the tool names fails, and no sink, the answer comes or the first refusal.
+    // For a row, that is without a budget that a search can spend.
     ensures complete { let c = call F.Files words.now files.old files.new in
         NoNamedRose c (tool_of words.now) → NoSinkRose (log O.Sink out.old out.new) (log E.Sink err.old err.new) → HasRoomFor c (tool_of words.now) → IsNoFault result }
-    // Only where the sink of an outcome that may come failed in this call.
+    // Only if the sink of an outcome that may come failed in this call.
     ensures write_fault { IfWriteFault result ((allowed : ToolOutcome) × EndsBroken (call F.Files words.now files.old files.new) (log O.Sink out.old out.new) (log E.Sink err.old err.new) allowed) }
-    // Want of memory may come anywhere; at most a prefix of such a text was written.
+    // Out of memory may come anywhere; at most a prefix of such a text was written.
     ensures no_memory { let o = log O.Sink out.old out.new in let e = log E.Sink err.old err.new in
         IfNoMemory result (WritesNothing o e ⊎ ((allowed : ToolOutcome) × EndsBegun (call F.Files words.now files.old files.new) o e allowed)) }
-    // The files that are begun are first ones of those that the tool names, in the order of the reading,
-    // and none stands behind the first refusal.
+    // The files that are begun are first ones of those that the tool names, in the order of the
+    // reading, and none after the first refusal.
     ensures begun { Begins F.Files (tool_of words.now) files.old files.new }
     ensures held { F.held files.new ≡ F.held files.old }
     ensures rises { NoneFell (F.faults files.old) (F.faults files.new) }

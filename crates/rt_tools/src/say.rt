@@ -1,4 +1,5 @@
-//! The texts of outcomes.
+//! The texts of grades and of what stops a call. `specs/Texts.antt` has them byte by byte.
+
 ghost use Rattle.std.specs.Prelude.{◌≡◌, ◌++◌, IfOk, OnOk};
 ghost use Rattle.rt_tools.specs.Texts as spec;
 
@@ -8,7 +9,7 @@ use rt_input::fault_text;
 use rt_value::{Bytes, List, NoMemory, Txt};
 use std::alloc::Global;
 
-/// The text for words that are no command.
+/// The text for arguments that are no command.
 pub const USAGE: &str =
     "usage: ratest_plus row ROW ARGS\n       ratest_plus grade SCHEMA DATADIR REFERENCE LIST [--conflicts N] [--work N]\n";
 
@@ -58,7 +59,7 @@ fn put_lines(
     Ok(())
 }
 
-/// The grades, one a line, and how many there are.
+/// The grades, one a line after its path, and then their number.
 pub(crate) fn grades_text(alloc: Global, paths: &[Txt], grades: &[Grade]) -> Result<Bytes, NoMemory>
     ensures { IfOk result (λ text. text ≡ spec.grades_text paths.now grades.now) }
 {
@@ -70,7 +71,7 @@ pub(crate) fn grades_text(alloc: Global, paths: &[Txt], grades: &[Grade]) -> Res
     Ok(text)
 }
 
-/// The line of what stops a call that grades, where that is no outcome of `ratest`.
+/// The line of what stops a call that grades. Empty for an outcome of `ratest`.
 pub(crate) fn fault_line(alloc: Global, fault: &GradeFault) -> Result<Bytes, NoMemory>
     ensures { IfOk result (λ text. text ≡ spec.fault_line fault.now) }
 {

@@ -2,7 +2,7 @@
 
 use rt_algebra::{Expr, Pred, Query, Term};
 
-/// The most parts of a query that is kept, where each byte of a text is a part too.
+// The most parts of a query that is kept, where each byte of a text is a part too.
 const MOST_PARTS: usize = 4_096;
 
 /// Whether the query has no more parts than one that is kept. A larger one is not read to its end.
@@ -10,7 +10,7 @@ pub(crate) fn is_small(query: &Query) -> bool {
     query_left(query, MOST_PARTS).is_some()
 }
 
-/// How many of so many parts are left beside those of the query; none where it has more.
+// What is left of `most` parts without those of the query; none if it has more.
 #[cycle(parts)]
 fn query_left(query: &Query, most: usize) -> Option<usize> {
     let left = most.checked_sub(1)?;

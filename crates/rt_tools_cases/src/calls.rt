@@ -1,4 +1,5 @@
 //! The parts of the commands, each called by itself.
+
 use crate::cert_held::{BOTH, SAME, files as cert_files};
 use crate::held::{files, list_of};
 use rt_cert::{Judgement, Proof, check, encode, prove};
@@ -12,7 +13,7 @@ use rt_value::{Keep, Txt};
 use std::alloc::Global;
 use std::process::Abort;
 
-/// Whether these are the two names.
+// Whether these are the two names.
 fn are_two(names: &[Txt], first: &str, second: &str) -> bool {
     match names {
         [one, other] => one.as_str() == first && other.as_str() == second,
@@ -48,7 +49,7 @@ fn are_told(graded: Result<Graded, GradeFault>) -> bool {
     }
 }
 
-/// One candidate with a witness of two rows, and one that is refused.
+// One candidate with a witness of two rows, and one that is refused.
 #[test]
 fn grades_of_a_list(rt: HostRuntime) {
     let alloc = rt.alloc();
@@ -61,7 +62,7 @@ fn grades_of_a_list(rt: HostRuntime) {
     assert!(rt; are_told(graded));
 }
 
-/// Whether the answer has this text; what stopped it has none.
+// Whether the answer has this text; what stopped it has none.
 fn is_said(answer: Result<RowAnswer, Outcome>, text: &str) -> bool {
     match answer {
         Ok(answer) => {
@@ -102,7 +103,7 @@ fn input_over(
     read
 }
 
-/// The proof of the verdict on an input, and none where the budget is spent.
+// The proof of the verdict on an input, and none where the budget is spent.
 fn proof_of(rt: &impl Abort, alloc: Global, input: &Input) -> Option<Proof> {
     match decide(alloc, input).expect(rt, "memory") {
         Best::Never => Some(prove(alloc, input, &None).expect(rt, "memory")),
@@ -119,7 +120,8 @@ fn proof_of(rt: &impl Abort, alloc: Global, input: &Input) -> Option<Proof> {
     }
 }
 
-/// Whether a judgement is that so many rows are the fewest, or with no number that the queries agree.
+// Whether a judgement is that so many rows are the fewest, or with no number that the queries
+// agree.
 fn is_valid(judgement: &Judgement, size: Option<usize>) -> bool {
     match (judgement, size) {
         (Judgement::Valid(Some(keep)), Some(size)) => keep.size() == size,
@@ -128,7 +130,7 @@ fn is_valid(judgement: &Judgement, size: Option<usize>) -> bool {
     }
 }
 
-/// Whether the check accepts a proof, and its lines are as many as the certificate says.
+// Whether the check accepts a proof, and its lines are as many as the certificate says.
 fn is_accepted(
     rt: &impl Abort,
     alloc: Global,
@@ -142,7 +144,7 @@ fn is_accepted(
     found && proof.cert.added == proof.encoded.lines.len() as u64
 }
 
-/// How many lines the encoding of an input has with no rows to be beaten.
+// How many lines the encoding of an input has with no rows to be beaten.
 fn lines_of(rt: &impl Abort, alloc: Global, input: &Input) -> usize {
     let mut encoded = Encoded::new(alloc);
     let none: Option<&Keep> = None;
@@ -153,7 +155,7 @@ fn lines_of(rt: &impl Abort, alloc: Global, input: &Input) -> usize {
     lines
 }
 
-/// Whether the verdict on an input has a proof that the check accepts.
+// Whether the verdict on an input has a proof that the check accepts.
 fn is_proved(rt: &impl Abort, alloc: Global, input: &Input, size: Option<usize>) -> bool {
     let Some(proof) = proof_of(rt, alloc, input) else {
         return false;

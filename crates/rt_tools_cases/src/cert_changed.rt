@@ -1,10 +1,11 @@
 //! The check of certificates that were changed.
+
 use crate::cert_held::{BOTH, SECOND, check_ends, run_on, with_cert, written};
 use rt_value::{Bytes, List};
 use std::alloc::Global;
 use std::process::Abort;
 
-/// The text with this in the place of each line that begins so.
+// The text with this in the place of each line that begins so.
 fn changed(rt: &impl Abort, alloc: Global, text: &[u8], head: &[u8], with: &[u8]) -> Bytes {
     let mut out = List::new(alloc);
     for line in text.split(|byte| *byte == b'\n') {
@@ -21,7 +22,7 @@ fn changed(rt: &impl Abort, alloc: Global, text: &[u8], head: &[u8], with: &[u8]
     out
 }
 
-/// Whether the check of the text, changed so, ends so.
+// Whether the check of the text, changed so, ends so.
 fn change_ends(
     rt: &impl Abort,
     alloc: Global,
@@ -36,7 +37,7 @@ fn change_ends(
     found
 }
 
-/// Whether that check names a line.
+// Whether that check names a line.
 fn line_is_named(
     rt: &impl Abort,
     alloc: Global,
@@ -56,7 +57,7 @@ fn lines_in(text: &[u8]) -> usize {
     text.iter().filter(|byte| **byte == b'\n').count()
 }
 
-/// Whether the text that keeps these rows is rejected for this, or else is valid.
+// Whether the text that keeps these rows is rejected for this, or else is valid.
 fn claim_ends(rt: &impl Abort, alloc: Global, text: &[u8], keep: &str, why: &str) -> bool {
     let line = format!(in alloc; "ratest: certificate: rejected: {why}\n").expect(rt, "memory");
     let ended = if why.is_empty() {
@@ -87,7 +88,7 @@ fn changed_claims(rt: HostRuntime) {
     }
 }
 
-/// A row that refers to another one is not lawful alone.
+// A row that refers to another one is not lawful alone.
 #[test]
 fn a_row_alone(rt: HostRuntime) {
     let text = b"ratest certificate 1\nverdict witness 1\nkeep 3\nadded 0\nend\n";
@@ -105,7 +106,7 @@ fn changed_steps(rt: HostRuntime) {
     let steps = lines_in(text.as_slice()).saturating_sub(lines_in(none.as_slice()));
     drop(none);
     let (why, at) = ("rejected: line", steps.saturating_add(1));
-    // Behind the steps that refute, one whose hint is no line, and one that follows from nothing.
+    // After the steps that refute, one whose hint is no line, and one that follows from nothing.
     for step in &["d ; 4611686018427387903\nend\n", "d +9 ;\nend\n"] {
         let change = (b"end".as_slice(), step.as_bytes());
         assert!(rt;
@@ -115,7 +116,7 @@ fn changed_steps(rt: HostRuntime) {
     }
 }
 
-/// The number of lines of the encoding is told, where the certificate has another.
+// The number of lines of the encoding is printed, if the certificate has another.
 #[test]
 fn another_number_of_lines(rt: HostRuntime) {
     let alloc = rt.alloc();
@@ -164,7 +165,7 @@ fn texts_that_are_no_certificate(rt: HostRuntime) {
     }
 }
 
-/// A byte order mark at the start is none of the text.
+// A byte order mark at the start is none of the text.
 #[test]
 fn a_mark_before_a_certificate(rt: HostRuntime) {
     let alloc = rt.alloc();

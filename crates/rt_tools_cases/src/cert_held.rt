@@ -1,4 +1,5 @@
-//! Files and sinks in memory.
+//! Files in memory for the command of certificates, and calls of it.
+
 use rt_cert::{CertOutcome, cert_run};
 use rt_io::{MemFiles, MemSink};
 use rt_value::{Bytes, List, Txt};
@@ -52,7 +53,7 @@ const FILES: [(&str, &str); 18] = [
     ),
 ];
 
-/// Words behind `prove` of an input whose smallest counterexample is its second row.
+/// Arguments after `prove` of an input whose smallest counterexample is its second row.
 pub(crate) const SECOND: [&str; 4] = ["s", "d", "above1.sql", "above2.sql"];
 
 /// Those of an input with the same answers always.
@@ -93,6 +94,7 @@ impl Ended {
     }
 }
 
+/// The arguments as the program has them: `head`, and then `args`.
 pub(crate) fn list_of(rt: &impl Abort, alloc: Global, head: &[&str], args: &[&str]) -> List<Txt> {
     let mut list = List::new(alloc);
     for word in head {
@@ -106,15 +108,14 @@ pub(crate) fn list_of(rt: &impl Abort, alloc: Global, head: &[&str], args: &[&st
     list
 }
 
-/// The status of an outcome, which is let go of here.
+/// The status of an outcome, which is dropped here.
 pub(crate) fn status_of(outcome: CertOutcome) -> u8 {
     let status = outcome.status();
     drop(outcome);
     status
 }
 
-/// The call on these words, the later ones behind the earlier, over these files, which are let go of
-/// here.
+/// The call on these arguments, `head` and then `args`, over these files, which are dropped here.
 pub(crate) fn run_on(
     rt: &impl Abort,
     alloc: Global,

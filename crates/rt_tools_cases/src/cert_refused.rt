@@ -1,4 +1,5 @@
-//! Words, inputs and files that are refused.
+//! Arguments, inputs and files that are refused.
+
 use crate::cert_held::{SECOND, ends, files, list_of, status_of, with_cert};
 use rt_cert::{CERT_USAGE, cert_run};
 use rt_io::{MemFiles, MemSink};
@@ -69,7 +70,7 @@ fn words_and_inputs(rt: HostRuntime) {
     }
 }
 
-/// A certificate of 2^26 + 1 bytes, one more than it may have.
+// A certificate of 2^26 + 1 bytes, one more than it may have.
 fn long_certificate(rt: &impl Abort, alloc: Global) -> MemFiles {
     let mut text = List::from_slice(alloc, b"\n").expect(rt, "memory");
     for _ in 0..26 {
@@ -91,7 +92,7 @@ fn a_long_certificate(rt: HostRuntime) {
     assert!(rt; ends(&rt, rt.alloc(), long, &["check", "cert"], &SECOND, ended));
 }
 
-/// Whether a certificate is named whose file fails at its first read.
+// Whether a certificate is named whose file fails at its first read.
 fn is_read_fault(rt: &impl Abort, alloc: Global) -> bool {
     let mut files = with_cert(rt, alloc, NONE);
     files.fail_read("cert", 1).expect(rt, "memory");
@@ -99,7 +100,7 @@ fn is_read_fault(rt: &impl Abort, alloc: Global) -> bool {
     ends(rt, alloc, files, &["check", "cert"], &SECOND, ended)
 }
 
-/// Whether the text is cut where its sink takes ten bytes.
+// Whether the text is cut where its sink takes ten bytes.
 fn is_cut(rt: &impl Abort, alloc: Global) -> bool {
     let words = list_of(rt, alloc, &["prove", "made", "3"], &[]);
     let mut files = files(rt, alloc);

@@ -1,11 +1,12 @@
 //! Certificates that are written, and their check.
+
 use crate::cert_held::{BOTH, SAME, SECOND, check_ends, files, run_on, written};
 use std::alloc::Global;
 use std::process::Abort;
 
 const TWENTY: [&str; 2] = ["made", "20"];
 
-/// Whether a whole certificate that begins so is written of an input.
+// Whether a whole certificate that begins so is written of an input.
 fn is_written(rt: &impl Abort, alloc: Global, args: &[&str], head: &str) -> bool {
     let files = files(rt, alloc);
     let told = run_on(rt, alloc, files, &["prove"], args);
@@ -36,7 +37,7 @@ fn certificates_that_are_written(rt: HostRuntime) {
     }
 }
 
-/// Whether the certificate that is written of an input is accepted so.
+// Whether the certificate that is written of an input is accepted so.
 fn is_accepted(rt: &impl Abort, alloc: Global, args: &[&str], out: &str) -> bool {
     let text = written(rt, alloc, args);
     let found = check_ends(rt, alloc, text.as_slice(), args, (0, out, ""));
@@ -57,7 +58,7 @@ fn certificates_that_are_accepted(rt: HostRuntime) {
     }
 }
 
-/// Whether just this text is written of an input.
+// Whether just this text is written of an input.
 fn is_text_of(rt: &impl Abort, alloc: Global, args: &[&str], text: &[u8]) -> bool {
     let other = written(rt, alloc, args);
     let found = other.as_slice() == text;
@@ -65,7 +66,7 @@ fn is_text_of(rt: &impl Abort, alloc: Global, args: &[&str], text: &[u8]) -> boo
     found
 }
 
-/// A certificate has the same text at each run, and of whatever options.
+// A certificate has the same text at each run, and of whatever options.
 #[test]
 fn the_same_text_again(rt: HostRuntime) {
     let first = written(&rt, rt.alloc(), &SECOND);

@@ -1,4 +1,5 @@
-//! The five commands of the second program, each called as its words say.
+//! The five commands of the second program, each called as its arguments say.
+
 use crate::held::{files, list_of};
 use rt_cert::cert_run;
 use rt_io::{MemFiles, MemSink, PlusCommand, plus_command};
@@ -61,7 +62,7 @@ fn run(
     }
 }
 
-/// Whether the words end with this status and write a text that begins so.
+// Whether the arguments end with this status and write a text that begins so.
 fn ends(rt: &impl Abort, alloc: Global, words: &[&str], status: u8, out: &str, err: &str) -> bool {
     let mut held = files(rt, alloc);
     held.hold("list", b"a.sql").expect(rt, "memory");

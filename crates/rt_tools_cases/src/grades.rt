@@ -1,3 +1,5 @@
+//! The grades of lists of candidates: what is printed, which lists are refused, and limits.
+
 use crate::held::{ends, files};
 use rt_io::MemFiles;
 use rt_tools::USAGE;
@@ -9,7 +11,7 @@ const WORDS: [&str; 5] = ["grade", "s", "d", "a.sql", "list"];
 const THREE: &str =
     "b.sql: witness 2\na.sql: agree\nc.sql: refused: unknown column: foo\ngraded: 3\n";
 
-/// The files with this list.
+// The files with this list.
 fn with_list(rt: &impl Abort, alloc: Global, list: &[u8]) -> MemFiles {
     let mut files = files(rt, alloc);
     files.hold("list", list).expect(rt, "memory");
@@ -85,19 +87,19 @@ fn words_of_a_list(rt: HostRuntime) {
     }
 }
 
-/// `b.sql` in another spelling.
+// `b.sql` in another spelling.
 const AGAIN: &str =
     "-- By Jo.\nselect X.NAME\nfrom REG as X\n  where ((x.dept = 'CS')) and (x.grade > 80)";
 
-/// The same but for one number, than which each grade is larger.
+// The same but for one number, than which each grade is larger.
 const EACH: &str = "SELECT r.name FROM reg r WHERE r.dept = 'CS' AND r.grade > 70";
 
-/// Two that differ in one sign: the first is as `EACH`, the second lacks two of the three rows.
+// Two that differ in one sign: the first is as `EACH`, the second lacks two of the three rows.
 const PLUS: &str = "SELECT r.name FROM reg r WHERE r.dept = 'CS' AND r.grade + 10 > 80";
 
 const MINUS: &str = "SELECT r.name FROM reg r WHERE r.dept = 'CS' AND r.grade - 10 > 80";
 
-/// The files with this list and these candidates.
+// The files with this list and these candidates.
 fn with_spellings(rt: &impl Abort, alloc: Global, list: &[u8]) -> MemFiles {
     let mut files = with_list(rt, alloc, list);
     for (name, text) in &[
@@ -121,7 +123,7 @@ fn spellings_of_a_query(rt: HostRuntime) {
     assert!(rt; ends(&rt, alloc, files, &WORDS, 0, out, ""));
 }
 
-/// So many lines of one byte.
+// So many lines of one byte.
 fn short_lines(rt: &impl Abort, alloc: Global, lines: usize) -> String {
     let mut text = String::new(alloc);
     for _ in 0..lines {
@@ -130,7 +132,7 @@ fn short_lines(rt: &impl Abort, alloc: Global, lines: usize) -> String {
     text
 }
 
-/// A list of so many such lines.
+// A list of so many such lines.
 fn with_lines(rt: &impl Abort, alloc: Global, lines: usize) -> MemFiles {
     let list = short_lines(rt, alloc, lines);
     let files = with_list(rt, alloc, list.as_str().as_bytes());

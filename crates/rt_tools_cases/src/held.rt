@@ -1,4 +1,5 @@
-//! Files and sinks in memory.
+//! Files in memory for the tools, and calls of them.
+
 use rt_io::{MemFiles, MemSink};
 use rt_tools::{ToolOutcome, tool_run};
 use rt_value::{List, Txt};
@@ -32,7 +33,7 @@ pub(crate) fn files(rt: &impl Abort, alloc: Global) -> MemFiles {
     files
 }
 
-/// The words as a list.
+/// The arguments as a list.
 pub(crate) fn list_of(rt: &impl Abort, alloc: Global, words: &[&str]) -> List<Txt> {
     let mut list = List::new(alloc);
     for word in words {
@@ -42,15 +43,15 @@ pub(crate) fn list_of(rt: &impl Abort, alloc: Global, words: &[&str]) -> List<Tx
     list
 }
 
-/// The status of an outcome, which is let go of here.
+// The status of an outcome, which is dropped here.
 fn status_of(outcome: ToolOutcome) -> u8 {
     let status = outcome.status();
     drop(outcome);
     status
 }
 
-/// Whether the call ends with this status and writes just these texts, over these files, which are let
-/// go of here.
+/// Whether the call ends with this status and writes just these texts, over these files, which
+/// are dropped here.
 pub(crate) fn ends(
     rt: &impl Abort,
     alloc: Global,

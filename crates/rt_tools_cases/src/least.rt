@@ -1,4 +1,5 @@
 //! The least choice of rows with a row in the first answer alone.
+
 use crate::held::{files, list_of};
 use rt_input::{Input, Outcome, read_input};
 use rt_search::Best;
@@ -7,7 +8,7 @@ use rt_value::Row;
 use std::alloc::Global;
 use std::process::Abort;
 
-/// The input of the two queries over the rows of the files in memory.
+// The input of the two queries over the rows of the files in memory.
 fn read(rt: &impl Abort, alloc: Global) -> Result<Input, Outcome> {
     let mut files = files(rt, alloc);
     let words = list_of(rt, alloc, &["s", "d", "a.sql", "b.sql"]);
@@ -54,8 +55,8 @@ fn is_least(
     found
 }
 
-/// Mary is in the first answer alone where her second registration alone is kept, and John where
-/// no row of his tells the two queries apart.
+// Mary is in the first answer alone if only her second registration is kept. For John no row of
+// his makes the two queries differ.
 fn mary_and_john_are_told(rt: &impl Abort, alloc: Global, read: Result<Input, Outcome>) -> bool {
     match read {
         Ok(input) => {

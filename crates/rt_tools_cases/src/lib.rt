@@ -1,7 +1,7 @@
-//! The tests of the commands of the second program but those on algebra texts alone: one named row, the
-//! grades of many candidates, and certificates.
+//! The tests of the commands of the second program: one named row, the grades of many candidates,
+//! and certificates. Those on algebra texts alone are in `rt_answer_cases`.
 //!
-//! They stand in a crate of their own, since a crate with tests is proved twice.
+//! They are a crate of their own, since a crate with tests is proved twice.
 #![tactic(auto)]
 
 #[cfg(test)]

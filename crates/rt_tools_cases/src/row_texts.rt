@@ -1,3 +1,5 @@
+//! Rows from their texts: what is read, and what each refused text is refused for.
+
 use rt_algebra::{Query, Typed};
 use rt_schema::ColKind;
 use rt_token::LexFault;

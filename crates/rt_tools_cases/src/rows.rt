@@ -1,10 +1,12 @@
+//! One named row: what is printed, and which rows are refused.
+
 use crate::held::{ends, files};
 use rt_tools::USAGE;
 
 const MARY: &str = "witness: 2\nstudent 1: 'Mary', 'CS'\nreg 2: 'Mary', 230, 'CS', 75\n\
     only query 1: 1\n  'Mary'\nonly query 2: 0\nboth: 0\n";
 
-/// One named row of the first query, whose answers on all rows are Mary and John.
+// One named row of the first query, whose answers on all rows are Mary and John.
 #[test]
 fn one_named_row(rt: HostRuntime) {
     let alloc = rt.alloc();

@@ -40,7 +40,7 @@ verdict-one input Never Never f g v w = refl
 verdict-one input Never (Spent x) f g v w = absurd g
 verdict-one input (Spent x) b f g v w = absurd f
 
--- two calls on the same words and contents read the same input
+-- two calls on the same arguments and contents read the same input
 same-input : (a b : Call) → AreAlike a b → (input other : Accepted) → IsRead a input → IsRead b other → input ≡ other
 same-input a b h input other r s =
     let same : judged a.words a.files.held ≡ judged b.words b.files.held = (λ i. judged (h.words i) (h.held i)) in

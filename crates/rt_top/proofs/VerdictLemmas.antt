@@ -128,7 +128,7 @@ gets_verdict c out err o said result input row spoke tells calm sinks ok room = 
 refused_as : {T : Type 0} (r : Result T Outcome) (refusal o : Outcome) → r ≡ Err refusal → r ≡ Err o → refusal ≡ o
 refused_as r refusal o p q = cc
 
--- the outcome that its row allows, where a refusal stands
+-- the outcome that its row allows, for an input that is refused
 row_yields : (c : Call) (o refusal : Outcome) → Row c o → IsTold c → judged c.words c.files.held ≡ Err refusal → YieldsTo refusal o
 row_yields c outcome.Agree refusal row tells is = not_accepted _ refusal row.0 is (row.1.told tells)
 row_yields c (outcome.Witness keep) refusal row tells is = not_accepted _ refusal row.0 is (row.1.told tells)

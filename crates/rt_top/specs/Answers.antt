@@ -45,7 +45,7 @@ Row c (outcome.ReadFault part) = ReadFaultRow c part
 Row c outcome.WriteFault = ⊥
 Row c outcome.NoMemory = ⊥
 
--- ---- words on one outcome
+-- ---- what is said of one outcome
 
 abbrev pub IfAgree : Outcome → Type 0 → Type 0
 IfAgree outcome.Agree P = P
@@ -85,7 +85,7 @@ IfNoMemory _ P = ⊤
 
 -- ---- where an outcome has to come
 
--- what an answer may be where a refusal stands: that refusal, or a fault
+-- what an answer may be for an input that is refused: that refusal, or an error
 abbrev pub YieldsTo : Outcome → Outcome → Type 0
 YieldsTo refusal outcome.Agree = ⊥
 YieldsTo refusal (outcome.Witness keep) = ⊥
@@ -103,7 +103,7 @@ YieldsToWrite refusal outcome.NoMemory = ⊤
 YieldsToWrite refusal outcome.WriteFault = ⊤
 YieldsToWrite refusal o = o ≡ refusal
 
--- a verdict, or want of memory
+-- a verdict, or out of memory
 abbrev pub IsVerdictOrMemory : Outcome → Type 0
 IsVerdictOrMemory outcome.Agree = ⊤
 IsVerdictOrMemory (outcome.Witness keep) = ⊤
@@ -158,7 +158,7 @@ IfText outcome.WriteFault P = ⊤
 IfText outcome.NoMemory P = ⊤
 IfText _ P = P
 
--- how the writing of a text ended: all of it was taken, the sink failed, or memory was wanting
+-- how the writing of a text ended: all of it was taken, the sink failed, or it is out of memory
 abbrev pub WritesTo : Log → Outcome → List ℕ → Outcome → Type 0
 WritesTo sink o said result =
     ((result ≡ o) × Grew sink said)

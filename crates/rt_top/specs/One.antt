@@ -21,15 +21,16 @@ IsDecided outcome.Agree = ⊤
 IsDecided (outcome.Witness keep) = ⊤
 IsDecided _ = ⊥
 
--- two calls on the same words and the same known contents
+-- two calls on the same arguments and the same known contents
 pub record AreAlike (a b : Call) : Type 0 where
   pub words : a.words ≡ b.words
   pub held : a.files.held ≡ b.files.held
   pub told : IsTold a
   pub told_too : IsTold b
 
--- at most one choice of rows is smallest, and none where there is no counterexample; two verdicts on
--- one input are the same; and two calls on the same words and contents have the same answer and text
+-- At most one choice of rows is smallest, and none is where there is no counterexample. Two
+-- verdicts on one input are the same. Two calls on the same arguments and contents have the same
+-- answer and text.
 pub record HasOneAnswer : Type 0 where
   pub one : (input : Accepted) (s t : List Bool) → IsSmallest input s → IsSmallest input t → s ≡ t
   pub none : (input : Accepted) (s : List Bool) → IsSmallest input s → Agrees input → ⊥

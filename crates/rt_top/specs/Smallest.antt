@@ -56,10 +56,10 @@ pub record IsSmallest (input : Accepted) (keep : List Bool) : Type 0 where
 abbrev pub Agrees : Accepted → Type 0
 Agrees input = (t : List Bool) → IsChoice input t → counters input t ≡ false
 
--- the search was given up: the budget is below the number of choices; the best choice so far is a
--- counterexample, where there is one; where it is said to keep the fewest rows, it is there and does;
--- and as many clauses as the budget says are true at each better counterexample, or then at each that
--- keeps as few
+-- The search was given up. The budget is below the number of choices. The best choice so far, if
+-- there is one, is a counterexample. If it is said to keep the fewest rows, it is there and does.
+-- As many clauses as the budget says are true at each better counterexample, or then at each that
+-- keeps as few.
 pub record IsGivenUp (input : Accepted) (budget : ℕ) (best : Option (List Bool)) (least : Bool) (nogoods : List (List Literal)) : Type 0 where
   pub small : budget < 2 ^ places input.given.tables
   pub best_is : IfSome best (IsCounter input)

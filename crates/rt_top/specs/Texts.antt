@@ -17,7 +17,7 @@ usage_text = codes "usage: ratest SCHEMA DATADIR QUERY1 QUERY2 [--conflicts N] [
 abbrev pub refusal_text : ℕ → Outcome → List ℕ
 refusal_text most o = stopped_text usage_text most o
 
--- ---- verdicts; over a generated input a summary stands in their place
+-- ---- verdicts; a generated input has a summary instead
 
 abbrev pub agree_text : Option ℕ → List ℕ
 agree_text None = codes "agree\n"

@@ -1,4 +1,5 @@
-//! Where the budget is spent.
+//! What is said when the budget of conflicts is spent.
+
 ghost use Rattle.std.specs.Prelude.{◌≡◌, IfOk, Some};
 ghost use Rattle.rt_top.specs.Answers.{Judges};
 ghost use Rattle.rt_top.specs.Smallest.{IsGivenUp};
@@ -11,7 +12,7 @@ use rt_search::SpentBest;
 use rt_value::{Bytes, NoMemory};
 use std::alloc::Global;
 
-/// A spent budget, and what is to be said of it.
+/// A spent budget, and the text of that.
 #[derive(Drop)]
 pub struct GivenUp {
     pub spent: Spent,
@@ -35,7 +36,7 @@ fn spent_of(alloc: Global, input: &Input, spent: &Spent) -> Result<Bytes, NoMemo
     )
 }
 
-/// What a search that spent its budget found.
+/// The answer for a search that spent its budget: what it found, and its text.
 pub fn given_up(
     alloc: Global,
     input: &Input,

@@ -1,4 +1,6 @@
-//! The verdict on an input.
+//! From an input to the decision on it: formula, cone, and search, each a crate of its own. How
+//! they are put together is private; the contracts speak of smallest counterexamples.
+
 ghost use Rattle.std.specs.Prelude.{ℕ, ◌≤◌, Option, IfOk, IfSome};
 ghost use Rattle.rt_schema.specs.Given.{IsOf};
 ghost use Rattle.rt_algebra.specs.Typed.{IsTypedOf};
@@ -14,9 +16,9 @@ use rt_search::{Best, smallest};
 use rt_value::NoMemory;
 use std::alloc::Global;
 
-/// The first of the smallest counterexamples of an input, or that there is none, or that the budget
-/// is spent: the least choice of rows at which the formula of its counterexamples is true. Only the
-/// rows that can matter to their difference are searched.
+/// The first of the smallest counterexamples of an input, in the order of rows, or that there is
+/// none, or that the budget is spent. It is the least choice of rows at which the formula of the
+/// counterexamples is true. Only the rows that can matter to the difference are searched.
 pub fn decide(alloc: Global, input: &Input) -> Result<Best, NoMemory>
     ensures { IfOk result (IsVerdict input.now) }
 {
@@ -31,7 +33,8 @@ pub fn decide(alloc: Global, input: &Input) -> Result<Best, NoMemory>
     )
 }
 
-/// The same of two queries over given rows, whatever else their input says.
+/// The same for two queries over given rows. `conflicts` is the budget of each round of the
+/// search.
 pub fn decide_between(
     alloc: Global,
     schema: &Schema,

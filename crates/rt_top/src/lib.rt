@@ -1,4 +1,5 @@
-//! The verdict on an input, and the whole of a command: what it reads, decides and says.
+//! The verdict on an input, and the whole of the command `ratest`: what it reads, decides and
+//! prints.
 #![tactic(auto)]
 
 mod budget;

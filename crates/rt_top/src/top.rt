@@ -1,3 +1,6 @@
+//! The command `ratest`, whole: its contract is the promise of the program. It reads, decides,
+//! and then writes once.
+
 ghost use Rattle.std.specs.Prelude.{◌≡◌, ◌⊎◌, false, None, IfOk, Ok, Err};
 ghost use Rattle.rt_io.specs.Edge.{NoneFell};
 ghost use Rattle.rt_io.specs.Command.{command};
@@ -18,11 +21,11 @@ use rt_io::{Files, Sink, SinkFail, write_at};
 use rt_value::{Bytes, NoMemory, Txt};
 use std::alloc::Global;
 
-/// The text for words that are no command.
+/// The text for arguments that are no command.
 pub const USAGE: &str =
     "usage: ratest SCHEMA DATADIR QUERY1 QUERY2 [--conflicts N] [--work N]\n       ratest made N [--conflicts N] [--work N]\n";
 
-// The text of what stopped the reading; none where memory was wanting.
+// The text of what stopped the reading; none if that was out of memory.
 fn said(alloc: Global, words: &[Txt], outcome: &Outcome) -> Result<Bytes, NoMemory>
     ensures stopped { IfOk result (λ text. is_memory outcome.now ≡ false) }
     ensures text { IfOk result (λ text. text ≡ refusal_text (limit_of (command words.now)) outcome.now) }
@@ -34,7 +37,7 @@ fn said(alloc: Global, words: &[Txt], outcome: &Outcome) -> Result<Bytes, NoMemo
     }
 }
 
-/// What is to be said of what stopped the reading.
+// The answer for what stopped the reading.
 fn refused(alloc: Global, words: &[Txt], outcome: Outcome) -> Result<Answer, NoMemory>
     ensures stopped { IfOk result (λ a. is_memory outcome ≡ false) }
     ensures outcome { IfOk result (λ a. a.outcome ≡ outcome) }
@@ -49,7 +52,7 @@ fn refused(alloc: Global, words: &[Txt], outcome: Outcome) -> Result<Answer, NoM
     }
 }
 
-/// What is to be said of a command.
+// The answer to a command: a verdict, or why there is none.
 fn prepare<F: Files>(alloc: Global, words: &[Txt], files: &mut F) -> Result<Answer, NoMemory>
     ensures row { IfOk result (λ a. Row (call F.Files words.now files.old files.new) a.outcome) }
     ensures says { IfOk result (λ a. IsTextOf (call F.Files words.now files.old files.new) a.outcome a.text) }
@@ -68,7 +71,7 @@ fn prepare<F: Files>(alloc: Global, words: &[Txt], files: &mut F) -> Result<Answ
     }
 }
 
-/// Writes the text of an answer to its sink.
+// Writes the text of an answer to its sink.
 fn speak<O: Sink, E: Sink>(out: &mut O, err: &mut E, answer: Answer) -> Outcome
     ensures { Writes (log O.Sink out.old out.new) (log E.Sink err.old err.new) answer.outcome answer.text result }
 {
@@ -88,7 +91,8 @@ fn speak<O: Sink, E: Sink>(out: &mut O, err: &mut E, answer: Answer) -> Outcome
 }
 
 /// Reads the files of a command, decides on the input, and writes the verdict to `out`, or to
-/// `err` why there is none.
+/// `err` why there is none. `words` are the arguments of the program, without its name. Nothing
+/// is written before the answer is known.
 pub fn ratest<F: Files, O: Sink, E: Sink>(
     alloc: Global,
     words: &[Txt],
@@ -96,36 +100,36 @@ pub fn ratest<F: Files, O: Sink, E: Sink>(
     out: &mut O,
     err: &mut E,
 ) -> Outcome
-    // Only where all lawful sub-instances of the input agree.
+    // Only if the queries agree on all lawful sub-instances of the input.
     ensures agree { IfAgree result (AgreeRow (call F.Files words.now files.old files.new)) }
-    // Only where the choice is a smallest counterexample of the input.
+    // Only if the choice is a smallest counterexample of the input.
     ensures witness { IfWitness result (WitnessRow (call F.Files words.now files.old files.new)) }
-    // Only where the words are no command, and there always.
+    // Only for arguments that are no command, and for those always.
     ensures usage { IfUsage result (UsageRow (call F.Files words.now files.old files.new)) }
     ensures usage_exact { command words.now ≡ None → YieldsToWrite outcome.Usage result }
-    // Only where this is the first refusal, and there always. A syntax fault stands at a token of its
-    // text, or at the end of the last one.
+    // Only if this is the first refusal, and then always. A syntax error names a token of its
+    // text, or the end of the last one.
     ensures refused { IfRefused result (RefusedRow (call F.Files words.now files.old files.new)) }
-    // Only where the budget of the command is spent.
+    // Only if the budget of the command is spent.
     ensures spent { IfSpent result (SpentRow (call F.Files words.now files.old files.new)) }
     ensures limit { IfLimit result (LimitRow (call F.Files words.now files.old files.new)) }
     ensures exact { IsTold (call F.Files words.now files.old files.new) → (refusal : Outcome) → judged words.now (F.held files.old) ≡ Err refusal → YieldsTo refusal result }
-    // Only where the count of that part's file rose in this call.
+    // Only if the count of that part's file rose in this call.
     ensures read_fault { IfReadFault result (ReadFaultRow (call F.Files words.now files.old files.new)) }
-    // Only where the sink of an outcome that its row allows failed in this call.
+    // Only if the sink of an outcome that its row allows failed in this call.
     ensures write_fault { IfWriteFault result ((allowed : Outcome) × WritesUntilFault (call F.Files words.now files.old files.new) (log O.Sink out.old out.new) (log E.Sink err.old err.new) allowed) }
-    // Want of memory may come anywhere; at most a prefix of such a text was written.
+    // Out of memory may come anywhere; at most a prefix of such a text was written.
     ensures no_memory { let o = log O.Sink out.old out.new in let e = log E.Sink err.old err.new in
         IfNoMemory result (WritesNothing o e ⊎ ((allowed : Outcome) × WritesPart (call F.Files words.now files.old files.new) o e allowed)) }
     // The whole text went to its sink, and nothing to the other.
     ensures said { IfText result (WritesAll (call F.Files words.now files.old files.new) result (log O.Sink out.old out.new) (log E.Sink err.old err.new)) }
-    // An accepted command without a budget, or with one that no search can spend, gets a verdict over
-    // files and sinks that don't fail.
+    // An accepted command without a budget, or with one that no search can spend, gets a verdict
+    // over files and sinks that don't fail.
     ensures complete { let c = call F.Files words.now files.old files.new in
         IsTold c → NoFileRose c → NoSinkRose (log O.Sink out.old out.new) (log E.Sink err.old err.new)
         → (input : Accepted) → judged words.now (F.held files.old) ≡ Ok input → HasRoom input → IsVerdictOrMemory result }
-    // The files that are begun are first ones of those that the command names, in the order of the
-    // reading, and none stands behind the first refusal.
+    // The files that are begun are first ones of those that the command names, in the order of
+    // the reading, and none after the first refusal.
     ensures begun { Begins F.Files (command words.now) files.old files.new }
     // A generated input begins no file.
     ensures made { IsMadeCall (command words.now) → files.new ≡ files.old }

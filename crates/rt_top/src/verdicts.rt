@@ -1,4 +1,5 @@
 //! Verdicts on an input, and their texts.
+
 ghost use Rattle.std.specs.Prelude.{◌≡◌, IfOk, Some};
 ghost use Rattle.rt_top.specs.Answers.{Judges};
 ghost use Rattle.rt_top.specs.Smallest.{Agrees, IsGivenUp, IsSmallest};
@@ -13,7 +14,7 @@ use rt_search::{Best, SpentBest};
 use rt_value::{Bytes, Keep, List, NoMemory};
 use std::alloc::Global;
 
-/// An outcome and its text.
+/// An outcome and the text that is printed for it.
 #[derive(Drop)]
 pub struct Answer {
     pub outcome: Outcome,
@@ -29,7 +30,7 @@ fn agree_of(alloc: Global, input: &Input) -> Result<Bytes, NoMemory>
     }
 }
 
-/// The text of a smallest counterexample.
+// The text of a smallest counterexample.
 fn witness_of(alloc: Global, input: &Input, keep: &Keep) -> Result<Bytes, NoMemory>
     requires { IsSmallest input.now keep.now }
     ensures { IfOk result (λ text. text ≡ witness_of input.now keep.now) }
@@ -83,8 +84,8 @@ fn undecided(
     Ok(Answer { outcome, text })
 }
 
-/// What is to be said of an accepted input: agreement, a smallest counterexample, or that the budget
-/// is spent.
+/// The verdict on an accepted input, with its text: agreement, a smallest counterexample, or that
+/// the budget is spent.
 pub fn verdict(alloc: Global, input: &Input) -> Result<Answer, NoMemory>
     ensures { IfOk result (λ a. Judges input.now a.outcome a.text) }
 {

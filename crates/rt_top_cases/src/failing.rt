@@ -1,5 +1,6 @@
-//! Calls that fail and texts that are cut, over the files of the first worked row: the answer is the
-//! right one, or says what failed, and no byte already written is lost.
+//! Calls that fail and texts that are cut, over the files of the first worked row. The answer is
+//! the right one, or says what failed, and no byte already written is lost.
+
 use rt_cases::{
     FOUR, MARY, ONE, REG, SCHOOL, SOME, STUDENT, ends, files, is_write_fault, status_of, words,
 };
@@ -8,7 +9,7 @@ use rt_top::ratest;
 use std::alloc::Global;
 use std::process::Abort;
 
-/// The names of the files, and what a refusal calls each.
+// The names of the files, and what a refusal calls each.
 const PARTS: [(&str, &str); 5] = [
     ("s", "schema"),
     ("d/student.csv", "table student"),
@@ -21,7 +22,7 @@ fn school(rt: &impl Abort, alloc: Global, query1: &str) -> MemFiles {
     files(alloc, SCHOOL, &[STUDENT, REG], query1, SOME).expect(rt, "memory")
 }
 
-/// Whether the row is answered where a byte at a time is read and written.
+// Whether the row is answered where a byte at a time is read and written.
 fn is_answered_bytewise(rt: &impl Abort, alloc: Global) -> bool {
     let mut files = school(rt, alloc, ONE);
     files.piece(1);
@@ -35,8 +36,8 @@ fn is_answered_bytewise(rt: &impl Abort, alloc: Global) -> bool {
     status == 1 && out.bytes() == MARY.as_bytes() && err.bytes().is_empty()
 }
 
-/// Whether the status is this where a sink takes so many bytes, and just the first ones of the text are
-/// in it.
+// Whether the status is this where a sink takes so many bytes, and just the first ones of the
+// text are in it.
 fn ends_with_room(rt: &impl Abort, alloc: Global, room: usize, wanted: u8) -> bool {
     let mut files = school(rt, alloc, ONE);
     let command = words(alloc, &FOUR).expect(rt, "memory");
@@ -55,7 +56,7 @@ fn ends_with_room(rt: &impl Abort, alloc: Global, room: usize, wanted: u8) -> bo
 
 const REFUSAL: &str = "ratest: query 1: unknown table: y\n";
 
-/// The same of a refusal.
+// The same of a refusal.
 fn is_refused_with_room(rt: &impl Abort, alloc: Global, room: usize, wanted: u8) -> bool {
     let mut files = school(rt, alloc, "SELECT x FROM y");
     let command = words(alloc, &FOUR).expect(rt, "memory");
@@ -88,7 +89,7 @@ fn pieces_and_full_sinks(rt: HostRuntime) {
     assert!(rt; is_refused_with_room(&rt, rt.alloc(), 34, 3));
 }
 
-/// Whether the row ends so over these files, which are let go of here.
+// Whether the row ends so over these files, which are dropped here.
 fn all_end(
     rt: &impl Abort,
     alloc: Global,
@@ -102,8 +103,8 @@ fn all_end(
     found
 }
 
-/// Whether the part is named where a read of so many bytes of its file fails or, at the read 0, where it
-/// can't be begun.
+// Whether the part is named where a read of so many bytes of its file fails or, at the read 0,
+// where it can't be begun.
 fn is_named(
     rt: &impl Abort,
     alloc: Global,
@@ -125,7 +126,7 @@ fn is_named(
     found
 }
 
-/// Whether a table is named whose file fails at its first read.
+// Whether a table is named whose file fails at its first read.
 fn is_read_fault(rt: &impl Abort, alloc: Global) -> bool {
     let mut files = school(rt, alloc, ONE);
     files.fail_read("d/student.csv", 1).expect(rt, "memory");
@@ -139,7 +140,7 @@ fn is_read_fault(rt: &impl Abort, alloc: Global) -> bool {
     )
 }
 
-/// Whether the text is cut where its sink takes ten bytes.
+// Whether the text is cut where its sink takes ten bytes.
 fn is_cut(rt: &impl Abort, alloc: Global) -> bool {
     let mut files = school(rt, alloc, ONE);
     let command = words(alloc, &FOUR).expect(rt, "memory");
@@ -167,7 +168,7 @@ fn files_that_fail(rt: HostRuntime) {
     }
 }
 
-/// Whether each read fails, a byte at a time: one for each byte of the text, and one for its end.
+// Whether each read fails, a byte at a time: one for each byte of the text, and one for its end.
 fn all_are_named(rt: &impl Abort, alloc: Global, name: &str, part: &str, text: &str) -> bool {
     for read in 1..=text.len() as u64 + 1 {
         if !is_named(rt, alloc, name, part, 1, read) {
@@ -185,14 +186,14 @@ fn bytes_that_fail(rt: HostRuntime) {
     }
 }
 
-/// Whether the row is refused so where a file holds nothing.
+// Whether the row is refused so where a file holds nothing.
 fn is_refused_empty(rt: &impl Abort, alloc: Global, name: &str, line: &str) -> bool {
     let mut files = school(rt, alloc, ONE);
     files.hold(name, b"".as_slice()).expect(rt, "memory");
     all_end(rt, alloc, files, 3, "", line)
 }
 
-/// The status where query 1 is cut to so many bytes, if it has them.
+// The status where query 1 is cut to so many bytes, if it has them.
 fn status_of_cut(rt: &impl Abort, alloc: Global, len: usize) -> u8 {
     let query = ONE.as_bytes();
     let mut files = school(rt, alloc, "");
@@ -233,7 +234,7 @@ fn texts_that_are_cut(rt: HostRuntime) {
     }
 }
 
-/// A text behind so many words and before as many others.
+// A text between `depth` copies of `open` and as many of `close`.
 fn between(
     rt: &impl Abort,
     alloc: Global,
@@ -253,7 +254,7 @@ fn between(
     whole
 }
 
-/// Whether these two queries end so.
+// Whether these two queries end so.
 fn queries_end(
     rt: &impl Abort,
     alloc: Global,
@@ -267,7 +268,7 @@ fn queries_end(
     all_end(rt, alloc, files, status, out, err)
 }
 
-/// Whether a query between so many parentheses agrees with itself, or is refused as too deep.
+// Whether a query between so many parentheses agrees with itself, or is refused as too deep.
 fn parentheses_end(
     rt: &impl Abort,
     alloc: Global,
@@ -283,7 +284,8 @@ fn parentheses_end(
     found
 }
 
-/// Whether a condition behind so many negations agrees with the plain one, or is refused as too deep.
+// Whether a condition after so many negations agrees with the plain one, or is refused as too
+// deep.
 fn negations_end(
     rt: &impl Abort,
     alloc: Global,

@@ -1,7 +1,7 @@
-//! The tests of the top call: worked inputs, limits and budgets; and of what stops a command:
-//! refusals, faults of files and sinks, and the parts of a command by themselves.
+//! The tests of the top call: worked inputs, limits and budgets. Also of what stops a command:
+//! refusals, errors of files and sinks, and the parts of a command by themselves.
 //!
-//! They stand in a crate of their own, since a crate with tests is proved twice.
+//! They are a crate of their own, since a crate with tests is proved twice.
 #![tactic(auto)]
 
 #[cfg(test)]

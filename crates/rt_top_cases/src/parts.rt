@@ -1,4 +1,5 @@
-//! The parts of a command that other commands stand on, each called by itself.
+//! The parts of a command that other commands use, each called by itself.
+
 use rt_cases::{ALL, SCHEMA, TABLE, files, words};
 use rt_input::{
     Fault, First, Limit, Outcome, Part, Tables, fault_text, query_of, read_first, read_tables,
@@ -12,7 +13,7 @@ use rt_value::{Bytes, Txt};
 use std::alloc::Global;
 use std::process::Abort;
 
-/// The work limit that the words name, and none where they are no command.
+// The work limit that the arguments name, and none for arguments that are no command.
 fn limit_named(rt: &impl Abort, alloc: Global, command: &[&str]) -> Option<u64> {
     let command = words(alloc, command).expect(rt, "memory");
     let read = read_words(alloc, command.as_slice());
@@ -40,7 +41,7 @@ fn words_of_a_command(rt: HostRuntime) {
     assert!(rt; three.is_none());
 }
 
-/// The text of a file that begins with a byte order mark, or the line of the fault.
+// The text of a file that begins with a byte order mark, or the line of the error.
 fn marked_text(rt: &impl Abort, alloc: Global, name: &str) -> Bytes {
     let mut held = files(alloc, SCHEMA, &[TABLE], "\u{feff}SELECT", "").expect(rt, "memory");
     let name = Txt::of(alloc, name).expect(rt, "memory");
@@ -90,7 +91,7 @@ fn rows_or_none(rt: &impl Abort, read: Result<Tables, Outcome>) -> Option<usize>
     }
 }
 
-/// How many rows the tables in this folder have, and none where the first can't be read.
+// The number of rows of the tables in this folder, and none if the first can't be read.
 fn rows_in(rt: &impl Abort, alloc: Global, dir: &str) -> Option<usize> {
     let mut held = files(alloc, SCHEMA, &[TABLE], "", "").expect(rt, "memory");
     let schema = Txt::of(alloc, "s").expect(rt, "memory");
@@ -116,7 +117,7 @@ fn is_said(rt: &impl Abort, alloc: Global, fault: Fault, wanted: &str) -> bool {
     found
 }
 
-/// A limit and want of memory have no text among the faults, and a usage no line.
+// A limit and out of memory have no text among the errors, and a usage no line.
 #[test]
 fn texts_of_faults(rt: HostRuntime) {
     let alloc = rt.alloc();
@@ -128,7 +129,7 @@ fn texts_of_faults(rt: HostRuntime) {
     assert!(rt; usage.is_empty());
 }
 
-/// Whether a query's text is refused for an unknown column, over a schema.
+// Whether a query's text is refused for an unknown column, over a schema.
 fn is_column_unknown(alloc: Global, schema: &Schema, text: &str) -> bool {
     match query_of(alloc, Part::Query2, schema, text.as_bytes()) {
         Ok(query) => {
@@ -162,7 +163,7 @@ fn first_is_read(alloc: Global, read: Result<First, Outcome>) -> bool {
     }
 }
 
-/// The second query's file is not there.
+// The second query's file is not there.
 fn first_of_words(rt: &impl Abort, alloc: Global, words: &Words) -> bool {
     let mut held = files(alloc, SCHEMA, &[TABLE], ALL, "").expect(rt, "memory");
     let read = read_first(alloc, words, &mut held);

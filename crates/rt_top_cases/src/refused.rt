@@ -1,10 +1,11 @@
 //! The refusals, one line each, in memory.
+
 use rt_cases::{ABC, ALL, FOUR, ONES, REG, SCHEMA, SCHOOL, STUDENT, TABLE, ends, files};
 use std::alloc::Global;
 use std::fmt::Write;
 use std::process::Abort;
 
-/// A table with 65 columns.
+// A table with 65 columns.
 const WIDE: &str = "CREATE TABLE t (\
     c1 INTEGER, c2 INTEGER, c3 INTEGER, c4 INTEGER, c5 INTEGER, c6 INTEGER, c7 INTEGER, \
     c8 INTEGER, c9 INTEGER, c10 INTEGER, c11 INTEGER, c12 INTEGER, c13 INTEGER, c14 \
@@ -18,7 +19,7 @@ const WIDE: &str = "CREATE TABLE t (\
     INTEGER, c57 INTEGER, c58 INTEGER, c59 INTEGER, c60 INTEGER, c61 INTEGER, c62 \
     INTEGER, c63 INTEGER, c64 INTEGER, c65 INTEGER)";
 
-/// Whether two queries over these tables are refused with this status and line.
+// Whether two queries over these tables are refused with this status and line.
 fn is_refused(
     rt: &impl Abort,
     alloc: Global,
@@ -79,12 +80,12 @@ fn schemas(rt: HostRuntime) {
     }
 }
 
-/// A foreign key whose type differs, and one of an unknown table.
+// A foreign key whose type differs, and one of an unknown table.
 const TYPES: &str = "CREATE TABLE u (x TEXT PRIMARY KEY); CREATE TABLE r (a INTEGER REFERENCES u);";
 
 const UNKNOWN: &str = "CREATE TABLE w (a INTEGER REFERENCES v);";
 
-/// Whether a schema of these texts, one behind the other, is refused so.
+// Whether a schema of these texts, one after the other, is refused so.
 fn is_schema_refused(
     rt: &impl Abort,
     alloc: Global,
@@ -98,7 +99,7 @@ fn is_schema_refused(
     found
 }
 
-/// Unknown names come before key types, and those before what is too many, wherever each stands.
+// Unknown names come before key types, and those before what is too many, wherever each is.
 #[test]
 fn faults_in_their_order(rt: HostRuntime) {
     let unknown = (3, "schema: unknown name: v");
@@ -108,7 +109,7 @@ fn faults_in_their_order(rt: HostRuntime) {
     assert!(rt; is_schema_refused(&rt, rt.alloc(), [WIDE, ";", TYPES], types));
 }
 
-/// A schema of so many tables.
+// A schema of so many tables.
 fn many_tables(rt: &impl Abort, alloc: Global, count: usize) -> String {
     let mut schema = String::new(alloc);
     for n in 1..=count {
@@ -117,7 +118,7 @@ fn many_tables(rt: &impl Abort, alloc: Global, count: usize) -> String {
     schema
 }
 
-/// Whether a schema of so many tables is refused so.
+// Whether a schema of so many tables is refused so.
 fn are_refused(rt: &impl Abort, alloc: Global, count: usize, refusal: (u8, &str)) -> bool {
     let schema = many_tables(rt, alloc, count);
     let found = is_refused(rt, alloc, schema.as_str(), &[], [ALL, ALL], refusal);
@@ -125,7 +126,7 @@ fn are_refused(rt: &impl Abort, alloc: Global, count: usize, refusal: (u8, &str)
     found
 }
 
-/// The 65th table is one too many; of 64 the first file is looked for.
+// The 65th table is one too many; of 64 the first file is looked for.
 #[test]
 fn number_of_tables(rt: HostRuntime) {
     let many = (5, "limit: more than 64 tables");
@@ -133,7 +134,7 @@ fn number_of_tables(rt: HostRuntime) {
     assert!(rt; are_refused(&rt, rt.alloc(), 64, (6, "cannot read table t1")));
 }
 
-/// A table is refused before the first query, which is none.
+// A table is refused before the first query, which is none.
 #[test]
 fn tables(rt: HostRuntime) {
     for (rows, line) in &[
@@ -188,7 +189,7 @@ fn texts_that_are_no_query(rt: HostRuntime) {
     }
 }
 
-/// The students, and two queries that are read, but not both of them typed.
+// The students, and two queries that are read, but not both of them typed.
 const NAMES_AND_TYPES: [(&str, &str); 10] = [
     (
         "SELECT name FROM student, reg",
@@ -235,7 +236,7 @@ fn names_and_types(rt: HostRuntime) {
     }
 }
 
-/// Each over a schema of its own.
+// Each over a schema of its own.
 #[test]
 fn other_inputs(rt: HostRuntime) {
     let table: &[(&str, &[(&str, &str)], [&str; 2], &str)] = &[

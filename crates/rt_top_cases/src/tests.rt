@@ -1,4 +1,5 @@
 //! What the command says, over files and sinks in memory.
+
 use rt_cases::{ABC, ALL, FOUR, LARGE, SCHEMA, TABLE, ends, files, is_write_fault, words};
 use rt_io::MemFiles;
 use rt_top::USAGE;
@@ -6,12 +7,13 @@ use std::alloc::{AllocError, Global};
 use std::fmt::Write;
 use std::process::Abort;
 
+mod after_least;
 mod checks;
 mod first;
 mod spent;
 mod worked;
 
-/// Whether these words end so over these files, which are let go of here.
+// Whether these arguments end so over these files, which are dropped here.
 fn files_end(
     rt: &impl Abort,
     alloc: Global,
@@ -26,7 +28,7 @@ fn files_end(
     found
 }
 
-/// Whether these words end so, over two queries of one table.
+// Whether these arguments end so, over two queries of one table.
 fn command_ends(
     rt: &impl Abort,
     alloc: Global,
@@ -102,7 +104,7 @@ fn words_and_options(rt: HostRuntime) {
     }
 }
 
-/// Whether a table is named whose file fails at its first read.
+// Whether a table is named whose file fails at its first read.
 fn is_read_fault(rt: &impl Abort, alloc: Global) -> bool {
     let mut failing = files(alloc, SCHEMA, &[TABLE], ALL, LARGE).expect(rt, "memory");
     failing.fail_read("d/t.csv", 1).expect(rt, "memory");
@@ -110,7 +112,7 @@ fn is_read_fault(rt: &impl Abort, alloc: Global) -> bool {
     files_end(rt, alloc, failing, &FOUR, 6, "", line)
 }
 
-/// Whether a query is named whose file can't be begun.
+// Whether a query is named whose file can't be begun.
 fn is_begin_fault(rt: &impl Abort, alloc: Global) -> bool {
     let mut failing = files(alloc, SCHEMA, &[TABLE], ALL, LARGE).expect(rt, "memory");
     failing.fail_begin("p").expect(rt, "memory");
@@ -134,7 +136,7 @@ fn faults_of_files_and_sinks(rt: HostRuntime) {
     assert!(rt; is_cut(&rt, rt.alloc()));
 }
 
-/// A table of one column with the rows from 1 to `last`.
+// A table of one column with the rows from 1 to `last`.
 fn numbers(rt: &impl Abort, alloc: Global, column: &str, last: u64) -> String {
     let mut rows = String::new(alloc);
     put_numbers(&mut rows, column, last).expect(rt, "memory");
@@ -150,7 +152,7 @@ fn put_numbers(rows: &mut String, column: &str, last: u64) -> Result<(), AllocEr
     Ok(())
 }
 
-/// Whether these words end so, over the rows from 1 to `last` and two spellings of one query.
+// Whether these arguments end so, over the rows from 1 to `last` and two spellings of one query.
 fn thousands_end(
     rt: &impl Abort,
     alloc: Global,
@@ -205,8 +207,8 @@ fn large_tables(rt: HostRuntime) {
     }
 }
 
-/// Whether a query against itself passes the limit of work, and the line says so, over tables that
-/// have the rows from 1 to `last` each.
+// Whether a query against itself passes the limit of work, and the line says so, over tables that
+// have the rows from 1 to `last` each.
 fn is_past_work(
     rt: &impl Abort,
     alloc: Global,
@@ -265,7 +267,7 @@ fn limit_of_work(rt: HostRuntime) {
     }
 }
 
-/// A query of 4,194,305 bytes.
+// A query of 4,194,305 bytes.
 fn put_long(text: &mut String) -> Result<(), AllocError> {
     text.push_str(";")?;
     for _ in 0..65_536 {

@@ -1,5 +1,5 @@
 -- A cell's clauses say what it computes, and propagate it.
-use Rattle.std.proofs.Common.{◌≡◌, ℕ, zero, suc, ◌+◌, ◌<◌, ◌≤◌, nat_lt, Bool, true, false, not, ◌||◌, ◌&&◌, ◌⊎◌, inl, inr, List, [], ◌∷◌, ◌++◌, length-append, slice_index_or, refl, sym, ap, subst, ◌∙◌, arith, rules}
+use Rattle.std.proofs.Common.{◌≡◌, ℕ, zero, suc, ◌+◌, ◌<◌, ◌≤◌, nat_lt, Bool, true, false, not, ◌||◌, ◌&&◌, ◌⊎◌, inl, inr, List, [], ◌∷◌, ◌++◌, length, length-append, slice_index_or, refl, sym, ap, subst, ◌∙◌, arith, rules}
 use Rattle.std.specs.Bool.{beq}
 use Rattle.rt_clause.specs.Literal.{Literal, negated}
 use Rattle.rt_clause.specs.Lists.{has, IsMet, Decides, IsBelow, AreBelow}
@@ -8,7 +8,7 @@ use Rattle.rt_clause.specs.Gates.{Extends}
 use Rattle.rt_clause.proofs.Bools.{bool-cases}
 use Rattle.rt_clause.proofs.Literals.{has-cases, negated-twice}
 use Rattle.rt_clause.proofs.Following.{lit_true-negated}
-use Rattle.rt_clause.proofs.EachLine.{EachLine, each-append, each-back, closed-front}
+use Rattle.rt_clause.proofs.EachLine.{EachLine, each-none, each-cons, each-append, each-back, closed-front}
 use Rattle.rt_clause.proofs.GateLaws.{IsTrueAt, IsDecided}
 use Rattle.rt_clause.proofs.Extending.{index-end, lit_true-front, model-front, decides-lit}
 use Rattle.rt_totalizer.specs.Cell.{cell}
@@ -171,3 +171,30 @@ extends-cell lines n out old row before e p r b = record {
 -- and what it means there
 pub cell-means : (lines : List (List Literal)) (out old row before : Literal) (bools : List Bool) → IsModel (lines ++ cell out old row before) bools → lit_true bools out ≡ (lit_true bools old || (lit_true bools row && lit_true bools before))
 cell-means lines out old row before bools m = cell-forces bools out old row before (each-back (IsTrueAt bools) lines (cell out old row before) m)
+
+-- a clause of an implication is true where the implication holds
+pub implied-true : (bools : List Bool) (a b : Literal) → (lit_true bools a ≡ true → lit_true bools b ≡ true) → IsTrueAt bools (negated a ∷ b ∷ [])
+implied-true bools a b h = by (lit_true bools a) (lit_true bools (negated a)) (lit_true bools b) (lit_true-negated bools a) h where
+  by : (x n y : Bool) → n ≡ not x → (x ≡ true → y ≡ true) → (n || (y || false)) ≡ true
+  by true n true e g = cc
+  by true n false e g = absurd (let q = g refl in cc)
+  by false true y e g = refl
+  by false false y e g = cc
+
+-- a clause that is true in each model, over the same variables
+pub extends-implied : (lines : List (List Literal)) (n : ℕ) (clause : List Literal) → IsBelow n clause → ((bools : List Bool) → IsModel lines bools → IsTrueAt bools clause)
+    → Extends lines n (lines ++ clause ∷ []) n
+extends-implied lines n clause low holds = record {
+  more = clause ∷ [];
+  lines = refl;
+  wider = omega arith;
+  below = λ b. each-append (IsBelow n) lines (clause ∷ []) b (each-cons (IsBelow n) clause [] low (each-none (IsBelow n)));
+  extends = λ b bools l m.
+      let same : bools ++ [] ≡ bools = nils bools in
+      let M : List Bool → Type 0 = IsModel (lines ++ clause ∷ []) in
+      ([], ap length same ∙ l, subst M (sym same) (each-append (IsTrueAt bools) lines (clause ∷ []) m (each-cons (IsTrueAt bools) clause [] (holds bools m) (each-none (IsTrueAt bools)))));
+  determined = λ k d set c g. d set (closed-front lines (clause ∷ []) set c) g;
+} where
+  nils : (xs : List Bool) → xs ++ [] ≡ xs
+  nils [] = refl
+  nils (x ∷ xs) = ap (λ (ys : List Bool). x ∷ ys) (nils xs)

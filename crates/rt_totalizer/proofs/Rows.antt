@@ -1,22 +1,22 @@
 -- The cells of one row more.
 use Rattle.std.proofs.Common.{◌≡◌, ℕ, zero, suc, ◌+◌, ◌-◌, ◌<◌, ◌≤◌, nat_lt, nat_le, Bool, true, false, cond, ◌||◌, ◌&&◌, inl, inr, List, [], ◌∷◌, ◌++◌, length, length-append, slice_index_or, refl, sym, ap, subst, ◌∙◌, arith, rules}
 use Rattle.std.specs.Bool.{beq}
-use Rattle.rt_clause.specs.Literal.{Literal}
+use Rattle.rt_clause.specs.Literal.{Literal, negated}
 use Rattle.rt_clause.specs.Lists.{has, IsBelow}
 use Rattle.rt_clause.specs.Models.{lit_true, IsModel}
 use Rattle.rt_clause.proofs.Bools.{bool-cases}
 use Rattle.rt_clause.proofs.Literals.{has-head, has-tail, has-cases, has-append_cases}
 use Rattle.rt_clause.proofs.Extending.{extends-none, extends-on, model-older}
 use Rattle.rt_totalizer.specs.Cell.{cell}
-use Rattle.rt_totalizer.specs.Cells.{cell_at, kept_below, IsRowOf}
-use Rattle.rt_totalizer.proofs.CellLaws.{extends-cell, cell-means}
+use Rattle.rt_totalizer.specs.Cells.{cell_at, kept_below, Count, IsRowOf}
+use Rattle.rt_totalizer.proofs.CellLaws.{extends-cell, cell-means, extends-implied, each-of_two, implied-true}
 
 cell-front : (cells : List Literal) (l : Literal) (k : ℕ) → k < length cells → cell_at (cells ++ l ∷ []) k ≡ cell_at cells k
 cell-front [] l k h = absurd (omega arith)
 cell-front (x ∷ cells) l zero h = refl
 cell-front (x ∷ cells) l (suc k) h = cell-front cells l k (omega arith)
 
-cell-end : (cells : List Literal) (l : Literal) → cell_at (cells ++ l ∷ []) (length cells) ≡ l
+pub cell-end : (cells : List Literal) (l : Literal) → cell_at (cells ++ l ∷ []) (length cells) ≡ l
 cell-end [] l = refl
 cell-end (x ∷ cells) l = cell-end cells l
 
@@ -143,3 +143,32 @@ row-more row old n lines new m now k out x p q new' now' r c z b low rn ov oo xv
     let p_is : p ≡ cell_at old (suc j) = pe ∙ ap (cell_at old) e in
     let lines_are : now' ≡ now ++ cell out (cell_at old (suc j)) x (cell_at old j) = we ∙ (λ i. now ++ cell out (p_is i) x (qe i)) in
     subst W (sym lines_are) (subst N (sym ne) (row-cell row old n lines new m now j out x r (c ∙ e) (omega (arith, e, b)) low rn ov oo xv xo))
+
+-- each cell may imply the one of fewer rows
+pub row-implied : (row : ℕ) (old : List Literal) (n : ℕ) (lines : List (List Literal)) (new : List Literal) (m : ℕ) (now : List (List Literal)) (k : ℕ) (out lower : Literal) (now' : List (List Literal))
+    → IsRowOf row old n lines new m now → Count old row lines → 0 < k → k < length new → out ≡ cell_at new k → lower ≡ cell_at new (k - 1)
+    → now' ≡ now ++ (negated out ∷ lower ∷ []) ∷ [] → IsRowOf row old n lines new m now'
+row-implied row old n lines new m now k out lower now' r count z b oe le we =
+    let clause = negated out ∷ lower ∷ [] in
+    let j = k - 1 in
+    let e : k ≡ suc j = omega (arith, z) in
+    let kept : List Bool → ℕ = λ bools. kept_below (suc row) bools in
+    let means : (bools : List Bool) → IsModel now bools → (i : ℕ) → i < length new → lit_true bools (cell_at new i) ≡ nat_le i (kept bools) =
+        λ bools h. (let M : List (List Literal) → Type 0 = λ ls. IsModel ls bools in
+            r.means bools h (count bools (model-older lines r.over.more bools (subst M r.over.lines h)))) in
+    let V : ℕ → Type 0 = λ v. v < m in
+    let low : (i : ℕ) → (l : Literal) → l ≡ cell_at new i → i < length new → l.var < m =
+        λ i l q g. subst V (ap (λ (x : Literal). x.var) (sym q)) (r.low (cell_at new i) (cell-has new i g)) in
+    let P : Literal → Type 0 = λ l. l.var < m in
+    let W : List (List Literal) → Type 0 = λ ls. IsRowOf row old n lines new m ls in
+    subst W (sym we) (record {
+      low = r.low;
+      over = extends-on lines now (now ++ clause ∷ []) n m m r.over (extends-implied now m clause
+          (each-of_two P (negated out) lower (low k out oe b) (low j lower le (omega (arith, b, e))))
+          (λ bools h. implied-true bools out lower (λ t.
+              let big : nat_le k (kept bools) ≡ true = sym (means bools h k b) ∙ ap (lit_true bools) (sym oe) ∙ t in
+              ap (lit_true bools) le ∙ means bools h j (omega (arith, b, e)) ∙ fewer k j (kept bools) e big)));
+      means = λ bools h a. r.means bools (model-older now (clause ∷ []) bools h) a;
+    }) where
+      fewer : (k j c : ℕ) → k ≡ suc j → nat_le k c ≡ true → nat_le j c ≡ true
+      fewer k j c e h = let g : k ≤ c = search rules in le-true j c (omega (arith, e, g))

@@ -21,6 +21,10 @@ kept_below (suc i) bools = cond (slice_index_or bools i false) (kept_below i boo
 abbrev pub AreCells : List Literal → ℕ → List Bool → Type 0
 AreCells cells i bools = (k : ℕ) → k < length cells → lit_true bools (cell_at cells k) ≡ nat_le k (kept_below i bools)
 
+-- in each model the cells count the first i variables
+abbrev pub Count : List Literal → ℕ → List (List Literal) → Type 0
+Count cells i lines = (bools : List Bool) → IsModel lines bools → AreCells cells i bools
+
 -- in each model a row that is not among these is not kept
 abbrev pub IsLeftOut : List Bool → ℕ → List (List Literal) → Type 0
 IsLeftOut among row lines = slice_index_or among row false ≡ false → (bools : List Bool) → IsModel lines bools → slice_index_or bools row false ≡ false

@@ -1,8 +1,11 @@
+//! The cells of the counter after one row more. How they are laid out is private: what they count is
+//! `AreCells`.
+
 ghost use Rattle.std.specs.Prelude.{◌≡◌, ◌≤◌, ◌<◌, ◌^◌, IfOk, length};
 ghost use Rattle.rt_clause.specs.Lists.{IsBelow};
-ghost use Rattle.rt_totalizer.specs.Cells.{cell_at, IsLeftOut, IsRowOf};
+ghost use Rattle.rt_totalizer.specs.Cells.{cell_at, Count, IsLeftOut, IsRowOf};
 
-use crate::cell::cell;
+use crate::cell::{cell, implies};
 use rt_clause::{Adds, Lit, LitList};
 use rt_value::{Keep, List, NoMemory};
 use std::alloc::Global;
@@ -23,12 +26,15 @@ fn at(cells: &LitList, k: usize) -> Lit
     cells.as_slice()[k]
 }
 
-/// The cells with one more row. Those of more rows than there are so far stay as they were.
+// The cells with one more row. Those of more rows than there are so far stay as they were; each new
+// one but the first implies the one of fewer rows, which its meaning says already and which spares
+// the solver the way there row by row.
 fn with_row<A: Adds>(alloc: Global, row: usize, old: &Cells, to: &mut A) -> Result<Cells, NoMemory>
     requires row { row < old.now.next }
     requires some { 0 < length old.now.list }
     requires low { IsBelow old.now.next old.now.list }
     requires few { old.now.next ≤ 2 ^ 61 }
+    requires count { Count old.now.list row (A.lines to.old) }
     ensures len { IfOk result (λ new. length new.list ≡ length old.now.list) }
     ensures few { IfOk result (λ new. new.next ≤ 2 ^ 61) }
     ensures row { IfOk result (λ new. IsRowOf row old.now.list old.now.next (A.lines to.old) new.list new.next (A.lines to.new)) }
@@ -49,6 +55,9 @@ fn with_row<A: Adds>(alloc: Global, row: usize, old: &Cells, to: &mut A) -> Resu
         cell(out, same, Lit::of(row, true), at(&old.list, k - 1), to)?;
         list.push(out)?;
         next += 1;
+        if k > 1 {
+            implies(out, at(&list, k - 1), to)?;
+        }
     }
     Ok(Cells { list, next })
 }
@@ -67,6 +76,7 @@ pub(crate) fn after_row<A: Adds>(
     requires some { 0 < length old.list }
     requires low { IsBelow old.next old.list }
     requires few { old.next ≤ 2 ^ 61 }
+    requires count { Count old.list row (A.lines to.old) }
     ensures len { IfOk result (λ new. length new.list ≡ length old.list) }
     ensures few { IfOk result (λ new. new.next ≤ 2 ^ 61) }
     ensures row { IfOk result (λ new. IsRowOf row old.list old.next (A.lines to.old) new.list new.next (A.lines to.new)) }

@@ -1,3 +1,5 @@
+//! The counter of the kept rows, and the literals by which it is asked.
+
 ghost use Rattle.std.specs.Prelude.{◌≡◌, ℕ, ◌≤◌, ◌<◌, ◌∷◌, IfOk, OnErr, length};
 ghost use Rattle.rt_clause.specs.Literal.{Literal};
 ghost use Rattle.rt_clause.specs.Lists.{AreBelow, IsBelow, line_at};
@@ -54,7 +56,7 @@ fn rest(alloc: Global, cells: &LitList) -> Result<LitList, NoMemory>
     }
 }
 
-/// Adds clauses that count the kept rows up to a bound: about one variable and four clauses for each
+/// Adds clauses that count the kept rows up to a bound: about one variable and five clauses for each
 /// row and number of rows. Moves the first unused variable past them. After an error some clauses
 /// may have been added.
 pub fn count<A: Adds>(

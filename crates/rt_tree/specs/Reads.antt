@@ -1,6 +1,6 @@
 -- Names, sums and items of a query, as readers of terminals from the left.
 --
--- Contracts of readers alone cite them: what a query is, `Spelled` says.
+-- Contracts of readers alone cite them; `Spelled` defines what a query is.
 use Rattle.std.specs.Prelude.{ℕ, zero, suc, ◌+◌, ◌&&◌, ◌||◌, Bool, true, false, List, [], ◌∷◌, length, Option, Some, None}
 use Rattle.rt_token.specs.Readers.{Parser, Step, both, either, flagged, lead, list_of, made, optional, paren, read_name, repeated, starts, starts_name, step_after, step_when, ◌>>=◌}
 use Rattle.rt_token.specs.Terminals.{Kinds, after, tail_of}
@@ -30,7 +30,7 @@ read_alias = made alias_of (flagged fixed.As read_name)
 abbrev pub is_alias : Kinds → Bool
 is_alias ks = starts fixed.As ks || starts_name ks
 
--- ---- sums, over a reader of what stands in parentheses
+-- ---- sums, over a reader of what is in parentheses
 
 abbrev pub col_from : Name → Kinds → Option Kinds → Option (Leaf × Kinds)
 col_from n ks None = Some (leaf.Col None n, ks)

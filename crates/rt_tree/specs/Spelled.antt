@@ -1,8 +1,8 @@
--- The terminals of a query's tree (ISO/IEC 9075-2, query expression; the grammar stands at the types
--- of the tree).
+-- The terminals of a query's tree (ISO/IEC 9075-2, query expression). The grammar is in the
+-- comments of the tree's types.
 --
--- The trees of conditions and chains reach themselves, so each word is said for one layer, with the
--- terminals of its parts, and folded over the tree.
+-- The types of conditions and chains are recursive, so each spelling is given for one layer, with
+-- the terminals of its parts, and folded over the tree.
 use Rattle.std.specs.Prelude.{Bool, true, false, List, [], ◌∷◌, ◌++◌, Option, Some, None, replicate}
 use Rattle.std.specs.List.{flat_map}
 use Rattle.rt_token.specs.declared.fixed.Fixed.{Fixed}

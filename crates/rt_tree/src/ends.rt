@@ -1,4 +1,4 @@
-//! What was read, where a terminal has to stand after it.
+//! Parts that have to be followed by a given terminal, such as a closing parenthesis.
 
 ghost use Rattle.std.specs.Prelude.{option_map};
 ghost use Rattle.rt_token.specs.Reads.{Reads};

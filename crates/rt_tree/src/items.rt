@@ -1,4 +1,4 @@
-//! Items.
+//! The list of items between SELECT and FROM.
 
 ghost use Rattle.std.specs.Prelude.{◌≡◌};
 ghost use Rattle.rt_token.specs.Readers.{list_of};
@@ -12,7 +12,7 @@ use rt_token::{Fixed, ReadFault, Terminal, after, expect, name, starts, starts_n
 use rt_value::List;
 use std::alloc::Global;
 
-// Whether a name, a dot and a star stand there.
+// Whether a name, a dot and a star come next.
 fn is_all(terminals: &[Terminal]) -> bool
     ensures { result ≡ spec.is_all terminals.now }
 {
@@ -57,7 +57,7 @@ fn more_items<'t>(
     Ok((items, rest))
 }
 
-/// The items at the front.
+/// The items at the front, a star or a list, and what follows them.
 #[tactic(auto, unfolding(crate::specs::Reads::read_items))]
 pub fn items<'t>(
     alloc: Global,

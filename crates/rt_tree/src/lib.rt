@@ -1,8 +1,8 @@
 //! The trees of queries (ISO/IEC 9075-2, query expression), the readers of their names, sums and
 //! items, and when their parentheses are nested too deep.
 //!
-//! `tree` has one type a line of the grammar, and `specs/Spelled.antt` says which terminals a tree
-//! has. Lists that may not be empty are a first member and the others.
+//! `tree` has one type for each line of the grammar, and `specs/Spelled.antt` says which terminals
+//! a tree has. Lists that may not be empty are a first member and the others.
 #![tactic(auto)]
 
 mod ends;

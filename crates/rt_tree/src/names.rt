@@ -1,4 +1,4 @@
-//! Aliases.
+//! Aliases, with AS or without.
 
 ghost use Rattle.std.specs.Prelude.{◌≡◌};
 ghost use Rattle.rt_token.specs.Readers.{optional};
@@ -9,7 +9,7 @@ use crate::tree::Alias;
 use rt_token::{Fixed, NAME, ReadFault, Terminal, code, flag, front, name};
 use std::alloc::Global;
 
-/// Whether an alias stands at the front.
+/// Whether an alias is at the front: AS or a name.
 pub fn is_alias(terminals: &[Terminal]) -> bool
     ensures { result ≡ spec.is_alias terminals.now }
 {
@@ -29,7 +29,7 @@ pub fn alias<'t>(
     Ok((Alias { as_word, name }, rest))
 }
 
-/// The alias at the front, if one stands there.
+/// The alias at the front, if there is one.
 pub fn maybe_alias<'t>(
     alloc: Global,
     terminals: &'t [Terminal],

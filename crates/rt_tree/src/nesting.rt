@@ -1,4 +1,4 @@
-//! Parentheses that are nested too deep.
+//! Parentheses that are nested too deep: a limit of our own, for queries in both languages.
 
 ghost use Rattle.std.specs.Prelude.{◌≡◌};
 ghost use Rattle.rt_token.specs.Words.{kinds};
@@ -6,10 +6,10 @@ ghost use Rattle.rt_tree.specs.Nesting as spec;
 
 use rt_token::{Sym, Token, TokenKind};
 
-/// The most open parentheses.
+/// The most parentheses that may be open at once.
 pub const NESTED: usize = 64;
 
-/// Whether it is an opening parenthesis.
+/// Whether a token of this kind is an opening parenthesis.
 pub fn is_left(kind: &TokenKind) -> bool
     ensures { result ≡ spec.is_left kind.now }
 {

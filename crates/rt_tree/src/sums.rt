@@ -1,4 +1,5 @@
-//! Sums.
+//! Sums, products and factors, by recursive descent. The bound on depth is one more than the number
+//! of terminals, so it is never met.
 
 ghost use Rattle.std.specs.Prelude.{◌≡◌};
 ghost use Rattle.rt_token.specs.Readers.{list_of};
@@ -187,7 +188,7 @@ fn sum<'t>(
     }
 }
 
-/// The sum at the front.
+/// The sum at the front, and what follows it.
 #[tactic(auto, unfolding(crate::specs::Reads::sum_at))]
 pub fn sum_at<'t>(
     alloc: Global,

@@ -1,7 +1,7 @@
-//! The tree of a query, one type a line of the grammar (ISO/IEC 9075-2, query expression).
+//! The tree of a query, one type for each line of the grammar (ISO/IEC 9075-2, query expression).
 //!
-//! A type that is in no cycle has a drop of its own: one call wherever a value goes, where a derived
-//! one is made anew in each crate.
+//! A type that is in no cycle has a drop of its own: one call wherever a value goes, while a
+//! derived one would be made anew in each crate.
 
 use rt_token::Name;
 use rt_value::{Boxed, List, Txt};
@@ -206,7 +206,8 @@ pub struct Neg {
     pub atom: Atom,
 }
 
-/// A comparison, a test or a condition in parentheses. The Bool tells whether NOT stands there:
+/// A comparison, a test or a condition in parentheses. The Bool is true if this NOT is there:
+///
 /// `sum op sum | sum IS [ NOT ] NULL | sum [ NOT ] IN "(" chain ")"
 /// | sum [ NOT ] IN "(" sum { "," sum } ")" | sum [ NOT ] BETWEEN sum AND sum
 /// | EXISTS "(" chain ")" | "(" cond ")"`

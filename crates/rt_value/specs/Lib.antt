@@ -1,3 +1,4 @@
+pub mod Bytes
 pub mod Arith
 pub mod Gives
 pub mod Keep

@@ -1,3 +1,6 @@
+//! Addition, subtraction and multiplication of SQL, in which NULL with anything is NULL.
+//! A caller shows that the result fits `i128`; nothing here is checked at run time.
+
 ghost use Rattle.std.specs.Prelude.{◌≡◌, ◌+ℤ◌, ◌-ℤ◌, ◌*ℤ◌};
 ghost use Rattle.rt_value.specs.Arith.{arith, CanArith};
 

@@ -1,3 +1,6 @@
+//! A box for trees: a tree that holds `Boxed` subtrees is, in contracts, the plain tree.
+//! That there is a `Box` inside is private.
+
 ghost use Rattle.std.specs.Prelude.{◌≡◌, IfOk};
 
 use crate::no_memory::NoMemory;
@@ -25,6 +28,7 @@ impl<T> Boxed<T> {
         &self.inner
     }
 
+    /// Moves the value out, and frees the box.
     pub fn into_inner(self) -> T
         ensures { result ≡ self }
     {
@@ -34,6 +38,7 @@ impl<T> Boxed<T> {
 }
 
 impl<T: Drop> Boxed<T> {
+    /// Moves the value into a box.
     pub fn new(alloc: Global, value: T) -> Result<Boxed<T>, NoMemory>
         ensures { IfOk result (λ b. b ≡ value) }
     {

@@ -1,3 +1,6 @@
+//! Sub-instances, as choices of places. Crates above use the contracts alone, so the body of each
+//! method may change.
+
 ghost use Rattle.std.specs.Prelude.{◌≡◌, ◌<◌, ◌++◌, ◌∷◌, [], IfOk, OnOk, OnErr, false, length, replicate, slice_index_or, slice_set};
 ghost use Rattle.rt_value.specs.Keep.{size};
 ghost use Rattle.std.specs.Cmp.Rules.{comparing};
@@ -32,12 +35,14 @@ impl Keep {
         Ok(Keep { on })
     }
 
+    /// How many places there are, kept or not.
     pub fn len(&self) -> usize
         ensures { result ≡ length self.now }
     {
         self.on.len()
     }
 
+    /// Whether the place is kept.
     pub fn is(&self, place: usize) -> bool
         requires { place < length self.now }
         ensures { result ≡ slice_index_or self.now place false }
@@ -45,6 +50,7 @@ impl Keep {
         self.on[place]
     }
 
+    /// Keeps the place, or leaves it out.
     pub fn set(&mut self, place: usize, on: bool)
         requires { place < length self.old }
         ensures { self.new ≡ slice_set self.old place on }
@@ -59,6 +65,7 @@ impl Keep {
         self.on.iter().filter(|b| **b).count()
     }
 
+    /// One Bool for each place, in order.
     pub fn as_slice(&self) -> &[bool]
         ensures { result.now ≡ self.now }
     {
@@ -83,6 +90,7 @@ impl Keep {
         Ok(more)
     }
 
+    /// The same choice in memory of its own.
     pub fn copy(&self, alloc: Global) -> Result<Keep, NoMemory>
         ensures { IfOk result (λ k. k ≡ self.now) }
     {

@@ -1,7 +1,7 @@
 //! Values, rows, truth and lists: what every other crate of the project is written in.
 //!
 //! The order of values, the three truth values and arithmetic are those of SQL (ISO/IEC 9075-2);
-//! `specs/` has their definitions. What allocates answers `NoMemory` where memory is wanting.
+//! `specs/` has their definitions. What allocates answers `NoMemory` when out of memory.
 #![tactic(auto)]
 
 mod arith;

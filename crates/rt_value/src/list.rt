@@ -1,3 +1,6 @@
+//! The vector that the public types of all crates are made of, and `Bytes`, a list of `u8`.
+//! Contracts speak of the elements, and never of capacity or memory.
+
 ghost use Rattle.std.specs.Prelude.{◌≡◌, ◌<◌, ◌↔◌, [], ◌∷◌, ◌++◌, IfOk, IsTrue, MatchOption, OnOk, OnErr, length, slice_set};
 ghost use Rattle.std.specs.Cmp.Rules.{comparing};
 ghost use Rattle.std.proofs.Common.{rules};
@@ -40,12 +43,14 @@ impl<T> List<T> {
         }
     }
 
+    /// The list of the same elements, without a copy.
     pub fn from_vec(items: Vec<T>) -> List<T>
         ensures { result ≡ items.items }
     {
         List { items }
     }
 
+    /// The vector of the same elements, without a copy.
     pub fn into_vec(self) -> Vec<T>
         ensures { result.items ≡ self }
     {
@@ -80,6 +85,7 @@ impl<T> List<T> {
 }
 
 impl<T: Drop> List<T> {
+    /// Adds an element at the end, or changes nothing when out of memory.
     pub fn push(&mut self, item: T) -> Result<(), NoMemory>
         ensures ok { OnOk result (self.new ≡ self.old ++ item ∷ []) }
         ensures err { OnErr result (self.new ≡ self.old) }
@@ -88,6 +94,7 @@ impl<T: Drop> List<T> {
         Ok(())
     }
 
+    /// Replaces the element at a place, counted from 0.
     pub fn set(&mut self, at: usize, item: T)
         requires { at < length self.old }
         ensures { self.new ≡ slice_set self.old at item }
@@ -97,6 +104,7 @@ impl<T: Drop> List<T> {
 }
 
 impl<T: Copy> List<T> {
+    /// A list of copies of the items.
     pub fn from_slice(alloc: Global, items: &[T]) -> Result<List<T>, NoMemory>
         ensures { IfOk result (λ l. l ≡ items.now) }
     {

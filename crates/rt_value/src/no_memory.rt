@@ -1,8 +1,10 @@
+//! The error of whatever allocates. The error types of the crates above have a case made from it.
+
 use std::alloc::{AllocError, AllocFailed};
 use std::error::Error;
 use std::fmt;
 
-/// Want of memory: the one answer that no contract rules out.
+/// Out of memory: the one answer that no contract rules out.
 #[derive(Clone, Copy, PartialEq, Eq, Debug)]
 pub struct NoMemory;
 

@@ -1,3 +1,5 @@
+//! Rows of a table or of an answer. Their order is the one in which answers are sorted.
+
 ghost use Rattle.std.specs.Prelude.{◌≡◌, ◌++◌, ◌∷◌, [], IfOk, OnOk, OnErr, length};
 ghost use Rattle.rt_value.specs.Row.{row_cmp, row_eq};
 ghost use Rattle.std.specs.Cmp.{partial_order_from_own_ties};
@@ -45,12 +47,14 @@ impl Row {
         }
     }
 
+    /// The row of these values, without a copy.
     pub fn from_list(cells: List<Value>) -> Row
         ensures { result ≡ cells }
     {
         Row { cells }
     }
 
+    /// Adds a value at the end, or changes nothing when out of memory.
     pub fn push(&mut self, cell: Value) -> Result<(), NoMemory>
         ensures ok { OnOk result (self.new ≡ self.old ++ cell ∷ []) }
         ensures err { OnErr result (self.new ≡ self.old) }
@@ -64,6 +68,7 @@ impl Row {
         self.cells.as_slice()
     }
 
+    /// The number of values.
     pub fn len(&self) -> usize
         ensures { result ≡ length self.now }
     {
@@ -80,6 +85,7 @@ impl Row {
         Ok(())
     }
 
+    /// The same row in memory of its own; texts share their bytes.
     pub fn copy(&self, alloc: Global) -> Result<Row, NoMemory>
         ensures { IfOk result (λ r. r ≡ self.now) }
     {

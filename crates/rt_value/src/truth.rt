@@ -1,3 +1,5 @@
+//! Three-valued logic: AND, OR and NOT as in the truth tables of the standard.
+
 ghost use Rattle.std.specs.Prelude.{◌≡◌};
 ghost use Rattle.rt_value.specs.Truth.{truth_and, truth_or, truth_not};
 
@@ -10,6 +12,7 @@ pub enum Truth {
 }
 
 impl Truth {
+    /// AND: No if either is No, else Unknown if either is Unknown.
     pub fn and(self, other: Truth) -> Truth
         ensures { result ≡ truth_and self other }
     {
@@ -20,6 +23,7 @@ impl Truth {
         }
     }
 
+    /// OR: Yes if either is Yes, else Unknown if either is Unknown.
     pub fn or(self, other: Truth) -> Truth
         ensures { result ≡ truth_or self other }
     {
@@ -30,6 +34,7 @@ impl Truth {
         }
     }
 
+    /// NOT: what is unknown stays unknown.
     pub fn not(self) -> Truth
         ensures { result ≡ truth_not self }
     {

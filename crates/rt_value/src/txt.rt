@@ -1,3 +1,6 @@
+//! Texts of values and names. That copies share their bytes is private; a contract sees bytes
+//! alone.
+
 ghost use Rattle.std.specs.Prelude.{◌≡◌, ◌==◌, IfOk, string_bytes};
 ghost use Rattle.std.specs.Cmp.{partial_order_from_own_ties};
 ghost use Rattle.std.specs.Cmp.Lexicographic.{slice_cmp};
@@ -12,8 +15,7 @@ use std::cmp::Ordering;
 use std::marker::Model;
 use std::rc::Rc;
 
-/// A UTF-8 text, which contracts see as its bytes. Texts are ordered by their bytes. The copies of a
-/// text share its bytes.
+/// A UTF-8 text, which contracts see as its bytes. Texts are ordered by their bytes.
 #[derive(Debug)]
 pub struct Txt {
     text: Rc<String>,
@@ -37,12 +39,14 @@ impl Model for Txt {
 }
 
 impl Txt {
+    /// A text with a copy of these bytes.
     pub fn of(alloc: Global, text: &str) -> Result<Txt, NoMemory>
         ensures { IfOk result (λ t. t ≡ text.now) }
     {
         Txt::from_string(alloc, String::from_str(alloc, text)?)
     }
 
+    /// The text that the string is, without a copy of its bytes.
     pub fn from_string(alloc: Global, text: String) -> Result<Txt, NoMemory>
         ensures { IfOk result (λ t. t ≡ string_bytes text) }
     {
@@ -50,8 +54,8 @@ impl Txt {
         Ok(Txt { text })
     }
 
-    /// A text with the same bytes, which both have from then on. The allocator is there as for copies of
-    /// other values.
+    /// A text with the same bytes, which both have from then on. The allocator is not used: it is
+    /// there because copies of other values take one.
     pub fn copy(&self, _alloc: Global) -> Result<Txt, NoMemory>
         ensures { IfOk result (λ t. t ≡ self.now) }
     {

@@ -1,3 +1,6 @@
+//! What a cell holds, and its comparisons. The order of `Ord` is the one of data, in which NULL
+//! has a place; `compare` and `null_truth` are those of a condition, with three truth values.
+
 ghost use Rattle.std.specs.Prelude.{◌≡◌, IfOk};
 ghost use Rattle.std.specs.Cmp.{partial_order_from_own_ties};
 ghost use Rattle.std.specs.Ordering.{as_partial_cmp};
@@ -77,6 +80,7 @@ pub fn null_truth(value: &Value) -> Truth
 }
 
 impl Value {
+    /// The same value; a text shares its bytes.
     pub fn copy(&self, alloc: Global) -> Result<Value, NoMemory>
         ensures { IfOk result (λ v. v ≡ self.now) }
     {

@@ -1,4 +1,5 @@
 //! Files and sinks that fail.
+
 use super::{FIVE, MARY, ends, school, words};
 use rt_input::Outcome;
 use rt_io::MemSink;
@@ -6,7 +7,7 @@ use rt_ra_run::{RaOutcome, ra_run};
 use std::alloc::Global;
 use std::process::Abort;
 
-/// The names of the files, and what a refusal calls each.
+// The names of the files, and what a refusal calls each.
 const PARTS: [(&str, &str); 5] = [
     ("s", "schema"),
     ("d/student.csv", "table student"),
@@ -15,7 +16,7 @@ const PARTS: [(&str, &str); 5] = [
     ("q", "query 2"),
 ];
 
-/// Whether the part is named where the first read of its file fails.
+// Whether the part is named where the first read of its file fails.
 fn is_named(rt: &impl Abort, alloc: Global, name: &str, part: &str) -> bool {
     let mut files = school(rt, alloc, "semi(student, reg)", "student");
     files.fail_read(name, 1).expect(rt, "memory");
@@ -32,7 +33,7 @@ fn files_that_fail(rt: HostRuntime) {
     }
 }
 
-/// Whether a sink that takes ten bytes holds just these of the witness.
+// Whether a sink that takes ten bytes holds just these of the witness.
 fn is_cut(rt: &impl Abort, alloc: Global) -> bool {
     let mut files = school(rt, alloc, "semi(student, reg)", "student");
     let command = words(rt, alloc, &FIVE);

@@ -1,9 +1,10 @@
 //! The refusals, one line each.
+
 use super::{FIVE, ends, files, school};
 use std::alloc::Global;
 use std::process::Abort;
 
-/// Whether the text, beside `student`, is refused as query 1 with its line.
+// Whether the text, with `student` as query 2, is refused as query 1 with its line.
 fn is_refused(rt: &impl Abort, alloc: Global, text: &str, line: &str) -> bool {
     let files = school(rt, alloc, text, "student");
     let err = format!(in alloc; "ratest: query 1: {line}\n").expect(rt, "memory");

@@ -1,11 +1,12 @@
 //! The worked rows of accepted texts.
+
 use super::{FIVE, MARY, REG, SCHOOL, STUDENT, ends, files};
 use std::alloc::Global;
 use std::process::Abort;
 
 const PAIRS: &str = "CREATE TABLE t (a INTEGER, b INTEGER); CREATE TABLE u (b INTEGER);";
 
-/// Whether the two texts end with this status and write just this text.
+// Whether the two texts end with this status and write just this text.
 fn pair_ends(
     rt: &impl Abort,
     alloc: Global,

@@ -1,4 +1,5 @@
 //! Checks and functional dependencies, in memory.
+
 use super::worked::all_end;
 
 const PAIRS: [(&str, &str); 1] = [("d/g.csv", "k,v\n1,1\n1,2\n")];

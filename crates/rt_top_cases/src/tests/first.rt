@@ -1,4 +1,5 @@
 //! Of several smallest witnesses the first in the order of rows is printed.
+
 use super::worked::all_end;
 use super::{files_end, numbers};
 use rt_cases::{ALL, LOOSE, REG, SCHEMA, STUDENT, TABLE, files, words};
@@ -9,7 +10,7 @@ use rt_value::{List, Txt};
 use std::alloc::Global;
 use std::process::Abort;
 
-/// Of two smallest witnesses the first in the order of rows is printed.
+// Of two smallest witnesses the first in the order of rows is printed.
 #[test]
 fn first_of_two(rt: HostRuntime) {
     let table: &[(&str, &[(&str, &str)], &[(&str, &str, u8, &str)])] = &[
@@ -49,14 +50,14 @@ fn first_of_two(rt: HostRuntime) {
     }
 }
 
-/// What these words end with, over no files.
+// What these arguments end with, over no files.
 fn outcome_of(alloc: Global, words: &[Txt]) -> Outcome {
     let mut none = MemFiles::new(alloc);
     let (mut out, mut err) = (MemSink::new(alloc), MemSink::new(alloc));
     ratest(alloc, words, &mut none, &mut out, &mut err)
 }
 
-/// The places that a witness keeps, and none of another outcome.
+// The places that a witness keeps, and none of another outcome.
 fn places_of(rt: &impl Abort, alloc: Global, outcome: &Outcome) -> List<usize> {
     let mut places = List::new(alloc);
     if let Outcome::Witness(keep) = outcome {
@@ -69,7 +70,7 @@ fn places_of(rt: &impl Abort, alloc: Global, outcome: &Outcome) -> List<usize> {
     places
 }
 
-/// Whether the smallest witness of a command keeps just these places.
+// Whether the smallest witness of a command keeps just these places.
 fn is_witness(rt: &impl Abort, alloc: Global, command: &[&str], wanted: &[usize]) -> bool {
     let command = words(alloc, command).expect(rt, "memory");
     let outcome = outcome_of(alloc, command.as_slice());
@@ -81,7 +82,7 @@ fn is_witness(rt: &impl Abort, alloc: Global, command: &[&str], wanted: &[usize]
     found
 }
 
-/// The third student, and the fifth and the sixth registration: all students come first.
+// The third student, and the fifth and the sixth registration: all students come first.
 #[test]
 fn first_of_the_generated(rt: HostRuntime) {
     let table: &[(&[&str], &[usize])] = &[
@@ -94,7 +95,8 @@ fn first_of_the_generated(rt: HostRuntime) {
     }
 }
 
-/// Whether these words end so over two tables of a thousand rows, each row joined with itself.
+// Whether these arguments end so over two tables of a thousand rows, each row joined with
+// itself.
 fn thousand_ends(
     rt: &impl Abort,
     alloc: Global,
@@ -127,7 +129,7 @@ const OF_A_THOUSAND: [(&[&str], u8, &str, &str); 2] = [
     ),
 ];
 
-/// Of the thousand smallest witnesses the first row is printed; the work is 5,004,000.
+// Of the thousand smallest witnesses the first row is printed; the work is 5,004,000.
 #[test]
 fn first_of_a_thousand(rt: HostRuntime) {
     for (command, status, out, err) in &OF_A_THOUSAND {

@@ -1,4 +1,6 @@
-//! Limits of work and budgets of clauses: what is still decided, and the verdict where one is spent.
+//! Limits of work and budgets of clauses: what is still decided, and the verdict where one is
+//! spent.
+
 use super::files_end;
 use super::worked::{MEET, MEETS};
 use rt_cases::{ABC, MARY, ONE, ONES, REG, SCHOOL, SOME, STUDENT, TWOS, files, words};
@@ -8,7 +10,7 @@ use rt_top::{Best, decide, given_up, ratest, verdict};
 use std::alloc::Global;
 use std::process::Abort;
 
-/// Whether one clause spends the budget, before any counterexample is found.
+// Whether one clause spends the budget, before any counterexample is found.
 fn is_spent_by_one_clause(best: &Best) -> bool {
     match best {
         Best::Spent(spent) => match spent.nogoods.as_slice() {
@@ -40,7 +42,7 @@ fn is_input_spent(rt: &impl Abort, alloc: Global, read: Result<Input, Outcome>) 
     }
 }
 
-/// The input of two queries that always agree, with a budget of one clause.
+// The input of two queries that always agree, with a budget of one clause.
 fn read(rt: &impl Abort, alloc: Global) -> Result<Input, Outcome> {
     let mut files = files(alloc, ABC, &ONES, MEET, MEETS).expect(rt, "memory");
     let command = words(alloc, &["s", "d", "p", "q", "--conflicts", "1"]).expect(rt, "memory");
@@ -50,7 +52,7 @@ fn read(rt: &impl Abort, alloc: Global) -> Result<Input, Outcome> {
     read
 }
 
-/// Whether the outcome on this input says the same.
+// Whether the outcome on this input says the same.
 fn is_told_spent(rt: &impl Abort, alloc: Global) -> bool {
     let mut files = files(alloc, ABC, &ONES, MEET, MEETS).expect(rt, "memory");
     let command = words(alloc, &["s", "d", "p", "q", "--conflicts", "1"]).expect(rt, "memory");
@@ -66,7 +68,7 @@ fn is_told_spent(rt: &impl Abort, alloc: Global) -> bool {
     found
 }
 
-/// What a spent budget of one clause says of an input, and of the outcome whether it has a choice.
+// What a spent budget of one clause says of an input, and of the outcome whether it has a choice.
 fn is_given_up(rt: &impl Abort, alloc: Global, input: &Input) -> bool {
     let (Best::Spent(found), Some(budget)) = (
         decide(alloc, input).expect(rt, "memory"),
@@ -81,7 +83,7 @@ fn is_given_up(rt: &impl Abort, alloc: Global, input: &Input) -> bool {
     is_said
 }
 
-/// Whether the verdict on an input, by itself, says the same.
+// Whether the verdict on an input, by itself, says the same.
 fn is_verdict(rt: &impl Abort, alloc: Global, input: &Input) -> bool {
     let answer = verdict(alloc, input).expect(rt, "memory");
     let found = matches!(answer.outcome, Outcome::Spent(_))
@@ -117,7 +119,7 @@ fn a_budget_of_one_clause(rt: HostRuntime) {
     assert!(rt; is_told_spent(&rt, rt.alloc()));
 }
 
-/// Whether these words end so, over these files.
+// Whether these arguments end so, over these files.
 fn command_ends(
     rt: &impl Abort,
     alloc: Global,
@@ -131,7 +133,7 @@ fn command_ends(
     files_end(rt, alloc, files, command, status, out, err)
 }
 
-/// The work of the first row is 663.
+// The work of the first row is 663.
 #[test]
 fn work_of_the_first_row(rt: HostRuntime) {
     let limit = "ratest: limit: work 663 is above 662\n";
@@ -149,7 +151,7 @@ fn work_of_the_first_row(rt: HostRuntime) {
     }
 }
 
-/// One clause is learned where the queries meet.
+// One clause is learned where the queries meet.
 #[test]
 fn conflicts_of_a_meeting(rt: HostRuntime) {
     let spent = "undecided: 1 conflicts\n";

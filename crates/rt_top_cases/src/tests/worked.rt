@@ -1,4 +1,5 @@
 //! The worked rows of accepted inputs, in memory.
+
 use super::files_end;
 use rt_cases::{
     ABC, ALL, FOUR, LARGE, LOOSE, MARY, ONE, ONES, REG, SCHEMA, SCHOOL, SOME, STUDENT, TABLE, files,
@@ -6,12 +7,14 @@ use rt_cases::{
 use std::alloc::Global;
 use std::process::Abort;
 
+/// One row for each x that is in a and in b or c.
 pub(super) const MEET: &str = "SELECT x FROM a INTERSECT (SELECT x FROM b UNION SELECT x FROM c)";
 
+/// The same answer, by another query.
 pub(super) const MEETS: &str =
     "SELECT x FROM a INTERSECT SELECT x FROM b UNION SELECT x FROM a INTERSECT SELECT x FROM c";
 
-/// Whether the two queries end with this status and write just this text.
+// Whether the two queries end with this status and write just this text.
 fn pair_ends(
     rt: &impl Abort,
     alloc: Global,

@@ -1,4 +1,5 @@
--- `allocate` cuts the new block into its first word, which it writes, and empty places, and keeps the right to free it. Assumes `Logic`.
+-- `allocate` cuts the new block into its first word, which it writes, and empty places, and keeps
+-- the right to free it. Assumes `Logic`.
 -- After the proofs of the kit's `circular_buffer` (LICENSE-circular_buffer).
 use mathlib.Core.Path.{◌≡◌, refl, sym, ap, subst}
 use mathlib.Core.Bool.{true, false}

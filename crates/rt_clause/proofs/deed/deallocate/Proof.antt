@@ -1,4 +1,5 @@
--- `deallocate` makes one block of the first word and the places, and hands it back with the allocator's token. Assumes `Logic`.
+-- `deallocate` makes one block of the first word and the places, and hands it back with the
+-- allocator's token. Assumes `Logic`.
 -- After the proofs of the kit's `circular_buffer` (LICENSE-circular_buffer).
 use mathlib.Core.Path.{◌≡◌, refl, sym, ap, subst, ◌∙◌}
 use Prim.Native.Nat.{ℕ, ◌+◌, ◌*◌, ◌<◌, ◌^◌}

@@ -1,9 +1,11 @@
-ghost use Rattle.rt_scope.specs.Alone.{IsAlone};
+//! The list of one item, apart from all other lists.
+
+ghost use Rattle.rt_algebra.specs.Alone.{IsAlone};
 
 use rt_value::List;
 
-/// The only item of a list, or the list.
-pub fn alone<T: Drop>(list: List<T>) -> Result<T, List<T>>
+/// The only item of a list, or the list as it was.
+pub(crate) fn alone<T: Drop>(list: List<T>) -> Result<T, List<T>>
     ensures { IsAlone list result }
 {
     let mut items = list.into_vec();

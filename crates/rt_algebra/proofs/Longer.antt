@@ -1,11 +1,10 @@
--- Lists of other lengths than one.
+-- Of any other number of parts than one, AND, OR or a product is made.
 use Rattle.std.proofs.Common.{◌≡◌, List, [], ◌∷◌, refl, length}
 use Rattle.rt_algebra.specs.declared.query.Pred.{Pred}
 use Rattle.rt_algebra.specs.declared.query.Pred.TheVariants as p
 use Rattle.rt_algebra.specs.declared.query.Query.{Query}
 use Rattle.rt_algebra.specs.declared.query.Query.TheVariants as q
-use Rattle.rt_scope.specs.Sources.{product_of}
-use Rattle.rt_scope.specs.Conditions.{all_of, any_of}
+use Rattle.rt_algebra.specs.Parts.{all_of, any_of, product_of}
 
 pub all_of_more : (ps : List Pred) → (length ps ≡ 1 → ⊥) → all_of ps ≡ p.And ps
 all_of_more [] n = refl
