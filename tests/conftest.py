@@ -59,3 +59,12 @@ def browser() -> Iterator[Any]:
     opened = webdriver.Chrome(options=options, service=service)
     yield opened
     opened.quit()
+
+
+@pytest.fixture(scope="session")
+def archive() -> Path:
+    """The static library of C: $RATEST_ARCHIVE, else the proved one."""
+    path = Path(os.environ.get("RATEST_ARCHIVE") or TOP / "crates/ratest_c/out/libratest_c.a")
+    if not path.is_file():
+        pytest.skip("ratest_c is not proved and built: tools/library")
+    return path

@@ -16,10 +16,9 @@ from asking import AMPLE, MEBIBYTE, Asking, Browser, Node, Unable
 from compare.draw import Limits
 from questions import ARGUMENTS, Question, Reply, native, of_seed, questions
 
-from classroom import draw, witness
-from classroom.limited import Ran
-from classroom.schema import tables_of
-from classroom.server.places import place_of
+from ratest import draw, printed
+from ratest.places import place_of
+from ratest.schema import tables_of
 
 COUNT = int(os.environ.get("WEB_COUNT", "300"))
 WORKERS = os.cpu_count() or 1
@@ -82,10 +81,10 @@ def test_little_memory(opened: Any, ratest: Path) -> None:
 
 def drawn_by_class(question: Question, reply: Reply) -> dict[str, Any] | None:
     tables = tables_of(question.files["schema.sql"].decode())
-    outcome = witness.read(Ran(reply.status, reply.out, reply.err, 0, ""), tables)
-    if isinstance(outcome, witness.Undecided) and outcome.best is None:
+    outcome = printed.outcome_of(reply.status, reply.out.decode(), reply.err.decode(), tables)
+    if isinstance(outcome, printed.Undecided) and outcome.best is None:
         return None
-    assert isinstance(outcome, (witness.Witness, witness.Undecided))
+    assert isinstance(outcome, (printed.Witness, printed.Undecided))
     return asdict(draw.drawing(outcome, tables))
 
 

@@ -2,7 +2,6 @@
 //! clause is a line, with the literals as certificates have them; a last line has the literal
 //! that is assumed.
 
-ghost use Rattle.std.specs.Prelude.{◌≡◌};
 ghost use Rattle.rt_cert.specs.Least.{IsSmallestOrNone};
 
 use crate::say::say_text;

@@ -8,3 +8,5 @@ pub mod Columned
 pub mod Fitting
 pub mod Equations
 pub mod Staying
+pub mod Longer
+pub mod Combining

@@ -35,11 +35,11 @@ abbrev pub some_truth : Rows → Truth
 some_truth [] = No
 some_truth (r ∷ rs) = Yes
 
--- whether the row stands among the rows; NULL is the same as NULL
+-- whether the row is one of the rows; NULL is the same as NULL
 abbrev pub has_row : Rows → List Value → Bool
 has_row rows r = list_any (row_eq r) rows
 
--- each row of either list stands in the other
+-- each row of either list is in the other
 abbrev pub same_rows : Rows → Rows → Bool
 same_rows xs ys = list_all (has_row ys) xs && list_all (has_row xs) ys
 
@@ -111,6 +111,6 @@ pred = pred_by exact
 abbrev pub answer : Query → Answer
 answer = answer_by exact
 
--- the answer of a query that stands by itself
+-- the answer of a query with no row in scope
 abbrev pub plain : Query → Tables → Rows
 plain query db = answer query db []

@@ -7,3 +7,5 @@ pub mod Within
 pub mod Work
 pub mod TextColumns
 pub mod Stays
+pub mod Alone
+pub mod Parts

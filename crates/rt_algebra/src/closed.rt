@@ -1,4 +1,6 @@
-//! Whether a query names a row outside of it.
+//! Whether a query names a row outside of it. Where it names none, no row around it changes its
+//! answer.
+
 ghost use Rattle.std.specs.Prelude.{IsTrue, ◌+◌};
 ghost use Rattle.std.specs.List.{All as Each};
 ghost use Rattle.rt_algebra.specs.Stays.{StaysValue, StaysTerm, StaysPred, StaysQuery};
@@ -72,7 +74,7 @@ fn preds_are_closed(preds: &[Pred], depth: usize) -> bool
     true
 }
 
-/// The condition sees one row more than the query that it stands in.
+// The condition sees one row more than the query that holds it.
 #[cycle(closed)]
 fn row_pred_is_closed(pred: &Pred, depth: usize) -> bool
     ensures { IsTrue result → StaysPred (depth + 1) pred.now }

@@ -1,3 +1,6 @@
+//! What the columns of a query in SQL and of one in relational algebra have in common. What is made
+//! of columns is written once, over this trait.
+
 ghost use Rattle.std.specs.Prelude.{◌≡◌, ℕ, List, Option, IfOk};
 ghost use Rattle.rt_schema.specs.declared.table.ColKind.{ColKind};
 

@@ -1,4 +1,4 @@
-//! A query with its columns, as the algebra takes it.
+//! From a query and the columns of its language to the typed query of the algebra.
 
 ghost use Rattle.std.specs.Prelude.{◌≡◌, IfOk, map};
 ghost use Rattle.rt_algebra.specs.TextColumns as spec;

@@ -1,5 +1,7 @@
-ghost use Rattle.std.specs.Prelude.{◌≡◌, ◌+◌, ◌*◌, None, map};
-ghost use Rattle.rt_schema.specs.Capped.{capped};
+//! How much work a query is counted as. All numbers stop at the cap of `rt_schema`, so no step can
+//! overflow; only `work` is seen from outside.
+
+ghost use Rattle.std.specs.Prelude.{◌≡◌, ◌*◌, None, map};
 ghost use Rattle.rt_algebra.specs.Work.{sum_from, expr_size, term_size, pred_work, query_cost, product_from, table_cost, after, joined, set_work, each_row, work};
 
 use crate::expr::{Expr, Term};
@@ -7,7 +9,7 @@ use crate::query::{Pred, Query};
 use crate::typed::Typed;
 use rt_schema::{Given, capped_add, capped_mul};
 
-/// How many rows may come out of a query, how many columns they have, and the query's work.
+// How many rows may come out of a query, how many columns they have, and the query's work.
 #[derive(Clone, Copy)]
 struct Cost {
     reach: u128,
@@ -15,7 +17,7 @@ struct Cost {
     work: u128,
 }
 
-/// How much work the evaluation of a query is counted as.
+/// How much work the evaluation of a query is counted as: cells made and tests made.
 pub fn work(typed: &Typed, given: &Given) -> u128
     ensures { result ≡ work typed.now.query given.now }
 {
@@ -66,7 +68,7 @@ fn query_cost(query: &Query, given: &Given) -> Cost
     }
 }
 
-/// The cost of a product, and None where it has no members.
+// The cost of a product, and None where it has no members.
 #[cycle(cost)]
 fn product_cost(members: &[Query], given: &Given) -> Option<Cost>
     ensures { result ≡ product_from None (map (query_cost given.now) members.now) }
@@ -117,7 +119,7 @@ fn table_cost(rows: usize, width: usize) -> Cost
     }
 }
 
-/// The work of a query and `work` for each of its rows.
+// The work of a query and `work` for each of its rows.
 fn each_row(query: Cost, work: u128) -> u128
     ensures { result ≡ each_row query work }
 {
@@ -133,7 +135,7 @@ fn after(front: Option<Cost>, next: Cost) -> Cost
     }
 }
 
-/// The cost of the concatenations of two, which are all made.
+// The cost of the concatenations of two, which are all made.
 fn joined(front: Cost, next: Cost) -> Cost
     ensures { result ≡ joined front next }
 {
@@ -153,7 +155,7 @@ fn set_work(a: Cost, b: Cost) -> u128
     capped_add(capped_add(a.work, b.work), capped_mul(rows, a.width))
 }
 
-/// The size of an expression: one for each of its parts.
+// The size of an expression: one for each of its parts.
 #[cycle(size)]
 fn expr_size(expr: &Expr) -> u128
     ensures { result ≡ expr_size expr.now }
@@ -165,7 +167,7 @@ fn expr_size(expr: &Expr) -> u128
     }
 }
 
-/// The sizes of expressions, added to `start`.
+// The sizes of expressions, added to `start`.
 #[cycle(size)]
 fn sizes(start: u128, items: &[Expr]) -> u128
     ensures { result ≡ sum_from start (map expr_size items.now) }

@@ -1,3 +1,6 @@
+//! The value of an expression under the rows in scope. Arithmetic is modulo 2^128, which takes no
+//! tests; `laws` says that a typed query never notices.
+
 ghost use Rattle.std.specs.Prelude.{◌≡◌, ◌∷◌, ◌+ℤ◌, ◌*ℤ◌, map, neg_ℤ, pos, IfOk};
 ghost use Rattle.rt_value.specs.declared.value.Value.TheVariants.{Int};
 ghost use Rattle.rt_algebra.specs.Expression.{wrapped, value_by, term_by, row_by, cell_of, sum_from, mul_from, add_value, mul_value, neg_value};

@@ -1,6 +1,7 @@
-//! Laws of the algebra, each the contract of a function that does nothing.
+//! Laws of the algebra, each the contract of a function that does nothing. A caller of one has the
+//! law as a fact about its own query and rows.
 
-ghost use Rattle.std.specs.Prelude.{◌≡◌, [], IsTrue};
+ghost use Rattle.std.specs.Prelude.{◌≡◌, []};
 ghost use Rattle.rt_schema.specs.Kept.{kept};
 ghost use Rattle.rt_algebra.specs.Answer.{answer_by, plain};
 ghost use Rattle.rt_algebra.specs.Columns.{table_columns};

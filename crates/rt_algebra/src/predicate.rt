@@ -1,3 +1,5 @@
+//! The truth of IN over values and rows that are at hand; subqueries are left to the evaluation.
+
 ghost use Rattle.std.specs.Prelude.{◌≡◌, map, IfOk};
 ghost use Rattle.rt_algebra.specs.Answer.{cell_truth, one_of_truth};
 ghost use Rattle.rt_algebra.specs.Expression.{wrapped};

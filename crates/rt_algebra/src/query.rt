@@ -1,3 +1,5 @@
+//! The trees of queries and conditions, which hold one another.
+
 use crate::expr::Expr;
 use rt_value::{Boxed, List, Op};
 

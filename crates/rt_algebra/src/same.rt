@@ -1,4 +1,5 @@
-//! Whether two queries are the same, word for word.
+//! Sameness of trees. An answer of no costs time at most: callers then do the work a second time.
+
 ghost use Rattle.std.specs.Prelude.{◌≡◌, IsTrue};
 
 use crate::expr::{Expr, Term};

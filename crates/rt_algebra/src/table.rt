@@ -1,4 +1,4 @@
-//! Columns of a table.
+//! The columns of a table, as a query begins with them.
 
 ghost use Rattle.std.specs.Prelude.{◌≡◌, IfOk};
 ghost use Rattle.rt_algebra.specs.TextColumns as spec;

@@ -1,3 +1,5 @@
+//! What both languages end in and evaluation begins with: a query with its columns.
+
 ghost use Rattle.std.specs.Prelude.{◌≡◌, length};
 
 use crate::query::Query;

@@ -1,4 +1,5 @@
-//! Columns of two operands under a set operator.
+//! The columns of two operands under a set operator: the tests are here, the errors are each
+//! language's own.
 
 ghost use Rattle.std.specs.Prelude.{◌≡◌, IfOk};
 ghost use Rattle.rt_algebra.specs.TextColumns as spec;

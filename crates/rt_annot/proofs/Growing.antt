@@ -7,7 +7,7 @@ use Rattle.rt_formula.specs.Shared.{Shared, IsGrown, val}
 use Rattle.rt_formula.proofs.Meaning.{val-grown}
 use Rattle.rt_annot.specs.Entries.{Formula, Test, Entry}
 use Rattle.rt_formula.specs.declared.noted.Noted.{Noted}
-use Rattle.rt_annot.specs.declared.gate.Gate.{Gate}
+use Rattle.rt_annot.specs.declared.gate.TruthNodes.{TruthNodes}
 use Rattle.rt_annot.specs.Annotated.{formula, entry_of, entries_of, AreNodes, AreNoted, IsNode, IsGate, Mean, Reads}
 
 pub longer : {old new : Shared} → IsGrown old new → length old.entries ≤ length new.entries
@@ -58,7 +58,7 @@ module _ {old new : Shared} (g : IsGrown old new) where
     same = λ s. val-grown old new g s n i.below ∙ i.same s;
   }
 
-  pub gate_stays : {x : Gate} {t : Test} → IsGate old x t → IsGate new x t
+  pub gate_stays : {x : TruthNodes} {t : Test} → IsGate old x t → IsGate new x t
   gate_stays i = record { yes = node_stays i.yes; no = node_stays i.no }
 
   pub mean_stays : {ns : List ℕ} {fs : List Formula} → Mean old ns fs → Mean new ns fs
@@ -90,7 +90,7 @@ two_nodes d p q (suc zero) e l = q
 two_nodes d p q (suc (suc k)) e l = absurd (omega arith)
 
 -- a condition that is Yes where one of the nodes is true, else No
-pub either_means : (old : Shared) {new : Shared} {g : Gate} (ns ms : List ℕ) (f : Formula) → IsGate new g (λ s. list_any (val old s) ns, λ s. not (list_any (val old s) ns))
+pub either_means : (old : Shared) {new : Shared} {g : TruthNodes} (ns ms : List ℕ) (f : Formula) → IsGate new g (λ s. list_any (val old s) ns, λ s. not (list_any (val old s) ns))
     → ns ≡ ms → ((s : List Bool) → list_any (val old s) ms ≡ f s) → IsGate new g (f, λ s. not (f s))
 either_means old ns ms f i e h = record {
   yes = node_as f (λ s. ap (list_any (val old s)) e ∙ h s) i.yes;

@@ -19,8 +19,8 @@ use Rattle.rt_formula.specs.Shared.{Shared, IsGrown, val}
 use Rattle.rt_annot.specs.Entries.{Formula, Test, Entry, is_no, rows_at, selected, any_entry, member_test, stands}
 use Rattle.rt_annot.proofs.Exact.{yes_and, no_and, yes_or, no_or, append_exact, select_exact, project_exact, any_exact, not_any, member_yes, member_no, stands_exact}
 use Rattle.rt_formula.specs.declared.noted.Noted.{Noted}
-use Rattle.rt_annot.specs.declared.gate.Gate.{Gate}
-use Rattle.rt_annot.specs.declared.gate.Gates.{Gates}
+use Rattle.rt_annot.specs.declared.gate.TruthNodes.{TruthNodes}
+use Rattle.rt_annot.specs.declared.gate.TruthLists.{TruthLists}
 use Rattle.rt_annot.specs.declared.gate.Junction.{Junction}
 use Rattle.rt_annot.specs.declared.gate.Junction.TheVariants.{All, Any}
 use Rattle.rt_annot.specs.declared.sets.Side.{Side}
@@ -33,10 +33,10 @@ use Rattle.rt_annot.proofs.Growing.{grown_trans, node_as, noted_stay, entries_st
 use Rattle.rt_annot.proofs.Walking.{noted_push, entry_is, projected_same, projected_below}
 use mathlib.Core.Path.{fun_ext}
 
-pub gate_as : {d : Shared} {g : Gate} {t : Test} (u : Test) → ((s : List Bool) → t.0 s ≡ u.0 s) → ((s : List Bool) → t.1 s ≡ u.1 s) → IsGate d g t → IsGate d g u
+pub gate_as : {d : Shared} {g : TruthNodes} {t : Test} (u : Test) → ((s : List Bool) → t.0 s ≡ u.0 s) → ((s : List Bool) → t.1 s ≡ u.1 s) → IsGate d g t → IsGate d g u
 gate_as u y n i = record { yes = node_as u.0 y i.yes; no = node_as u.1 n i.no }
 
-pub gate_at : {d : Shared} {g : Gate} {t u : Test} → t ≡ u → IsGate d g t → IsGate d g u
+pub gate_at : {d : Shared} {g : TruthNodes} {t u : Test} → t ≡ u → IsGate d g t → IsGate d g u
 gate_at {d} {g} {t} {u} e i = let P : Test → Type 0 = λ x. IsGate d g x in subst P e i
 
 pub mean_push : {d : Shared} {ns new : List ℕ} {n : ℕ} {f : Formula} {fs : List Formula} → Mean d ns fs → IsNode d n f → new ≡ ns ++ n ∷ [] → Mean d new (fs ++ f ∷ [])
@@ -123,17 +123,17 @@ module _ (given : Tables) (env : Env) where
     any_formulas d (n ∷ ns) = ap (λ b. val d s n || b) (any_formulas d ns)
 
   -- a condition with this outcome at every choice of rows
-  pub outcome : {d : Shared} {g : Gate} {u : Test} (p : Pred) (t : List Bool → Truth) → ((s : List Bool) → pred_by wrapped p (kept given s) env ≡ t s)
+  pub outcome : {d : Shared} {g : TruthNodes} {u : Test} (p : Pred) (t : List Bool → Truth) → ((s : List Bool) → pred_by wrapped p (kept given s) env ≡ t s)
       → ((s : List Bool) → u.0 s ≡ is_yes (t s)) → ((s : List Bool) → u.1 s ≡ is_no (t s)) → IsGate d g u → IsGate d g (yes_when p given env, no_when p given env)
   outcome p t e y n i = gate_as (yes_when p given env, no_when p given env) (λ s. y s ∙ ap is_yes (sym (e s))) (λ s. n s ∙ ap is_no (sym (e s))) i
 
-  all_gate : (d : Shared) {e : Shared} {g : Gate} {yes no : List ℕ} (ps : List Pred) → Mean d yes (yes_of ps given env) → Mean d no (no_of ps given env)
+  all_gate : (d : Shared) {e : Shared} {g : TruthNodes} {yes no : List ℕ} (ps : List Pred) → Mean d yes (yes_of ps given env) → Mean d no (no_of ps given env)
       → IsGate e g (λ s. list_all (val d s) yes, λ s. list_any (val d s) no) → IsGate e g (test_joined All ps given env)
   all_gate d {e} {g} {yes} {no} ps y n i = gate_as (test_joined All ps given env)
       (λ s. all_formulas s d yes ∙ ap (list_all (λ (f : Formula). f s)) y.same ∙ yes_all s ps)
       (λ s. any_formulas s d no ∙ ap (list_any (λ (f : Formula). f s)) n.same ∙ no_any s ps) i
 
-  any_gate : (d : Shared) {e : Shared} {g : Gate} {yes no : List ℕ} (ps : List Pred) → Mean d yes (yes_of ps given env) → Mean d no (no_of ps given env)
+  any_gate : (d : Shared) {e : Shared} {g : TruthNodes} {yes no : List ℕ} (ps : List Pred) → Mean d yes (yes_of ps given env) → Mean d no (no_of ps given env)
       → IsGate e g (λ s. list_any (val d s) yes, λ s. list_all (val d s) no) → IsGate e g (test_joined Any ps given env)
   any_gate d {e} {g} {yes} {no} ps y n i = gate_as (test_joined Any ps given env)
       (λ s. any_formulas s d yes ∙ ap (list_any (λ (f : Formula). f s)) y.same ∙ yes_any s ps)
@@ -141,31 +141,31 @@ module _ (given : Tables) (env : Env) where
 
   -- one that is false at every choice decides all, one that is true decides any
   module _ (ps : List Pred) (i : ℕ) (p : Pred) (l : i < length ps) (e : p ≡ get_or ps i p) where
-    all_stops : {d : Shared} {g : Gate} → IsGate d g (yes_when p given env, no_when p given env) → ((s : List Bool) → val d s g.no ≡ true) → IsGate d g (test_joined All ps given env)
+    all_stops : {d : Shared} {g : TruthNodes} → IsGate d g (yes_when p given env, no_when p given env) → ((s : List Bool) → val d s g.no ≡ true) → IsGate d g (test_joined All ps given env)
     all_stops {d} {g} t h =
         let here : (s : List Bool) → pred_by wrapped p (kept given s) env ≡ No = λ s. no_is _ (sym (t.no.same s) ∙ h s) in
         let there : (s : List Bool) → all_of (map (pred_by wrapped) ps) (kept given s) env ≡ No = λ s. all_no (kept given s) env ps i p l e (here s) in
         gate_as (test_joined All ps given env) (λ s. ap is_yes (here s ∙ sym (there s))) (λ s. ap is_no (here s ∙ sym (there s))) t
 
-    any_stops : {d : Shared} {g : Gate} → IsGate d g (yes_when p given env, no_when p given env) → ((s : List Bool) → val d s g.yes ≡ true) → IsGate d g (test_joined Any ps given env)
+    any_stops : {d : Shared} {g : TruthNodes} → IsGate d g (yes_when p given env, no_when p given env) → ((s : List Bool) → val d s g.yes ≡ true) → IsGate d g (test_joined Any ps given env)
     any_stops {d} {g} t h =
         let here : (s : List Bool) → pred_by wrapped p (kept given s) env ≡ Yes = λ s. yes_is _ (sym (t.yes.same s) ∙ h s) in
         let there : (s : List Bool) → any_of (map (pred_by wrapped) ps) (kept given s) env ≡ Yes = λ s. any_yes (kept given s) env ps i p l e (here s) in
         gate_as (test_joined Any ps given env) (λ s. ap is_yes (here s ∙ sym (there s))) (λ s. ap is_no (here s ∙ sym (there s))) t
 
-  pub and_gate : {d : Shared} {g : Gate} (p : Pred) (ps : List Pred) → p ≡ w.And ps → IsGate d g (test_joined All ps given env) → IsGate d g (yes_when p given env, no_when p given env)
+  pub and_gate : {d : Shared} {g : TruthNodes} (p : Pred) (ps : List Pred) → p ≡ w.And ps → IsGate d g (test_joined All ps given env) → IsGate d g (yes_when p given env, no_when p given env)
   and_gate p ps q i = outcome p (λ s. all_of (map (pred_by wrapped) ps) (kept given s) env) (λ s. at_and (kept given s) env ps q) (λ s. refl) (λ s. refl) i
 
-  pub or_gate : {d : Shared} {g : Gate} (p : Pred) (ps : List Pred) → p ≡ w.Or ps → IsGate d g (test_joined Any ps given env) → IsGate d g (yes_when p given env, no_when p given env)
+  pub or_gate : {d : Shared} {g : TruthNodes} (p : Pred) (ps : List Pred) → p ≡ w.Or ps → IsGate d g (test_joined Any ps given env) → IsGate d g (yes_when p given env, no_when p given env)
   or_gate p ps q i = outcome p (λ s. any_of (map (pred_by wrapped) ps) (kept given s) env) (λ s. at_or (kept given s) env ps q) (λ s. refl) (λ s. refl) i
 
   -- the same of any that are put together
-  pub joined_gate : (j : Junction) (d : Shared) {e : Shared} {g : Gate} (gates : Gates) (ps : List Pred) → Mean d gates.yes (yes_of ps given env) → Mean d gates.no (no_of ps given env)
+  pub joined_gate : (j : Junction) (d : Shared) {e : Shared} {g : TruthNodes} (gates : TruthLists) (ps : List Pred) → Mean d gates.yes (yes_of ps given env) → Mean d gates.no (no_of ps given env)
       → IsGate e g (gates_joined j d gates) → IsGate e g (test_joined j ps given env)
   joined_gate All d gates ps y n i = all_gate d ps y n i
   joined_gate Any d gates ps y n i = any_gate d ps y n i
 
-  pub joined_stops : (j : Junction) (ps : List Pred) (i : ℕ) (p : Pred) (l : i < length ps) (e : p ≡ get_or ps i p) {d : Shared} {g : Gate} → IsGate d g (yes_when p given env, no_when p given env)
+  pub joined_stops : (j : Junction) (ps : List Pred) (i : ℕ) (p : Pred) (l : i < length ps) (e : p ≡ get_or ps i p) {d : Shared} {g : TruthNodes} → IsGate d g (yes_when p given env, no_when p given env)
       → ((s : List Bool) → val d s (deciding j g) ≡ true) → IsGate d g (test_joined j ps given env)
   joined_stops All ps i p l e t h = all_stops ps i p l e t h
   joined_stops Any ps i p l e t h = any_stops ps i p l e t h
@@ -233,7 +233,7 @@ gives_sifted Standing i j k = gives_intersect i j k
 gives_sifted Missing i j k = gives_except i j k
 
 -- the node of a side, of a gate that says where a row is
-pub side_is : (side : Side) (es : List Entry) (r : List Value) {d : Shared} {g : Gate} → IsGate d g (stands es r, λ s. not (stands es r s)) → IsNode d (side_node side g) (side_test side es r).0
+pub side_is : (side : Side) (es : List Entry) (r : List Value) {d : Shared} {g : TruthNodes} → IsGate d g (stands es r, λ s. not (stands es r s)) → IsNode d (side_node side g) (side_test side es r).0
 side_is Standing es r i = i.yes
 side_is Missing es r i = i.no
 
@@ -266,22 +266,22 @@ choosing_at {old} {x} {y} {a} {b} {rest} {whole} p q m =
     subst P (sym p) (subst Q (sym q) m)
 
 module _ (given : Tables) (env : Env) where
-  pub exists_gate : {d : Shared} {g : Gate} (p : Pred) (q : Query) → p ≡ w.Exists q → IsGate d g (exists_test (λ s. answer_by wrapped q (kept given s) env))
+  pub exists_gate : {d : Shared} {g : TruthNodes} (p : Pred) (q : Query) → p ≡ w.Exists q → IsGate d g (exists_test (λ s. answer_by wrapped q (kept given s) env))
       → IsGate d g (yes_when p given env, no_when p given env)
   exists_gate p q h i = outcome given env p (λ s. some_truth (answer_by wrapped q (kept given s) env)) (λ s. at_exists (kept given s) env q h) (λ s. refl) (λ s. refl) i
 
-  pub member_gate : {d : Shared} {g : Gate} (p : Pred) (a : Expr) (q : Query) → p ≡ w.Member a q → (x : Value) → x ≡ value_by wrapped a env
+  pub member_gate : {d : Shared} {g : TruthNodes} (p : Pred) (a : Expr) (q : Query) → p ≡ w.Member a q → (x : Value) → x ≡ value_by wrapped a env
       → IsGate d g (among_test x (λ s. answer_by wrapped q (kept given s) env)) → IsGate d g (yes_when p given env, no_when p given env)
   member_gate p a q h x k i = outcome given env p (λ s. member_truth (value_by wrapped a env) (answer_by wrapped q (kept given s) env)) (λ s. at_member (kept given s) env a q h)
       (λ s. ap (λ y. is_yes (member_truth y (answer_by wrapped q (kept given s) env))) k) (λ s. ap (λ y. is_no (member_truth y (answer_by wrapped q (kept given s) env))) k) i
 
 -- annotated rows of a query that has some, and of one that has a value among them
-pub exists_of : {d e : Shared} {g : Gate} {ns : List Noted} {answer : List Bool → Rows} → Gives d ns answer → IsGate e g (any_entry (entries_of d ns), λ s. not (any_entry (entries_of d ns) s)) → IsGate e g (exists_test answer)
+pub exists_of : {d e : Shared} {g : TruthNodes} {ns : List Noted} {answer : List Bool → Rows} → Gives d ns answer → IsGate e g (any_entry (entries_of d ns), λ s. not (any_entry (entries_of d ns) s)) → IsGate e g (exists_test answer)
 exists_of {d} {e} {g} {ns} {answer} rows i =
     let yes : (s : List Bool) → any_entry (entries_of d ns) s ≡ is_yes (some_truth (answer s)) = λ s. any_exact s (entries_of d ns) ∙ same_some_yes (rows_at s (entries_of d ns)) (answer s) (rows.same s) in
     gate_as (exists_test answer) yes (λ s. ap not (yes s) ∙ not_any s (answer s)) i
 
-pub member_of : {d e : Shared} {g : Gate} {ns : List Noted} {answer : List Bool → Rows} (x : Value) → Gives d ns answer → IsGate e g (member_test x (entries_of d ns)) → IsGate e g (among_test x answer)
+pub member_of : {d e : Shared} {g : TruthNodes} {ns : List Noted} {answer : List Bool → Rows} (x : Value) → Gives d ns answer → IsGate e g (member_test x (entries_of d ns)) → IsGate e g (among_test x answer)
 member_of {d} {e} {g} {ns} {answer} x rows i = gate_as (among_test x answer)
     (λ s. member_yes s x (entries_of d ns) ∙ same_member_yes (rows_at s (entries_of d ns)) (answer s) (rows.same s) x)
     (λ s. member_no s x (entries_of d ns) ∙ same_member_no (rows_at s (entries_of d ns)) (answer s) (rows.same s) x) i

@@ -13,8 +13,8 @@ use Rattle.rt_formula.specs.Shared.{Shared, IsGrown, val, bool_at}
 use Rattle.rt_formula.specs.Groups.{Grouped, group_at, nodes_where}
 use Rattle.rt_annot.specs.Entries.{Formula, Test, Entry, is_no, rows_at, stands}
 use Rattle.rt_formula.specs.declared.noted.Noted.{Noted}
-use Rattle.rt_annot.specs.declared.gate.Gate.{Gate}
-use Rattle.rt_annot.specs.declared.gate.Gates.{Gates}
+use Rattle.rt_annot.specs.declared.gate.TruthNodes.{TruthNodes}
+use Rattle.rt_annot.specs.declared.gate.TruthLists.{TruthLists}
 use Rattle.rt_annot.specs.declared.gate.Junction.{Junction}
 use Rattle.rt_annot.specs.declared.gate.Junction.TheVariants.{All, Any}
 use Rattle.rt_annot.specs.declared.sets.Side.{Side}
@@ -42,7 +42,7 @@ pub record IsNode (d : Shared) (n : ℕ) (f : Formula) : Type 0 where
   pub below : n < length d.entries
   pub same : (s : List Bool) → val d s n ≡ f s
 
-pub record IsGate (d : Shared) (g : Gate) (t : Test) : Type 0 where
+pub record IsGate (d : Shared) (g : TruthNodes) (t : Test) : Type 0 where
   pub yes : IsNode d g.yes t.0
   pub no : IsNode d g.no t.1
 
@@ -62,7 +62,7 @@ side_test Standing es r = (stands es r, λ s. false)
 side_test Missing es r = (λ s. not (stands es r s), λ s. false)
 
 -- the node of that, of a gate that says where a row is among them
-abbrev pub side_node : Side → Gate → ℕ
+abbrev pub side_node : Side → TruthNodes → ℕ
 side_node Standing g = g.yes
 side_node Missing g = g.no
 
@@ -118,12 +118,12 @@ test_joined Any ps given env =
     (λ s. is_yes (any_of (map (pred_by wrapped) ps) (kept given s) env), λ s. is_no (any_of (map (pred_by wrapped) ps) (kept given s) env))
 
 -- the nodes of conditions together
-abbrev pub gates_joined : Junction → Shared → Gates → Test
+abbrev pub gates_joined : Junction → Shared → TruthLists → Test
 gates_joined All d gates = (λ s. list_all (val d s) gates.yes, λ s. list_any (val d s) gates.no)
 gates_joined Any d gates = (λ s. list_any (val d s) gates.yes, λ s. list_all (val d s) gates.no)
 
 -- the node of a condition that decides these, where it is true at every choice
-abbrev pub deciding : Junction → Gate → ℕ
+abbrev pub deciding : Junction → TruthNodes → ℕ
 deciding All g = g.no
 deciding Any g = g.yes
 

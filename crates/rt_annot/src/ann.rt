@@ -1,7 +1,7 @@
 //! The answer of a query at all choices at once: a map from rows to nodes. That it is a BTreeMap
 //! is private; contracts see rows in order, each with its node.
 
-ghost use Rattle.std.specs.Prelude.{◌≡◌, List, Bool, not, IfOk, length};
+ghost use Rattle.std.specs.Prelude.{◌≡◌, not, IfOk, length};
 ghost use Rattle.std.specs.List.Sorted.{IsStrictlySortedBy};
 ghost use Rattle.std.specs.Map.{keys_of};
 ghost use Rattle.rt_value.specs.Row.{row_cmp};

@@ -15,7 +15,7 @@ ghost use Rattle.rt_annot.specs.Known.{AreKnown, Tells, TellsOf, sought_test};
 ghost use Rattle.rt_annot.specs.declared.subquery.Subquery.{Subquery};
 
 use crate::evaluate::annotated;
-use crate::gate::{Gate, Gates, Junction, constant, is_always};
+use crate::gate::{Junction, TruthLists, TruthNodes, constant, is_always};
 use crate::known::Found;
 use crate::member::among;
 use crate::subquery::{Subquery, place_of};
@@ -33,7 +33,7 @@ pub fn test<'q>(
     known: &mut List<Subquery<'q>>,
     p: &'q Pred,
     env: &[&Row],
-) -> Result<Gate, NoMemory>
+) -> Result<TruthNodes, NoMemory>
     requires places { dag.old.rows ≡ places tables.now }
     requires known { AreKnown dag.old tables.now known.old }
     ensures grown { IsGrown dag.old dag.new }
@@ -54,7 +54,7 @@ pub fn test<'q>(
         }
         Pred::Not(p) => {
             let gate = test(alloc, dag, tables, known, p.get(), env)?;
-            Ok(Gate {
+            Ok(TruthNodes {
                 yes: gate.no,
                 no: gate.yes,
             })
@@ -75,7 +75,7 @@ fn compared(
     a: &Expr,
     b: &Expr,
     env: &[&Row],
-) -> Result<Gate, NoMemory>
+) -> Result<TruthNodes, NoMemory>
     ensures { IfOk result (λ g. IsGate dag.now g (constant (value_truth op (value_by wrapped a.now (map (λ r. r.now) env.now)) (value_by wrapped b.now (map (λ r. r.now) env.now))))) }
 {
     let x = value(alloc, a, env)?;
@@ -84,7 +84,7 @@ fn compared(
 }
 
 // The test for NULL, which no choice of rows changes.
-fn missing(alloc: Global, dag: &Dag, e: &Expr, env: &[&Row]) -> Result<Gate, NoMemory>
+fn missing(alloc: Global, dag: &Dag, e: &Expr, env: &[&Row]) -> Result<TruthNodes, NoMemory>
     ensures { IfOk result (λ g. IsGate dag.now g (constant (null_truth (value_by wrapped e.now (map (λ r. r.now) env.now))))) }
 {
     let x = value(alloc, e, env)?;
@@ -98,7 +98,7 @@ fn listed(
     e: &Expr,
     items: &[Expr],
     env: &[&Row],
-) -> Result<Gate, NoMemory>
+) -> Result<TruthNodes, NoMemory>
     ensures { IfOk result (λ g. IsGate dag.now g (constant (one_of_truth wrapped (value_by wrapped e.now (map (λ r. r.now) env.now)) items.now (map (λ r. r.now) env.now)))) }
 {
     let x = value(alloc, e, env)?;
@@ -116,7 +116,7 @@ fn asked<'q>(
     sought: Option<&Value>,
     q: &'q Query,
     env: &[&Row],
-) -> Result<Gate, NoMemory>
+) -> Result<TruthNodes, NoMemory>
     requires places { dag.old.rows ≡ places tables.now }
     requires known { AreKnown dag.old tables.now known.old }
     ensures grown { IsGrown dag.old dag.new }
@@ -189,14 +189,14 @@ fn together<'q>(
     junction: &Junction,
     ps: &'q [Pred],
     env: &[&Row],
-) -> Result<Gate, NoMemory>
+) -> Result<TruthNodes, NoMemory>
     requires places { dag.old.rows ≡ places tables.now }
     requires known { AreKnown dag.old tables.now known.old }
     ensures grown { IsGrown dag.old dag.new }
     ensures known { AreKnown dag.new tables.now known.new }
     ensures gate { IfOk result (λ g. IsGate dag.new g (test_joined junction.now ps.now tables.now (map (λ r. r.now) env.now))) }
 {
-    let mut gates = Gates {
+    let mut gates = TruthLists {
         yes: List::new(alloc),
         no: List::new(alloc),
     };
@@ -220,7 +220,7 @@ pub fn test_row<'q, 'a>(
     p: &'q Pred,
     row: &'a Row,
     env: &[&'a Row],
-) -> Result<Gate, NoMemory>
+) -> Result<TruthNodes, NoMemory>
     requires places { dag.old.rows ≡ places tables.now }
     requires known { AreKnown dag.old tables.now known.old }
     ensures grown { IsGrown dag.old dag.new }

@@ -12,26 +12,26 @@ use rt_value::{List, NoMemory, Truth};
 
 /// A condition: where it is true, and where it is false. It is unknown where both nodes are false.
 #[derive(Clone, Copy)]
-pub struct Gate {
+pub struct TruthNodes {
     pub yes: Node,
     pub no: Node,
 }
 
 /// The nodes of several conditions.
-pub struct Gates {
+pub struct TruthLists {
     pub yes: List<Node>,
     pub no: List<Node>,
 }
 
-impl Drop for Gates {
+impl Drop for TruthLists {
     fn drop(self) {
-        let Gates { yes: _, no: _ } = self;
+        let TruthLists { yes: _, no: _ } = self;
     }
 }
 
-impl Gates {
+impl TruthLists {
     /// Puts one more condition at the end.
-    pub fn push(&mut self, gate: Gate) -> Result<(), NoMemory>
+    pub fn push(&mut self, gate: TruthNodes) -> Result<(), NoMemory>
         ensures yes { OnOk result (self.new.yes ≡ self.old.yes ++ gate.yes ∷ []) }
         ensures no { OnOk result (self.new.no ≡ self.old.no ++ gate.no ∷ []) }
     {
@@ -41,19 +41,19 @@ impl Gates {
 }
 
 /// A condition that no choice of rows changes.
-pub fn constant(dag: &Dag, truth: Truth) -> Gate
+pub fn constant(dag: &Dag, truth: Truth) -> TruthNodes
     ensures { IsGate dag.now result (constant truth) }
 {
     match truth {
-        Truth::Yes => Gate {
+        Truth::Yes => TruthNodes {
             yes: dag.yes(),
             no: dag.no(),
         },
-        Truth::No => Gate {
+        Truth::No => TruthNodes {
             yes: dag.no(),
             no: dag.yes(),
         },
-        Truth::Unknown => Gate {
+        Truth::Unknown => TruthNodes {
             yes: dag.no(),
             no: dag.no(),
         },
@@ -95,7 +95,7 @@ pub enum Junction {
 impl Junction {
     /// The node of a condition that decides all of them if it is always true: for AND the one that
     /// says that the condition is false.
-    pub fn deciding(&self, gate: &Gate) -> Node
+    pub fn deciding(&self, gate: &TruthNodes) -> Node
         ensures { result ≡ deciding self.now gate.now }
     {
         match self {
@@ -105,7 +105,7 @@ impl Junction {
     }
 
     /// The conditions together.
-    pub fn of(&self, dag: &mut Dag, gates: &Gates) -> Result<Gate, NoMemory>
+    pub fn of(&self, dag: &mut Dag, gates: &TruthLists) -> Result<TruthNodes, NoMemory>
         requires yes { AreNodes dag.old gates.now.yes }
         requires no { AreNodes dag.old gates.now.no }
         ensures grown { IsGrown dag.old dag.new }
@@ -119,7 +119,7 @@ impl Junction {
 }
 
 // True where all are true, false where one is false.
-fn all(dag: &mut Dag, gates: &Gates) -> Result<Gate, NoMemory>
+fn all(dag: &mut Dag, gates: &TruthLists) -> Result<TruthNodes, NoMemory>
     requires yes { AreNodes dag.old gates.now.yes }
     requires no { AreNodes dag.old gates.now.no }
     ensures grown { IsGrown dag.old dag.new }
@@ -127,11 +127,11 @@ fn all(dag: &mut Dag, gates: &Gates) -> Result<Gate, NoMemory>
 {
     let yes = dag.all(gates.yes.as_slice())?;
     let no = dag.any(gates.no.as_slice())?;
-    Ok(Gate { yes, no })
+    Ok(TruthNodes { yes, no })
 }
 
 // True where one is true, false where all are false.
-fn any(dag: &mut Dag, gates: &Gates) -> Result<Gate, NoMemory>
+fn any(dag: &mut Dag, gates: &TruthLists) -> Result<TruthNodes, NoMemory>
     requires yes { AreNodes dag.old gates.now.yes }
     requires no { AreNodes dag.old gates.now.no }
     ensures grown { IsGrown dag.old dag.new }
@@ -139,16 +139,16 @@ fn any(dag: &mut Dag, gates: &Gates) -> Result<Gate, NoMemory>
 {
     let yes = dag.any(gates.yes.as_slice())?;
     let no = dag.all(gates.no.as_slice())?;
-    Ok(Gate { yes, no })
+    Ok(TruthNodes { yes, no })
 }
 
 /// True where one of the nodes is, else false.
-pub fn either(dag: &mut Dag, nodes: &[Node]) -> Result<Gate, NoMemory>
+pub fn either(dag: &mut Dag, nodes: &[Node]) -> Result<TruthNodes, NoMemory>
     requires { AreNodes dag.old nodes.now }
     ensures grown { IsGrown dag.old dag.new }
     ensures gate { IfOk result (λ g. IsGate dag.new g (λ s. list_any (val dag.old s) nodes.now, λ s. not (list_any (val dag.old s) nodes.now))) }
 {
     let yes = dag.any(nodes)?;
     let no = dag.not(yes)?;
-    Ok(Gate { yes, no })
+    Ok(TruthNodes { yes, no })
 }

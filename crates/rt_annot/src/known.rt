@@ -12,7 +12,7 @@ ghost use Rattle.rt_annot.specs.Entries.{rows_at};
 ghost use Rattle.rt_annot.specs.Annotated.{AreNoted, IsGate, entries_of};
 ghost use Rattle.rt_annot.specs.Known.{first_of, among_test, sought_test, IsOver, Tells};
 
-use crate::gate::Gate;
+use crate::gate::TruthNodes;
 use crate::member::exists;
 use rt_formula::{Dag, Groups, Node, Noted};
 use rt_value::{NoMemory, Row, Value};
@@ -22,7 +22,7 @@ use std::alloc::Global;
 /// `null` whether one begins with NULL, and `groups` has the nodes of the rows by their first
 /// value.
 pub struct Found {
-    pub some: Gate,
+    pub some: TruthNodes,
     pub null: Node,
     pub groups: Groups,
 }
@@ -94,7 +94,7 @@ impl Found {
         alloc: Global,
         dag: &mut Dag,
         sought: Option<&Value>,
-    ) -> Result<Gate, NoMemory>
+    ) -> Result<TruthNodes, NoMemory>
         requires { IsOver dag.old self.now }
         ensures grown { IsGrown dag.old dag.new }
         ensures gate { IfOk result (λ g. (answer : List Bool → Rows) → Tells dag.old self.now answer → IsGate dag.new g (sought_test sought.entry answer)) }
@@ -105,7 +105,7 @@ impl Found {
         }
     }
 
-    fn member(&self, alloc: Global, dag: &mut Dag, x: &Value) -> Result<Gate, NoMemory>
+    fn member(&self, alloc: Global, dag: &mut Dag, x: &Value) -> Result<TruthNodes, NoMemory>
         requires { IsOver dag.old self.now }
         ensures grown { IsGrown dag.old dag.new }
         ensures gate { IfOk result (λ g. (answer : List Bool → Rows) → Tells dag.old self.now answer → IsGate dag.new g (among_test x.now answer)) }
@@ -113,13 +113,13 @@ impl Found {
         if is_null(x) {
             let yes = dag.no();
             let no = self.some.no;
-            return Ok(Gate { yes, no });
+            return Ok(TruthNodes { yes, no });
         }
         let row = single(alloc, x)?;
         let yes = dag.any(self.groups.get(&row))?;
         drop(row);
         let some = dag.any(&[yes, self.null])?;
         let no = dag.not(some)?;
-        Ok(Gate { yes, no })
+        Ok(TruthNodes { yes, no })
     }
 }

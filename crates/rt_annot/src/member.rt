@@ -8,7 +8,7 @@ ghost use Rattle.rt_annot.specs.Entries.{any_entry, member_test};
 ghost use Rattle.rt_annot.specs.Annotated.{AreNoted, Gives, IsGate, entries_of, nodes_of, sure, possible};
 ghost use Rattle.rt_annot.specs.Known.{sought_test};
 
-use crate::gate::{Gate, either};
+use crate::gate::{TruthNodes, either};
 use rt_algebra::cell_truth;
 use rt_formula::{Dag, Node, Noted};
 use rt_value::{List, NoMemory, Truth, Value};
@@ -25,7 +25,7 @@ fn nodes_of(alloc: Global, rows: &[Noted]) -> Result<List<Node>, NoMemory>
 }
 
 /// Whether there is a row.
-pub fn exists(alloc: Global, dag: &mut Dag, rows: &[Noted]) -> Result<Gate, NoMemory>
+pub fn exists(alloc: Global, dag: &mut Dag, rows: &[Noted]) -> Result<TruthNodes, NoMemory>
     requires { AreNoted dag.old rows.now }
     ensures grown { IsGrown dag.old dag.new }
     ensures gate { IfOk result (λ g. IsGate dag.new g (any_entry (entries_of dag.old rows.now), λ s. not (any_entry (entries_of dag.old rows.now) s))) }
@@ -66,7 +66,7 @@ pub fn among(
     dag: &mut Dag,
     sought: Option<&Value>,
     rows: &[Noted],
-) -> Result<Gate, NoMemory>
+) -> Result<TruthNodes, NoMemory>
     requires { AreNoted dag.old rows.now }
     ensures grown { IsGrown dag.old dag.new }
     ensures gate { IfOk result (λ g. (answer : List Bool → Rows) → Gives dag.old rows.now answer → IsGate dag.new g (sought_test sought.entry answer)) }
@@ -77,7 +77,7 @@ pub fn among(
     }
 }
 
-fn member(alloc: Global, dag: &mut Dag, x: &Value, rows: &[Noted]) -> Result<Gate, NoMemory>
+fn member(alloc: Global, dag: &mut Dag, x: &Value, rows: &[Noted]) -> Result<TruthNodes, NoMemory>
     requires { AreNoted dag.old rows.now }
     ensures grown { IsGrown dag.old dag.new }
     ensures gate { IfOk result (λ g. IsGate dag.new g (member_test x.now (entries_of dag.old rows.now))) }
@@ -89,5 +89,5 @@ fn member(alloc: Global, dag: &mut Dag, x: &Value, rows: &[Noted]) -> Result<Gat
     let some = dag.any(possible.as_slice())?;
     drop(possible);
     let no = dag.not(some)?;
-    Ok(Gate { yes, no })
+    Ok(TruthNodes { yes, no })
 }

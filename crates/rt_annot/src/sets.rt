@@ -7,7 +7,7 @@ ghost use Rattle.rt_formula.specs.Shared.{IsGrown};
 ghost use Rattle.rt_annot.specs.Entries.{selected};
 ghost use Rattle.rt_annot.specs.Annotated.{AreNoted, Gives, Reads, entries_of, set_rows, side_node, side_test};
 
-use crate::gate::{Gate, both, either};
+use crate::gate::{TruthNodes, both, either};
 use crate::rows::{appended, note};
 use rt_formula::{Dag, Groups, Node, Noted};
 use rt_value::{List, NoMemory};
@@ -21,7 +21,7 @@ pub enum Side {
 }
 
 impl Side {
-    fn node(self, gate: Gate) -> Node
+    fn node(self, gate: TruthNodes) -> Node
         ensures { result ≡ side_node self gate }
     {
         match self {

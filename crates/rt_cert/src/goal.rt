@@ -1,6 +1,6 @@
 //! The clauses of a certificate's question: those of the goal, and then a counter of the rows.
 
-ghost use Rattle.std.specs.Prelude.{◌≡◌, ◌≤◌, ◌<◌, List as Seq, Bool, true, [], IfOk, length};
+ghost use Rattle.std.specs.Prelude.{◌≡◌, ◌≤◌, ◌<◌, true, [], IfOk, length};
 ghost use Rattle.rt_formula.specs.Shared.{val};
 ghost use Rattle.rt_cert.specs.Encodes.{Encodes};
 

@@ -1,7 +1,7 @@
 //! The encoding of an input, which both the writer and the checker of a certificate make anew.
 //! Certificates count its lines, so a change of their order makes old ones invalid.
 
-ghost use Rattle.std.specs.Prelude.{◌≡◌, ◌≤◌, [], IfOk, length};
+ghost use Rattle.std.specs.Prelude.{◌≡◌, [], IfOk, length};
 ghost use Rattle.std.specs.Option.{ForSome, option_copied};
 ghost use Rattle.rt_schema.specs.Given.{places};
 ghost use Rattle.rt_cert.specs.Encoding.{IsEncoding, most_of};

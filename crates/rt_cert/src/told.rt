@@ -1,6 +1,6 @@
 //! An answer that is ready to be written.
 
-ghost use Rattle.std.specs.Prelude.{◌≡◌, IfOk};
+ghost use Rattle.std.specs.Prelude.{IfOk};
 ghost use Rattle.rt_cert.specs.Steps.{SaysVerdict};
 
 use crate::outcome::CertOutcome;

@@ -1,14 +1,12 @@
 -- Which files a reading begins, one step after the other.
-use Rattle.std.proofs.Common.{◌≡◌, ◌∙◌, ◌<◌, ◌≤◌, ◌+◌, ◌∷◌, ◌++◌, ℕ, suc, Bool, List, [], Result, Ok, Err, length, take, drop, get_or, append_assoc, append-nil, add-zero, refl, sym, ap, subst, arith, slice_set}
+use Rattle.std.proofs.Common.{◌≡◌, ◌∙◌, ◌<◌, ◌≤◌, ◌+◌, ◌∷◌, ◌++◌, ℕ, suc, Bool, List, [], Result, Ok, Err, length, take, drop, get_or, append_assoc, append-nil, add-zero, sym, ap, subst, arith, slice_set}
 use Rattle.std.proofs.Math.Seq.{drop-cons}
 use Rattle.std.proofs.lemmas.List.{take-append-drop, length-take-le, take_more}
 use Rattle.rt_io.proofs.AddLemmas.{adds_all, adds_first, adds_none, adds_then, all_then}
 use Rattle.rt_io.specs.Edge.{AddsPrefix}
 use Rattle.rt_schema.specs.declared.table.Table.{Table as TableOf}
-use Rattle.rt_schema.specs.Given.{Rows, Tables, places}
-use Rattle.rt_algebra.specs.declared.typed.Typed.{Typed}
+use Rattle.rt_schema.specs.Given.{Tables, places}
 use Rattle.rt_input.specs.declared.first.First.{First}
-use Rattle.rt_input.specs.declared.outcome.Outcome.{Outcome}
 use Rattle.rt_input.specs.declared.part.Part.TheVariants.{Schema, Table, Query1, Query2}
 use Rattle.rt_input.specs.declared.source.Source.{Source}
 use Rattle.std.specs.Prelude.{OnErr, OnOk, Option, None, Some}

@@ -1,6 +1,5 @@
 -- Of which parts an outcome speaks.
 use Rattle.std.proofs.Common.{◌≡◌, refl, subst, sym}
-use Rattle.std.specs.Prelude.{⊤}
 use Rattle.rt_ddl.specs.declared.fault.Excess.{Excess}
 use Rattle.rt_ddl.specs.declared.fault.Excess.TheVariants as excess
 use Rattle.rt_ddl.specs.declared.fault.SchemaFault.{SchemaFault}

@@ -1,6 +1,6 @@
 -- The text of a part of a command: that of its file, as what is held of names says, or the
 -- generated one.
-use Rattle.std.specs.Prelude.{ℕ, ◌==◌, ◌&&◌, nat_lt, List, [], ◌∷◌, length, Option, None, Some, Result, Ok, Err, if◌then◌else◌}
+use Rattle.std.specs.Prelude.{ℕ, ◌==◌, ◌&&◌, nat_lt, [], ◌∷◌, length, Option, None, Some, Result, Ok, Err, if◌then◌else◌}
 use Rattle.rt_input.specs.declared.part.Part.{Part}
 use Rattle.rt_input.specs.declared.outcome.Limit.TheVariants as limit
 use Rattle.rt_input.specs.declared.outcome.Outcome.{Outcome}

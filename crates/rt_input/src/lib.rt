@@ -16,7 +16,6 @@ mod stopped;
 mod tables;
 mod text;
 
-pub use faults::lex_outcome;
 pub use first::{First, read_first};
 pub use input::Input;
 pub use outcome::{Fault, Limit, Outcome, Spent};

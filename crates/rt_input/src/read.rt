@@ -1,8 +1,7 @@
 //! The reading of a command's input, in a fixed order: arguments, schema, tables, queries, and
 //! then the work. The first refusal in that order is the answer.
 
-ghost use Rattle.std.specs.Prelude.{◌≡◌, ◌≤◌, ◌++◌, IsSomeAnd, IfOk, IfErr, OnOk, Ok, None, Some};
-ghost use Rattle.std.specs.Option.{ForSome};
+ghost use Rattle.std.specs.Prelude.{◌≡◌, ◌++◌, IfOk, IfErr, OnOk, Ok, Some};
 ghost use Rattle.rt_io.specs.Edge.{AddsPrefix, NoneFell};
 ghost use Rattle.rt_schema.specs.Given.{IsOf};
 ghost use Rattle.rt_algebra.specs.Typed.{IsTypedOf};

@@ -1,15 +1,14 @@
 -- Tests and conditions on common columns mean in the algebra what they mean on rows.
-use Rattle.std.proofs.Common.{◌≡◌, ◌∙◌, ℕ, zero, suc, ℤ, ◌+◌, ◌<◌, Bool, true, false, ◌&&◌, not, cond, List, [], ◌∷◌, ◌++◌, map, length, Option, Some, None, Result, Ok, Err, refl, sym, ap, ap₂, subst, arith, slice_get}
-use Rattle.std.specs.Prelude.{IfOk, bytes_eq, if◌then◌else◌, slice_index_or}
-use Rattle.std.specs.List.{filter, list_any}
+use Rattle.std.proofs.Common.{◌≡◌, ◌∙◌, ℕ, zero, suc, ℤ, ◌+◌, ◌<◌, Bool, true, false, ◌&&◌, List, [], ◌∷◌, ◌++◌, map, length, Result, Ok, Err, refl, sym, ap, ap₂, subst, arith}
+use Rattle.std.specs.Prelude.{IfOk, if◌then◌else◌, slice_index_or}
+use Rattle.std.specs.List.{filter}
 use Rattle.rt_algebra.specs.Answer.{all_of as all_true, answer, is_yes, pred}
-use Rattle.rt_algebra.specs.Expression.{Env, cell_of, row_of, value_of}
-use Rattle.rt_algebra.specs.declared.expr.Expr.{Expr}
+use Rattle.rt_algebra.specs.Parts.{all_of, selected}
+use Rattle.rt_algebra.specs.Expression.{Env, cell_of, value_of}
 use Rattle.rt_algebra.specs.declared.expr.Expr.TheVariants as expr
 use Rattle.rt_algebra.specs.declared.query.Pred.{Pred}
 use Rattle.rt_algebra.specs.declared.query.Pred.TheVariants as p
 use Rattle.rt_algebra.specs.declared.query.Query.{Query}
-use Rattle.rt_algebra.specs.declared.query.Query.TheVariants as q
 use Rattle.rt_schema.specs.Given.{Rows, Tables}
 use Rattle.rt_schema.specs.Schema.{kind_eq}
 use Rattle.rt_value.specs.Truth.{truth_and, truth_not}
@@ -25,7 +24,7 @@ use Rattle.rt_ra.specs.OperatorAnswers as answers
 use Rattle.rt_ra.specs.Columns.{Text, column_at, has, names, place}
 use Rattle.rt_ra.specs.Fault.{◌>>=◌}
 use Rattle.rt_ra.specs.Operators.{matching}
-use Rattle.rt_ra.specs.Tests.{all_of, column_scalar, compared, negated, number, selected, side, test, tests}
+use Rattle.rt_ra.specs.Tests.{column_scalar, compared, negated, number, side, test, tests}
 use Rattle.rt_ra.specs.declared.column.Column.{Column}
 use Rattle.rt_ra.specs.declared.scalar.Scalar.{Scalar}
 use Rattle.rt_ra_tree.specs.declared.fault.RaFault.{RaFault}
@@ -168,11 +167,11 @@ module _ (db : Tables) where
 
   -- ---- common columns
 
-  -- the first row stands `up` rows outward with its cells from `at` on, and the other's from `start`
+  -- the first row is `up` rows outward with its cells from `at` on, and the other's from `start`
   abbrev pub Stands : ℕ → ℕ → Env → List Value → List Value → Type 0
   Stands up start env r s = ((k : ℕ) → k < length r → cell_of env up k ≡ slice_index_or r k v.Null) × ((k : ℕ) → cell_of env 0 (start + k) ≡ slice_index_or s k v.Null)
 
-  -- the conditions on the columns from `at` on, before which `front` stands
+  -- the conditions on the columns from `at` on, before which `front` comes
   matching-from : (up start at : ℕ) (cs os : List Column) (front r s : List Value) (env : Env) → length front ≡ at → length cs ≡ length r → Stands up start env (front ++ r) s
       → all_hold (matching up start at cs os) env ≡ meets (names cs) (names os) r s
   matching-from up start at [] os front r s env f l h = refl

@@ -1,21 +1,17 @@
 -- Division means in the algebra what it means on rows.
-use Rattle.std.proofs.Common.{◌≡◌, ◌∙◌, ℕ, zero, suc, ◌+◌, Bool, true, false, not, cond, ◌&&◌, ◌||◌, List, [], ◌∷◌, ◌++◌, map, length, refl, sym, ap, ap₂, subst, arith, append_assoc}
-use Rattle.std.specs.Prelude.{bytes_eq}
+use Rattle.std.proofs.Common.{◌≡◌, ◌∙◌, ℕ, ◌+◌, Bool, true, false, not, cond, ◌&&◌, ◌||◌, List, [], ◌∷◌, ◌++◌, map, length, refl, sym, ap, ap₂, subst, arith}
 use Rattle.std.specs.List.{filter, flat_map, list_all, list_any}
-use Rattle.std.specs.Ordering.{int_eq}
 use Rattle.std.proofs.lemmas.Bool.Decides.{Decides-int_eq}
-use Rattle.std.proofs.lemmas.Slice.Eq.{bytes_eq-Decides, slice_eq-Decides}
-use Rattle.std.specs.Cmp.{signed_Decides, unsigned_Decides}
+use Rattle.std.proofs.lemmas.Slice.Eq.{bytes_eq-Decides}
 use Rattle.rt_algebra.specs.Answer.{answer, has_row, pairs}
 use Rattle.rt_algebra.specs.Expression.{Env, row_of}
-use Rattle.rt_algebra.specs.declared.query.Query.{Query}
 use Rattle.rt_schema.specs.Given.{Rows, Tables}
 use Rattle.rt_value.specs.Order.{row_eq_equiv}
 use Rattle.rt_value.specs.Row.{row_eq}
 use Rattle.rt_value.specs.Value.{value_eq}
 use Rattle.rt_value.specs.declared.value.Value.{Value}
 use Rattle.rt_value.specs.declared.value.Value.TheVariants as v
-use Rattle.rt_ra.specs.OperatorAnswers.{Named, cells, divided, further_cells, paired}
+use Rattle.rt_ra.specs.OperatorAnswers.{cells, divided, further_cells, paired}
 use Rattle.rt_ra.specs.Columns.{Text, further_columns, names}
 use Rattle.rt_ra.specs.OperatorMeaning.{Has, Wide}
 use Rattle.rt_ra.specs.Operators.{further, missing, own, pairs_of, placed, product, quotient, rest_of}
@@ -80,7 +76,7 @@ all-has : (all xs : Rows) → AllIn all xs → list_all (has_row all) xs ≡ tru
 all-has all [] h = refl
 all-has all (x ∷ xs) h = ap₂ ◌&&◌ h.0 (all-has all xs h.1)
 
--- each of the rows stands among them
+-- each of the rows is among them
 pub all-own : (xs : Rows) → list_all (has_row xs) xs ≡ true
 all-own xs = all-has xs xs (all-in [] xs)
 
@@ -165,7 +161,7 @@ module _ (db : Tables) (t u : Relation) (L R : Rows) (h : Has db t L) (k : Has d
       (λ r l. row-append (further 0 t.columns u.columns) (placed (names u.columns) t.columns) (r ∷ env)
       ∙ ap₂ (λ (y : List Value) (z : List Value). y ++ z) (further-row t.columns u.columns [] r env l) (placed-row (names u.columns) t.columns r env)) h.wide
 
-  -- a row of both parts stands among the whole ones where the two are paired
+  -- a row of both parts is among the whole ones where the two are paired
   whole-paired : (x y : List Value) → length x ≡ length (further_columns t.columns u.columns) → has_row (map (λ r. further_cells (names t.columns) (names u.columns) r ++ cells (names t.columns) (names u.columns) r) L) (x ++ y)
       ≡ paired (under t.columns L) (under u.columns R) x y
   whole-paired x y l = go L h.wide

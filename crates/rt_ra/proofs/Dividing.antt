@@ -1,5 +1,5 @@
 -- Division is the test of the columns, and then the quotient.
-use Rattle.std.proofs.Common.{◌≡◌, Bool, true, false, List, [], ◌∷◌, Option, Some, None, Result, Ok, Err, refl}
+use Rattle.std.proofs.Common.{◌≡◌, Bool, true, false, List, [], ◌∷◌, Option, Some, None, Ok, Err, refl}
 use Rattle.std.specs.Prelude.{if◌then◌else◌}
 use Rattle.rt_ra.specs.Columns.{Text, common_fit, further_columns, if_fit, lacked}
 use Rattle.rt_ra.specs.Divisor.{checked, known, some_further}
@@ -7,7 +7,6 @@ use Rattle.rt_ra.specs.Fault.{◌>>=◌}
 use Rattle.rt_ra.specs.Operators.{divide, if_further, quotient, unless_lacked}
 use Rattle.rt_ra.specs.declared.column.Column.{Column}
 use Rattle.rt_ra.specs.declared.relation.Relation.{Relation}
-use Rattle.rt_ra_tree.specs.declared.fault.RaFault.{RaFault}
 use Rattle.rt_ra_tree.specs.declared.fault.RaFault.TheVariants as fault
 
 module _ (t u : Relation) where

@@ -1,16 +1,18 @@
--- A text's lowering has no fault but those of the walk, by induction over the tree.
+-- A text's lowering has no error but those of the walk, by induction over the tree.
 use Rattle.std.proofs.Common.{◌≡◌, ℕ, ◌+◌, Bool, true, false, List, [], ◌∷◌, ◌++◌, length, Option, Some, None, Result, Ok, Err, sym, subst, slice_get, ◌==◌}
 use Rattle.std.specs.Prelude.{IfErr, bytes_eq, if◌then◌else◌}
 use Rattle.rt_algebra.specs.declared.expr.Expr.TheVariants as expr
 use Rattle.rt_algebra.specs.declared.query.Pred.{Pred}
 use Rattle.rt_algebra.specs.declared.query.Pred.TheVariants as p
-use Rattle.rt_algebra.specs.declared.query.Query.{Query}
+use Rattle.rt_algebra.specs.Parts.{combined, selected}
+use Rattle.rt_algebra.specs.declared.set_op.SetOp.{SetOp}
+use Rattle.rt_algebra.specs.declared.set_op.SetOp.TheVariants as sets
 use Rattle.rt_algebra.specs.declared.query.Query.TheVariants as query
 use Rattle.rt_algebra.specs.declared.typed.Typed.{Typed}
 use Rattle.rt_ra.specs.Columns.{Text, column_at, common_fit, further_columns, if_fit, known, lacked, names, picked, place, renamed, same_kinds, shared, texts, twice, united_columns, unless_twice, widened}
 use Rattle.rt_ra.specs.Fault.{◌>>=◌}
-use Rattle.rt_ra.specs.Operators.{Answer, anti, filled, if_further, joined, placed, product, project, quotient, rename, select, semi, table_columns, table_named, two, typed_of, united, unless_lacked}
-use Rattle.rt_ra.specs.Tests.{column_scalar, compared, negated, selected, side, test, tests}
+use Rattle.rt_ra.specs.Operators.{anti, filled, if_further, joined, placed, product, project, quotient, rename, select, semi, table_columns, table_named, two, typed_of, united, unless_lacked}
+use Rattle.rt_ra.specs.Tests.{column_scalar, compared, negated, side, test, tests}
 use Rattle.rt_ra.specs.declared.column.Column.{Column}
 use Rattle.rt_ra.specs.declared.relation.Relation.{Relation}
 use Rattle.rt_ra.specs.declared.scalar.Scalar.{Scalar}
@@ -126,8 +128,8 @@ divide-walks : (o : Option Text) (t u : Relation) → Walks (unless_lacked o t u
 divide-walks None t u = further-walks (further_columns t.columns u.columns) t u
 divide-walks (Some n) t u = tt
 
-set-walks : (f : Query → Query → Query) (t u : Relation) → Walks (united f t u)
-set-walks f t u = then-walks (united_columns t.columns u.columns) (λ cs. Ok (record { query = f t.query u.query; columns = cs })) (united-walks t.columns u.columns) (λ cs. tt)
+set-walks : (o : SetOp) (t u : Relation) → Walks (united o t u)
+set-walks o t u = then-walks (united_columns t.columns u.columns) (λ cs. Ok (record { query = combined o t.query u.query; columns = cs })) (united-walks t.columns u.columns) (λ cs. tt)
 
 two-walks : (o : RaOp) (t u : Relation) → Walks (two o t u)
 two-walks op.Cross t u = twice-walks (shared u.columns t.columns) (record { query = product t.query u.query; columns = t.columns ++ u.columns })
@@ -136,9 +138,9 @@ two-walks op.Semi t u = fit-walks t.columns u.columns (semi t u)
 two-walks op.Anti t u = fit-walks t.columns u.columns (anti t u)
 two-walks op.LeftJoin t u = fit-walks t.columns u.columns (filled (joined t u) (anti t u))
 two-walks op.Divide t u = divide-walks (lacked u.columns t.columns) t u
-two-walks op.Union t u = set-walks (λ a b. query.Union a b) t u
-two-walks op.Except t u = set-walks (λ a b. query.Except a b) t u
-two-walks op.Intersect t u = set-walks (λ a b. query.Intersect a b) t u
+two-walks op.Union t u = set-walks sets.Union t u
+two-walks op.Except t u = set-walks sets.Except t u
+two-walks op.Intersect t u = set-walks sets.Intersect t u
 
 -- ---- the induction
 

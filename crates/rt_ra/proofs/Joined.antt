@@ -1,5 +1,5 @@
 -- Joins mean in the algebra what they mean on rows.
-use Rattle.std.proofs.Common.{◌≡◌, ◌∙◌, ℕ, zero, suc, ◌+◌, ◌-◌, ◌<◌, Bool, true, false, not, cond, ◌||◌, List, [], ◌∷◌, ◌++◌, map, length, refl, sym, ap, ap₂, subst, arith, length-append, append_assoc}
+use Rattle.std.proofs.Common.{◌≡◌, ◌∙◌, ℕ, zero, suc, ◌+◌, ◌-◌, ◌<◌, Bool, true, false, not, cond, ◌||◌, List, [], ◌∷◌, ◌++◌, map, length, refl, sym, ap, ap₂, subst, arith, length-append}
 use Rattle.std.specs.Prelude.{if◌then◌else◌, replicate, slice_index_or}
 use Rattle.std.specs.List.{filter, flat_map, list_any}
 use Rattle.std.proofs.lemmas.List.{append-nil, map-append}
@@ -7,25 +7,22 @@ use Rattle.rt_algebra.specs.Answer.{answer, is_yes, join_each, pairs, pred, some
 use Rattle.rt_algebra.specs.Expression.{Env, row_of, value_of}
 use Rattle.rt_algebra.specs.declared.expr.Expr.{Expr}
 use Rattle.rt_algebra.specs.declared.expr.Expr.TheVariants as expr
-use Rattle.rt_algebra.specs.declared.query.Pred.{Pred}
 use Rattle.rt_algebra.specs.declared.query.Pred.TheVariants as p
-use Rattle.rt_algebra.specs.declared.query.Query.{Query}
-use Rattle.rt_algebra.specs.declared.query.Query.TheVariants as q
 use Rattle.rt_schema.specs.Given.{Rows, Tables}
 use Rattle.rt_value.specs.Truth.{truth_not}
 use Rattle.rt_value.specs.declared.value.Value.{Value}
 use Rattle.rt_value.specs.declared.value.Value.TheVariants as v
-use Rattle.rt_ra.specs.OperatorAnswers.{Named, cell, cells, further_cells, meets, met}
+use Rattle.rt_ra.specs.OperatorAnswers.{Named, cells, further_cells, meets, met}
 use Rattle.rt_ra.specs.OperatorAnswers as answers
 use Rattle.rt_ra.specs.Columns.{Text, further_columns, further_names, has, names, place}
 use Rattle.rt_ra.specs.OperatorMeaning.{Has, Wide}
 use Rattle.rt_ra.specs.Operators.{anti, filled, further, joined, matched, matching, own, placed, product, semi}
-use Rattle.rt_ra.specs.Tests.{selected}
+use Rattle.rt_algebra.specs.Parts.{selected}
 use Rattle.rt_ra.specs.declared.column.Column.{Column}
 use Rattle.rt_ra.specs.declared.relation.Relation.{Relation}
-use Rattle.rt_ra.proofs.ConditionLaws.{all_hold, answer-selected, filter-same, index-at, long, matching-meets, shift}
+use Rattle.rt_ra.proofs.ConditionLaws.{all_hold, answer-selected, index-at, long, matching-meets, shift}
 use Rattle.rt_ra.proofs.Layers.{answer-Project, answer-Select, answer-Union, answer-pairs, pred-Exists, pred-Not, value-Col, value-Null}
-use Rattle.rt_ra.proofs.Widths.{cells-length, filter-wide, further-length, map-wide, names-further, names-length, wide-append, wide-each, wide-filter, wide-map}
+use Rattle.rt_ra.proofs.Widths.{filter-wide, further-length, map-wide, names-further, names-length, wide-append, wide-each, wide-filter, wide-map}
 
 -- rows under the names of the columns
 abbrev pub under : List Column → Rows → Named

@@ -1,7 +1,6 @@
 -- The kept rows of an instance have as many cells as their tables have columns.
-use Rattle.std.proofs.Common.{◌≡◌, ◌∙◌, ℕ, zero, suc, ◌+◌, Bool, true, false, cond, ◌&&◌, List, [], ◌∷◌, ◌++◌, map, length, drop, refl, sym, ap, subst, arith}
-use Rattle.std.specs.Prelude.{slice_index_or}
-use Rattle.rt_schema.specs.Given.{Instance, IsOf, Rows, Tables, is_instance, places, row_suits, rows_at, rows_suit, tables_suit, value_suits}
+use Rattle.std.proofs.Common.{◌≡◌, ℕ, zero, suc, ◌+◌, Bool, true, false, cond, ◌&&◌, List, [], ◌∷◌, ◌++◌, length, drop, refl, sym, ap, subst, arith}
+use Rattle.rt_schema.specs.Given.{Instance, IsOf, Rows, Tables, is_instance, row_suits, rows_at, rows_suit, tables_suit, value_suits}
 use Rattle.rt_schema.specs.Kept.{kept, kept_rows}
 use Rattle.rt_schema.specs.Schema.{kinds_of, schema_kinds}
 use Rattle.rt_schema.specs.declared.table.ColKind.{ColKind}

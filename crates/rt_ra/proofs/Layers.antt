@@ -1,5 +1,5 @@
 -- The equations of answers, conditions and values, layer by layer.
-use Rattle.std.proofs.Common.{◌≡◌, ◌∙◌, ℕ, ℤ, Bool, true, not, List, [], ◌∷◌, ◌++◌, map, refl, sym, ap, ap₂, cond, pos, neg_ℤ}
+use Rattle.std.proofs.Common.{◌≡◌, ◌∙◌, ℕ, ℤ, true, not, List, [], ◌∷◌, ◌++◌, map, refl, sym, ap, pos, neg_ℤ}
 use Rattle.std.proofs.Math.IntN.{+ℤ_idl}
 use Rattle.std.specs.Prelude.{slice_index_or}
 use Rattle.std.specs.List.{filter}

@@ -10,8 +10,7 @@ use Rattle.rt_ra.specs.OperatorAnswers as answers
 use Rattle.rt_ra.specs.Columns.{texts}
 use Rattle.rt_ra.specs.Fault.{◌>>=◌}
 use Rattle.rt_ra.specs.OperatorMeaning.{Fit, Means}
-use Rattle.rt_ra.specs.Operators.{Answer, project, rename, select, two, typed_of}
-use Rattle.rt_ra.specs.declared.relation.Relation.{Relation}
+use Rattle.rt_ra.specs.Operators.{project, rename, select, two, typed_of}
 use Rattle.rt_ra.proofs.Kept.{kept-fit}
 use Rattle.rt_ra.specs.Answer.{Meaning, named}
 use Rattle.rt_ra.specs.Answer as answer

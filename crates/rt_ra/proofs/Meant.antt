@@ -6,8 +6,11 @@ use Rattle.std.proofs.lemmas.List.{append_assoc}
 use Rattle.std.proofs.lemmas.Slice.Eq.{bytes_eq-Decides}
 use Rattle.rt_algebra.specs.Answer.{answer, has_row, pairs}
 use Rattle.rt_algebra.specs.Expression.{Env, row_of}
+use Rattle.rt_algebra.specs.Parts.{combined, selected}
 use Rattle.rt_algebra.specs.declared.query.Query.{Query}
 use Rattle.rt_algebra.specs.declared.query.Query.TheVariants as q
+use Rattle.rt_algebra.specs.declared.set_op.SetOp.{SetOp}
+use Rattle.rt_algebra.specs.declared.set_op.SetOp.TheVariants as sets
 use Rattle.rt_schema.specs.Given.{Rows, Tables, rows_at}
 use Rattle.rt_schema.specs.declared.table.Column.{Column as TableColumn}
 use Rattle.rt_schema.specs.declared.table.Table.{Table}
@@ -17,7 +20,7 @@ use Rattle.rt_ra.specs.OperatorAnswers as answers
 use Rattle.rt_ra.specs.Columns.{Text, column_at, common_fit, further_columns, if_fit, lacked, known, names, picked, place, renamed, same_kinds, shared, twice, united_columns, unless_twice, widened}
 use Rattle.rt_ra.specs.Operators.{if_further, placed, product, project, quotient, rename, select, table_columns, table_named, two, united, unless_lacked}
 use Rattle.rt_ra.specs.OperatorMeaning.{Fit, Has, KeepsOne, Means, Wide}
-use Rattle.rt_ra.specs.Tests.{selected, tests}
+use Rattle.rt_ra.specs.Tests.{tests}
 use Rattle.rt_ra.specs.declared.column.Column.{Column}
 use Rattle.rt_ra.specs.declared.relation.Relation.{Relation}
 use Rattle.rt_ra_tree.specs.declared.fault.RaFault.{RaFault}
@@ -125,10 +128,10 @@ module _ (db : Tables) where
     divide-ok None = further-ok (further_columns t.columns u.columns)
     divide-ok (Some n) = tt
 
-    united-ok : (f : Query → Query → Query) (rows : Rows) → ((env : Env) → answer (f t.query u.query) db env ≡ rows) → (length u.columns ≡ length t.columns → Wide (length t.columns) rows)
-        → IfOk (united f t u) (Means db (record { names = names t.columns; rows = rows }))
-    united-ok f rows s w = then-ok (λ es. (names es ≡ names t.columns) × (length u.columns ≡ length t.columns)) (Means db (record { names = names t.columns; rows = rows })) (united_columns t.columns u.columns)
-        (λ es. Ok (record { query = f t.query u.query; columns = es })) (united-named t.columns u.columns)
+    united-ok : (o : SetOp) (rows : Rows) → ((env : Env) → answer (combined o t.query u.query) db env ≡ rows) → (length u.columns ≡ length t.columns → Wide (length t.columns) rows)
+        → IfOk (united o t u) (Means db (record { names = names t.columns; rows = rows }))
+    united-ok o rows s w = then-ok (λ es. (names es ≡ names t.columns) × (length u.columns ≡ length t.columns)) (Means db (record { names = names t.columns; rows = rows })) (united_columns t.columns u.columns)
+        (λ es. Ok (record { query = combined o t.query u.query; columns = es })) (united-named t.columns u.columns)
         (λ es e. record { named_so = e.0; has = record { same = s; wide = subst (λ (n : ℕ). Wide n rows) (sym (as-many es t.columns e.0)) (w e.1) } })
 
     two-under : (o : RaOp) → IfOk (two o t u) (Means db (answers.two o (under t.columns L) (under u.columns R)))
@@ -138,11 +141,11 @@ module _ (db : Tables) where
     two-under op.Anti = fit-ok t.columns u.columns _ _ (record { named_so = refl; has = anti-has db t u L R h k })
     two-under op.LeftJoin = fit-ok t.columns u.columns _ _ (record { named_so = with-further; has = filled-has db t u L R h k })
     two-under op.Divide = divide-ok (lacked u.columns t.columns)
-    two-under op.Union = united-ok (λ a b. q.Union a b) (L ++ R) (λ env. answer-Union db env t.query u.query ∙ ap₂ (λ (y : Rows) (z : Rows). y ++ z) (h.same env) (k.same env))
+    two-under op.Union = united-ok sets.Union (L ++ R) (λ env. answer-Union db env t.query u.query ∙ ap₂ (λ (y : Rows) (z : Rows). y ++ z) (h.same env) (k.same env))
         (λ e. wide-append (length t.columns) L R h.wide (subst (λ (n : ℕ). Wide n R) e k.wide))
-    two-under op.Except = united-ok (λ a b. q.Except a b) (filter (λ r. not (has_row R r)) L)
+    two-under op.Except = united-ok sets.Except (filter (λ r. not (has_row R r)) L)
         (λ env. answer-Except db env t.query u.query ∙ ap₂ (λ (ys : Rows) (xs : Rows). filter (λ r. not (has_row ys r)) xs) (k.same env) (h.same env)) (λ e. wide-filter (length t.columns) _ L h.wide)
-    two-under op.Intersect = united-ok (λ a b. q.Intersect a b) (filter (has_row R) L)
+    two-under op.Intersect = united-ok sets.Intersect (filter (has_row R) L)
         (λ env. answer-Intersect db env t.query u.query ∙ ap₂ (λ (ys : Rows) (xs : Rows). filter (has_row ys) xs) (k.same env) (h.same env)) (λ e. wide-filter (length t.columns) _ L h.wide)
 
   pub two-ok : (o : RaOp) (t u : Relation) (m n : Named) → Means db m t → Means db n u → IfOk (two o t u) (Means db (answers.two o m n))

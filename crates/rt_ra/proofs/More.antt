@@ -1,19 +1,11 @@
--- Lists of other lengths than one, the number of names, and repeats of NULL.
+-- The number of names, and repeats of NULL.
 use Rattle.std.proofs.Common.{◌≡◌, ◌∙◌, ℕ, zero, suc, ◌-◌, List, [], ◌∷◌, ◌++◌, refl, ap, arith, length, append_assoc}
 use Rattle.std.proofs.lemmas.List.{length-map}
 use Rattle.std.specs.Prelude.{replicate}
 use Rattle.rt_algebra.specs.declared.expr.Expr.{Expr}
 use Rattle.rt_algebra.specs.declared.expr.Expr.TheVariants as expr
-use Rattle.rt_algebra.specs.declared.query.Pred.{Pred}
-use Rattle.rt_algebra.specs.declared.query.Pred.TheVariants as p
 use Rattle.rt_ra.specs.Columns.{names}
-use Rattle.rt_ra.specs.Tests.{all_of}
 use Rattle.rt_ra.specs.declared.column.Column.{Column}
-
-pub all_of_more : (ps : List Pred) → (length ps ≡ 1 → ⊥) → all_of ps ≡ p.And ps
-all_of_more [] n = refl
-all_of_more (a ∷ []) n = absurd (n refl)
-all_of_more (a ∷ b ∷ rest) n = refl
 
 pub names_length : (cs : List Column) → length (names cs) ≡ length cs
 names_length cs = length-map cs (λ c. c.name)

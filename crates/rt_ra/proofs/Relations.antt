@@ -16,28 +16,18 @@ use Rattle.rt_value.specs.declared.value.Op.TheVariants.{Eq}
 use Rattle.rt_ra.specs.Columns.{common_fit, fits, further_columns, has, lacked, names, place}
 use Rattle.rt_ra.specs.OperatorMeaning.{HasColumns, column_as, columns_as}
 use Rattle.rt_ra.specs.Operators.{anti, filled, further, joined, matched, matching, missing, own, pairs_of, placed, product, quotient, rest_of, semi}
-use Rattle.rt_ra.specs.Tests.{all_of, selected}
+use Rattle.rt_algebra.specs.Parts.{selected}
+use Rattle.rt_algebra.proofs.Combining.{selected-typed}
 use Rattle.rt_ra.specs.declared.column.Column.{Column}
 use Rattle.rt_ra.specs.declared.relation.Relation.{Relation}
-use Rattle.rt_algebra.proofs.Columned.{column-Col, columns-Except, columns-Product, columns-Project, columns-Select, columns-Union, typed-And, typed-Cmp, typed-Exists, typed-Not}
+use Rattle.rt_algebra.proofs.Columned.{column-Col, columns-Except, columns-Product, columns-Project, columns-Select, columns-Union, typed-Cmp, typed-Exists, typed-Not}
 use Rattle.rt_algebra.proofs.Fitting.{and-left, and-right, and-true}
 use Rattle.rt_ra.proofs.Typing.{Stand, first-stands, found, further-typed, items-append, merged-append, merged-nulls, merged-self, null_columns, nulls-typed, own-typed, rest-stand, stand-left, stand-own, stand-right}
 
 module _ (tables : List algebra.Columns) where
   -- ---- conditions
 
-  all-of-typed : (c : Pred) (ps : List Pred) (scopes : algebra.Scopes) → all_typed (map pred_typed (c ∷ ps)) tables scopes ≡ true → pred_typed (all_of (c ∷ ps)) tables scopes ≡ true
-  all-of-typed c [] scopes h = and-left (pred_typed c tables scopes) true h
-  all-of-typed c (d ∷ ps) scopes h = typed-And tables scopes (c ∷ d ∷ ps) ∙ h
-
-  pub selected-typed : (of : Query) (ps : List Pred) (cs : algebra.Columns) (scopes : algebra.Scopes) → query_columns of tables scopes ≡ Some cs → all_typed (map pred_typed ps) tables (cs ∷ scopes) ≡ true
-      → query_columns (selected of ps) tables scopes ≡ Some cs
-  selected-typed of [] cs scopes h k = h
-  selected-typed of (c ∷ ps) cs scopes h k =
-      columns-Select tables scopes of (all_of (c ∷ ps)) ∙ ap (option_and_then (λ cs. if pred_typed (all_of (c ∷ ps)) tables (cs ∷ scopes) then Some cs else None)) h
-      ∙ ap (λ b. if b then Some cs else None) (all-of-typed c ps (cs ∷ scopes) k)
-
-  -- the first row stands `up` rows outward, the other innermost from `start` on
+  -- the first row is `up` rows outward, the other innermost from `start` on
   pub matching-typed : (up start at : ℕ) (cs os : List Column) (outer row : algebra.Columns) (scopes : algebra.Scopes) → slice_get scopes up ≡ Some outer → slice_get scopes 0 ≡ Some row
       → Stand at cs outer → Stand start os row → common_fit cs os ≡ true → all_typed (map pred_typed (matching up start at cs os)) tables scopes ≡ true
   matching-typed up start at [] os outer row scopes u z s t f = refl
@@ -89,7 +79,7 @@ module _ (tables : List algebra.Columns) where
           let row = columns_as t.columns ++ columns_as u.columns in
           let conds = matching 0 (length t.columns) 0 t.columns u.columns in
           project-typed (selected (product t.query u.query) conds) (own 0 t.columns ++ further (length t.columns) u.columns t.columns) row (columns_as (t.columns ++ further_columns u.columns t.columns)) scopes
-          (selected-typed (product t.query u.query) conds row scopes (product-typed t.query u.query (columns_as t.columns) (columns_as u.columns) scopes (h scopes) (k scopes))
+          (selected-typed tables scopes (product t.query u.query) conds row (product-typed t.query u.query (columns_as t.columns) (columns_as u.columns) scopes (h scopes) (k scopes))
           (matching-typed 0 (length t.columns) 0 t.columns u.columns row row (row ∷ scopes) refl refl (stand-left t.columns (columns_as u.columns)) (stand-right t.columns u.columns) fit))
           (items-append (row ∷ scopes) (own 0 t.columns) (further (length t.columns) u.columns t.columns) (columns_as t.columns) (columns_as (further_columns u.columns t.columns))
           (own-typed scopes 0 t.columns row (stand-left t.columns (columns_as u.columns))) (further-typed scopes (length t.columns) u.columns t.columns row (stand-right t.columns u.columns))
@@ -100,7 +90,7 @@ module _ (tables : List algebra.Columns) where
           let conds = matching 1 0 0 t.columns u.columns in
           let inner = columns_as u.columns ∷ (columns_as t.columns ∷ scopes) in
           typed-Exists tables (columns_as t.columns ∷ scopes) (selected u.query conds)
-          ∙ ap is_some (selected-typed u.query conds (columns_as u.columns) (columns_as t.columns ∷ scopes) (k (columns_as t.columns ∷ scopes))
+          ∙ ap is_some (selected-typed tables (columns_as t.columns ∷ scopes) u.query conds (columns_as u.columns) (k (columns_as t.columns ∷ scopes))
           (matching-typed 1 0 0 t.columns u.columns (columns_as t.columns) (columns_as u.columns) inner refl refl (stand-own t.columns) (stand-own u.columns) fit))
 
       pub semi-typed : HasColumns tables (semi t u)

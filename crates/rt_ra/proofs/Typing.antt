@@ -15,7 +15,7 @@ use Rattle.rt_algebra.proofs.Columned.{column-Col, column-Null}
 use Rattle.rt_algebra.proofs.Fitting.{kind-self}
 use Rattle.rt_ra.proofs.Widths.{names-length}
 
--- the columns stand in the row from a place on
+-- the columns are in the row, from a place on
 abbrev pub Stand : ℕ → List Column → algebra.Columns → Type 0
 Stand at cs row = (k : ℕ) (c : Column) → slice_get cs k ≡ Some c → slice_get row (at + k) ≡ Some (column_as c)
 

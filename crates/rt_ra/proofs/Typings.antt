@@ -2,13 +2,15 @@
 use Rattle.std.proofs.Common.{◌≡◌, ◌∙◌, ℕ, ℤ, ◌+◌, Bool, true, false, List, [], ◌∷◌, ◌++◌, map, length, Option, Some, None, Result, Ok, Err, refl, sym, ap, ap₂, arith, slice_get, append_assoc, ◌==◌}
 use Rattle.std.specs.Prelude.{IfOk, bytes_eq, if◌then◌else◌, is_some, unsigned_abs, nat_le, ◌^◌, ◌-◌}
 use Rattle.std.proofs.lemmas.List.{append-nil}
+use Rattle.rt_algebra.specs.Parts.{combined, selected}
 use Rattle.rt_algebra.specs.Columns as algebra
-use Rattle.rt_algebra.specs.Columns.{all_typed, column, column_of, comparable, item_columns, merged_columns, pred_typed, query_columns, set_columns, with_column}
+use Rattle.rt_algebra.specs.Columns.{all_typed, column, column_of, comparable, item_columns, merged_columns, pred_typed, set_columns, with_column}
 use Rattle.rt_algebra.specs.declared.expr.Expr.TheVariants as expr
 use Rattle.rt_algebra.specs.declared.query.Pred.{Pred}
 use Rattle.rt_algebra.specs.declared.query.Pred.TheVariants as p
-use Rattle.rt_algebra.specs.declared.query.Query.{Query}
 use Rattle.rt_algebra.specs.declared.query.Query.TheVariants as q
+use Rattle.rt_algebra.specs.declared.set_op.SetOp.{SetOp}
+use Rattle.rt_algebra.specs.declared.set_op.SetOp.TheVariants as sets
 use Rattle.rt_schema.specs.Schema.{kind_eq}
 use Rattle.rt_schema.specs.declared.table.ColKind.TheVariants.{Whole}
 use Rattle.rt_schema.specs.declared.table.Table.{Table}
@@ -18,7 +20,7 @@ use Rattle.rt_ra.specs.Fault.{◌>>=◌}
 use Rattle.rt_ra.specs.OperatorMeaning.{AreTables, HasColumns, column_as, columns_as}
 use Rattle.rt_ra.specs.Operators.{if_further, placed, project, quotient, rename, select, table_columns, table_named, two, united, unless_lacked}
 use Rattle.rt_ra.specs.Numbers.{side_fits, test_fits, tests_fit}
-use Rattle.rt_ra.specs.Tests.{column_scalar, compared, negated, number, selected, side, test, tests}
+use Rattle.rt_ra.specs.Tests.{column_scalar, compared, negated, number, side, test, tests}
 use Rattle.rt_ra.specs.declared.column.Column.{Column}
 use Rattle.rt_ra.specs.declared.relation.Relation.{Relation}
 use Rattle.rt_ra.specs.declared.scalar.Scalar.{Scalar}
@@ -31,9 +33,10 @@ use Rattle.rt_ra_tree.specs.declared.tree.RaSide.TheVariants as side_
 use Rattle.rt_ra_tree.specs.declared.tree.RaTest.{RaTest}
 use Rattle.rt_ra_tree.specs.declared.tree.RaTest.TheVariants as test_
 use Rattle.rt_ra_tree.specs.declared.tree.RaTests.{RaTests}
-use Rattle.rt_algebra.proofs.Columned.{column-Col, column-Int, column-Text, column-minus, columns-Except, columns-Intersect, columns-Table, columns-Union, typed-Cmp, typed-IsNull, typed-Not}
+use Rattle.rt_algebra.proofs.Columned.{column-Col, column-Int, column-Text, column-minus, columns-Table, typed-Cmp, typed-IsNull, typed-Not}
 use Rattle.rt_ra.proofs.ConditionLaws.{then-ok}
-use Rattle.rt_ra.proofs.Relations.{anti-typed, cross-typed, filled-typed, joined-typed, project-typed, quotient-typed, selected-typed, semi-typed}
+use Rattle.rt_ra.proofs.Relations.{anti-typed, cross-typed, filled-typed, joined-typed, project-typed, quotient-typed, semi-typed}
+use Rattle.rt_algebra.proofs.Combining.{columns-combined, selected-typed}
 use Rattle.rt_algebra.proofs.Fitting.{all-merged, and-left, and-right, and-true}
 use Rattle.rt_ra.proofs.Typing.{get-as}
 
@@ -146,7 +149,7 @@ module _ (tables : List algebra.Columns) where
 
   pub select-ok : (t : Relation) (ts : RaTests) → HasColumns tables t → tests_fit (ts.head ∷ ts.tail) ≡ true → IfOk (select t ts) (HasColumns tables)
   select-ok t ts h f = then-ok (TestsTyped t.columns) (HasColumns tables) (tests [] t.columns (ts.head ∷ ts.tail)) (λ cs. Ok (record { query = selected t.query cs; columns = t.columns }))
-      (tests-typed t.columns [] (ts.head ∷ ts.tail) (λ scopes. refl) f) (λ cs k scopes. selected-typed tables t.query cs (columns_as t.columns) scopes (h scopes) (k scopes))
+      (tests-typed t.columns [] (ts.head ∷ ts.tail) (λ scopes. refl) f) (λ cs k scopes. selected-typed tables scopes t.query cs (columns_as t.columns) (h scopes) (k scopes))
 
   pub project-ok : (t : Relation) (ns : List Text) → HasColumns tables t → IfOk (project t ns) (HasColumns tables)
   project-ok t ns h = then-ok (PickedTyped t.columns [] ns) (HasColumns tables) (picked [] ns t.columns) (λ cs. unless_twice (twice ns 0 ns) (record { query = q.Project t.query (placed ns t.columns); columns = cs })) (picked-typed t.columns [] ns)
@@ -168,10 +171,9 @@ module _ (tables : List algebra.Columns) where
     divide-ok None l = further-ok l (further_columns t.columns u.columns)
     divide-ok (Some n) l = tt
 
-    united-ok : (f : Query → Query → Query) → ((a b : Query) (scopes : algebra.Scopes) → query_columns (f a b) tables scopes ≡ set_columns (query_columns a tables scopes) (query_columns b tables scopes))
-        → IfOk (united f t u) (HasColumns tables)
-    united-ok f e = then-ok (λ es. merged_columns (columns_as t.columns) (columns_as u.columns) ≡ Some (columns_as es)) (HasColumns tables) (united_columns t.columns u.columns)
-        (λ cs. Ok (record { query = f t.query u.query; columns = cs })) (united-merged t.columns u.columns) (λ cs m scopes. e t.query u.query scopes ∙ ap₂ set_columns (h scopes) (k scopes) ∙ m)
+    united-ok : (o : SetOp) → IfOk (united o t u) (HasColumns tables)
+    united-ok o = then-ok (λ es. merged_columns (columns_as t.columns) (columns_as u.columns) ≡ Some (columns_as es)) (HasColumns tables) (united_columns t.columns u.columns)
+        (λ cs. Ok (record { query = combined o t.query u.query; columns = cs })) (united-merged t.columns u.columns) (λ cs m scopes. columns-combined tables scopes o t.query u.query ∙ ap₂ set_columns (h scopes) (k scopes) ∙ m)
 
     pub two-ok : (o : RaOp) → IfOk (two o t u) (HasColumns tables)
     two-ok op.Cross = twice-ok (shared u.columns t.columns) _ (cross-typed tables t u h k)
@@ -180,9 +182,9 @@ module _ (tables : List algebra.Columns) where
     two-ok op.Anti = fit-ok t.columns u.columns _ (λ f. anti-typed tables t u h k f)
     two-ok op.LeftJoin = fit-ok t.columns u.columns _ (λ f. filled-typed tables t u h k f)
     two-ok op.Divide = divide-ok (lacked u.columns t.columns) refl
-    two-ok op.Union = united-ok (λ a b. q.Union a b) (λ a b scopes. columns-Union tables scopes a b)
-    two-ok op.Except = united-ok (λ a b. q.Except a b) (λ a b scopes. columns-Except tables scopes a b)
-    two-ok op.Intersect = united-ok (λ a b. q.Intersect a b) (λ a b scopes. columns-Intersect tables scopes a b)
+    two-ok op.Union = united-ok sets.Union
+    two-ok op.Except = united-ok sets.Except
+    two-ok op.Intersect = united-ok sets.Intersect
 
   -- ---- tables
 

@@ -1,4 +1,4 @@
--- Columns by their names: where a name stands, and what two lists of columns share.
+-- Columns by their names: the place of a name, and what two lists of columns share.
 use Rattle.std.specs.Prelude.{ℕ, ◌+◌, Bool, true, false, ◌&&◌, if◌then◌else◌, map, List, [], ◌∷◌, ◌++◌, length, Option, Some, None, Result, Ok, Err, nat_lt, ◌==◌, slice_get, bytes_eq, take}
 use Rattle.rt_algebra.specs.TextColumns as columns
 use Rattle.rt_schema.specs.Schema.{kind_eq}
@@ -18,7 +18,7 @@ bounded n c = record c { bound = n }
 abbrev pub called : Text → ColKind → ℕ → Column
 called name kind bound = record { name = name; kind = kind; bound = bound }
 
--- where the name stands among the names, or their number where it does not
+-- the place of the name among the names, or their number where there is none
 abbrev pub place : Text → List Text → ℕ
 place n [] = 0
 place n (m ∷ ms) = if bytes_eq m n then 0 else place n ms + 1
@@ -26,7 +26,7 @@ place n (m ∷ ms) = if bytes_eq m n then 0 else place n ms + 1
 abbrev pub has : Text → List Text → Bool
 has n ms = nat_lt (place n ms) (length ms)
 
--- the names that stand not among the others
+-- the names that are not among the others
 abbrev pub further_names : List Text → List Text → List Text
 further_names [] others = []
 further_names (n ∷ ns) others = if has n others then further_names ns others else n ∷ further_names ns others
@@ -50,7 +50,7 @@ abbrev pub among : Text → List Text → Bool
 among n [] = false
 among n (m ∷ ms) = if bytes_eq m n then true else among n ms
 
--- the first name that stands among those before it, from number `at` on
+-- the first name that is among those before it, from number `at` on
 abbrev pub twice : List Text → ℕ → List Text → Option Text
 twice all at [] = None
 twice all at (n ∷ ns) = if among n (take at all) then Some n else twice all (at + 1) ns

@@ -1,4 +1,4 @@
--- One step of the walk after another; the first fault ends all.
+-- One step of the walk after another; the first error ends all.
 use Rattle.std.specs.Prelude.{Result, Ok, Err}
 use Rattle.rt_ra_tree.specs.declared.fault.RaFault.{RaFault}
 

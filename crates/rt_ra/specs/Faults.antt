@@ -1,4 +1,4 @@
--- The faults of a walk: those that parsing has are no such.
+-- The errors of a walk: those of parsing are none of them.
 use Rattle.rt_ra_tree.specs.declared.fault.RaFault.{RaFault}
 use Rattle.rt_ra_tree.specs.declared.fault.RaFault.TheVariants as fault
 

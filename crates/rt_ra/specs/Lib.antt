@@ -2,7 +2,6 @@ pub mod Answer
 pub mod Faults
 pub mod Lowered
 pub mod Meaning
-pub mod Alone
 pub mod OperatorAnswers
 pub mod Columns
 pub mod Fault

@@ -1,4 +1,4 @@
--- What an algebra text becomes over the tables of a schema, or its first fault in the walk: the
+-- What an algebra text becomes over the tables of a schema, or its first error in the walk: the
 -- operands from the left, then the tests of the operator itself.
 use Rattle.std.specs.Prelude.{List, Result, Ok}
 use Rattle.rt_algebra.specs.declared.typed.Typed.{Typed}

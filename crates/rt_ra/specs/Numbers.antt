@@ -1,5 +1,5 @@
 -- Numbers of tests: how large they may be for the condition to be typed.
-use Rattle.std.specs.Prelude.{◌^◌, ◌-◌, Bool, true, false, ◌&&◌, List, [], ◌∷◌, nat_le, unsigned_abs}
+use Rattle.std.specs.Prelude.{◌^◌, ◌-◌, Bool, true, ◌&&◌, List, [], ◌∷◌, nat_le, unsigned_abs}
 use Rattle.rt_ra_tree.specs.declared.tree.RaSide.{RaSide}
 use Rattle.rt_ra_tree.specs.declared.tree.RaSide.TheVariants as side_
 use Rattle.rt_ra_tree.specs.declared.tree.RaTest.{RaTest}

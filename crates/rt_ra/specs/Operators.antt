@@ -1,12 +1,15 @@
--- What each operator becomes in the algebra over its operands, or its first fault (Codd 1970; the
+-- What each operator becomes in the algebra over its operands, or its first error (Codd 1970; the
 -- division and the semijoin as in Ramakrishnan and Gehrke 2003).
 use Rattle.std.specs.Prelude.{ℕ, ◌+◌, ◌-◌, if◌then◌else◌, map, List, [], ◌∷◌, ◌++◌, length, Option, Some, None, Result, Ok, Err, replicate, ◌==◌, bytes_eq}
+use Rattle.rt_algebra.specs.Parts.{combined, selected}
 use Rattle.rt_algebra.specs.declared.expr.Expr.{Expr}
 use Rattle.rt_algebra.specs.declared.expr.Expr.TheVariants as expr
 use Rattle.rt_algebra.specs.declared.query.Pred.{Pred}
 use Rattle.rt_algebra.specs.declared.query.Pred.TheVariants as pred
 use Rattle.rt_algebra.specs.declared.query.Query.{Query}
 use Rattle.rt_algebra.specs.declared.query.Query.TheVariants as query
+use Rattle.rt_algebra.specs.declared.set_op.SetOp.{SetOp}
+use Rattle.rt_algebra.specs.declared.set_op.SetOp.TheVariants as sets
 use Rattle.rt_algebra.specs.declared.typed.Typed.{Typed}
 use Rattle.rt_algebra.specs.TextColumns as columns
 use Rattle.rt_schema.specs.declared.table.Column.{Column as TableColumn}
@@ -14,7 +17,7 @@ use Rattle.rt_schema.specs.declared.table.Table.{Table}
 use Rattle.rt_value.specs.declared.value.Op.TheVariants.{Eq}
 use Rattle.rt_ra.specs.Columns.{Text, called, further_columns, has, if_fit, lacked, names, picked, place, renamed, shared, twice, united_columns, unless_twice}
 use Rattle.rt_ra.specs.Fault.{◌>>=◌}
-use Rattle.rt_ra.specs.Tests.{selected, tests}
+use Rattle.rt_ra.specs.Tests.{tests}
 use Rattle.rt_ra.specs.declared.column.Column.{Column}
 use Rattle.rt_ra.specs.declared.relation.Relation.{Relation}
 use Rattle.rt_ra_tree.specs.declared.fault.RaFault.{RaFault}
@@ -65,7 +68,7 @@ abbrev pub further : ℕ → List Column → List Column → List Expr
 further at [] others = []
 further at (c ∷ cs) others = if has c.name (names others) then further (at + 1) cs others else expr.Col 0 at ∷ further (at + 1) cs others
 
--- the common columns are equal, in the order of the first: its row stands `up` rows outward, and the
+-- the common columns are equal, in the order of the first: its row is `up` rows outward, and the
 -- others' columns begin at number `start`
 abbrev pub matching : ℕ → ℕ → ℕ → List Column → List Column → List Pred
 matching up start at [] others = []
@@ -138,8 +141,8 @@ divide t u = unless_lacked (lacked u.columns t.columns) t u
 
 -- ---- set operators
 
-abbrev pub united : (Query → Query → Query) → Relation → Relation → Answer
-united f t u = united_columns t.columns u.columns >>= λ cs. Ok (record { query = f t.query u.query; columns = cs })
+abbrev pub united : SetOp → Relation → Relation → Answer
+united o t u = united_columns t.columns u.columns >>= λ cs. Ok (record { query = combined o t.query u.query; columns = cs })
 
 -- ---- operators of two operands
 
@@ -150,9 +153,9 @@ two op.Semi t u = if_fit t.columns u.columns (semi t u)
 two op.Anti t u = if_fit t.columns u.columns (anti t u)
 two op.LeftJoin t u = if_fit t.columns u.columns (filled (joined t u) (anti t u))
 two op.Divide t u = divide t u
-two op.Union t u = united (λ a b. query.Union a b) t u
-two op.Except t u = united (λ a b. query.Except a b) t u
-two op.Intersect t u = united (λ a b. query.Intersect a b) t u
+two op.Union t u = united sets.Union t u
+two op.Except t u = united sets.Except t u
+two op.Intersect t u = united sets.Intersect t u
 
 -- the query with the kinds, bounds and names of its columns
 abbrev pub typed_of : Relation → Typed

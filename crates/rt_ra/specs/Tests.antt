@@ -1,12 +1,10 @@
--- Tests of rows: what they become in the algebra, or their first fault.
+-- Tests of rows: what they become in the algebra, or their first error.
 use Rattle.std.specs.Prelude.{ℕ, ℤ, Bool, true, false, if◌then◌else◌, List, [], ◌∷◌, ◌++◌, Result, Ok, Err}
 use Rattle.rt_algebra.specs.declared.expr.Expr.{Expr}
 use Rattle.rt_algebra.specs.declared.expr.Expr.TheVariants as expr
 use Rattle.rt_algebra.specs.declared.expr.Term.{roll-Term}
 use Rattle.rt_algebra.specs.declared.query.Pred.{Pred}
 use Rattle.rt_algebra.specs.declared.query.Pred.TheVariants as pred
-use Rattle.rt_algebra.specs.declared.query.Query.{Query}
-use Rattle.rt_algebra.specs.declared.query.Query.TheVariants as query
 use Rattle.rt_schema.specs.Schema.{kind_eq}
 use Rattle.rt_schema.specs.declared.table.ColKind.TheVariants.{Whole, Text as Texts}
 use Rattle.rt_value.specs.declared.value.Op.{Op}
@@ -49,14 +47,3 @@ test cs (test_.IsNull n b) = column_at n.text cs >>= λ c. Ok (negated b (pred.I
 abbrev pub tests : List Pred → List Column → List RaTest → Result (List Pred) RaFault
 tests all cs [] = Ok all
 tests all cs (t ∷ ts) = test cs t >>= λ c. tests (all ++ c ∷ []) cs ts
-
--- one condition is itself
-abbrev pub all_of : List Pred → Pred
-all_of [] = pred.And []
-all_of (c ∷ []) = c
-all_of (c ∷ d ∷ cs) = pred.And (c ∷ d ∷ cs)
-
--- no condition is no selection
-abbrev pub selected : Query → List Pred → Query
-selected of [] = of
-selected of (c ∷ cs) = query.Select of (all_of (c ∷ cs))

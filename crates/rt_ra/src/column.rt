@@ -1,3 +1,5 @@
+//! A column of a query in relational algebra, which always has a name.
+
 ghost use Rattle.std.specs.Prelude.{◌≡◌, IfOk};
 
 use rt_algebra::Column as AnyColumn;

@@ -1,4 +1,4 @@
-//! CROSS.
+//! CROSS: all pairs, where no column is in both operands.
 
 ghost use Rattle.std.specs.Prelude.{◌≡◌, ◌++◌, IfOk};
 ghost use Rattle.rt_ra.specs.Operators as spec;

@@ -1,4 +1,7 @@
-//! Division.
+//! DIVIDE: the further cells of rows that are there with each row of the divisor. The `a` of
+//! `L (a, b)` over `R (b)` are, in short,
+//!     a of L  EXCEPT  a of ((a of L, times R) EXCEPT (a, b of L)).
+//! The second part has each `a` that lacks a row of `R`. So the query of `L` comes three times.
 
 ghost use Rattle.std.specs.Prelude.{◌≡◌, IfOk};
 ghost use Rattle.rt_algebra.specs.declared.query.Query.TheVariants as query;

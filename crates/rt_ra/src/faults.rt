@@ -1,4 +1,4 @@
-//! Names that are refused.
+//! The tests of names and kinds that several operators share.
 
 ghost use Rattle.rt_ra.specs.Columns as spec;
 ghost use Rattle.rt_ra_tree.specs.Refusals.{is_memory};
@@ -11,7 +11,7 @@ use rt_ra_tree::RaFault;
 use rt_value::Txt;
 use std::alloc::Global;
 
-/// The relation, unless a name stands twice.
+/// The relation, unless a name comes twice.
 pub fn unless_twice(alloc: Global, names: &[Txt], relation: Relation) -> Result<Relation, RaFault>
     ensures { Gives is_memory result (spec.unless_twice (spec.twice names.now 0 names.now) relation) }
 {

@@ -97,8 +97,10 @@ fn sum(a: usize, b: usize) -> Result<usize, NoMemory>
     }
 }
 
-/// The common columns are equal, in the order of the first: its row stands `up` rows outward, and
-/// the others' columns begin at number `start`.
+/// The common columns are equal, in the order of the first: its row is `up` rows outward, and the
+/// others' columns begin at number `start`. For a join of `(a, b)` and `(b, c)` this is
+/// `Col(0, 1) = Col(0, 2)`, with `up` 0 and `start` 2; for a semijoin, whose second row is
+/// innermost, it is `Col(1, 1) = Col(0, 0)`, with `up` 1 and `start` 0.
 pub fn matching(
     alloc: Global,
     up: usize,

@@ -1,22 +1,21 @@
-//! JOIN.
+//! JOIN: the pairs that agree on all common columns, which come once.
 
 ghost use Rattle.std.specs.Prelude.{◌≡◌, ◌++◌, IfOk, length};
+ghost use Rattle.rt_algebra.specs.Parts as parts;
 ghost use Rattle.rt_algebra.specs.declared.query.Query.TheVariants as query;
 ghost use Rattle.rt_ra.specs.Columns.{further_columns};
 ghost use Rattle.rt_ra.specs.Operators as spec;
-ghost use Rattle.rt_ra.specs.Tests as tests_spec;
 ghost use Rattle.rt_ra_tree.specs.Refusals.{is_memory};
 ghost use Rattle.rt_ra_tree.specs.declared.tree.RaOp.TheVariants as op;
 ghost use Rattle.rt_value.specs.Gives.{Gives};
 
 use crate::column::Column;
-use crate::conditions::selected;
 use crate::faults::check_fit;
 use crate::items::{matching, own, with_further as items_further};
 use crate::lists::with_further;
 use crate::products::product;
 use crate::relation::Relation;
-use rt_algebra::{Expr, Pred, Query};
+use rt_algebra::{Expr, Pred, Query, selected};
 use rt_ra_tree::RaFault;
 use rt_value::{Boxed, List, NoMemory};
 use std::alloc::Global;
@@ -41,7 +40,7 @@ fn met_pairs(
     conds: List<Pred>,
     items: List<Expr>,
 ) -> Result<Boxed<Query>, NoMemory>
-    ensures { IfOk result (λ q. q ≡ query.Project (tests_spec.selected (spec.product left right) conds) items) }
+    ensures { IfOk result (λ q. q ≡ query.Project (parts.selected (spec.product left right) conds) items) }
 {
     let pairs = product(alloc, left, right)?;
     let rows = selected(alloc, pairs, conds)?;

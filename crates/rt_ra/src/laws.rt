@@ -1,4 +1,5 @@
-//! Laws of the operators, each the contract of a function that does nothing.
+//! Laws of the operators, each the contract of a function that does nothing. They are for readers:
+//! `resolve_ra` has them all in one, over whole texts.
 
 ghost use Rattle.std.specs.Prelude.{◌∷◌};
 ghost use Rattle.rt_ra.specs.OperatorAnswers as answers;

@@ -1,4 +1,5 @@
-//! LEFTJOIN.
+//! LEFTJOIN: the join in union with the rows that meet none, filled up with NULL. So the query of
+//! each operand comes twice.
 
 ghost use Rattle.std.specs.Prelude.{◌≡◌, ◌-◌, IfOk, length};
 ghost use Rattle.rt_algebra.specs.declared.query.Query.TheVariants as query;

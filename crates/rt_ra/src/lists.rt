@@ -1,4 +1,5 @@
-//! Columns by their names.
+//! Columns by their names: places, tests and lists. A name is searched from the left, column by
+//! column.
 
 ghost use Rattle.std.specs.Prelude.{◌≡◌, ◌+◌, ◌++◌, [], IfOk, option_map, slice_get};
 ghost use Rattle.rt_ra.specs.Columns as spec;
@@ -20,7 +21,7 @@ pub fn next(at: usize) -> Result<usize, NoMemory>
     }
 }
 
-/// Where the name stands, or the number of columns where it does not.
+/// The place of the name, from 0, or the number of columns where there is none.
 pub fn place_of(name: &Txt, columns: &[Column]) -> usize
     ensures { result ≡ spec.place name.now (spec.names columns.now) }
 {
@@ -64,7 +65,7 @@ fn is_among(name: &Txt, names: &[Txt]) -> bool
     false
 }
 
-/// The first name that stands among those before it.
+/// The first name that is among those before it.
 pub fn twice(names: &[Txt]) -> Option<&Txt>
     ensures { option_map (λ n. n.now) result ≡ spec.twice names.now 0 names.now }
 {

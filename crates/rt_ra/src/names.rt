@@ -1,4 +1,4 @@
-//! Lists of names.
+//! The names of PROJECT and RENAME as texts.
 
 ghost use Rattle.std.specs.Prelude.{◌≡◌, IfOk};
 ghost use Rattle.rt_ra.specs.Columns as spec;

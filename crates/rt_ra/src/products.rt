@@ -1,4 +1,4 @@
-//! Products.
+//! Products of two queries, which joins and division are made of.
 
 ghost use Rattle.std.specs.Prelude.{◌≡◌, IfOk};
 ghost use Rattle.rt_ra.specs.Operators as spec;

@@ -1,4 +1,4 @@
-//! PROJECT.
+//! PROJECT: named columns, in the order of the names.
 
 ghost use Rattle.rt_ra.specs.Operators as spec;
 ghost use Rattle.rt_ra_tree.specs.Refusals.{is_memory};

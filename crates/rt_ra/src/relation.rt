@@ -1,3 +1,5 @@
+//! Queries together with their columns: what each operator takes and gives.
+
 ghost use Rattle.std.specs.Prelude.{◌≡◌, IfOk};
 ghost use Rattle.rt_ra.specs.Operators as spec;
 

@@ -1,4 +1,4 @@
-//! RENAME.
+//! RENAME: new names for all columns, over the same query.
 
 ghost use Rattle.std.specs.Prelude.{◌≡◌, IfOk};
 ghost use Rattle.rt_ra.specs.Columns as columns_spec;

@@ -1,4 +1,4 @@
-//! From an algebra text to the query that it means.
+//! From the tree of an algebra text to the typed query that it means.
 
 ghost use Rattle.std.specs.Prelude.{IfErr, IfOk};
 ghost use Rattle.rt_algebra.specs.Typed.{IsTypedOf};
@@ -23,8 +23,8 @@ fn lowered(alloc: Global, text: &RaText, tables: &[Table]) -> Result<Typed, RaFa
     Ok(typed_of(alloc, relation)?)
 }
 
-/// The query that the text means over the tables of the schema, or its first fault in the walk from
-/// the left. `parse_ra` gives formed texts alone.
+/// The query that the text means over the tables of the schema, or its first error in the walk from
+/// the left. `parse_ra` gives formed texts only.
 pub fn resolve_ra(alloc: Global, text: &RaText, schema: &Schema) -> Result<Typed, RaFault>
     requires formed { IsFormed text.now }
     ensures lowered { Gives is_memory result (ra_lowered text.now schema.now) }

@@ -1,3 +1,5 @@
+//! Expressions together with their kinds, as tests compare them.
+
 use rt_algebra::Expr;
 use rt_schema::ColKind;
 

@@ -1,12 +1,12 @@
-//! SELECT.
+//! SELECT: the rows that meet all tests.
 
 ghost use Rattle.rt_ra.specs.Operators as spec;
 ghost use Rattle.rt_ra_tree.specs.Refusals.{is_memory};
 ghost use Rattle.rt_value.specs.Gives.{Gives};
 
-use crate::conditions::selected;
 use crate::relation::Relation;
 use crate::tests::tests as conditions;
+use rt_algebra::selected;
 use rt_ra_tree::{RaFault, RaTests};
 use std::alloc::Global;
 

@@ -1,40 +1,44 @@
-//! UNION, EXCEPT and INTERSECT.
+//! UNION, EXCEPT and INTERSECT, over operands whose columns fit.
 
+ghost use Rattle.rt_ra.specs.Columns as columns_spec;
 ghost use Rattle.rt_ra.specs.Operators as spec;
 ghost use Rattle.rt_ra_tree.specs.Refusals.{is_memory};
-ghost use Rattle.rt_ra_tree.specs.declared.tree.RaOp.TheVariants as op;
 ghost use Rattle.rt_value.specs.Gives.{Gives};
 
+use crate::column::Column;
 use crate::relation::Relation;
-use crate::sets::united_columns;
-use rt_algebra::Query;
+use rt_algebra::{SetOp, combined, same_kinds, widened};
 use rt_ra_tree::RaFault;
-use rt_value::Boxed;
+use rt_value::List;
 use std::alloc::Global;
 
-/// UNION.
-pub fn union(alloc: Global, left: Relation, right: Relation) -> Result<Relation, RaFault>
-    ensures { Gives is_memory result (spec.two op.Union left right) }
+// The columns of two operands under a set operator.
+fn united_columns(
+    alloc: Global,
+    columns: &[Column],
+    others: &[Column],
+) -> Result<List<Column>, RaFault>
+    ensures { Gives is_memory result (columns_spec.united_columns columns.now others.now) }
 {
-    let columns = united_columns(alloc, left.columns.as_slice(), right.columns.as_slice())?;
-    let query = Boxed::new(alloc, Query::Union(left.query, right.query))?;
-    Ok(Relation { query, columns })
+    if columns.len() != others.len() {
+        return Err(RaFault::Columns);
+    }
+    if !same_kinds(columns, others) {
+        return Err(RaFault::TypeMismatch);
+    }
+    Ok(widened(alloc, columns, others)?)
 }
 
-/// EXCEPT.
-pub fn except(alloc: Global, left: Relation, right: Relation) -> Result<Relation, RaFault>
-    ensures { Gives is_memory result (spec.two op.Except left right) }
+/// The operator over operands whose columns fit.
+pub fn united(
+    alloc: Global,
+    op: SetOp,
+    left: Relation,
+    right: Relation,
+) -> Result<Relation, RaFault>
+    ensures { Gives is_memory result (spec.united op left right) }
 {
     let columns = united_columns(alloc, left.columns.as_slice(), right.columns.as_slice())?;
-    let query = Boxed::new(alloc, Query::Except(left.query, right.query))?;
-    Ok(Relation { query, columns })
-}
-
-/// INTERSECT.
-pub fn intersect(alloc: Global, left: Relation, right: Relation) -> Result<Relation, RaFault>
-    ensures { Gives is_memory result (spec.two op.Intersect left right) }
-{
-    let columns = united_columns(alloc, left.columns.as_slice(), right.columns.as_slice())?;
-    let query = Boxed::new(alloc, Query::Intersect(left.query, right.query))?;
+    let query = combined(alloc, op, left.query, right.query)?;
     Ok(Relation { query, columns })
 }

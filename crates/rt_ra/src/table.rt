@@ -1,4 +1,4 @@
-//! Tables of the schema.
+//! Tables of the schema, the leaves of a text.
 
 ghost use Rattle.rt_ra.specs.Operators as spec;
 ghost use Rattle.rt_ra_tree.specs.Refusals.{is_memory};

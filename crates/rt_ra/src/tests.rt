@@ -1,4 +1,4 @@
-//! Tests of rows.
+//! Tests of rows, as conditions of the algebra.
 
 ghost use Rattle.std.specs.Prelude.{◌≡◌, [], ◌∷◌, IfOk};
 ghost use Rattle.rt_ra.specs.Tests as spec;

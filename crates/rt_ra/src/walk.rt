@@ -1,4 +1,5 @@
-//! The walk over a tree: the operands from the left, then the operator.
+//! The walk over a tree: the operands from the left, then the operator. A query is never copied:
+//! where an operand comes more than once, its tree is walked again.
 
 ghost use Rattle.std.specs.Prelude.{◌≡◌, IfOk, Ok};
 ghost use Rattle.rt_ra.specs.Operators as operators;
@@ -17,15 +18,15 @@ use crate::relation::Relation;
 use crate::renaming::rename;
 use crate::selections::select;
 use crate::semijoins::{anti_join, semi_join};
-use crate::set_operators::{except, intersect, union};
+use crate::set_operators::united;
 use crate::table::table_named;
-use rt_algebra::Query;
+use rt_algebra::{Query, SetOp};
 use rt_ra_tree::{Ra, RaFault, RaNames, RaOp, RaTests};
 use rt_schema::Table;
 use rt_value::{Boxed, NoMemory};
 use std::alloc::Global;
 
-// The query once more, of a tree that has one: there is no fault then but want of memory.
+// The query once more, of a tree that has one: there is no error then but out of memory.
 #[cycle(walk)]
 fn again(alloc: Global, tables: &[Table], of: &Ra) -> Result<Boxed<Query>, NoMemory>
     ensures { IfOk result (λ q. IfOk (spec.relation of.now tables.now) (λ r. q ≡ r.query)) }
@@ -113,7 +114,7 @@ fn renamed(alloc: Global, tables: &[Table], of: &Ra, names: &RaNames) -> Result<
     rename(alloc, rows, names.as_slice())
 }
 
-/// The query of the tree, with its columns, or its first fault.
+/// The query of the tree, with its columns, or its first error.
 #[cycle(walk)]
 pub fn relation(alloc: Global, tables: &[Table], of: &Ra) -> Result<Relation, RaFault>
     ensures { Gives is_memory result (spec.relation of.now tables.now) }
@@ -137,9 +138,9 @@ pub fn relation(alloc: Global, tables: &[Table], of: &Ra) -> Result<Relation, Ra
                     left_join(alloc, first, second)
                 }
                 RaOp::Divide => divided(alloc, tables, left.get(), first, second),
-                RaOp::Union => union(alloc, first, second),
-                RaOp::Except => except(alloc, first, second),
-                RaOp::Intersect => intersect(alloc, first, second),
+                RaOp::Union => united(alloc, SetOp::Union, first, second),
+                RaOp::Except => united(alloc, SetOp::Except, first, second),
+                RaOp::Intersect => united(alloc, SetOp::Intersect, first, second),
             }
         }
     }

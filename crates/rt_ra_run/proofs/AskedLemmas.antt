@@ -1,11 +1,11 @@
 -- What is asked of accepted texts.
-use Rattle.std.proofs.Common.{◌≡◌, ◌≤◌, ℕ, IsTrue, List, refl, sym, subst}
-use Rattle.std.specs.Prelude.{Option, None, Some}
+use Rattle.std.proofs.Common.{◌≡◌, ◌≤◌, IsTrue, refl, sym, subst}
+use Rattle.std.specs.Prelude.{None}
 use Rattle.std.specs.Option.{ForSome}
 use Rattle.rt_schema.specs.Given.{IsOf, is_instance, places, row_limit}
 use Rattle.rt_io.specs.Ranges.{IsWithin, most_made}
 use Rattle.rt_input.specs.declared.tables.Tables.{Tables}
-use Rattle.rt_input.specs.Accepted.{Accepted, IsAccepted}
+use Rattle.rt_input.specs.Accepted.{IsAccepted}
 use Rattle.rt_ra_run.specs.declared.asked.Asked.{Asked}
 use Rattle.rt_ra_run.specs.declared.command.RaCommand.{RaCommand}
 use Rattle.rt_ra_run.specs.declared.query.Lowered.{Lowered}

@@ -1,9 +1,8 @@
 -- Which files a reading of two algebra texts begins.
-use Rattle.std.proofs.Common.{◌≡◌, subst, sym, ◌∷◌, ◌++◌, Bool, IsTrue, List, [], Result, Ok, Err}
+use Rattle.std.proofs.Common.{◌≡◌, subst, sym, ◌∷◌, ◌++◌, Bool, IsTrue, List, [], Ok}
 use Rattle.std.specs.Prelude.{Option, None, Some}
-use Rattle.rt_io.proofs.AddLemmas.{adds_first, adds_then}
+use Rattle.rt_io.proofs.AddLemmas.{adds_then}
 use Rattle.rt_io.specs.Edge.{AddsPrefix}
-use Rattle.rt_schema.specs.declared.table.Table.{Table}
 use Rattle.rt_input.specs.declared.part.Part.TheVariants.{Query1}
 use Rattle.rt_input.specs.Begun.{AddsAll, AddsSome, data_files, data_reached, then_files}
 use Rattle.rt_input.specs.Held.{Holding}

@@ -1,10 +1,9 @@
 -- A verdict on the queries that two texts become is one on the texts.
-use Rattle.std.proofs.Common.{◌≡◌, ◌∙◌, ℕ, Bool, true, false, not, ◌&&◌, IsTrue, List, sym, ap, subst, refl}
-use Rattle.std.specs.Prelude.{Option, Some, None, IfSome, IsSomeAnd, Result, Ok, Err, IfOk}
-use Rattle.rt_clause.specs.Literal.{Literal}
+use Rattle.std.proofs.Common.{◌≡◌, ◌∙◌, ℕ, Bool, not, ◌&&◌, List, sym, ap}
+use Rattle.std.specs.Prelude.{Option, Some, None, IfSome, IsSomeAnd}
 use Rattle.rt_eval.specs.Distinct.{distinct}
 use Rattle.rt_print.specs.Texts.{witness_text}
-use Rattle.rt_schema.specs.Given.{Rows, places}
+use Rattle.rt_schema.specs.Given.{places}
 use Rattle.rt_algebra.specs.Answer.{same_rows}
 use Rattle.rt_search.specs.Least.{HasFewest}
 use Rattle.rt_search.proofs.Targets.{spent-narrowed}
@@ -14,7 +13,7 @@ use Rattle.rt_input.specs.declared.outcome.Outcome.TheVariants as outcome
 use Rattle.rt_input.specs.declared.outcome.Spent.{Spent}
 use Rattle.rt_top.specs.Answers as answers
 use Rattle.rt_top.specs.Smallest as top
-use Rattle.rt_top.specs.Smallest.{IsChoice, lawful_at}
+use Rattle.rt_top.specs.Smallest.{lawful_at}
 use Rattle.rt_top.specs.Texts as texts
 use Rattle.rt_ra_run.specs.declared.asked.Asked.{Asked}
 use Rattle.rt_ra_run.specs.Answers.{Judges}

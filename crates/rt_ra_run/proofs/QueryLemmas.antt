@@ -1,6 +1,6 @@
 -- A text that is no query: what is judged of it, and the place of its syntax error.
-use Rattle.std.proofs.Common.{◌≡◌, Bool, false, IsTrue, List, Result, Ok, Err, refl, sym, ap, subst, MatchBool}
-use Rattle.std.specs.Prelude.{IsOkAnd, ⊤}
+use Rattle.std.proofs.Common.{◌≡◌, Bool, false, List, Result, Ok, Err, refl, sym, ap, subst, MatchBool}
+use Rattle.std.specs.Prelude.{IsOkAnd}
 use Rattle.rt_value.specs.Gives.{Gives}
 use Rattle.rt_schema.specs.declared.table.Table.{Table}
 use Rattle.rt_algebra.specs.declared.typed.Typed.{Typed}
@@ -17,15 +17,13 @@ use Rattle.rt_ra_tree.specs.declared.tree.RaText.{RaText}
 use Rattle.rt_ra.specs.Faults.{IsWalkFault}
 use Rattle.rt_ra.specs.Lowered.{ra_lowered}
 use Rattle.rt_input.specs.declared.part.Part.{Part}
-use Rattle.rt_input.specs.declared.outcome.Outcome.{Outcome}
 use Rattle.rt_input.specs.declared.outcome.Outcome.TheVariants as outcome
 use Rattle.rt_input.specs.Judged.{then_read}
 use Rattle.rt_input.specs.Source.{Text}
 use Rattle.rt_ra_run.specs.declared.outcome.RaOutcome.{RaOutcome}
-use Rattle.rt_ra_run.specs.declared.outcome.RaOutcome.TheVariants.{Verdict, Refused}
 use Rattle.rt_ra_run.specs.Faults.{fault_outcome, lex_outcome, or_outcome, placeless}
 use Rattle.rt_ra_run.specs.Judged.{query_of, query_of_tokens, query_of_tree}
-use Rattle.rt_ra_run.specs.Placed.{PlacedIn, Stands}
+use Rattle.rt_ra_run.specs.Placed.{PlacedIn}
 use Rattle.rt_ra_run.specs.Steps.{Refuses}
 
 pub then_err : {T U : Type 0} (r : Result T RaOutcome) (f : T → Result U RaOutcome) (e : RaOutcome) → r ≡ Err e → then_read r f ≡ Err e

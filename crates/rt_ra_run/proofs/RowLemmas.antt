@@ -1,6 +1,6 @@
 -- What the rows of a call's answers follow from, and that an accepted command over files and sinks
 -- that don't fail gets a verdict.
-use Rattle.std.proofs.Common.{◌≡◌, ℕ, IsTrue, List, Bool, refl, sym, ap, subst, inl, inr, ◌∙◌, arith}
+use Rattle.std.proofs.Common.{◌≡◌, ℕ, IsTrue, List, refl, sym, ap, subst, inl, inr, ◌∙◌, arith}
 use Rattle.std.specs.Prelude.{Option, Some, None, Result, Ok, Err, IsSome, IsSomeAnd, IfOk, IsOkAnd, ◌<◌, ◌≤◌, ◌^◌, ⊤}
 use Rattle.std.specs.Option.{ForSome}
 use Rattle.rt_io.specs.Logs.{Log, Broke, NoSinkRose, at_place}
@@ -8,7 +8,6 @@ use Rattle.rt_io.specs.declared.place.Place.{Place}
 use Rattle.rt_io.specs.declared.place.Place.TheVariants as at
 use Rattle.rt_schema.specs.Given.{places}
 use Rattle.rt_schema.specs.declared.table.Table.{Table}
-use Rattle.rt_ra_tree.specs.declared.fault.RaFault.{RaFault}
 use Rattle.rt_input.specs.declared.outcome.Outcome.{Outcome}
 use Rattle.rt_input.specs.declared.outcome.Outcome.TheVariants as outcome
 use Rattle.rt_input.specs.declared.outcome.Spent.{Spent}

@@ -1,11 +1,10 @@
 -- What stops one step of the reading stops the reading.
-use Rattle.std.proofs.Common.{◌≡◌, ◌∙◌, ℕ, Bool, false, IsTrue, List, Result, Ok, Err, refl, sym, ap, subst, arith}
-use Rattle.std.specs.Prelude.{Option, None, Some, IfErr, IfOk, IsOk, IsOkAnd, ◌+◌, ⊤}
-use Rattle.rt_io.specs.Edge.{NoneFell, Rose}
+use Rattle.std.proofs.Common.{◌≡◌, ◌∙◌, ℕ, Bool, IsTrue, List, Result, Ok, Err, refl, sym, ap, subst, arith}
+use Rattle.std.specs.Prelude.{Option, None, Some, IfErr, IfOk, IsOk}
+use Rattle.rt_io.specs.Edge.{NoneFell}
 use Rattle.rt_schema.specs.Given.{Rows, Tables}
 use Rattle.rt_schema.specs.declared.table.Table.{Table}
 use Rattle.rt_algebra.specs.declared.typed.Typed.{Typed}
-use Rattle.rt_input.specs.declared.outcome.Fault.{Fault}
 use Rattle.rt_input.specs.declared.outcome.Limit.{Limit}
 use Rattle.rt_input.specs.declared.outcome.Limit.TheVariants as limit
 use Rattle.rt_input.specs.declared.outcome.Outcome.{Outcome}

@@ -1,5 +1,5 @@
 -- When each outcome of a call comes, and what the call writes.
-use Rattle.std.specs.Prelude.{◌≡◌, ℕ, ◌⊎◌, Bool, IsTrue, List, Option, None, Some, Ok, Err, IsSome, IsSomeAnd, ⊤}
+use Rattle.std.specs.Prelude.{◌≡◌, ℕ, ◌⊎◌, Bool, IsTrue, List, None, Some, Ok, Err, IsSome, IsSomeAnd, ⊤}
 use Rattle.std.specs.Option.{ForSome}
 use Rattle.rt_io.specs.Logs.{Log, Broke, Grew, GrewPartly, IsKept, at_place, other_place}
 use Rattle.rt_ra_tree.specs.declared.fault.RaFault.{RaFault}
@@ -10,7 +10,7 @@ use Rattle.rt_input.specs.declared.outcome.Outcome.{Outcome}
 use Rattle.rt_input.specs.declared.outcome.Outcome.TheVariants as outcome
 use Rattle.rt_input.specs.declared.outcome.Spent.{Spent}
 use Rattle.rt_input.specs.Reading.{Call}
-use Rattle.rt_top.specs.Answers.{HasRoom, IfAgree, IfLimit, IfReadFault, IfRefused, IfSpent, IfText, IfUsage, IfWitness}
+use Rattle.rt_top.specs.Answers.{IfText}
 use Rattle.rt_top.specs.Answers as top
 use Rattle.rt_input.specs.Faults as faults
 use Rattle.rt_input.specs.Judged.{IsNamed}

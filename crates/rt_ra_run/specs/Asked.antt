@@ -1,5 +1,5 @@
 -- What is asked of an accepted input: its two algebra texts, and the input of their queries.
-use Rattle.std.specs.Prelude.{◌≡◌, ◌≤◌, IsTrue, List, None, Ok}
+use Rattle.std.specs.Prelude.{◌≡◌, IsTrue, List, None, Ok}
 use Rattle.rt_schema.specs.declared.table.Table.{Table}
 use Rattle.rt_schema.specs.Given.{is_instance}
 use Rattle.rt_algebra.specs.Typed.{IsTypedOf}

@@ -2,7 +2,6 @@
 -- schema, the tables in schema order, query 1, query 2, the pair of queries, the work.
 use Rattle.std.specs.Prelude.{List, [], ◌∷◌, Option, None, Some, Result, Ok, Err, IsOk, IsOkAnd, ⊤}
 use Rattle.rt_schema.specs.declared.table.Table.{Table}
-use Rattle.rt_algebra.specs.declared.typed.Typed.{Typed}
 use Rattle.rt_token.specs.Lexed.{lexed}
 use Rattle.rt_token.specs.declared.token.Token.{Token}
 use Rattle.rt_ra_tree.specs.Whole.{ra_read}

@@ -3,7 +3,6 @@
 use Rattle.std.specs.Prelude.{◌≡◌, IfOk, ⊤}
 use Rattle.rt_ra_tree.specs.declared.fault.RaFault.{RaFault}
 use Rattle.rt_ra_tree.specs.declared.fault.RaFault.TheVariants as fault
-use Rattle.rt_input.specs.declared.outcome.Outcome.{Outcome}
 use Rattle.rt_input.specs.declared.outcome.Outcome.TheVariants as outcome
 use Rattle.rt_input.specs.declared.part.Part.{Part}
 use Rattle.rt_input.specs.Held.{Holding, text_of}

@@ -1,6 +1,6 @@
 -- Counterexamples of two algebra texts: lawful sub-instances on which their answers differ, and the
 -- smallest of them (Miao, Roy and Yang, SIGMOD 2019).
-use Rattle.std.specs.Prelude.{◌≡◌, Bool, true, false, not, ◌&&◌, List, length}
+use Rattle.std.specs.Prelude.{◌≡◌, Bool, true, false, not, ◌&&◌, List}
 use Rattle.rt_schema.specs.Given.{Rows, places}
 use Rattle.rt_schema.specs.Kept.{kept}
 use Rattle.rt_algebra.specs.Answer.{same_rows}

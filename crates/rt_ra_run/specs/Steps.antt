@@ -1,6 +1,5 @@
 -- What stops the reading of a command's files.
 use Rattle.std.specs.Prelude.{◌≡◌, IsTrue, None, Result, Err, ⊤}
-use Rattle.rt_ra_tree.specs.declared.fault.RaFault.{RaFault}
 use Rattle.rt_input.specs.declared.part.Part.{Part}
 use Rattle.rt_input.specs.declared.outcome.Limit.{Limit}
 use Rattle.rt_input.specs.declared.outcome.Outcome.{Outcome}

@@ -1,5 +1,5 @@
 -- The text of each outcome, the sink that it belongs to, and the status of the program.
-use Rattle.std.specs.Prelude.{ℕ, Bool, List, [], ◌++◌, codes, decimal}
+use Rattle.std.specs.Prelude.{ℕ, Bool, List, [], ◌++◌, codes}
 use Rattle.rt_eval.specs.Distinct.{distinct}
 use Rattle.rt_io.specs.declared.place.Place.{Place}
 use Rattle.rt_io.specs.declared.place.Place.TheVariants as at

@@ -5,7 +5,6 @@ ghost use Rattle.rt_io.specs.Edge.{AddsPrefix, NoneFell};
 ghost use Rattle.rt_input.specs.Begun.{AddsAll, AddsSome, data_files, data_reached};
 ghost use Rattle.rt_ra_run.specs.Begun.{asked_files, asked_reached, queries_reached, query_files, tables_of};
 ghost use Rattle.rt_schema.specs.Given.{IsOf, places, row_limit};
-ghost use Rattle.rt_input.specs.Accepted.{IsAccepted};
 ghost use Rattle.rt_input.specs.Source.{query_part};
 ghost use Rattle.rt_input.specs.Steps.{over};
 ghost use Rattle.rt_input.specs.declared.part.Part.TheVariants as parts;

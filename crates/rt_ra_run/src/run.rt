@@ -6,7 +6,7 @@ ghost use Rattle.rt_io.specs.Edge.{NoneFell};
 ghost use Rattle.rt_io.specs.Logs.{NoSinkRose, WritesNothing, log};
 ghost use Rattle.rt_input.specs.Begun.{AddsSome};
 ghost use Rattle.rt_input.specs.Reading.{call};
-ghost use Rattle.rt_ra_run.specs.Begun.{Begins, asked_files, asked_reached, tables_of};
+ghost use Rattle.rt_ra_run.specs.Begun.{Begins, asked_files, asked_reached};
 ghost use Rattle.rt_top.specs.Answers.{HasRoom, IfAgree, IfLimit, IfNoMemory, IfReadFault, IfRefused, IfSpent, IfUsage, IfWitness, IfWriteFault};
 ghost use Rattle.rt_input.specs.Source.{Text};
 ghost use Rattle.rt_ra_run.specs.declared.asked.Asked.{Asked};

@@ -5,16 +5,19 @@ use Rattle.std.proofs.lemmas.List.{append-nil}
 use Rattle.rt_algebra.specs.Columns as algebra
 use Rattle.rt_algebra.specs.declared.query.Pred.{Pred}
 use Rattle.rt_algebra.specs.declared.query.Pred.TheVariants as pred
+use Rattle.rt_algebra.specs.declared.set_op.SetOp.TheVariants as sets
+use Rattle.rt_algebra.proofs.Combining.{all-of-typed, any-of-typed}
 use Rattle.rt_scope.specs.Sources.{no_sources, select_of, with_base, with_cond}
 use Rattle.rt_resolve.specs.Chains.{BaseOf, Condition, JoinOf, LinkOf, Meaning, SourceOf, atom, atom_step, base, base_step, based, chain, chain_link, chain_link_step, chain_step, cond, cond_step, conj, conj_step, gathered, join, join_step, joined_all, linked_all, meet, meet_link, meet_link_step, meet_step, member_test, neg, neg_step, pick, pick_step, primary, primary_step, source_of, source_step, sources_all, where_on, with_on}
-use Rattle.rt_scope.specs.Conditions.{all_of, any_of, member, one_more, only}
-use Rattle.rt_scope.specs.Relations.{Tables, alias_or, intersected, united}
+use Rattle.rt_algebra.specs.Parts.{all_of, any_of}
+use Rattle.rt_scope.specs.Conditions.{member, one_more, only}
+use Rattle.rt_scope.specs.Relations.{Tables, alias_or, intersected, union_or_except, united}
 use Rattle.rt_scope.specs.declared.condition.Members.{Members}
 use Rattle.rt_scope.specs.declared.from.FromClause.{FromClause}
 use Rattle.rt_scope.specs.declared.relation.Relation.{Relation}
-use Rattle.rt_scope.proofs.Sets.{IsTypedRelation, intersected-typed, united-typed}
+use Rattle.rt_scope.proofs.Sets.{IsTypedRelation, related-typed}
 use Rattle.rt_scope.proofs.FromLaws.{IsTypedFrom, IsTypedTable, drop-stands, no-sources-typed, select-of-typed, table-named-typed, tables-from-first, tables_of, with-base-typed, with-cond-typed}
-use Rattle.rt_scope.proofs.Tested.{AreTyped, all-of-typed, any-of-typed, between-test-typed, comparison-typed, exists-typed, list-test-typed, member-typed, null-test-typed, only-typed, put-typed}
+use Rattle.rt_scope.proofs.Tested.{AreTyped, between-test-typed, comparison-typed, exists-typed, list-test-typed, member-typed, null-test-typed, only-typed, put-typed}
 use Rattle.rt_scope.specs.Compare.{negated}
 use Rattle.rt_scope.specs.Fault.{◌>>=◌}
 use Rattle.rt_scope.specs.Lookup.{Scopes}
@@ -385,7 +388,7 @@ module _ (db : Tables) where
 
   meet-link-layer : (y : MeetLink-F SuchAtom SuchBase SuchJoin SuchPrimary SuchChain SuchChainLink SuchCond SuchConj SuchMeet SuchMeetLink SuchNeg SuchPick SuchSource) → IsTypedLink (meet_link_step (map-MeetLink Atom Base Join Primary Chain ChainLink Cond Conj Meet MeetLink Neg Pick Source Condition BaseOf JoinOf Meaning Meaning LinkOf Condition Condition Meaning LinkOf Condition Meaning SourceOf atom base join primary chain chain_link cond conj meet meet_link neg pick source_of (below_meet_link y)))
   meet-link-layer y t scopes rows s h =
-      then-ok (IsTypedRelation tables rows) (IsTypedRelation tables rows) (primary y.of.0 db scopes) (λ u. intersected t u) (y.of.1 scopes rows s) (λ u k. intersected-typed tables rows t u h k)
+      then-ok (IsTypedRelation tables rows) (IsTypedRelation tables rows) (primary y.of.0 db scopes) (λ u. intersected t u) (y.of.1 scopes rows s) (λ u k. related-typed tables rows sets.Intersect t u h k)
 
   such-meet-links : (ts : List SuchMeetLink) → AreTypedLinks (map meet_link (map (λ t. t.0) ts))
   such-meet-links [] = tt
@@ -396,7 +399,7 @@ module _ (db : Tables) where
 
   chain-link-layer : (y : ChainLink-F SuchAtom SuchBase SuchJoin SuchPrimary SuchChain SuchChainLink SuchCond SuchConj SuchMeet SuchMeetLink SuchNeg SuchPick SuchSource) → IsTypedLink (chain_link_step (map-ChainLink Atom Base Join Primary Chain ChainLink Cond Conj Meet MeetLink Neg Pick Source Condition BaseOf JoinOf Meaning Meaning LinkOf Condition Condition Meaning LinkOf Condition Meaning SourceOf atom base join primary chain chain_link cond conj meet meet_link neg pick source_of (below_chain_link y)))
   chain-link-layer y t scopes rows s h =
-      then-ok (IsTypedRelation tables rows) (IsTypedRelation tables rows) (meet y.of.0 db scopes) (λ u. united y.except t u) (y.of.1 scopes rows s) (λ u k. united-typed tables rows y.except t u h k)
+      then-ok (IsTypedRelation tables rows) (IsTypedRelation tables rows) (meet y.of.0 db scopes) (λ u. united y.except t u) (y.of.1 scopes rows s) (λ u k. related-typed tables rows (union_or_except y.except) t u h k)
 
   such-chain-links : (ts : List SuchChainLink) → AreTypedLinks (map chain_link (map (λ t. t.0) ts))
   such-chain-links [] = tt
@@ -446,7 +449,7 @@ module _ (db : Tables) where
   source-rolls : (x : Source-F Atom Base Join Primary Chain ChainLink Cond Conj Meet MeetLink Neg Pick Source) → IsTypedSource (source_step (map-Source Atom Base Join Primary Chain ChainLink Cond Conj Meet MeetLink Neg Pick Source Condition BaseOf JoinOf Meaning Meaning LinkOf Condition Condition Meaning LinkOf Condition Meaning SourceOf atom base join primary chain chain_link cond conj meet meet_link neg pick source_of x)) → SourceLaw (roll-Source x)
   source-rolls x h = subst IsTypedSource (sym (fold-roll-Source Condition BaseOf JoinOf Meaning Meaning LinkOf Condition Condition Meaning LinkOf Condition Meaning SourceOf atom_step base_step join_step primary_step chain_step chain_link_step cond_step conj_step meet_step meet_link_step neg_step pick_step source_step x)) h
 
-  -- a query over sources that stand in the rows has its columns under the rows
+  -- a query over sources that are in the rows has its columns under the rows
   pub chain-typed : (t : Chain) → IsTypedMeaning (chain t)
   chain-typed = ind-Chain AtomLaw BaseLaw JoinLaw PrimaryLaw ChainLaw ChainLinkLaw CondLaw ConjLaw MeetLaw MeetLinkLaw NegLaw PickLaw SourceLaw
       (λ x y is. subst (λ z. AtomLaw (roll-Atom z)) is (atom-rolls (below_atom y) (atom-layer y)))

@@ -1,9 +1,10 @@
--- What one step of a walk gives: one more link, one more source, one more condition, or a fault.
+-- What one step of a walk gives: one more link, one more source, one more condition, or an error.
 use Rattle.std.proofs.Common.{◌≡◌, ◌∙◌, ℕ, ◌+◌, ◌<◌, Bool, true, false, List, ◌∷◌, [], length, map, drop, get_or, sym, ap, ap₂, add-one, Option, None, Some, Result, Ok, Err, option_map, refl, subst}
 use Rattle.std.proofs.Math.Seq.{drop-cons}
 use Rattle.std.proofs.lemmas.Result.{err_from_is_err_and}
 use Rattle.std.specs.Prelude.{IsErrAnd, MatchBool}
-use Rattle.rt_scope.specs.Conditions.{all_of, any_of, one_more, only}
+use Rattle.rt_algebra.specs.Parts.{all_of, any_of}
+use Rattle.rt_scope.specs.Conditions.{one_more, only}
 use Rattle.rt_scope.specs.Relations.{Tables, intersected, united}
 use Rattle.rt_scope.specs.Sources.{no_sources, select_of}
 use Rattle.rt_scope.specs.declared.condition.Members.{Members}
@@ -40,9 +41,9 @@ use Rattle.rt_resolve.specs.Chains.{BaseOf, Condition, JoinOf, LinkOf, Meaning, 
 next_is : {X : Type 0} (xs : List X) (i : ℕ) (x : X) → i < length xs → x ≡ get_or xs i x → drop i xs ≡ x ∷ drop (i + 1) xs
 next_is xs i x l e = drop-cons xs i x l ∙ ap₂ ◌∷◌ (sym e) (ap (λ k. drop k xs) (sym (add-one i)))
 
--- ---- a fault ends all
+-- ---- an error ends all
 
--- a fault other than want of memory is the definition's
+-- an error other than out of memory is the definition's
 abbrev Fails : {A : Type 0} → NameFault → Result A NameFault → Type 0
 Fails e d = MatchBool (is_memory e) (Unit {0}) (d ≡ Err e)
 
@@ -58,7 +59,7 @@ bound false e m f h = ap (λ r. r >>= f) h
 begun : {A B : Type 0} (e : NameFault) (d : Result B NameFault) (m : Result A NameFault) (f : A → Result B NameFault) → d ≡ (m >>= f) → Fails e m → Fails e d
 begun e d m f p h = becomes (is_memory e) e d (m >>= f) p (bound (is_memory e) e m f h)
 
--- the fault that `?` returns is the one that it met
+-- the error that `?` returns is the one that it met
 settled : {A : Type 0} (r : Result A NameFault) (e : NameFault) (d : Result A NameFault) → IsErrAnd r (λ x. x ≡ e) → Fails e d → Gives is_memory r d
 settled r e d g h = let p = err_from_is_err_and r g in rw (p.1, p.2) h
 

@@ -1,13 +1,14 @@
 -- What each part of a query becomes in the algebra (ISO/IEC 9075-2, query expression, query
--- specification, joined table, search condition), or its first fault.
+-- specification, joined table, search condition), or its first error.
 --
--- The walk goes from the left and the first fault ends it. The trees reach themselves, so each word
--- is said for one layer, with the meanings of its parts, and folded over the tree.
+-- The walk goes from the left and the first error ends it. The trees reach themselves, so each
+-- meaning is defined for one layer, with the meanings of its parts, and folded over the tree.
 use Rattle.std.specs.Prelude.{ℕ, Bool, length, drop, List, [], ◌∷◌, Option, Some, None, Result, Ok}
 use Rattle.rt_algebra.specs.declared.query.Pred.{Pred}
 use Rattle.rt_algebra.specs.declared.query.Pred.TheVariants as p
 use Rattle.rt_algebra.specs.declared.typed.Typed.{Typed}
-use Rattle.rt_scope.specs.Conditions.{all_of, any_of, between_test, comparison, list_test, member, null_test, one_more, only}
+use Rattle.rt_algebra.specs.Parts.{all_of, any_of}
+use Rattle.rt_scope.specs.Conditions.{between_test, comparison, list_test, member, null_test, one_more, only}
 use Rattle.rt_scope.specs.Relations.{Tables, alias_or, intersected, table_named, typed_of, united}
 use Rattle.rt_scope.specs.Sources.{no_sources, select_of, with_base, with_cond}
 use Rattle.rt_scope.specs.declared.condition.Members.{Members}
@@ -43,7 +44,7 @@ use Rattle.rt_tree.specs.declared.tree.Atom.TheFolds.{fold-Atom, fold-Base, fold
 abbrev pub Meaning : Type 0
 Meaning = Tables → Scopes → Result Relation NameFault
 
--- what stands so far, with one more operand
+-- the query so far, with one more operand
 abbrev pub LinkOf : Type 0
 LinkOf = Relation → Tables → Scopes → Result Relation NameFault
 

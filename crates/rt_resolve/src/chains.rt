@@ -1,18 +1,18 @@
-//! All that leads to a subquery: conditions, sources, SELECT and set operators.
+//! All that leads to a subquery: conditions, sources, SELECT and set operators. These functions
+//! call one another and are proved as one, so what needs no subquery is kept below, in `rt_scope`.
 
-ghost use Rattle.std.specs.Prelude.{◌≡◌, ◌∷◌, map, option_map};
+ghost use Rattle.std.specs.Prelude.{◌∷◌, map, option_map};
 ghost use Rattle.rt_resolve.specs.Chains as spec;
 ghost use Rattle.rt_scope.specs.Fault.{is_memory};
 ghost use Rattle.rt_scope.specs.Select as select_spec;
 ghost use Rattle.rt_value.specs.Gives.{Gives};
 
-use rt_algebra::Pred;
+use rt_algebra::{Pred, all_of, any_of};
 use rt_schema::Table;
 use rt_scope::{
-    FromClause, Members, NameFault, Relation, SelectList, Source, TableRef, alias_or, all_of,
-    any_of, between_test, boxed_sum, comparison, inner, intersected, list_test, member, negated,
-    no_sources, null_test, one_more, only, select_list, select_of, table_named, united, visible,
-    with_base, with_cond,
+    FromClause, Members, NameFault, Relation, SelectList, Source, TableRef, alias_or, between_test,
+    boxed_sum, comparison, inner, intersected, list_test, member, negated, no_sources, null_test,
+    one_more, only, select_list, select_of, table_named, united, visible, with_base, with_cond,
 };
 use rt_tree::{
     Atom, Base, Chain, ChainLink, Cond, Conj, Items, Join, Meet, MeetLink, Neg, Pick, Primary,

@@ -1,3 +1,5 @@
+//! From the tree of a query to the typed query that it means, with no scope around it.
+
 ghost use Rattle.std.specs.Prelude.{IfOk};
 ghost use Rattle.rt_algebra.specs.Typed.{IsTypedOf};
 ghost use Rattle.rt_resolve.specs.Chains.{lowered};
@@ -19,7 +21,7 @@ fn lowered(alloc: Global, sql: &Sql, tables: &[Table]) -> Result<Typed, NameFaul
     Ok(typed_of(alloc, relation)?)
 }
 
-/// The query that the tree means over the tables of the schema, or its first fault in the walk from
+/// The query that the tree means over the tables of the schema, or its first error in the walk from
 /// the left.
 pub fn resolve(alloc: Global, sql: &Sql, schema: &Schema) -> Result<Typed, NameFault>
     ensures lowered { Gives is_memory result (lowered sql.now schema.now) }

@@ -1,3 +1,5 @@
+//! Whether the answers of two queries can be compared at all.
+
 ghost use Rattle.std.specs.Prelude.{◌≡◌};
 ghost use Rattle.rt_resolve.specs.Shapes.{ShapeAnswer, same_kinds};
 

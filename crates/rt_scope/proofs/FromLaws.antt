@@ -1,22 +1,22 @@
--- The columns of the sources of a SELECT stand in its row, under which its conditions are typed.
-use Rattle.std.proofs.Common.{◌≡◌, ◌∙◌, ℕ, zero, suc, ◌+◌, Bool, true, List, [], ◌∷◌, ◌++◌, map, length, drop, Option, None, Some, Ok, Err, refl, sym, ap, subst, arith, slice_get, append_assoc, length-append}
-use Rattle.std.specs.Prelude.{IfOk, is_some, if◌then◌else◌}
+-- The columns of the sources of a SELECT are in its row, under which its conditions are typed.
+use Rattle.std.proofs.Common.{◌≡◌, ◌∙◌, ℕ, zero, suc, ◌+◌, List, [], ◌∷◌, ◌++◌, map, length, drop, Option, None, Some, Ok, Err, refl, sym, ap, subst, arith, slice_get, append_assoc, length-append}
+use Rattle.std.specs.Prelude.{IfOk, is_some}
 use Rattle.std.specs.Option.{option_and_then}
 use Rattle.std.specs.Str.{bytes_eq}
 use Rattle.std.proofs.lemmas.List.{map-append, length-map}
 use Rattle.rt_algebra.specs.Columns as algebra
-use Rattle.rt_algebra.specs.Columns.{QueryColumns, item_columns, pred_typed, product_columns, query_columns}
+use Rattle.rt_algebra.specs.Columns.{QueryColumns, item_columns, product_columns, query_columns}
+use Rattle.rt_algebra.specs.Parts.{product_of, selected}
 use Rattle.rt_algebra.specs.declared.query.Pred.{Pred}
-use Rattle.rt_algebra.specs.declared.query.Query.{Query}
-use Rattle.rt_algebra.proofs.Columned.{columns-Product, columns-Project, columns-Select, columns-Table}
+use Rattle.rt_algebra.proofs.Columned.{columns-Project, columns-Table}
+use Rattle.rt_algebra.proofs.Combining.{product-of-typed, selected-typed}
 use Rattle.rt_algebra.proofs.Fitting.{table-as}
-use Rattle.rt_scope.specs.Sources.{no_sources, product_of, select_of, selected, with_base, with_cond}
-use Rattle.rt_scope.specs.Conditions.{all_of}
+use Rattle.rt_scope.specs.Sources.{no_sources, select_of, with_base, with_cond}
 use Rattle.rt_scope.specs.Relations.{Tables, table_named, table_ref}
 use Rattle.rt_scope.specs.declared.from.FromClause.{FromClause}
 use Rattle.rt_scope.specs.declared.relation.TableRef.{TableRef}
 use Rattle.rt_scope.proofs.Sets.{IsTypedRelation}
-use Rattle.rt_scope.proofs.Tested.{AreTyped, all-of-typed, put-typed}
+use Rattle.rt_scope.proofs.Tested.{AreTyped, put-typed}
 use Rattle.rt_schema.specs.Schema.{schema_kinds}
 use Rattle.rt_scope.specs.Columns.{called}
 use Rattle.rt_scope.specs.Lookup.{Text, source_named}
@@ -78,7 +78,7 @@ drop-stands (suc n) [] row h = tt
 drop-stands (suc n) (x ∷ xs) row h = drop-stands n xs row h.1
 
 module _ (tables : List algebra.Columns) (rows : algebra.Scopes) where
-  -- the sources have this row, in which their columns stand, also where more columns follow
+  -- the sources have this row, in which their columns are, also where more columns follow
   pub record HasRow (from : FromClause) (row : algebra.Columns) : Type 0 where
     pub queries : product_columns [] (map query_columns from.queries) tables rows ≡ Some row
     pub width : from.width ≡ length row
@@ -130,30 +130,9 @@ module _ (tables : List algebra.Columns) (rows : algebra.Scopes) where
 
   -- ---- one SELECT
 
-  abbrev Gives : Query → algebra.Columns → Type 0
-  Gives q row = query_columns q tables rows ≡ Some row
-
-  only-product : (o : Option algebra.Columns) (row : algebra.Columns) → option_and_then (λ cs. Some cs) o ≡ Some row → o ≡ Some row
-  only-product None row e = cc
-  only-product (Some cs) row e = e
-
-  product-of-typed : (qs : List Query) (row : algebra.Columns) → product_columns [] (map query_columns qs) tables rows ≡ Some row → Gives (product_of qs) row
-  product-of-typed [] row e = columns-Product tables rows [] ∙ e
-  product-of-typed (q ∷ []) row e = only-product (query_columns q tables rows) row e
-  product-of-typed (q ∷ r ∷ qs) row e = columns-Product tables rows (q ∷ r ∷ qs) ∙ e
-
-  chosen : (cs : algebra.Columns) (b : Bool) → b ≡ true → (if b then Some cs else None) ≡ Some cs
-  chosen cs b h = rw h refl
-
-  selected-typed : (q : Query) (ps : List Pred) (row : algebra.Columns) → Gives q row → AreTyped tables (row ∷ rows) ps → Gives (selected q ps) row
-  selected-typed q [] row e h = e
-  selected-typed q (p ∷ ps) row e h =
-      columns-Select tables rows q (all_of (p ∷ ps)) ∙ ap (option_and_then (λ cs. if pred_typed (all_of (p ∷ ps)) tables (cs ∷ rows) then Some cs else None)) e
-      ∙ chosen row (pred_typed (all_of (p ∷ ps)) tables (row ∷ rows)) (all-of-typed tables (row ∷ rows) (p ∷ ps) h)
-
   pub select-of-typed : (from : FromClause) (list : SelectList) (row : algebra.Columns) → product_columns [] (map query_columns from.queries) tables rows ≡ Some row
       → AreTyped tables (row ∷ rows) from.conds → IsTypedList (row ∷ rows) list → IsTypedRelation tables rows (select_of from list)
   select-of-typed from list row e h l =
       columns-Project tables rows (selected (product_of from.queries) from.conds) list.exprs
-      ∙ ap (option_and_then (λ cs. item_columns list.exprs (cs ∷ rows))) (selected-typed (product_of from.queries) from.conds row (product-of-typed from.queries row e) h)
+      ∙ ap (option_and_then (λ cs. item_columns list.exprs (cs ∷ rows))) (selected-typed tables rows (product_of from.queries) from.conds row (product-of-typed tables rows from.queries row e) h)
       ∙ l

@@ -6,7 +6,6 @@ pub mod Standing
 pub mod Steps
 pub mod Summing
 mod Walking
-pub mod Longer
 pub mod Sets
 pub mod FromLaws
 pub mod Tested

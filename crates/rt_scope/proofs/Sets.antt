@@ -1,12 +1,13 @@
 -- The operands of a set operator that fit have columns together, as the algebra counts them.
-use Rattle.std.proofs.Common.{◌≡◌, ◌∙◌, ℕ, Bool, true, false, List, length, Some, Ok, Err, refl, ap, arith}
+use Rattle.std.proofs.Common.{◌≡◌, ◌∙◌, ℕ, true, List, length, Some, Ok, Err, refl, ap, arith}
 use Rattle.std.specs.Prelude.{IfOk, if◌then◌else◌, ◌==◌}
 use Rattle.rt_algebra.specs.Columns as algebra
 use Rattle.rt_algebra.specs.Columns.{merged_columns, query_columns, set_columns}
-use Rattle.rt_algebra.specs.declared.query.Query.TheVariants as query
-use Rattle.rt_algebra.proofs.Columned.{columns-Except, columns-Intersect, columns-Union}
+use Rattle.rt_algebra.specs.Parts.{combined}
+use Rattle.rt_algebra.specs.declared.set_op.SetOp.{SetOp}
+use Rattle.rt_algebra.proofs.Combining.{columns-combined}
 use Rattle.rt_algebra.proofs.Fitting.{all-merged}
-use Rattle.rt_scope.specs.Relations.{intersected, same_kinds, union_or_except, united, united_columns, widened}
+use Rattle.rt_scope.specs.Relations.{related, same_kinds, united_columns, widened}
 use Rattle.rt_scope.specs.declared.relation.Relation.{Relation}
 use Rattle.rt_scope.specs.Columns.{bounded}
 use Rattle.rt_scope.specs.declared.column.Column.{Column}
@@ -32,19 +33,8 @@ module _ (tables : List algebra.Columns) (rows : algebra.Scopes) where
       → set_columns (query_columns t.query tables rows) (query_columns u.query tables rows) ≡ Some (columns_as es)
   set-of t u es h k m = ap (λ o. set_columns o (query_columns u.query tables rows)) h ∙ ap (set_columns (Some (columns_as t.columns))) k ∙ m
 
-  pub intersected-typed : (t u : Relation) → IsTypedRelation tables rows t → IsTypedRelation tables rows u → IfOk (intersected t u) (IsTypedRelation tables rows)
-  intersected-typed t u h k =
+  pub related-typed : (o : SetOp) (t u : Relation) → IsTypedRelation tables rows t → IsTypedRelation tables rows u → IfOk (related o t u) (IsTypedRelation tables rows)
+  related-typed o t u h k =
       then-ok (λ es. merged_columns (columns_as t.columns) (columns_as u.columns) ≡ Some (columns_as es)) (IsTypedRelation tables rows) (united_columns t.columns u.columns)
-      (λ columns. Ok (record { query = query.Intersect t.query u.query; columns = columns })) (united-columns-merged t.columns u.columns)
-      (λ es m. columns-Intersect tables rows t.query u.query ∙ set-of t u es h k m)
-
-  union-or-except : (except : Bool) (t u : Relation) (es : List Column) → set_columns (query_columns t.query tables rows) (query_columns u.query tables rows) ≡ Some (columns_as es)
-      → query_columns (union_or_except except t.query u.query) tables rows ≡ Some (columns_as es)
-  union-or-except true t u es m = columns-Except tables rows t.query u.query ∙ m
-  union-or-except false t u es m = columns-Union tables rows t.query u.query ∙ m
-
-  pub united-typed : (except : Bool) (t u : Relation) → IsTypedRelation tables rows t → IsTypedRelation tables rows u → IfOk (united except t u) (IsTypedRelation tables rows)
-  united-typed except t u h k =
-      then-ok (λ es. merged_columns (columns_as t.columns) (columns_as u.columns) ≡ Some (columns_as es)) (IsTypedRelation tables rows) (united_columns t.columns u.columns)
-      (λ columns. Ok (record { query = union_or_except except t.query u.query; columns = columns })) (united-columns-merged t.columns u.columns)
-      (λ es m. union-or-except except t u es (set-of t u es h k m))
+      (λ columns. Ok (record { query = combined o t.query u.query; columns = columns })) (united-columns-merged t.columns u.columns)
+      (λ es m. columns-combined tables rows o t.query u.query ∙ set-of t u es h k m)

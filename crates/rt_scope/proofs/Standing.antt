@@ -1,4 +1,4 @@
--- Where the columns of the sources stand in the rows in scope, and what names mean there.
+-- Where the columns of the sources are in the rows in scope, and what names mean there.
 use Rattle.std.proofs.Common.{◌≡◌, ◌∙◌, ℕ, suc, ◌+◌, Bool, true, false, List, [], ◌∷◌, map, Option, None, Some, Result, Err, ap, arith, slice_get}
 use Rattle.std.specs.Prelude.{IfOk, if◌then◌else◌}
 use Rattle.std.specs.Str.{bytes_eq}
@@ -24,7 +24,7 @@ kinded k n = record { kind = k; bound = n }
 abbrev pub columns_as : List Column → algebra.Columns
 columns_as cs = map column_as cs
 
--- the columns stand in the row from a place on
+-- the columns are in the row, from a place on
 abbrev pub Stand : ℕ → List Column → algebra.Columns → Type 0
 Stand at [] row = Unit {0}
 Stand at (c ∷ cs) row = (slice_get row at ≡ Some (column_as c)) × Stand (at + 1) cs row

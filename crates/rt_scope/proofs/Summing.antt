@@ -252,7 +252,7 @@ sum-rolls x h = subst IsTypedMeaning (sym (fold-roll-Sum Meaning Meaning Meaning
 link-rolls : (x : SumLink-F Leaf Factor Mul Sum SumLink) → IsTypedMeaning (link_step (map-SumLink Leaf Factor Mul Sum SumLink Meaning Meaning Meaning Meaning Link leaf factor mul sum link x)).1 → LinkLaw (roll-SumLink x)
 link-rolls x h = subst (λ m. IsTypedMeaning m.1) (sym (fold-roll-SumLink Meaning Meaning Meaning Meaning Link leaf_step factor_step mul_step sum_step link_step x)) h
 
--- an expression over sources that stand in the rows is typed under the rows
+-- an expression over sources that are in the rows is typed under the rows
 pub sum-typed : (t : Sum) → IsTypedMeaning (sum t)
 sum-typed = ind-Sum LeafLaw FactorLaw MulLaw SumLaw LinkLaw
     (λ x y is. subst (λ z. LeafLaw (roll-Leaf z)) is (leaf-rolls (below_leaf y) (leaf-layer y)))

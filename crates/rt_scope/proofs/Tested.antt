@@ -8,9 +8,9 @@ use Rattle.rt_algebra.specs.declared.expr.Expr.{Expr}
 use Rattle.rt_algebra.specs.declared.query.Pred.{Pred}
 use Rattle.rt_algebra.specs.declared.query.Pred.TheVariants as pred
 use Rattle.rt_algebra.specs.declared.query.Query.{Query}
-use Rattle.rt_algebra.proofs.Columned.{typed-And, typed-Exists, typed-IsNull, typed-Member, typed-OneOf, typed-Or}
+use Rattle.rt_algebra.proofs.Columned.{typed-And, typed-Exists, typed-IsNull, typed-Member, typed-OneOf}
 use Rattle.rt_algebra.proofs.Fitting.{and-left, and-right, and-true}
-use Rattle.rt_scope.specs.Conditions.{all_of, any_of, between, between_test, both, comparison, list_test, member, member_in, null_test, only, op_of}
+use Rattle.rt_scope.specs.Conditions.{between, between_test, both, comparison, list_test, member, member_in, null_test, only, op_of}
 use Rattle.rt_scope.specs.declared.relation.Relation.{Relation}
 use Rattle.rt_scope.proofs.Sets.{IsTypedRelation}
 use Rattle.rt_scope.specs.Compare.{compared, listed, negated}
@@ -42,16 +42,6 @@ module _ (tables : List algebra.Columns) (rows : algebra.Scopes) where
 
   pub only-typed : (p : Pred) → IsTypedPred tables rows p → AreTyped (only p).conds
   only-typed p k = and-true (pred_typed p tables rows) true k refl
-
-  pub all-of-typed : (ps : List Pred) → AreTyped ps → IsTypedPred tables rows (all_of ps)
-  all-of-typed [] h = typed-And tables rows []
-  all-of-typed (p ∷ []) h = and-left (pred_typed p tables rows) true h
-  all-of-typed (p ∷ q ∷ ps) h = typed-And tables rows (p ∷ q ∷ ps) ∙ h
-
-  pub any-of-typed : (ps : List Pred) → AreTyped ps → IsTypedPred tables rows (any_of ps)
-  any-of-typed [] h = typed-Or tables rows []
-  any-of-typed (p ∷ []) h = and-left (pred_typed p tables rows) true h
-  any-of-typed (p ∷ q ∷ ps) h = typed-Or tables rows (p ∷ q ∷ ps) ∙ h
 
   -- ---- tests
 

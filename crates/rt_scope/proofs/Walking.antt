@@ -1,4 +1,4 @@
--- What one step of a walk over terms, factors or members gives, or its fault.
+-- What one step of a walk over terms, factors or members gives, or its error.
 use Rattle.std.proofs.Common.{◌≡◌, ◌∙◌, ℕ, ◌+◌, ◌<◌, Bool, true, false, List, ◌∷◌, length, map, drop, get_or, sym, ap, ap₂, add-one, Option, Result, Ok, Err}
 use Rattle.std.proofs.Math.Seq.{drop-cons}
 use Rattle.std.proofs.lemmas.Result.{err_from_is_err_and}
@@ -21,9 +21,9 @@ use Rattle.rt_tree.specs.declared.tree.Sum.{Sum}
 use Rattle.rt_tree.specs.declared.tree.SumLink.{SumLink}
 use Rattle.rt_value.specs.Gives.{Gives}
 
--- ---- a fault ends all
+-- ---- an error ends all
 
--- a fault other than want of memory is the definition's
+-- an error other than out of memory is the definition's
 abbrev Fails : {A : Type 0} → NameFault → Result A NameFault → Type 0
 Fails e d = MatchBool (is_memory e) (Unit {0}) (d ≡ Err e)
 
@@ -32,7 +32,7 @@ begun : {A B : Type 0} (b : Bool) (e : NameFault) (d : Result B NameFault) (m : 
 begun true e d m f p h = tt
 begun false e d m f p h = p ∙ ap (λ r. r >>= f) h
 
--- the fault that `?` returns is that of the step that the whole begins with
+-- the error that `?` returns is that of the step that the whole begins with
 fails : {A B : Type 0} (r : Result B NameFault) (e : NameFault) (d : Result B NameFault) (m : Result A NameFault) (f : A → Result B NameFault)
     → IsErrAnd r (λ x. x ≡ e) → d ≡ (m >>= f) → Fails e m → Gives is_memory r d
 fails r e d m f g p h = let q = err_from_is_err_and r g in rw (q.1, q.2) (begun (is_memory e) e d m f p h)

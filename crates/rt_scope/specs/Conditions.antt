@@ -64,14 +64,3 @@ one_more all c = record { conds = all.conds ++ c ∷ [] }
 
 abbrev pub only : Pred → Members
 only c = record { conds = c ∷ [] }
-
--- a condition alone is itself
-abbrev pub all_of : List Pred → Pred
-all_of [] = p.And []
-all_of (c ∷ []) = c
-all_of (c ∷ d ∷ rest) = p.And (c ∷ d ∷ rest)
-
-abbrev pub any_of : List Pred → Pred
-any_of [] = p.Or []
-any_of (c ∷ []) = c
-any_of (c ∷ d ∷ rest) = p.Or (c ∷ d ∷ rest)

@@ -5,7 +5,6 @@ pub mod Lookup
 pub mod Names
 pub mod Select
 pub mod Sums
-pub mod Alone
 pub mod Conditions
 pub mod Relations
 pub mod Sources

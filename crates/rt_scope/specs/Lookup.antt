@@ -33,7 +33,7 @@ see Nobody f = One f
 see (One g) f = Many
 see Many f = Many
 
--- the columns of the name, the first one of all standing at `at`
+-- the columns of the name, the first one of all being at `at`
 abbrev pub seen_columns : Text → Seen → ℕ → List Column → Seen
 seen_columns name seen at [] = seen
 seen_columns name seen at (c ∷ cs) = seen_columns name (if is_named name c then see seen (found at c) else seen) (at + 1) cs

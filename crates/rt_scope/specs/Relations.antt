@@ -2,14 +2,14 @@
 -- reference, query expression).
 use Rattle.std.specs.Prelude.{ℕ, ◌+◌, ◌==◌, Bool, true, false, length, List, [], ◌∷◌, Option, Some, None, Result, Ok, Err, if◌then◌else◌}
 use Rattle.std.specs.Str.{bytes_eq}
+use Rattle.rt_algebra.specs.Parts.{combined}
 use Rattle.rt_algebra.specs.TextColumns as columns
-use Rattle.rt_algebra.specs.declared.query.Query.{Query}
 use Rattle.rt_algebra.specs.declared.query.Query.TheVariants as q
+use Rattle.rt_algebra.specs.declared.set_op.SetOp.{SetOp}
+use Rattle.rt_algebra.specs.declared.set_op.SetOp.TheVariants as op
 use Rattle.rt_algebra.specs.declared.typed.Typed.{Typed}
 use Rattle.rt_scope.specs.declared.relation.Relation.{Relation}
 use Rattle.rt_scope.specs.declared.relation.TableRef.{TableRef}
-use Rattle.rt_scope.specs.declared.set.SetOp.{SetOp}
-use Rattle.rt_scope.specs.declared.set.SetOp.TheVariants as op
 use Rattle.rt_schema.specs.declared.table.Column.{Column as TableColumn}
 use Rattle.rt_schema.specs.declared.table.Table.{Table}
 use Rattle.rt_scope.specs.Columns.{bounded, called}
@@ -60,21 +60,16 @@ united_columns cs ds =
     if length cs == length ds then (if same_kinds cs ds then Ok (widened cs ds) else Err fault.TypeMismatch)
     else Err fault.Columns
 
-abbrev pub combined : SetOp → Query → Query → Query
-combined op.Union a b = q.Union a b
-combined op.Except a b = q.Except a b
-combined op.Intersect a b = q.Intersect a b
-
 -- an operator over operands whose columns fit
 abbrev pub related : SetOp → Relation → Relation → Result Relation NameFault
 related o t u = united_columns t.columns u.columns >>= λ columns. Ok (record { query = combined o t.query u.query; columns = columns })
 
 abbrev pub intersected : Relation → Relation → Result Relation NameFault
-intersected t u = united_columns t.columns u.columns >>= λ columns. Ok (record { query = q.Intersect t.query u.query; columns = columns })
+intersected t u = related op.Intersect t u
 
-abbrev pub union_or_except : Bool → Query → Query → Query
-union_or_except true a b = q.Except a b
-union_or_except false a b = q.Union a b
+abbrev pub union_or_except : Bool → SetOp
+union_or_except true = op.Except
+union_or_except false = op.Union
 
 abbrev pub united : Bool → Relation → Relation → Result Relation NameFault
-united except t u = united_columns t.columns u.columns >>= λ columns. Ok (record { query = union_or_except except t.query u.query; columns = columns })
+united except t u = related (union_or_except except) t u

@@ -30,7 +30,7 @@ no_items = record { exprs = []; columns = [] }
 abbrev pub with_column : SelectList → Expr → Column → SelectList
 with_column list x c = record { exprs = list.exprs ++ x ∷ []; columns = list.columns ++ c ∷ [] }
 
--- the columns of a source, the first one standing at `at` in the row
+-- the columns of a source, the first one being at `at` in the row
 abbrev pub with_columns : SelectList → ℕ → List Column → SelectList
 with_columns list at [] = list
 with_columns list at (c ∷ cs) = with_columns (with_column list (e.Col 0 at) c) (at + 1) cs

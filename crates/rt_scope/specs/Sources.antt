@@ -3,11 +3,11 @@
 use Rattle.std.specs.Prelude.{ℕ, ◌+◌, length, is_some, List, [], ◌∷◌, ◌++◌, map, Result, Ok, Err, if◌then◌else◌, Vec}
 use Rattle.std.specs.Borrow.{Bor}
 use Rattle.std.specs.declared.alloc.Global.{Global}
+use Rattle.rt_algebra.specs.Parts.{product_of, selected}
 use Rattle.rt_algebra.specs.declared.expr.Expr.{Expr}
 use Rattle.rt_algebra.specs.declared.query.Pred.{Pred}
 use Rattle.rt_algebra.specs.declared.query.Query.{Query}
 use Rattle.rt_algebra.specs.declared.query.Query.TheVariants as q
-use Rattle.rt_scope.specs.Conditions.{all_of}
 use Rattle.rt_scope.specs.declared.from.FromClause.{FromClause}
 use Rattle.rt_scope.specs.declared.relation.Relation.{Relation}
 use Rattle.rt_scope.specs.declared.relation.TableRef.{TableRef}
@@ -42,17 +42,6 @@ with_base from b =
 
 abbrev pub with_cond : FromClause → Pred → FromClause
 with_cond from c = record from { conds = from.conds ++ c ∷ [] }
-
--- one source is itself
-abbrev pub product_of : List Query → Query
-product_of [] = q.Product []
-product_of (a ∷ []) = a
-product_of (a ∷ b ∷ rest) = q.Product (a ∷ b ∷ rest)
-
--- no condition is no selection
-abbrev pub selected : Query → List Pred → Query
-selected of [] = of
-selected of (c ∷ cs) = q.Select of (all_of (c ∷ cs))
 
 -- the rows of all sources that meet the conditions, and the items over them
 abbrev pub query_of : List Query → List Pred → List Expr → Query

@@ -1,6 +1,6 @@
 -- The expression of a sum, with its kind and its bound (ISO/IEC 9075-2, numeric value expression).
 --
--- The walk goes from the left and the first fault ends it: after each part TypeMismatch where it is
+-- The walk goes from the left and the first error ends it: after each part TypeMismatch where it is
 -- a text in arithmetic, then ArithWidth where the algebra allows no such step.
 use Rattle.std.specs.Prelude.{ℕ, ◌+◌, ◌*◌, ◌==◌, ◌%◌, Bool, true, false, is_some, unsigned_abs, List, [], ◌∷◌, ◌++◌, Option, Some, None, Result, Ok, Err, if◌then◌else◌}
 use Rattle.rt_algebra.specs.Columns.{kind_bound, step_bound}

@@ -1,38 +1,17 @@
-//! One SELECT.
+//! One SELECT as a query: sources, then conditions, then items.
 
 ghost use Rattle.std.specs.Prelude.{◌≡◌, IfOk, Ok};
 ghost use Rattle.rt_scope.specs.Sources as spec;
 ghost use Rattle.rt_scope.specs.Fault.{is_memory};
 ghost use Rattle.rt_value.specs.Gives.{Gives};
 
-use crate::alone::alone;
-use crate::condition::all_of;
 use crate::fault::NameFault;
 use crate::from::FromClause;
 use crate::relation::Relation;
 use crate::select::SelectList;
-use rt_algebra::{Expr, Pred, Query};
+use rt_algebra::{Expr, Pred, Query, product_of, selected};
 use rt_value::{Boxed, List, NoMemory};
 use std::alloc::Global;
-
-#[tactic(auto, using(crate::proofs::Longer::product_of_more))]
-fn product_of(alloc: Global, queries: List<Query>) -> Result<Boxed<Query>, NoMemory>
-    ensures { IfOk result (λ q. q ≡ spec.product_of queries) }
-{
-    match alone(queries) {
-        Ok(query) => Boxed::new(alloc, query),
-        Err(queries) => Boxed::new(alloc, Query::Product(queries)),
-    }
-}
-
-fn selected(alloc: Global, query: Boxed<Query>, conds: List<Pred>) -> Result<Boxed<Query>, NoMemory>
-    ensures { IfOk result (λ q. q ≡ spec.selected query conds) }
-{
-    match conds.as_slice() {
-        [] => Ok(query),
-        [_, ..] => Boxed::new(alloc, Query::Select(query, all_of(conds))),
-    }
-}
 
 fn query_of(
     alloc: Global,

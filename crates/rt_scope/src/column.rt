@@ -1,3 +1,5 @@
+//! A column of a query in SQL, which may have no name.
+
 ghost use Rattle.std.specs.Prelude.{◌≡◌, IfOk};
 ghost use Rattle.rt_scope.specs.Lookup.{is_named};
 

@@ -1,6 +1,6 @@
-//! Comparisons, tests for NULL and lists, without subqueries.
+//! Comparisons, negations and lists of IN, with the tests of their kinds.
 
-ghost use Rattle.std.specs.Prelude.{◌≡◌, ◌∷◌, [], Ok, map};
+ghost use Rattle.std.specs.Prelude.{◌∷◌, [], Ok, map};
 ghost use Rattle.rt_scope.specs.Compare as spec;
 ghost use Rattle.rt_scope.specs.Fault.{is_memory};
 ghost use Rattle.rt_value.specs.Gives.{Gives};

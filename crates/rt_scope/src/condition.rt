@@ -1,4 +1,5 @@
-//! Conditions without a subquery, and lists of conditions.
+//! Conditions without a subquery, and lists of conditions. What has a subquery is in `rt_resolve`,
+//! where conditions and queries call one another.
 
 ghost use Rattle.std.specs.Prelude.{◌≡◌, Ok, map, IfOk};
 ghost use Rattle.rt_scope.specs.Conditions as spec;
@@ -6,7 +7,6 @@ ghost use Rattle.rt_scope.specs.Fault.{is_memory};
 ghost use Rattle.rt_scope.specs.Sums as sums;
 ghost use Rattle.rt_value.specs.Gives.{Gives};
 
-use crate::alone::alone;
 use crate::compare::{compared, list_items, negated};
 use crate::fault::NameFault;
 use crate::relation::Relation;
@@ -41,28 +41,6 @@ pub fn only(alloc: Global, cond: Pred) -> Result<Members, NoMemory>
     let mut conds = List::new(alloc);
     conds.push(cond)?;
     Ok(Members { conds })
-}
-
-/// One condition itself, or AND of more.
-#[tactic(auto, using(crate::proofs::Longer::all_of_more))]
-pub fn all_of(conds: List<Pred>) -> Pred
-    ensures { result ≡ spec.all_of conds }
-{
-    match alone(conds) {
-        Ok(cond) => cond,
-        Err(conds) => Pred::And(conds),
-    }
-}
-
-/// One condition itself, or OR of more.
-#[tactic(auto, using(crate::proofs::Longer::any_of_more))]
-pub fn any_of(conds: List<Pred>) -> Pred
-    ensures { result ≡ spec.any_of conds }
-{
-    match alone(conds) {
-        Ok(cond) => cond,
-        Err(conds) => Pred::Or(conds),
-    }
 }
 
 fn op_of(op: OpTree) -> Op
@@ -149,7 +127,7 @@ fn between(
     Ok(both(alloc, low.into_inner(), high)?)
 }
 
-/// BETWEEN. The first sum stands in both comparisons, so it is lowered twice.
+/// BETWEEN. The first sum is part of both comparisons, so it is lowered twice.
 pub fn between_test(
     alloc: Global,
     a: &Sum,

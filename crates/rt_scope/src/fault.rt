@@ -1,3 +1,5 @@
+//! The errors of names and kinds. Which comes first is said by the walk in `rt_resolve`.
+
 ghost use Rattle.std.specs.Prelude.{◌≡◌};
 ghost use Rattle.rt_scope.specs.declared.fault.NameFault.TheVariants as faults;
 

@@ -1,4 +1,5 @@
-//! The FROM clause.
+//! The FROM clause, source by source. A row of it is one row of each source, one after the other:
+//! over `a (x, y)` and `b (z)`, the source `b` starts at 2 and the width is 3.
 
 ghost use Rattle.std.specs.Prelude.{◌≡◌, ◌+◌, ◌∷◌, Ok, IfOk, map, drop, length};
 ghost use Rattle.rt_scope.specs.Sources as spec;

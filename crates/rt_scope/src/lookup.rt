@@ -1,4 +1,5 @@
-//! Which column a name means.
+//! Which column a name means: the search goes through the scopes from the innermost outward. A name
+//! found one scope outward, third in the row there, is `Col(1, 2)`.
 
 ghost use Rattle.std.specs.Prelude.{◌≡◌, ◌+◌, Err, Ok, map};
 ghost use Rattle.rt_scope.specs.Fault.{is_memory};

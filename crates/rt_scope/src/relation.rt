@@ -1,3 +1,5 @@
+//! Queries together with their columns: what each step of the walk takes and gives.
+
 ghost use Rattle.std.specs.Prelude.{◌≡◌, IfOk};
 ghost use Rattle.rt_scope.specs.Relations as spec;
 

@@ -1,3 +1,5 @@
+//! Expressions together with their types.
+
 use rt_algebra::Expr;
 use rt_schema::ColKind;
 

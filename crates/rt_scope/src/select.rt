@@ -1,6 +1,6 @@
-//! The items of a SELECT.
+//! The items of a SELECT, their types and their names.
 
-ghost use Rattle.std.specs.Prelude.{◌≡◌, ◌∷◌, IfOk, Ok, map};
+ghost use Rattle.std.specs.Prelude.{◌≡◌, IfOk, Ok, map};
 ghost use Rattle.rt_scope.specs.Fault.{is_memory};
 ghost use Rattle.rt_scope.specs.Select as spec;
 ghost use Rattle.rt_value.specs.Gives.{Gives};
@@ -68,7 +68,7 @@ fn with_sources(
     Ok(list)
 }
 
-// The name of a column that stands alone.
+// The name of a leaf that is just a column.
 fn leaf_name(alloc: Global, of: &Leaf) -> Result<Option<Txt>, NoMemory>
     ensures { IfOk result (λ name. name ≡ spec.leaf_name of.now) }
 {

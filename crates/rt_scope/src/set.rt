@@ -1,6 +1,5 @@
-//! Set operators.
+//! Set operators over operands whose columns fit.
 
-ghost use Rattle.std.specs.Prelude.{◌≡◌, IfOk};
 ghost use Rattle.rt_scope.specs.Relations as spec;
 ghost use Rattle.rt_scope.specs.Fault.{is_memory};
 ghost use Rattle.rt_value.specs.Gives.{Gives};
@@ -8,8 +7,8 @@ ghost use Rattle.rt_value.specs.Gives.{Gives};
 use crate::column::Column;
 use crate::fault::NameFault;
 use crate::relation::Relation;
-use rt_algebra::{Query, same_kinds, widened};
-use rt_value::{Boxed, List, NoMemory};
+use rt_algebra::{SetOp, combined, same_kinds, widened};
+use rt_value::List;
 use std::alloc::Global;
 
 // The columns of two operands under a set operator.
@@ -27,30 +26,6 @@ fn united_columns(
         return Err(NameFault::TypeMismatch);
     }
     Ok(widened(alloc, columns, others)?)
-}
-
-// The operators.
-#[derive(Clone, Copy)]
-pub(crate) enum SetOp {
-    Union,
-    Except,
-    Intersect,
-}
-
-fn combined(
-    alloc: Global,
-    op: SetOp,
-    a: Boxed<Query>,
-    b: Boxed<Query>,
-) -> Result<Boxed<Query>, NoMemory>
-    ensures { IfOk result (λ q. q ≡ spec.combined op a b) }
-{
-    let query = match op {
-        SetOp::Union => Query::Union(a, b),
-        SetOp::Except => Query::Except(a, b),
-        SetOp::Intersect => Query::Intersect(a, b),
-    };
-    Boxed::new(alloc, query)
 }
 
 fn related(alloc: Global, op: SetOp, t: Relation, u: Relation) -> Result<Relation, NameFault>

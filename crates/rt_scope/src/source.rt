@@ -1,3 +1,5 @@
+//! One source of a FROM clause, and the search for it by its name.
+
 ghost use Rattle.std.specs.Prelude.{◌≡◌, option_map};
 ghost use Rattle.rt_scope.specs.Lookup as spec;
 

@@ -1,3 +1,6 @@
+//! The sources of a FROM clause as they come. That names are kept twice is private: callers see the
+//! list alone.
+
 ghost use Rattle.std.specs.Prelude.{◌≡◌, ◌++◌, ◌∷◌, [], IfOk, is_some, length};
 ghost use Rattle.rt_scope.specs.Lookup.{source_named};
 

@@ -1,4 +1,5 @@
-//! Sums, products and their leaves.
+//! Sums, products and their leaves, each with its kind and its bound. A bound is kept so that no
+//! step of arithmetic can leave 128 bits at run time.
 
 ghost use Rattle.std.specs.Prelude.{◌≡◌, is_some, map};
 ghost use Rattle.rt_algebra.specs.Columns.{kind_bound};
@@ -34,7 +35,7 @@ pub struct Factors {
     pub bound: u128,
 }
 
-// Whether the expression may stand in arithmetic: it is no text.
+// Whether the expression may be part of arithmetic: it is no text.
 fn is_numeric(x: &Scalar) -> bool
     ensures { result ≡ is_some (kind_bound x.now.kind x.now.bound) }
 {

@@ -1,4 +1,4 @@
-//! Tables of the schema.
+//! Tables of the schema as sources.
 
 ghost use Rattle.std.specs.Prelude.{◌≡◌, IfOk};
 ghost use Rattle.rt_scope.specs.Relations as spec;

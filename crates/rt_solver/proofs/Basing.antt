@@ -1,4 +1,4 @@
--- The lines beside their copies, as a line comes and as propagation goes on.
+-- The lines and their copies, as a line comes and as propagation goes on.
 use Rattle.std.proofs.Common.{◌≡◌, ℕ, ◌+◌, ◌*◌, ◌<◌, ◌≤◌, ◌^◌, true, false, cond, Bool, List, [], ◌∷◌, ◌++◌, length, sym, ap, subst, ◌∙◌, arith}
 use Rattle.rt_clause.specs.Literal.{Literal}
 use Rattle.rt_solver.specs.Same.{IsSame, AreSame}
@@ -37,7 +37,7 @@ grown_listed clauses w mid h same longer = record {
   wide = λ i b l t. (let q = h.wide i b l t in omega (arith, q, longer));
 }
 
--- so the lines stay beside their copies
+-- so the lines and their copies stay the same
 pub based-room : (lines copies after : List (List Literal)) (w mid : Lists) (n : ℕ) (short kept : List ℕ) → IsBased lines copies w n short → after ≡ copies → kept ≡ short → AreListed after mid → IsBased lines after mid n kept
 based-room lines copies after w mid n short kept h e s listed =
     let P : List (List Literal) → Type 0 = λ x. AreSame lines x in

@@ -173,7 +173,7 @@ link-pop heads next ls k w ws b l e c =
     link-put heads next next ls k (slot next w) ws b l (λ j n. b.linked j) c (distinct-tail w ws (subst P e (b.once k)))
     (λ v s. inl (ap (λ vs. stands vs v) e ∙ stands-tail w v ws s))
 
--- and stands nowhere then
+-- and is in no list then
 pub free-pop : (heads next : List (Option ℕ)) (ls : ℕ → List ℕ) (k w : ℕ) (ws : List ℕ) → IsLinkedBy heads next ls → ls k ≡ w ∷ ws → (j : ℕ) → stands (put ls k ws j) w ≡ false
 free-pop heads next ls k w ws b e j =
     let P : List ℕ → Type 0 = IsDistinct eqb in

@@ -17,7 +17,7 @@ at_second i j p e = elim (cases_eq p i) [
   | inr f ↦ ap (λ b. cond b j (cond (nat_eq p j) i p)) (ne_eqb p i f) ∙ ap (λ b. cond b i p) (eq-eqb p j e)
 ]
 
--- the variable that stands at a place is the only one there
+-- one variable alone is at a place
 pub alone : (places items : List ℕ) (v : ℕ) → IsInverse places items → v < length places → IsOnlyPlace places v
 alone places items v inv h k below same =
     sym (inv.there k below).1 ∙ ap (λ p. get_or items p 0) same ∙ (inv.there v h).1

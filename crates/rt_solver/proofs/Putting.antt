@@ -14,7 +14,7 @@ use Rattle.rt_solver.proofs.Visits.{watch-within}
 differ : (i n : ℕ) → nat_eq i n ≡ false → i ≢ n
 differ i n g w = let s : nat_eq i n ≡ true = search rules in cc
 
--- a new watch stands nowhere
+-- a new watch is in no list
 pub free-new : (old : List (List Literal)) (w : Lists) (v : ℕ) → AreListed old w → length old ≤ v / 2 → (k : ℕ) → stands (list_at w.lists k) v ≡ false
 free-new old w v h b k = elim (bool-cases (stands (list_at w.lists k) v)) [
   | inl y ↦ absurd (let x = watch-within old v k (h.stand k v y) in omega (arith, x, b))

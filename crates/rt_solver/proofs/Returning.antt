@@ -101,7 +101,7 @@ has-var m (s ∷ t) l a h = elim (has-cases s.lit l (lits t) h) [
   | inr r ↦ has-var m t l a.2 r
 ]
 
--- no variable stands twice among the found
+-- no variable is twice among the found
 pub chosen-distinct : (first m : ℕ) (ds : List Literal) (t : List Step) → IsApart m t → AreChosen first ds t → HasNoRepeat ds
 chosen-distinct first m [] t a h = tt
 chosen-distinct first m (d ∷ ds) [] a h = absurd h

@@ -18,7 +18,7 @@ use Rattle.rt_solver.specs.Table.{IsStatus}
 use Rattle.rt_solver.proofs.FreshLaws.{consistent}
 use Rattle.rt_solver.proofs.Looks.{has-at, open-not-false}
 
--- where a literal of a clause stands
+-- the place of a literal of a clause
 pub place-of : (c : List Literal) (k : Literal) → has c k ≡ true → (j : ℕ) × (j < length c) × (k ≡ get_or c j k)
 place-of [] k h = absurd (cc)
 place-of (x ∷ c) k h = elim (has-cases x k c h) [

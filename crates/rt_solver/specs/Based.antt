@@ -1,4 +1,4 @@
--- The lines beside the solver's own copies.
+-- The lines and the solver's own copies.
 use Rattle.std.specs.Prelude.{◌≡◌, ℕ, ◌≤◌, ◌^◌, Bool, List, refl}
 use Rattle.std.specs.Coded.{Coded, code_by, coded×, coded_ℕ, coded_bool}
 use Rattle.rt_clause.specs.Literal.{Literal}

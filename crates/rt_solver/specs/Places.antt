@@ -15,7 +15,7 @@ abbrev pub IsPlaced : List ℕ → List ℕ → Type 0
 IsPlaced places items =
     (k : ℕ) → k < length places → (slice_index_or places k 0 < length places) × (slice_index_or items (slice_index_or places k 0) 0 ≡ k)
 
--- each variable stands at its place, and each place is that of the variable there
+-- each variable is at its place, and each place is that of the variable there
 pub record IsInverse (places items : List ℕ) : Type 0 where
   pub same : length items ≡ length places
   pub there : IsPlaced places items

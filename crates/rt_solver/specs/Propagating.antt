@@ -79,7 +79,8 @@ pub record IsWatchOf (clauses : List (List Literal)) (w k : ℕ) : Type 0 where
   pub at : literal_in (line_at clauses (w / 2)) (w % 2) ≡ Some lit
   pub home : key lit ≡ k
 
--- each watch stands in its literal's list and in no other, the first two literals of a clause differ, and there are lists for all
+-- each watch is in its literal's list and in no other, the first two literals of a clause differ, and
+-- there are lists for all literals
 pub record AreListed (clauses : List (List Literal)) (watches : Lists) : Type 0 where
   pub stand : (k w : ℕ) → stands (list_at watches.lists k) w ≡ true → IsWatchOf clauses w k
   pub listed : (k w : ℕ) → IsWatchOf clauses w k → stands (list_at watches.lists k) w ≡ true

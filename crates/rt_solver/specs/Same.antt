@@ -23,7 +23,7 @@ abbrev pub AreFirst : List Literal → Type 0
 AreFirst [] = Unit {0}
 AreFirst (a ∷ ls) = (l : Literal) → has ls l ≡ true → l ≡ a
 
--- at a place stands a literal that is not the first one
+-- at a place is a literal that is not the first one
 abbrev pub HasOther : List Literal → ℕ → Type 0
 HasOther [] j = ⊥
 HasOther (a ∷ ls) j = (j < length (a ∷ ls)) × (slice_index_or (a ∷ ls) j a ≢ a)

@@ -1,4 +1,4 @@
--- Two watched literals: the first two of each clause, and the lists in which they stand.
+-- Two watched literals: the first two of each clause, and the lists that hold them.
 use Rattle.std.specs.Prelude.{◌≡◌, ◌≢◌, ℕ, zero, suc, ◌+◌, ◌*◌, ◌<◌, Bool, true, false, cond, eqb, nat_eq, List, [], ◌∷◌, length, map, slice_index_or, Option, Some, None}
 use Rattle.std.specs.List.{IsDistinct, list_any}
 use Rattle.rt_clause.specs.Literal.{Literal}
@@ -14,7 +14,7 @@ list_at lists k = slice_index_or lists k []
 abbrev pub slot : List (Option ℕ) → ℕ → Option ℕ
 slot slots k = slice_index_or slots k None
 
--- whether a watch stands in a list
+-- whether a watch is in a list
 abbrev pub stands : List ℕ → ℕ → Bool
 stands ws w = list_any (eqb w) ws
 
@@ -32,7 +32,7 @@ abbrev pub IsChain : List (Option ℕ) → Option ℕ → List ℕ → Type 0
 IsChain next head [] = head ≡ None
 IsChain next head (w ∷ ws) = (head ≡ Some w) × (w < length next) × IsChain next (slot next w) ws
 
--- each list ends, and no watch stands twice
+-- each list ends, and no watch is there twice
 pub record IsLinked (heads next : List (Option ℕ)) : Type 0 where
   pub linked : (k : ℕ) → IsChain next (slot heads k) (list_at (lists_of heads next) k)
   pub once : (k : ℕ) → IsDistinct eqb (list_at (lists_of heads next) k)

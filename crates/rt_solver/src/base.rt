@@ -1,4 +1,7 @@
-ghost use Rattle.std.specs.Prelude.{◌≡◌, ℕ, [], ◌∷◌, ◌++◌, ◌+◌, ◌*◌, ◌<◌, ◌≤◌, ◌^◌, length, vec_len, vec_capacity, true, false, OnOk, OnErr, MatchOption};
+//! The lines, and the solver's own copies of them, which are watched. How they are watched is private:
+//! contracts see the lines and the copies.
+
+ghost use Rattle.std.specs.Prelude.{◌≡◌, [], ◌∷◌, ◌++◌, ◌+◌, ◌*◌, ◌<◌, ◌≤◌, ◌^◌, length, vec_len, vec_capacity, true, false, OnOk, OnErr, MatchOption};
 ghost use Rattle.std.specs.List.{All as Each};
 ghost use Rattle.rt_clause.specs.Lists.{line_at, follows};
 ghost use Rattle.rt_solver.specs.Trail.{lits, IsApart, oldest, decisions};

@@ -1,3 +1,5 @@
+//! The solver's own copy of a clause, of which the first two literals are watched.
+
 ghost use Rattle.std.specs.Prelude.{◌≡◌, ◌<◌, ◌≤◌, length, take, swap, MatchOption, IfOk};
 ghost use Rattle.rt_solver.specs.Same.{IsSame, IsSpread, AreFirst, HasOther};
 

@@ -1,5 +1,13 @@
+//! Analysis of a conflict: from the line that is false back over the trail to the clause that is
+//! learned. What it answers is `IsLearned`; in which order lines are resolved is private.
+//!
+//! An example with the lines -1 2, -2 3, -4 5, -5 6 and -3 -5 -6: x1 is decided and gives x2 and x3,
+//! then x4 is decided and gives x5 and x6, and the last line is false. Two of its literals became
+//! false since x4. As x6 rests on -5 6, the two lines give -3 -5, in which only x5 is so late (the
+//! first unique implication point). -3 -5 is learned, and after x1, x2 and x3 it gives -5.
+
 ghost use Rattle.std.specs.Prelude.{◌≡◌, ℕ, ◌<◌, ◌≤◌, ◌+◌, List, ◌∷◌, [], length, true, false, IfOk, IfSome, OnOk, Option, MatchOption, IsTrue, ◌↔◌, ◌⊎◌};
-ghost use Rattle.rt_clause.specs.Lists.{has, line_at};
+ghost use Rattle.rt_clause.specs.Lists.{line_at};
 ghost use Rattle.rt_clause.specs.Literal.{Literal};
 ghost use Rattle.rt_solver.specs.declared.trail.Step.{Step};
 ghost use Rattle.rt_solver.specs.declared.trail.Why.TheVariants.{Decided};

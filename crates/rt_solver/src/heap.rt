@@ -1,3 +1,6 @@
+//! The heap of variables by their counters. The counters and the order are private: no contract above
+//! rests on which variable comes first.
+
 ghost use Rattle.std.specs.Prelude.{◌≡◌, [], ◌<◌, ◌-◌, ◌++◌, true, false, length, replicate, slice_set, slice_index_or, OnOk, OnErr, MatchOption};
 ghost use Rattle.rt_solver.specs.Members.{IsEmpty};
 
@@ -79,6 +82,7 @@ impl Heap {
         self.order.place(var) < self.count
     }
 
+    /// Puts a variable in, unless it is there.
     pub fn put(&mut self, var: usize)
         requires { var < length self.old }
         ensures { self.new ≡ slice_set self.old var true }

@@ -1,4 +1,10 @@
-ghost use Rattle.std.specs.Prelude.{◌≡◌, ◌<◌, ◌≤◌, ◌+◌, true, length, MatchOption};
+//! Where the analysis of a conflict may end: at a marked literal that is the latest of its clause.
+//!
+//! An example, with the oldest step first: x1 decided, x2, x3 decided, x4, x5, and x2 and x5 are marked. At
+//! x5 the walk looks down over x4 to x3, a decision that is not marked. So x5 is the only marked literal
+//! since the newest decision, and two steps are below that decision: the answer is 2.
+
+ghost use Rattle.std.specs.Prelude.{◌≡◌, ◌<◌, ◌≤◌, length, MatchOption};
 ghost use Rattle.rt_solver.specs.declared.trail.Why.TheVariants.{Decided};
 ghost use Rattle.rt_solver.specs.Marking.{marked_by};
 ghost use Rattle.rt_solver.specs.Analysis.{IsLeadAt, IsUnder, IsUnled};
@@ -33,7 +39,7 @@ fn look(trail: &Trail, marks: &Marks, place: usize) -> Below
 }
 
 /// Where the literal of the step at a place is marked and may be the latest of a clause: how many
-/// steps are below the newest decision there. At `seen`, where that is below the place, stands a
+/// steps are below the newest decision there. At `seen`, where that is below the place, is a
 /// marked step or the oldest one.
 pub(crate) fn lead(
     trail: &Trail,

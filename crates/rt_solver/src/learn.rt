@@ -1,3 +1,5 @@
+//! Learning from a conflict: the clause is derived, put at the end of the lines and taken as a step.
+
 ghost use Rattle.std.specs.Prelude.{◌≡◌, [], ◌∷◌, ◌++◌, map, reverse, true, option_map, vec_items, IfSome, IfOk, IfErr};
 ghost use Rattle.std.specs.Option.{option_to_list};
 ghost use Rattle.rt_clause.specs.Literal.{negated};

@@ -1,3 +1,5 @@
+//! Marks on variables while a conflict is analyzed.
+
 ghost use Rattle.std.specs.Prelude.{◌≡◌, ℕ, List, ◌+◌, ◌-◌, ◌<◌, ◌≤◌, length, true, false, IfOk, OnOk, MatchOption};
 ghost use Rattle.rt_clause.specs.Literal.{Literal};
 ghost use Rattle.rt_clause.specs.Lists.{has};

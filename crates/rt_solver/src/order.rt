@@ -1,3 +1,5 @@
+//! The two orders of decisions.
+
 ghost use Rattle.std.specs.Prelude.{◌≡◌, ◌<◌, ◌≤◌, ◌^◌, true};
 ghost use Rattle.rt_solver.specs.declared.order.Order.TheVariants.{Fixed};
 

@@ -1,3 +1,6 @@
+//! Which variable is decided next. Contracts see which ones may be offered, never which comes first but
+//! in the fixed order.
+
 ghost use Rattle.std.specs.Prelude.{◌≡◌, ℕ, List, ◌∷◌, ◌<◌, ◌≤◌, length, true, None, IsTrue, ◌↔◌, OnOk, MatchOption};
 ghost use Rattle.rt_solver.specs.declared.trail.Step.{Step};
 ghost use Rattle.rt_solver.specs.Trail.{value_in};
@@ -11,7 +14,7 @@ use std::alloc::Global;
 use std::marker::Model;
 
 /// Which variable is decided next: of those below a bound the one that counts most, which a heap
-/// tells, and then the smallest of the others. No call but `begin` takes memory.
+/// finds, and then the smallest of the others. No call but `begin` takes memory.
 #[derive(Drop)]
 pub(crate) struct Pick {
     heap: Heap,

@@ -1,3 +1,5 @@
+//! The order of the heap's array, and the place of each variable in it.
+
 ghost use Rattle.std.specs.Prelude.{◌≡◌, ℕ, [], ◌<◌, ◌≤◌, ◌-◌, ◌++◌, false, length, map, replicate, slice_index_or, OnOk, OnErr};
 ghost use Rattle.rt_solver.specs.Members.{members};
 ghost use Rattle.rt_solver.specs.Places.{exchanged, IsOnlyPlace};

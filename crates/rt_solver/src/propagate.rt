@@ -1,9 +1,10 @@
+//! Unit propagation by two watched literals.
+
 ghost use Rattle.std.specs.Prelude.{◌≡◌, ℕ, ◌+◌, ◌<◌, ◌≤◌, [], length, MatchOption};
 ghost use Rattle.rt_clause.specs.Lists.{line_at};
 ghost use Rattle.rt_solver.specs.Trail.{lits, IsApart, oldest};
 ghost use Rattle.rt_solver.specs.Looking.{IsBelow, AreBelow};
 ghost use Rattle.rt_solver.specs.Same.{AreSame};
-ghost use Rattle.rt_solver.specs.Watching.{list_at};
 ghost use Rattle.rt_solver.specs.Propagating.{IsWatched, AreWatchedBefore, IsQueued, IsPropagated, AreListed, AreShort, IsConflict, IsTakenStep, IsShortAs};
 
 use crate::clause::Clause;
@@ -84,7 +85,7 @@ pub(crate) fn propagate(
     None
 }
 
-// Takes the literal of a clause of one literal as a step, unless it has a value, and tells whether
+// Takes the literal of a clause of one literal as a step, unless it has a value, and answers whether
 // the clause is empty, or of one literal that is false.
 fn is_broken(clause: &[Lit], trail: &mut Trail, number: usize) -> bool
     requires below { IsBelow trail.old.vars clause.now }

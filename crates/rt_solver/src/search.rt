@@ -1,3 +1,5 @@
+//! The loop of a search: propagate, learn from a conflict, decide. Its contract is `IsEnding`.
+
 ghost use Rattle.std.specs.Prelude.{◌≡◌, ℕ, ◌<◌, ◌≤◌, ◌^◌, List as Seq, [], ◌∷◌, ◌++◌, length, None, Some, IsSome, IfSome, IfOk, MatchOption, IsTrue, ◌↔◌};
 ghost use Rattle.rt_clause.specs.Literal.{Literal};
 ghost use Rattle.rt_solver.specs.Trail.{value_in, decisions};

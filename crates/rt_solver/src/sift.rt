@@ -1,3 +1,5 @@
+//! Moves of one variable within the heap.
+
 ghost use Rattle.std.specs.Prelude.{◌≡◌, ℕ, ◌<◌, ◌≤◌, ◌/◌, length};
 ghost use Rattle.rt_solver.specs.Members.{members};
 

@@ -1,3 +1,5 @@
+//! The public solver: lines are added, and `solve` searches over them.
+
 ghost use Rattle.std.specs.Prelude.{◌≡◌, ◌≤◌, ◌<◌, ◌^◌, ℕ, List as Seq, Bool, map, true, false, [], ◌∷◌, ◌++◌, length, max, drop, Some, IfSome, IfOk, IsErr, IsTrue, OnOk, OnErr};
 ghost use Rattle.std.specs.Option.{option_to_list};
 ghost use Rattle.rt_clause.specs.Literal.{Literal};
@@ -31,7 +33,7 @@ pub enum Found {
 const MOST_VARIABLES: usize = 1 << 62;
 
 /// A solver over lines that check what it derives. Contracts see the lines, and whether an earlier
-/// call answered want of memory.
+/// call ran out of memory.
 #[derive(Drop)]
 pub struct Solver<L: Lines + Drop> {
     base: Base<L>,
@@ -137,6 +139,7 @@ impl<L: Lines + Drop> Solver<L> {
         }
     }
 
+    /// The lines, given and derived, oldest first.
     pub fn lines(&self) -> &L
         ensures { result.now ≡ self.now.0 }
     {
@@ -186,6 +189,7 @@ impl<L: Lines + Drop> Adds for Solver<L> {
 
     ghost derived = { λ s. L.derived s.0 };
 
+    /// Adds a given clause at the end of the lines.
     fn add(&mut self, lits: &[Lit]) -> Result<(), NoMemory>
         ensures lines { OnOk result (L.lines self.new.0 ≡ L.lines self.old.0 ++ lits.now ∷ []) }
         ensures derived { OnOk result (L.derived self.new.0 ≡ L.derived self.old.0 ++ false ∷ []) }

@@ -1,3 +1,5 @@
+//! The trail: the literals that are true, and why each is.
+
 ghost use Rattle.std.specs.Prelude.{◌≡◌, ◌<◌, ◌≤◌, [], ◌∷◌, length, None, IfOk, IsTrue, MatchOption, ◌↔◌};
 ghost use Rattle.rt_solver.specs.declared.trail.Why.TheVariants.{Decided};
 
@@ -54,7 +56,7 @@ impl Model for Trail {
 }
 
 impl Trail {
-    ghost use Rattle.std.specs.Prelude.{◌≡◌, ℕ, [], ◌∷◌, ◌<◌, ◌≤◌, length, Some, None, IfOk, MatchOption};
+    ghost use Rattle.std.specs.Prelude.{◌≡◌, [], ◌∷◌, ◌<◌, ◌≤◌, length, Some, None, IfOk, MatchOption};
     ghost use Rattle.std.specs.Prelude.{◌+◌};
     ghost use Rattle.rt_clause.specs.Lists.{is_false};
     ghost use Rattle.rt_solver.specs.Trail.{value_in, IsApart, lits, oldest};

@@ -1,3 +1,5 @@
+//! What becomes of one watch whose literal is false.
+
 ghost use Rattle.std.specs.Prelude.{◌≡◌, ◌<◌, ◌≤◌, ◌-◌, true, length, Some, MatchOption};
 ghost use Rattle.rt_clause.specs.Literal.{Literal};
 ghost use Rattle.rt_clause.specs.Lists.{is_false, IsBelow};

@@ -1,3 +1,5 @@
+//! What an analysis collects on its way back over the trail.
+
 ghost use Rattle.std.specs.Prelude.{◌≡◌, [], ◌∷◌, ◌++◌, ◌-◌, ◌<◌, length, reverse, IfOk, OnOk};
 ghost use Rattle.rt_solver.specs.Analysis.{IsRested};
 

@@ -1,3 +1,5 @@
+//! The number of a watch, and the number of a literal's list.
+
 ghost use Rattle.std.specs.Prelude.{◌≡◌, ◌<◌, ◌≤◌, ◌+◌, ◌*◌, ◌/◌, ◌%◌, ◌^◌};
 ghost use Rattle.rt_solver.specs.Watching.{key};
 

@@ -1,4 +1,6 @@
-ghost use Rattle.std.specs.Prelude.{◌≡◌, ◌≢◌, ℕ, ◌<◌, ◌≤◌, [], ◌∷◌, length, true, false, None, MatchOption, OnOk};
+//! The lists of watches.
+
+ghost use Rattle.std.specs.Prelude.{◌≡◌, ◌≢◌, ℕ, ◌<◌, ◌≤◌, [], length, true, false, None, MatchOption, OnOk};
 ghost use Rattle.rt_solver.specs.Watching.{list_at, stands, IsJoined, IsTaken, slot};
 
 use crate::watch::Watch;
@@ -6,7 +8,7 @@ use rt_value::NoMemory;
 use std::alloc::Global;
 use std::marker::Model;
 
-/// Lists of watches, linked through an array: each watch stands in at most one list, and once. No
+/// Lists of watches, linked through an array: each watch is in at most one list, and once. No
 /// call but `grow` takes memory.
 #[derive(Drop)]
 pub(crate) struct Watches {
@@ -95,7 +97,7 @@ impl Watches {
         Some(watch)
     }
 
-    /// Puts a watch that stands nowhere at the head of a list.
+    /// Puts a watch that is in no list at the head of a list.
     pub(crate) fn join(&mut self, watch: Watch, to: usize)
         requires there { watch < self.old.count }
         requires within { to < length self.old.lists }

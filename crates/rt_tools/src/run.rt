@@ -2,11 +2,10 @@
 
 ghost use Rattle.std.specs.Prelude.{◌≡◌, ◌⊎◌, IfOk};
 ghost use Rattle.rt_io.specs.Edge.{NoneFell};
-ghost use Rattle.rt_io.specs.Logs.{Broke, Grew, GrewPartly, IsKept, NoSinkRose, WritesNothing, at_place, log, other_place};
+ghost use Rattle.rt_io.specs.Logs.{IsKept, NoSinkRose, WritesNothing, at_place, log, other_place};
 ghost use Rattle.rt_input.specs.Begun.{BeginsFor};
-ghost use Rattle.rt_input.specs.Reading.{Stop, call, limit_of};
+ghost use Rattle.rt_input.specs.Reading.{call};
 ghost use Rattle.rt_io.specs.Command.{command};
-ghost use Rattle.rt_tools.specs.RowVerdicts.{IsRowAnswer};
 ghost use Rattle.rt_tools.specs.Answers.{Ends, EndsBegun, EndsBroken, EndsWritten, IfNoMemory, IfText, IfWriteFault, SaysGrade, SaysRow, SaysVerdict, WritesTo};
 ghost use Rattle.rt_tools.specs.Begun.{Begins, GradesFor};
 ghost use Rattle.rt_tools.specs.GradeWords.{grade_words};

@@ -7,6 +7,7 @@ use std::alloc::{AllocError, Global};
 use std::fmt::Write;
 use std::process::Abort;
 
+mod after_least;
 mod checks;
 mod first;
 mod spent;

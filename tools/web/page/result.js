@@ -11,7 +11,7 @@ class Unreadable extends Error {}
 function outcomeOf(status, out, err, tables) {
   const none = { kind: "none", printed: out + err };
   if (status === STATUS.memory) return { kind: "memory" };
-  if (status === STATUS.refused) return refusalOf(err) ?? none;
+  if (status === STATUS.refused) return refusalOf(err, tables) ?? none;
   if (status === STATUS.limit) {
     const found = /^ratest: limit: ([^]+)$/.exec(err);
     return found ? { kind: "limit", fault: withoutLineEnd(found[1]) } : none;
@@ -27,12 +27,22 @@ function outcomeOf(status, out, err, tables) {
   }
 }
 
-function refusalOf(err) {
-  const found = /^ratest: (schema|query [12]|queries|table [^]+?): ([^]+)$/.exec(err);
-  if (!found) return null;
-  const fault = withoutLineEnd(found[2]);
+// A name in a refusal may hold anything, so known names are tried first, the longest first.
+function refusalOf(err, tables) {
+  const names = byLength(tables).map(({ name }) => `table ${name}`);
+  const start = "ratest: ";
+  if (!err.startsWith(start)) return null;
+  const rest = err.slice(start.length);
+  const part = ["schema", "query 1", "query 2", "queries", ...names].find((it) => rest.startsWith(`${it}: `)) ?? /^table [^]+?(?=: )/.exec(rest)?.[0];
+  if (part === undefined) return null;
+  const fault = withoutLineEnd(rest.slice(part.length + 2));
   const place = PLACE.exec(fault);
-  return { kind: "refused", part: found[1], fault, place: place ? Number(place[1]) : null };
+  return fault === "" ? null : { kind: "refused", part, fault, place: place ? Number(place[1]) : null };
+}
+
+// One table may be named `t` and another `t 1: 5`, so the longest name is tried first.
+function byLength(tables) {
+  return [...tables].sort((one, other) => other.name.length - one.name.length);
 }
 
 function withoutLineEnd(text) {
@@ -44,8 +54,7 @@ class Reader {
   constructor(text, tables) {
     this.text = text;
     this.at = 0;
-    // One table may be named `t` and another `t 1: 5`, so the longest name is tried first.
-    this.tables = [...tables].sort((one, other) => other.name.length - one.name.length);
+    this.tables = byLength(tables);
   }
 
   outcome() {

@@ -7,12 +7,12 @@ use Rattle.rt_annot.proofs.Layers.{side_is}
 use Rattle.rt_annot.proofs.Nodes.{where_below, any_standing}
 use Rattle.rt_annot.proofs.Walking.{along_push, next_selected, node_below, both_over, itself}
 use Rattle.rt_formula.specs.Shared.{Shared}
-use Rattle.rt_annot.specs.declared.gate.Gate.{Gate}
+use Rattle.rt_annot.specs.declared.gate.TruthNodes.{TruthNodes}
 use Rattle.rt_annot.specs.declared.sets.Side.{Side}
 use Rattle.rt_annot.specs.declared.sets.Side.TheVariants.{Standing, Missing}
 use Rattle.rt_annot.proofs.sets.sifted.Goals as goal
 
-side_below : (side : Side) {d : Shared} {g : Gate} {t : Test} {n : ℕ} → IsGate d g t → n ≡ side_node side g → n < length d.entries
+side_below : (side : Side) {d : Shared} {g : TruthNodes} {t : Test} {n : ℕ} → IsGate d g t → n ≡ side_node side g → n < length d.entries
 side_below Standing {d} i e = let P : ℕ → Type 0 = λ k. k < length d.entries in subst P (sym e) i.yes.below
 side_below Missing {d} i e = let P : ℕ → Type 0 = λ k. k < length d.entries in subst P (sym e) i.no.below
 

@@ -1,5 +1,5 @@
-use Rattle.std.proofs.Common.{◌≡◌, ◌<◌, ℕ, Bool, take, arith, ◌∙◌, sym, ap, refl, subst, Ok, Result, List, ◌++◌, append-nil, length, get_or}
-use Rattle.std.specs.Prelude.{Option, Some, IsOk, slice_get}
+use Rattle.std.proofs.Common.{◌≡◌, ◌<◌, ℕ, arith, ◌∙◌, sym, ap, refl, subst, Ok, Result, List, ◌++◌, append-nil, length, get_or}
+use Rattle.std.specs.Prelude.{Some, IsOk, slice_get}
 use Rattle.std.specs.Option.{option_map}
 use Rattle.std.proofs.lemmas.Option.{slice_get-get_or}
 use Rattle.std.proofs.lemmas.Result.{err_from_is_err_and}
@@ -9,9 +9,6 @@ use Rattle.rt_schema.proofs.GivenLemmas.{no_rows-places}
 use Rattle.rt_input.specs.declared.outcome.Outcome.{Outcome}
 use Rattle.rt_input.specs.declared.part.Part.TheVariants as part
 use Rattle.rt_input.specs.Judged.{IsTableReached, no_rows, table_judged, tables_judged}
-use Rattle.rt_input.specs.Held.{Holding}
-use Rattle.rt_input.specs.declared.source.Source.{Source}
-use Rattle.rt_input.specs.Source.{IsKnown}
 use Rattle.rt_io.proofs.AddLemmas.{all_then}
 use Rattle.rt_input.proofs.BegunLemmas.{files-from, files-more, reached-from, table_begun, when_err}
 use Rattle.rt_input.proofs.StepLemmas.{stops_on}
