@@ -179,7 +179,7 @@ def state(browser: Any) -> str:
 
 
 def wait(browser: Any, begins: str) -> None:
-    from selenium.webdriver.support.ui import WebDriverWait
+    from selenium.webdriver.support.wait import WebDriverWait
 
     WebDriverWait(browser, 60, 0.05).until(lambda it: state(it).startswith(begins))
 
