@@ -14,7 +14,7 @@ from typing import Any
 import pytest
 from asking import AMPLE, MEBIBYTE, Asking, Browser, Node, Unable
 from compare.draw import Limits
-from questions import ARGUMENTS, Question, Reply, native, of_seed, questions
+from questions import ARGUMENTS, Question, Reply, hard, native, of_seed, questions
 
 from ratest import draw, printed
 from ratest.places import place_of
@@ -173,6 +173,14 @@ def put(browser: Any, name: str, text: str) -> None:
     browser.execute_script("document.getElementById(arguments[0]).value = arguments[1]", name, text)
 
 
+def put_tables(browser: Any, rows: dict[str, str]) -> None:
+    """Of a page that has one empty table."""
+    for _ in range(len(rows) - 1):
+        browser.find_element("id", "add").click()
+    for field, text in zip(browser.find_elements("css selector", "#rows .name, #rows .rows"), (it for pair in rows.items() for it in pair), strict=True):
+        browser.execute_script("arguments[0].value = arguments[1]", field, text)
+
+
 def state(browser: Any) -> str:
     text: str = browser.find_element("id", "state").text
     return text
@@ -224,9 +232,7 @@ def picture(browser: Any) -> None:
 def test_rows_of_ones_own(opened: Any) -> None:
     choose(opened, "your own")
     put(opened, "schema", "CREATE TABLE t (a INTEGER); CREATE TABLE \"<b>\" (\"<i>\" TEXT);")
-    opened.find_element("id", "add").click()
-    for field, text in zip(opened.find_elements("css selector", "#rows .name, #rows .rows"), ("t", "a\n1\n2\n", "<b>", "<i>\n<img src=x onerror=alert(1)>\n")):
-        opened.execute_script("arguments[0].value = arguments[1]", field, text)
+    put_tables(opened, {"t": "a\n1\n2\n", "<b>": "<i>\n<img src=x onerror=alert(1)>\n"})
     put(opened, "reference", "SELECT \"<i>\" FROM \"<b>\"")
     assert ask(opened, "SELECT '</script><script>alert(2)</script>' FROM t") == ["differs on 1 row"]
     assert ask(opened, "SELECT x.\"<i>\" FROM \"<b>\" x WHERE x.\"<i>\" = 'a'") == ["differs on 1 row"]
@@ -238,11 +244,11 @@ def test_rows_of_ones_own(opened: Any) -> None:
 
 
 def test_stop(opened: Any) -> None:
-    choose(opened, "numbers")
-    rows = "".join(f"{at},{at}\n" for at in range(60))
-    opened.execute_script("arguments[0].value = arguments[1]", opened.find_element("css selector", ".rows"), f"a,b\n{rows}")
-    sources = ", ".join(f"t t{at}" for at in range(4))
-    put(opened, "query", f"SELECT t0.a FROM {sources} WHERE t0.a + t1.a * t2.a - t3.a * t3.b <> t1.b + t2.b * t0.b")
+    texts_of = {name: text.decode() for name, text in hard().files.items()}
+    choose(opened, "your own")
+    put_tables(opened, {"e": texts_of["data/e.csv"], "v": texts_of["data/v.csv"]})
+    for name, text in (("schema", "schema.sql"), ("reference", "1.sql"), ("query", "2.sql")):
+        put(opened, name, texts_of[text])
     opened.find_element("id", "ask").click()
     wait(opened, "Looks for")
     assert not opened.find_element("id", "ask").is_enabled()
