@@ -30,7 +30,7 @@ LARGE = Question(("made", "400"), {})
 @pytest.fixture
 def opened(browser: Any, page: Path) -> Any:
     browser.execute_cdp_cmd("Emulation.setDeviceMetricsOverride", {
-        "width": 1000, "height": 1200, "deviceScaleFactor": 1, "mobile": False})
+        "width": 1000, "height": 980, "deviceScaleFactor": 1, "mobile": False})
     browser.get(page.as_uri())
     browser.get_log("browser")
     return browser
