@@ -1,0 +1,63 @@
+ghost use Rattle.std.specs.Prelude.{◌≡◌, ◌<◌, ◌≤◌, ◌^◌, true, None, Some, IfSome};
+ghost use Rattle.rt_clause.specs.Lists.{has};
+ghost use Rattle.rt_solver.specs.declared.order.Order.TheVariants.{Fixed};
+ghost use Rattle.rt_solver.specs.Trail.{lits};
+ghost use Rattle.rt_solver.specs.Picking.{IsOffered};
+ghost use Rattle.rt_solver.specs.Seeking.{IsNext};
+
+use crate::order::Order;
+use crate::pick::Pick;
+use crate::trail::Trail;
+use rt_clause::Lit;
+
+/// What comes after propagation: each variable has a value, the question is false, or a literal
+/// is decided.
+#[derive(Clone, Copy)]
+pub enum Next {
+    Whole,
+    Missed,
+    Decide(Lit),
+}
+
+// What comes next where no question is open.
+fn picked(order: Order, first: usize, pick: &mut Pick, trail: &Trail) -> Next
+    requires few { trail.now.vars ≤ 2 ^ 62 }
+    requires offered { IsOffered pick.old trail.now.steps }
+    requires bound { pick.old.bound ≤ first }
+    requires fixed { order ≡ Fixed → pick.old.bound ≡ 0 }
+    ensures bound { pick.new.bound ≡ pick.old.bound }
+    ensures next { IsNext pick.new trail.now.vars first order None trail.now.steps result }
+{
+    match pick.pick(trail) {
+        None => Next::Whole,
+        Some(v) => Next::Decide(order.decision(v)),
+    }
+}
+
+/// What comes next: the question before all else, as long as it is open.
+pub(crate) fn choose(
+    order: Order,
+    first: usize,
+    question: &Option<Lit>,
+    pick: &mut Pick,
+    trail: &Trail,
+) -> Next
+    requires few { trail.now.vars ≤ 2 ^ 62 }
+    requires first { first ≤ trail.now.vars }
+    requires asked { IfSome question.now (λ a. a.var < first) }
+    requires offered { IsOffered pick.old trail.now.steps }
+    requires bound { pick.old.bound ≤ first }
+    requires fixed { order ≡ Fixed → pick.old.bound ≡ 0 }
+    requires free { order ≡ Fixed → question.now ≡ None }
+    ensures bound { pick.new.bound ≡ pick.old.bound }
+    ensures next { IsNext pick.new trail.now.vars first order question.now trail.now.steps result }
+{
+    match question {
+        None => picked(order, first, pick, trail),
+        Some(asked) => match trail.is(*asked) {
+            None => Next::Decide(*asked),
+            Some(false) => Next::Missed,
+            Some(true) => picked(order, first, pick, trail),
+        },
+    }
+}
