@@ -5,7 +5,7 @@ use Rattle.rt_value.specs.Keep.{size}
 use Rattle.rt_clause.specs.Literal.{Literal}
 use Rattle.rt_clause.specs.Lists.{line_at, IsBelow}
 use Rattle.rt_clause.specs.Models.{IsModel}
-use Rattle.rt_solver.specs.Seeking.{HasNone}
+use Rattle.rt_solver.specs.Answers.{HasNone}
 use Rattle.rt_clause.specs.Gates.{gate}
 use Rattle.rt_clause.proofs.Literals.{has-cases}
 use Rattle.rt_clause.proofs.Extending.{extends-gate, model-older}

@@ -5,7 +5,7 @@ use Rattle.rt_clause.specs.Models.{lit_true}
 use Rattle.rt_formula.specs.Shared.{Shared}
 use Rattle.rt_solver.specs.Solving.{variables, HasSearched}
 use Rattle.rt_solver.specs.Answers.{IsFound, IsModelled}
-use Rattle.rt_solver.specs.Seeking.{IsReply}
+use Rattle.rt_solver.specs.Answers.{IsReply}
 use Rattle.rt_solver.specs.declared.solver.Found.{Found}
 use Rattle.rt_solver.specs.declared.solver.Found.TheVariants.{Model, Refuted, Spent}
 use Rattle.rt_search.specs.Aimed.{IsAimed}

@@ -8,7 +8,7 @@ use Rattle.rt_clause.specs.Gates.{gate, AgreeBelow}
 use Rattle.rt_clause.proofs.Bools.{bool-cases, and-both}
 use Rattle.rt_clause.proofs.Extending.{gate-means, model-older}
 use Rattle.rt_formula.specs.Shared.{Shared}
-use Rattle.rt_solver.specs.Seeking.{HasNone}
+use Rattle.rt_solver.specs.Answers.{HasNone}
 use Rattle.rt_totalizer.specs.Cells.{kept_below}
 use Rattle.rt_totalizer.specs.Outputs.{CountsFirst, first_at}
 use Rattle.rt_totalizer.proofs.Totals.{kept-agrees, kept-size}

@@ -12,7 +12,7 @@ use Rattle.rt_clause.proofs.Following.{lit_true-negated}
 use Rattle.rt_clause.proofs.Literals.{has-append_cases, has-append_left, has-append_right, has-cases, has-head}
 use Rattle.rt_clause.proofs.Extending.{extends-gate, gate-means, model-older}
 use Rattle.rt_formula.specs.Shared.{Shared}
-use Rattle.rt_solver.specs.Seeking.{HasNone}
+use Rattle.rt_solver.specs.Answers.{HasNone}
 use Rattle.rt_search.specs.Aimed.{IsAimed}
 use Rattle.rt_search.specs.Alone.{AllowsFew, AreKept, IsLonger, IsOnly, IsOther}
 use Rattle.rt_search.specs.Attempts.{IsAnswered, IsGrown}

@@ -6,7 +6,7 @@ use Rattle.rt_clause.specs.Models.{lit_true}
 use Rattle.rt_clause.proofs.Bools.{bool-cases}
 use Rattle.rt_formula.specs.Shared.{Shared}
 use Rattle.rt_totalizer.specs.declared.counter.Outputs.{Outputs}
-use Rattle.rt_solver.specs.Seeking.{HasNone}
+use Rattle.rt_solver.specs.Answers.{HasNone}
 use Rattle.rt_search.specs.Aimed.{IsAimed, IsCounted, IsUnderWay, fewer_than}
 use Rattle.rt_search.specs.Alone.{AllowsFew}
 use Rattle.rt_search.specs.Attempts.{IsAnswered}

@@ -7,7 +7,7 @@ use Rattle.rt_formula.specs.Shared.{Shared}
 use Rattle.rt_solver.specs.Search.{KeepsModels}
 use Rattle.rt_solver.specs.Solving.{variables, IsSpent}
 use Rattle.rt_solver.specs.Answers.{IsModelled}
-use Rattle.rt_solver.specs.Seeking.{HasNone}
+use Rattle.rt_solver.specs.Answers.{HasNone}
 use Rattle.rt_solver.specs.declared.solver.Found.{Found}
 use Rattle.rt_solver.specs.declared.solver.Found.TheVariants.{Model, Refuted, Spent}
 use Rattle.rt_search.specs.Aimed.{IsAimed}

@@ -9,13 +9,14 @@ use Rattle.rt_solver.specs.declared.trail.Step.{Step}
 use Rattle.rt_solver.specs.declared.trail.Why.{Why}
 use Rattle.rt_solver.specs.declared.trail.Why.TheVariants.{Line, Decided, Assumed}
 use Rattle.rt_solver.specs.declared.order.Order.{Order}
-use Rattle.rt_solver.specs.declared.order.Order.TheVariants.{Fixed}
+use Rattle.rt_solver.specs.declared.order.Order.TheVariants.{Free, Fixed}
 use Rattle.rt_solver.specs.declared.next.Next.{Next}
 use Rattle.rt_solver.specs.declared.next.Next.TheVariants.{Whole, Missed, Decide}
 use Rattle.rt_solver.specs.Picking.{Picking, IsOffered}
 use Rattle.rt_solver.specs.Trail.{lits, value_in, IsApart, IsFounded, IfDecided, decisions, decided_by}
 use Rattle.rt_solver.specs.Propagating.{AreForced, IsPropagated}
-use Rattle.rt_solver.specs.Seeking.{IsLed, IsDenied, IsChosen, IsNext, HasNone}
+use Rattle.rt_solver.specs.Seeking.{IsLed, IsDenied, IsChosen, IsNext}
+use Rattle.rt_solver.specs.Answers.{HasNone}
 use Rattle.rt_solver.proofs.FreshLaws.{consistent}
 use Rattle.rt_solver.proofs.Picks.{offered-more}
 use Rattle.rt_solver.proofs.Ordered.{AllTrue, forced, all-more, not-both, true-among}
@@ -133,18 +134,24 @@ refuted-none lines assume x r bools m a h = by assume a r.2 (true-among bools (l
   ])
 
 -- what comes next where no question is open, with a question that is true
-pub next-asked : (picking : Picking) (vars first : ℕ) (order : Order) (a : Literal) (steps : List Step) (n : Next) → IsNext picking vars first order None steps n → has (lits steps) a ≡ true → IsNext picking vars first order (Some a) steps n
-next-asked picking vars first order a steps Whole h t = (h.0, t)
-next-asked picking vars first order a steps Missed h t = absurd h
-next-asked picking vars first order a steps (Decide lit) h t = record { within = h.within; unset = h.unset; smallest = h.smallest; fixed = h.fixed; offered = h.offered; led = inr t }
+pub next-asked : (picking : Picking) (vars : ℕ) (order : Order) (a : Literal) (steps : List Step) (n : Next) → IsNext picking vars order None steps n → has (lits steps) a ≡ true → IsNext picking vars order (Some a) steps n
+next-asked picking vars order a steps Whole h t = (h.0, t)
+next-asked picking vars order a steps Missed h t = absurd h
+next-asked picking vars order a steps (Decide lit) h t = record { within = h.within; unset = h.unset; smallest = h.smallest; fixed = h.fixed; offered = h.offered; led = inr t }
 
 -- an open question may be decided next
-pub chosen-asked : (picking : Picking) (vars first : ℕ) (order : Order) (a : Literal) (steps : List Step) → first ≤ vars → a.var < first → value_in steps a.var ≡ None → IsOffered picking steps → (order ≡ Fixed → Some a ≡ None) → IsChosen picking vars first order (Some a) steps a
-chosen-asked picking vars first order a steps f l u o n = record {
+pub chosen-asked : (picking : Picking) (vars : ℕ) (order : Order) (a : Literal) (steps : List Step) → picking.bound ≤ vars → a.var < picking.bound → value_in steps a.var ≡ None → IsOffered picking steps → (order ≡ Fixed → picking.bound ≡ 0) → IsChosen picking vars order (Some a) steps a
+chosen-asked picking vars order a steps f l u o n = record {
   within = omega (arith, f, l);
   unset = u;
   smallest = λ z. absurd (omega (arith, l, z));
-  fixed = λ z. absurd (let e = n z in cc);
+  fixed = λ z. absurd (let e = n z in omega (arith, l, e));
   offered = λ s q. offered-more picking (s ∷ []) steps o;
   led = inl refl;
 }
+
+-- the question is one of the variables that the heap offers
+pub asked-bound : (order : Order) (o : Option Literal) (first bound : ℕ) → (order ≡ Free → bound ≡ first) → (order ≡ Fixed → o ≡ None) → IfSome o (λ a. a.var < first) → IfSome o (λ a. a.var < bound)
+asked-bound Free None first bound f n h = tt
+asked-bound Free (Some a) first bound f n h = (let e = f refl in omega (arith, e, h))
+asked-bound Fixed o first bound f n h = (let P : Option Literal → Type 0 = λ q. IfSome q (λ a. a.var < bound) in subst P (sym (n refl)) tt)

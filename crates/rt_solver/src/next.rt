@@ -1,7 +1,5 @@
-ghost use Rattle.std.specs.Prelude.{◌≡◌, ◌<◌, ◌≤◌, ◌^◌, true, None, Some, IfSome};
-ghost use Rattle.rt_clause.specs.Lists.{has};
+ghost use Rattle.std.specs.Prelude.{◌≡◌, ◌<◌, ◌≤◌, ◌^◌, None, IfSome};
 ghost use Rattle.rt_solver.specs.declared.order.Order.TheVariants.{Fixed};
-ghost use Rattle.rt_solver.specs.Trail.{lits};
 ghost use Rattle.rt_solver.specs.Picking.{IsOffered};
 ghost use Rattle.rt_solver.specs.Seeking.{IsNext};
 
@@ -20,13 +18,12 @@ pub enum Next {
 }
 
 // What comes next where no question is open.
-fn picked(order: Order, first: usize, pick: &mut Pick, trail: &Trail) -> Next
+fn picked(order: Order, pick: &mut Pick, trail: &Trail) -> Next
     requires few { trail.now.vars ≤ 2 ^ 62 }
+    requires bound { pick.old.bound ≤ trail.now.vars }
     requires offered { IsOffered pick.old trail.now.steps }
-    requires bound { pick.old.bound ≤ first }
-    requires fixed { order ≡ Fixed → pick.old.bound ≡ 0 }
     ensures bound { pick.new.bound ≡ pick.old.bound }
-    ensures next { IsNext pick.new trail.now.vars first order None trail.now.steps result }
+    ensures next { IsNext pick.new trail.now.vars order None trail.now.steps result }
 {
     match pick.pick(trail) {
         None => Next::Whole,
@@ -37,27 +34,24 @@ fn picked(order: Order, first: usize, pick: &mut Pick, trail: &Trail) -> Next
 /// What comes next: the question before all else, as long as it is open.
 pub(crate) fn choose(
     order: Order,
-    first: usize,
     question: &Option<Lit>,
     pick: &mut Pick,
     trail: &Trail,
 ) -> Next
     requires few { trail.now.vars ≤ 2 ^ 62 }
-    requires first { first ≤ trail.now.vars }
-    requires asked { IfSome question.now (λ a. a.var < first) }
+    requires bound { pick.old.bound ≤ trail.now.vars }
+    requires asked { IfSome question.now (λ a. a.var < pick.old.bound) }
     requires offered { IsOffered pick.old trail.now.steps }
-    requires bound { pick.old.bound ≤ first }
     requires fixed { order ≡ Fixed → pick.old.bound ≡ 0 }
-    requires free { order ≡ Fixed → question.now ≡ None }
     ensures bound { pick.new.bound ≡ pick.old.bound }
-    ensures next { IsNext pick.new trail.now.vars first order question.now trail.now.steps result }
+    ensures next { IsNext pick.new trail.now.vars order question.now trail.now.steps result }
 {
     match question {
-        None => picked(order, first, pick, trail),
+        None => picked(order, pick, trail),
         Some(asked) => match trail.is(*asked) {
             None => Next::Decide(*asked),
             Some(false) => Next::Missed,
-            Some(true) => picked(order, first, pick, trail),
+            Some(true) => picked(order, pick, trail),
         },
     }
 }

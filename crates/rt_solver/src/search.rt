@@ -5,8 +5,7 @@ ghost use Rattle.rt_solver.specs.declared.order.Order.TheVariants.{Fixed};
 ghost use Rattle.rt_solver.specs.Fixed.{IfFixed, AreSmallest};
 ghost use Rattle.rt_solver.specs.Picking.{IsOffered};
 ghost use Rattle.rt_solver.specs.Search.{line_of, IsReady};
-ghost use Rattle.rt_solver.specs.Seeking.{IsSettled};
-ghost use Rattle.rt_solver.specs.Solving.{HasSearched, IsEnding, IsUnspentEnding};
+ghost use Rattle.rt_solver.specs.Solving.{HasSearched, IsEnding, IsSettled, IsUnspentEnding};
 
 use crate::base::Base;
 use crate::learn::learn;
@@ -87,8 +86,7 @@ pub(crate) fn run<L: Lines + Drop>(
     requires bound { pick.old.bound ≤ first }
     requires fixed { order ≡ Fixed → pick.old.bound ≡ 0 }
     requires offered { IsOffered pick.old trail.old.steps }
-    requires asked { IfSome question.now (λ a. a.var < first) }
-    requires free { order ≡ Fixed → question.now ≡ None }
+    requires asked { IfSome question.now (λ a. a.var < pick.old.bound) }
     ensures vars { trail.new.vars ≡ trail.old.vars }
     ensures ending { IfOk result (λ ending. IsEnding (L.lines base.old.0) (L.lines base.new.0) assume.now first trail.new budget ending) }
     ensures settled { IfOk result (IsSettled question.now trail.new.steps) }
@@ -115,7 +113,7 @@ pub(crate) fn run<L: Lines + Drop>(
                     conflict = base.propagate(trail, from);
                 }
             },
-            None => match choose(order, first, question, pick, trail) {
+            None => match choose(order, question, pick, trail) {
                 Next::Whole => return Ok(Ending::Whole),
                 Next::Missed => return Ok(Ending::Missed),
                 Next::Decide(lit) => {

@@ -7,8 +7,7 @@ ghost use Rattle.rt_solver.specs.Search.{line_of, HasValues};
 ghost use Rattle.rt_solver.specs.Solving.{reach, width, variables, HasSearched};
 ghost use Rattle.rt_solver.specs.State.{has_failed};
 ghost use Rattle.rt_solver.specs.Fixed.{IsInOrder};
-ghost use Rattle.rt_solver.specs.Answers.{Reads, IsFound, IsUnspent, IsBegun};
-ghost use Rattle.rt_solver.specs.Seeking.{IsReplied, IsReply};
+ghost use Rattle.rt_solver.specs.Answers.{Reads, IsFound, IsUnspent, IsBegun, IsReplied, IsReply};
 ghost use Rattle.rt_solver.specs.declared.order.Order.TheVariants.{Fixed};
 
 use crate::base::Base;

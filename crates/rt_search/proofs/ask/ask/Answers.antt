@@ -1,5 +1,5 @@
 use Rattle.std.proofs.Common.{List, Bool, Option, Some, subst, arith}
-use Rattle.rt_solver.specs.Seeking.{IsReply}
+use Rattle.rt_solver.specs.Answers.{IsReply}
 use Rattle.rt_solver.specs.Solving.{variables}
 use Rattle.rt_search.proofs.Attempts.{grown-on, reply-model}
 use Rattle.rt_search.proofs.ask.ask.Goals as goal

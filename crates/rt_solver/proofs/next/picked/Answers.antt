@@ -9,12 +9,11 @@ pub returns-in-Some-clause-next : goal.returns-in-Some-clause-next
 returns-in-Some-clause-next c =
     let o = c.in-Some.ensures.picked in
     let e = c.decision.ensures.var in
-    let q = c.pick.ensures.bound in
     record {
       within = (let b = o.within in omega (arith, e, b));
       unset = ap (value_in c.args.trail.now.steps) e ∙ o.unset;
-      smallest = λ z w l. o.smallest (let b = c.requires.bound in omega (arith, q, b, e, z)) w (omega (arith, e, l));
-      fixed = λ f. (c.decision.ensures.fixed f, λ w l. o.smallest (let b = c.requires.fixed f in omega (arith, b, q)) w (omega (arith, l, e)));
+      smallest = λ z w l. o.smallest (omega (arith, e, z)) w (omega (arith, e, l));
+      fixed = c.decision.ensures.fixed;
       offered = λ s h. o.offered s (h ∙ e);
       led = tt;
     }

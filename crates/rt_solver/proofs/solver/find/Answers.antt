@@ -4,14 +4,13 @@ use Rattle.rt_solver.proofs.Widths.{reach-least, assumed-below}
 use Rattle.std.specs.Option.{option_to_list}
 use Rattle.rt_solver.specs.declared.solver.Found.{Found}
 use Rattle.rt_solver.specs.declared.search.Ending.{Ending}
-use Rattle.rt_solver.specs.Answers.{IsFound, IsUnspent}
-use Rattle.rt_solver.specs.Solving.{reach, variables, HasSearched, IsEnding, IsUnspentEnding}
+use Rattle.rt_solver.specs.Answers.{IsFound, IsUnspent, IsReplied}
+use Rattle.rt_solver.specs.Solving.{reach, variables, HasSearched, IsEnding, IsSettled, IsUnspentEnding}
 use Rattle.rt_solver.proofs.Founds.{searched-none, begun-ready, modelled, refuted, spent-found}
 use Rattle.rt_solver.proofs.solver.find.Goals.{in-Whole+in_ok-values-in-Whole, in-Refuted, in-Spent, in-Missed}
 use Rattle.rt_solver.specs.Fixed.{AreSmallest, IsInOrder}
 use Rattle.rt_solver.proofs.Ordered.{greatest, if-fixed, read-true}
-use Rattle.rt_solver.specs.Seeking.{IsReplied, IsSettled}
-use Rattle.rt_solver.proofs.Seeks.{if-some, denied-none}
+use Rattle.rt_solver.proofs.Seeks.{if-some, asked-bound, denied-none}
 use Rattle.rt_solver.proofs.solver.find.Goals as goal
 
 pub returns-then-vars-gt-MOST_VARIABLES-clause-searched : goal.returns-then-vars-gt-MOST_VARIABLES-clause-searched
@@ -120,3 +119,8 @@ pub values-requires : goal.values-requires
 values-requires g c =
     let E : Ending → Type 0 = λ e. IsEnding (g.L.Adds.lines c.args.base.now.0) (g.L.Adds.lines c.run.new.base.0) c.args.assume.now c.args.first c.run.new.trail c.args.budget e in
     (subst E c.in-Whole.is c.in_ok-run.ensures.ending).1.decided
+
+pub run-requires-clause-asked : goal.run-requires-clause-asked
+run-requires-clause-asked g c =
+    let q = c.in_ok-begin.ensures.bound in
+    asked-bound c.args.order c.args.question.now c.args.first _ (λ f. q ∙ c.bound.ensures.free f) c.requires.free c.requires.asked
