@@ -4,6 +4,7 @@ use Rattle.rt_clause.specs.Literal.{Literal, negated}
 use Rattle.rt_clause.specs.Lists.{has, is_false, line_at}
 use Rattle.rt_clause.specs.Models.{lit_true, clause_true, IsModel}
 use Rattle.rt_clause.specs.Refuting.{Refutes, IsRefuted}
+use Rattle.rt_clause.proofs.Bools.{bool-cases}
 use Rattle.rt_clause.proofs.Literals.{has-head, has-tail, has-cases, negated-twice}
 use Rattle.rt_solver.specs.declared.trail.Step.{Step}
 use Rattle.rt_solver.specs.declared.trail.Why.{Why}
@@ -72,15 +73,11 @@ led-undecided a (s ∷ t) e = by s.why e (led-undecided a t) where
 led-none : (a : Literal) (t : List Step) → IsLed a t → has (lits t) a ≡ false → decisions t ≡ []
 led-none a [] h n = refl
 led-none a (s ∷ t) h n = by s.why h.0 (led-none a t h.1 older) where
-  older : has (lits t) a ≡ false
-  older = elim (bool-of (has (lits t) a)) [ inl y ↦ absurd (clash (has-tail s.lit a (lits t) y) n) | inr z ↦ z ]
-
   clash : {b : Bool} → b ≡ true → b ≡ false → ⊥
   clash p q = cc
 
-  bool-of : (b : Bool) → (b ≡ true) ⊎ (b ≡ false)
-  bool-of true = inl refl
-  bool-of false = inr refl
+  older : has (lits t) a ≡ false
+  older = elim (bool-cases (has (lits t) a)) [ inl y ↦ absurd (clash (has-tail s.lit a (lits t) y) n) | inr z ↦ z ]
 
   by : (w : Why) → IfDecided w ((s.lit ≡ a) ⊎ (has (lits t) a ≡ true)) → decisions t ≡ [] → decided_by w s.lit (decisions t) ≡ []
   by (Line r) d e = e
@@ -102,20 +99,14 @@ denied m (Some a) t p l h = denied-at m a t p l h
 -- where nothing is decided, what is on the trail is true in each model
 undecided-true : (lines : List (List Literal)) (assume : Option Literal) (bools : List Bool) (t : List Step) → IsFounded lines assume t → decisions t ≡ [] → IsModel lines bools → IfSome assume (λ a. lit_true bools a ≡ true) → AllTrue bools t
 undecided-true lines assume bools [] f e m a = λ l g. absurd (cc)
-undecided-true lines assume bools (s ∷ t) f e m a = by s.why refl where
-  by : (w : Why) → s.why ≡ w → AllTrue bools (s ∷ t)
-  by w q = each w q (let P : Why → Type 0 = λ x. decided_by x s.lit (decisions t) ≡ [] in subst P q e)
-
-  rest : decisions t ≡ [] → AllTrue bools t
-  rest d = undecided-true lines assume bools t f.1 d m a
-
+undecided-true lines assume bools (s ∷ t) f e m a = each s.why refl e (λ d. undecided-true lines assume bools t f.1 d m a) where
   more : AllTrue bools t → (s.why ≡ Decided → ⊥) → AllTrue bools (s ∷ t)
   more all n = all-more bools s t (forced lines assume bools t s.lit s.why f.0 m a all (λ d. absurd (n d))) all
 
-  each : (w : Why) → s.why ≡ w → decided_by w s.lit (decisions t) ≡ [] → AllTrue bools (s ∷ t)
-  each (Line r) q d = more (rest d) (λ c. cc)
-  each Assumed q d = more (rest d) (λ c. cc)
-  each Decided q d = absurd (cc)
+  each : (w : Why) → s.why ≡ w → decided_by w s.lit (decisions t) ≡ [] → (decisions t ≡ [] → AllTrue bools t) → AllTrue bools (s ∷ t)
+  each (Line r) q d rest = more (rest d) (λ c. cc)
+  each Assumed q d rest = more (rest d) (λ c. cc)
+  each Decided q d rest = absurd (cc)
 
 -- so no model makes the question true
 pub denied-none : (lines : List (List Literal)) (assume o : Option Literal) (t : List Step) → IsFounded lines assume t → IsSomeAnd o (IsDenied t) → IsSomeAnd o (HasNone lines assume)
