@@ -1,8 +1,4 @@
-<<<<<<< HEAD
-use Rattle.std.proofs.Common.{◌≡◌, ◌≤◌, ◌∙◌, ℕ, refl, sym, ap, subst, max, arith}
-=======
 use Rattle.std.proofs.Common.{◌≡◌, ◌≤◌, ◌∙◌, ℕ, refl, sym, ap, subst, List, Option, IfSome, max, arith}
->>>>>>> ed439227c093cf99cfc8e126b3e49cf28d74f331
 use Rattle.std.proofs.Math.Nat.{le-max_left}
 use Rattle.rt_solver.proofs.Widths.{reach-least, assumed-below}
 use Rattle.std.specs.Option.{option_to_list}
