@@ -37,3 +37,12 @@ def ratest() -> Path:
 def ratest_plus() -> Path:
     """The program ratest_plus: $RATEST_PLUS, else the proved one."""
     return proved("ratest_plus", "RATEST_PLUS")
+
+
+@pytest.fixture(scope="session")
+def archive() -> Path:
+    """The static library of C: $RATEST_ARCHIVE, else the proved one."""
+    path = Path(os.environ.get("RATEST_ARCHIVE") or TOP / "crates/ratest_c/out/libratest_c.a")
+    if not path.is_file():
+        pytest.skip("ratest_c is not proved and built: tools/library")
+    return path

@@ -21,7 +21,7 @@ pytest.importorskip("flask")
 pytest.importorskip("waitress")
 
 from classroom.server.kept import Kept  # noqa: E402
-from classroom.server.places import place_of  # noqa: E402
+from ratest.places import place_of  # noqa: E402
 from classroom.server.visitors import HOUR, SHARING, Visitors  # noqa: E402
 from classroom.server.waiting import Busy, Places  # noqa: E402
 

@@ -3,8 +3,6 @@ refusal comes before the first file is written.
 """
 from __future__ import annotations
 
-import csv
-import io
 from collections.abc import Iterator, Sequence
 from pathlib import Path
 
@@ -12,6 +10,7 @@ from classroom.database.model import Cell, Foreign, Source, Table
 from classroom.fault import Fault, shown
 from classroom.results import write
 from classroom.schema import spelled
+from ratest.tables import csv_line
 
 # The limits of `ratest`.
 MOST_ROWS = 2000
@@ -232,10 +231,3 @@ def csv_text(table: Table) -> str:
     text = "".join(map(csv_line, lines))
     # One mark of byte order is dropped at the start of a file.
     return f"\ufeff{text}" if text.startswith("\ufeff") else text
-
-
-def csv_line(cells: Sequence[Cell]) -> str:
-    text = io.StringIO(newline="")
-    # What stands in the line's end is quoted, a lone CR too.
-    csv.writer(text, lineterminator="\r\n").writerow(cells)
-    return text.getvalue().removesuffix("\r\n") + "\n"

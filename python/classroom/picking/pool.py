@@ -5,7 +5,7 @@ from collections.abc import Collection, Iterable, Sequence
 from dataclasses import dataclass, field
 from typing import NamedTuple, Union
 
-from classroom.database.export import csv_line
+from ratest.tables import csv_line
 from classroom.schema import Table
 from classroom.witness import Kept
 

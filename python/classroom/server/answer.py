@@ -7,7 +7,7 @@ from dataclasses import dataclass
 from classroom import draw, witness
 from classroom.draw import Drawing, counted
 from classroom.schema import Table
-from classroom.server.places import Place, place_of
+from ratest.places import Place, place_of
 from classroom.witness import Outcome
 
 REST = "No more counterexamples are shown to you within this hour."

@@ -1,0 +1,9 @@
+use rt_io::SureSink;
+
+/// What a command ends with: its status, and what it wrote.
+#[derive(Drop)]
+pub(crate) struct Told {
+    pub(crate) status: u8,
+    pub(crate) out: SureSink,
+    pub(crate) err: SureSink,
+}

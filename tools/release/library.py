@@ -1,0 +1,81 @@
+"""The library for C: a shared object and a static library that needs nothing else, of the proved archive."""
+from __future__ import annotations
+
+import os
+import shutil
+import subprocess
+import tempfile
+from pathlib import Path
+
+from launcher.sources import Program
+from release.files import Refused, copy
+
+CRATE = "ratest_c"
+SHARED, STATIC, HEADER = "libratest.so", "libratest.a", "ratest.h"
+SECONDS = 120
+
+
+def archive(top: Path) -> Path:
+    """Where `rt lib` leaves the proved archive."""
+    return top / "crates" / CRATE / "out" / f"lib{CRATE}.a"
+
+
+def is_built(top: Path) -> bool:
+    """Whether the proved archive is there and no source is newer."""
+    try:
+        made = archive(top).stat().st_mtime_ns
+        return all(os.stat(it).st_mtime_ns <= made for it in Program(str(top), CRATE, "").sources())
+    except OSError:
+        return False
+
+
+def build(top: Path) -> None:
+    """Proves and builds the archive."""
+    if not shutil.which("rt"):
+        raise Refused("there is no command rt on the PATH; README.md says where it comes from")
+    subprocess.run(["rt", "lib"], cwd=top / "crates" / CRATE, stdin=subprocess.DEVNULL, stdout=subprocess.DEVNULL, check=True)
+
+
+def heap() -> Path:
+    """The toolchain's archive by which a program's malloc, realloc and free are called."""
+    ran = subprocess.run(["rt", "doc"], capture_output=True, text=True, timeout=SECONDS, check=True)
+    path = Path(ran.stdout.strip()).parent / "c/liblibc_c.a"
+    if not path.is_file():
+        raise Refused(f"the toolchain has no {path}")
+    return path
+
+
+def make(top: Path, to: Path) -> list[Path]:
+    """Writes the header and both libraries into the folder; gives their paths."""
+    if not is_built(top):
+        raise Refused(f"{CRATE} is not proved and built here: tools/library")
+    for tool in ("cc", "ar"):
+        if not shutil.which(tool):
+            raise Refused(f"there is no program {tool}: apt-get install gcc binutils")
+    with tempfile.TemporaryDirectory() as folder:
+        made = Path(folder)
+        copy(top / "c" / HEADER, made / HEADER)
+        join(made, made / STATIC, [archive(top), heap()])
+        link(top / "c/libratest.map", made / STATIC, made / SHARED)
+        to.mkdir(parents=True, exist_ok=True)
+        for name in (HEADER, STATIC, SHARED):
+            copy(made / name, to / name)
+    return [to / name for name in (HEADER, STATIC, SHARED)]
+
+
+def join(work: Path, path: Path, archives: list[Path]) -> None:
+    """One archive of several, the same bytes each time."""
+    members = []
+    for number, it in enumerate(archives):
+        place = work / str(number)
+        place.mkdir()
+        subprocess.run(["ar", "x", it.resolve()], cwd=place, timeout=SECONDS, check=True)
+        members += sorted(place.iterdir())
+    subprocess.run(["ar", "rcsD", path, *members], timeout=SECONDS, check=True)
+
+
+def link(exported: Path, static: Path, path: Path) -> None:
+    """The shared object of the archive, which exports the one call alone."""
+    subprocess.run(["cc", "-shared", "-o", path, "-Wl,--whole-archive", static, "-Wl,--no-whole-archive", "-Wl,-z,defs",
+                    "-Wl,-soname,libratest.so", "-Wl,--build-id=none", "-Wl,--gc-sections",
+                    f"-Wl,--version-script={exported}"], timeout=SECONDS, check=True)
