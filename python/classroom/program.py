@@ -16,6 +16,8 @@ from classroom.limited import Limits, Ran
 AGREE, WITNESS, USAGE, REFUSED, SPENT, LIMIT, FILE_FAULT, WANTED_MEMORY = range(8)
 
 TOP = Path(__file__).resolve().parents[2]
+# The folder of the programs below the prefix that this package is installed in, lib/python3/dist-packages.
+INSTALLED = Path(__file__).resolve().parents[3] / "ratest"
 
 
 def find(name: str = "ratest") -> Path:
@@ -36,6 +38,8 @@ def find(name: str = "ratest") -> Path:
         if not built.is_file():
             raise Fault(f"the program {name} is not built: {launcher} --build")
         return built
+    if (INSTALLED / name).is_file():
+        return INSTALLED / name
     installed = shutil.which(name)
     if installed is None:
         raise Fault(f"the program {name} is not there: neither the variable {name.upper()} nor PATH names it")

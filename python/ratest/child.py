@@ -1,19 +1,17 @@
-"""One call in a child process, within limits of time and memory.
-
-As a program it reads a request on standard input and writes the reply: `python3 child.py LIBRARY MEGABYTES`.
-"""
+"""One call in a child process, within limits of time and memory."""
 from __future__ import annotations
 
 import os
-import resource
 import subprocess
 import sys
-from collections.abc import Mapping, Sequence
 from dataclasses import dataclass
 from pathlib import Path
 
-MEGABYTE = 1_000_000
+from ratest.library import NoLibrary
+from ratest.limited import MALFORMED, NO_LIBRARY
+
 OUT_OF_MEMORY = 7
+PROGRAM = "import sys; sys.path.insert(0, sys.argv[1]); from ratest.limited import main; sys.exit(main(*sys.argv[2:]))"
 
 
 @dataclass(frozen=True)
@@ -34,27 +32,17 @@ class Stopped(RuntimeError):
 
 def answered(request: bytes, library: Path, limits: Limits) -> bytes:
     """The reply to a request, from a child process."""
-    words = [sys.executable, "-I", __file__, os.fspath(library), str(limits.megabytes)]
+    folder = Path(__file__).resolve().parents[1]
+    words = [sys.executable, "-I", "-c", PROGRAM, os.fspath(folder), os.fspath(library), str(limits.megabytes)]
     try:
         ran = subprocess.run(words, input=request, stdout=subprocess.PIPE, stderr=subprocess.DEVNULL,
                              timeout=limits.seconds, check=False)
     except subprocess.TimeoutExpired:
         raise Stopped("time") from None
+    if ran.returncode == MALFORMED:
+        raise ValueError("the request is malformed")
+    if ran.returncode == NO_LIBRARY:
+        raise NoLibrary(f"{library} can't be loaded")
     if ran.returncode != 0 or not ran.stdout or ran.stdout[0] == OUT_OF_MEMORY:
         raise Stopped("memory")
     return ran.stdout
-
-
-def main() -> int:
-    library, megabytes = Path(sys.argv[1]), int(sys.argv[2])
-    sys.path.insert(0, os.fspath(Path(__file__).resolve().parents[1]))
-    from ratest import library as calls
-    resource.setrlimit(resource.RLIMIT_CORE, (0, 0))
-    resource.setrlimit(resource.RLIMIT_AS, (megabytes * MEGABYTE, megabytes * MEGABYTE))
-    reply = calls.answered(sys.stdin.buffer.read(), library)
-    sys.stdout.buffer.write(reply)
-    return 0
-
-
-if __name__ == "__main__":
-    sys.exit(main())

@@ -4,6 +4,7 @@ from __future__ import annotations
 import gzip
 import os
 import re
+import shlex
 import shutil
 import subprocess
 from collections.abc import Iterator
@@ -72,6 +73,42 @@ def test_a_link_to_the_installed_program(prefix: Path, tmp_path: Path) -> None:
     (tmp_path / "explain").symlink_to(prefix / "bin/ratest")
     assert run(tmp_path / "explain", "--version").stdout.startswith("ratest ")
     assert run(tmp_path / "explain", "made", "3").returncode == 1
+
+
+def test_classroom(prefix: Path, top: Path, tmp_path: Path) -> None:
+    """An exercise is graded by the installed program and package alone."""
+    ran = run(prefix / "bin/classroom", "--help")
+    assert (ran.returncode, ran.stderr) == (0, "") and ran.stdout.startswith("usage: classroom ")
+    exercise = tmp_path / "beers"
+    shutil.copytree(top / "examples/beers", exercise, ignore=shutil.ignore_patterns("results"))
+    ran = run(prefix / "bin/classroom", "grade", exercise)
+    assert (ran.returncode, ran.stderr) == (0, "") and "15 answers: 15 differ\n" in ran.stdout
+    assert (exercise / "results/page.html").read_text() == (top / "examples/beers/page.html").read_text()
+    page = gzip.decompress((prefix / "share/man/man1/classroom.1.gz").read_bytes())
+    assert b"classroom" in page and b"grade" in page
+
+
+def test_the_python_package(prefix: Path) -> None:
+    code = ("import ratest; print(ratest.explain('CREATE TABLE t (a INT)', {'t': [[1], [2]]}, 'SELECT a FROM t', "
+            "'SELECT a FROM t WHERE a > 1'), ratest.__file__)")
+    folder = prefix / "lib/python3.11/dist-packages"
+    ran = subprocess.run(["/usr/bin/python3", "-c", code], env={**NO_TOOLCHAIN, "PYTHONPATH": str(folder)}, text=True,
+                         capture_output=True, timeout=SECONDS, cwd="/")
+    assert (ran.returncode, ran.stderr) == (0, "")
+    assert ran.stdout == ("witness: 1\nt 1: 1\nonly query 1: 1\n  1\nonly query 2: 0\nboth: 0\n "
+                          f"{folder}/ratest/__init__.py\n")
+
+
+def test_the_library_for_c(prefix: Path, top: Path, tmp_path: Path) -> None:
+    """By pkg-config, and by the static library."""
+    if not shutil.which("pkg-config"):
+        pytest.skip("there is no program pkg-config")
+    described = subprocess.run(["pkg-config", "--cflags", "--libs", "ratest"], text=True, capture_output=True, check=True,
+                               env={**os.environ, "PKG_CONFIG_PATH": str(prefix / "share/pkgconfig")}).stdout
+    for name, words in (("shared", shlex.split(described)), ("static", [f"-I{prefix}/include", str(prefix / "lib/ratest/libratest.a")])):
+        subprocess.run(["cc", "-o", tmp_path / name, top / "examples/c/explain.c", *words], check=True, timeout=SECONDS)
+        ran = run(tmp_path / name)
+        assert (ran.returncode, ran.stderr) == (1, "") and ran.stdout.startswith("witness: 1\nbeer 2: 'Corona', NULL\n")
 
 
 @pytest.mark.parametrize("name", ["ratest", "ratest_plus"])

@@ -26,11 +26,11 @@ def only(folder: Path, pattern: str) -> Path:
     return found[0]
 
 
-def test_the_same_bytes_in_another_folder(top: Path, packages: Path, ratest: Path, ratest_plus: Path,
+def test_the_same_bytes_in_another_folder(top: Path, packages: Path, ratest: Path, ratest_plus: Path, archive: Path,
                                           tmp_path: Path) -> None:
     mask = os.umask(0o077)
     try:
-        other = pack(copy_repository(top, tmp_path / "another" / "place", ratest, ratest_plus))
+        other = pack(copy_repository(top, tmp_path / "another" / "place", ratest, ratest_plus, archive))
     finally:
         os.umask(mask)
     names = sorted(os.listdir(packages))

@@ -8,7 +8,7 @@ import tempfile
 from pathlib import Path
 
 from launcher.sources import Program
-from release.tree import Refused, copy
+from release.files import Refused, copy
 
 CRATE = "ratest_c"
 SHARED, STATIC, HEADER = "libratest.so", "libratest.a", "ratest.h"

@@ -10,7 +10,8 @@ from pathlib import Path
 
 SECONDS = 60
 WHAT = {"ratest": "explain why two SQL queries differ by the fewest rows",
-        "ratest_plus": "compare, explain, grade and certify queries by the fewest rows"}
+        "ratest_plus": "compare, explain, grade and certify queries by the fewest rows",
+        "classroom": "grade a class of SQL answers with ratest"}
 ALSO = """[SEE ALSO]
 .BR {other} (1)
 .PP

@@ -15,6 +15,8 @@ from pathlib import Path
 
 from launcher import texts
 from release import tree
+from release.files import Refused, copy, files_below, moment, put, settle
+from release.library import SHARED
 
 SECONDS = 120
 CONTROL = """Package: ratest
@@ -24,7 +26,8 @@ Priority: optional
 Architecture: amd64
 Maintainer: {maintainer}
 Installed-Size: {kilobytes}
-Depends: libc6 (>= {libc})
+Depends: libc6 (>= {libc}), python3 (>= 3.11)
+Recommends: {recommended}
 Description: explains why two SQL queries differ by the fewest rows
  Given a schema, one CSV file a table, a reference query and a student's query,
  ratest prints the fewest of the given rows on which the two queries answer
@@ -33,7 +36,12 @@ Description: explains why two SQL queries differ by the fewest rows
  .
  ratest_plus compares queries in relational algebra, asks why a row is in an
  answer, grades a list of queries, and writes and checks certificates.
+ .
+ classroom grades a class and serves a page where students ask. The library
+ libratest and the Python package ratest answer in other programs.
 """
+# What classroom and the package ratest use where they find it.
+RECOMMENDED = ("python3-flask", "python3-jinja2", "python3-pandas", "python3-psycopg", "python3-sqlglot", "python3-waitress")
 CHANGES = """ratest ({version}) unstable; urgency=medium
 
   * What has changed stands in changelog.gz. Built from the commit
@@ -59,6 +67,7 @@ License: Expat and BSD-3-Clause
 OVERRIDES = """# The programs are packed byte for byte as the proved build makes them.
 ratest: unstripped-binary-or-object *
 ratest: hardening-no-bindnow *
+ratest: unstripped-static-library *
 # Debian knows of no wish for the package.
 ratest: initial-upload-closes-no-bugs *
 """
@@ -68,7 +77,7 @@ def pack(top: Path, output: Path) -> list[Path]:
     """Makes both packages, a file that names the build, and SHA256SUMS in the folder; gives their paths."""
     commit = texts.commit(str(top))
     if not re.match(r"[0-9a-f]{40}\b", commit):
-        raise tree.Refused(f"the commit is {commit}: a package names its commit")
+        raise Refused(f"the commit is {commit}: a package names its commit")
     version = (top / "VERSION").read_text().strip()
     with tempfile.TemporaryDirectory() as folder:
         made = Path(folder)
@@ -83,15 +92,15 @@ def pack(top: Path, output: Path) -> list[Path]:
                                 for path in (archive, package, build)))
         output.mkdir(parents=True, exist_ok=True)
         for path in (archive, package, build, sums):
-            tree.copy(path, output / path.name)
+            copy(path, output / path.name)
     return [output / path.name for path in (archive, package, build, sums)]
 
 
 def write_archive(top: Path, folder: Path, path: Path) -> None:
     """The tar.gz, whose folder can stand anywhere."""
     tree.lay_out(top, folder)
-    seconds = tree.moment(top)
-    tree.settle(folder, seconds)
+    seconds = moment(top)
+    settle(folder, seconds)
     written = io.BytesIO()
     with tarfile.open(fileobj=written, mode="w", format=tarfile.GNU_FORMAT) as archive:
         for member in [folder, *sorted(folder.rglob("*"))]:
@@ -105,38 +114,38 @@ def write_archive(top: Path, folder: Path, path: Path) -> None:
 
 def write_package(top: Path, root: Path, path: Path, version: str, commit: str) -> None:
     """The Debian package."""
-    tree.lay_out(top, root / "usr", zsh="vendor-completions")
-    seconds = tree.moment(top)
+    tree.lay_out(top, root / "usr", zsh="vendor-completions", python="python3")
+    seconds = moment(top)
     about = root / "usr/share/doc/ratest"
     maintainer = subprocess.run(["git", "-C", top, "log", "-1", "--format=%an <%ae>"], capture_output=True, text=True,
                                 check=True).stdout.strip()
     facts = {"version": f"{version}-1", "maintainer": maintainer, "commit": commit,
-             "date": formatdate(seconds), "libc": libc(root)}
-    tree.put(copyright_text(about).encode(), about / "copyright")
+             "date": formatdate(seconds), "libc": libc(root), "recommended": ", ".join(RECOMMENDED)}
+    put(copyright_text(about).encode(), about / "copyright")
     for name in ("LICENSE", "LICENSE-circular_buffer"):
         (about / name).unlink()
     changes = (about / "CHANGELOG.md").read_bytes()
     (about / "CHANGELOG.md").unlink()
-    tree.put(gzip.compress(changes, mtime=0), about / "changelog.gz")
-    tree.put(gzip.compress(CHANGES.format(**facts).encode(), mtime=0), about / "changelog.Debian.gz")
-    tree.put(OVERRIDES.encode(), root / "usr/share/lintian/overrides/ratest")
-    files = tree.files_below(root)
+    put(gzip.compress(changes, mtime=0), about / "changelog.gz")
+    put(gzip.compress(CHANGES.format(**facts).encode(), mtime=0), about / "changelog.Debian.gz")
+    put(OVERRIDES.encode(), root / "usr/share/lintian/overrides/ratest")
+    files = files_below(root)
     kilobytes = sum(-(-(root / it).stat().st_size // 1024) for it in files)
     sums = "".join(f"{hashlib.md5((root / it).read_bytes()).hexdigest()}  {it}\n" for it in files)
-    tree.put(CONTROL.format(kilobytes=kilobytes, **facts).encode(), root / "DEBIAN/control")
-    tree.put(sums.encode(), root / "DEBIAN/md5sums")
-    tree.settle(root, seconds)
+    put(CONTROL.format(kilobytes=kilobytes, **facts).encode(), root / "DEBIAN/control")
+    put(sums.encode(), root / "DEBIAN/md5sums")
+    settle(root, seconds)
     if not shutil.which("dpkg-deb"):
-        raise tree.Refused("there is no program dpkg-deb, which makes the Debian package: apt-get install dpkg")
+        raise Refused("there is no program dpkg-deb, which makes the Debian package: apt-get install dpkg")
     subprocess.run(["dpkg-deb", "--root-owner-group", "-Zxz", "--threads-max=1", "--build", root, path], check=True,
                    stdout=subprocess.DEVNULL, timeout=SECONDS,
                    env={**os.environ, "SOURCE_DATE_EPOCH": str(seconds)})
 
 
 def libc(root: Path) -> str:
-    """The least version of the C library that the programs ask for."""
+    """The least version of the C library that the programs and the shared object ask for."""
     found = [re.findall(rb"\0GLIBC_(\d+)\.(\d+)", (root / "usr/lib/ratest" / name).read_bytes())
-             for name in tree.NAMES]
+             for name in (*tree.NAMES, SHARED)]
     most = max((int(major), int(minor)) for versions in found for major, minor in versions)
     return f"{most[0]}.{most[1]}"
 

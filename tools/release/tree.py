@@ -5,29 +5,36 @@ import gzip
 import os
 import re
 import shutil
-import stat
 import subprocess
+import sys
+import tempfile
 from pathlib import Path
 
 from launcher import texts
 from launcher.sources import Program
+from release import library
+from release.files import Refused, moment, put
 from release.manual import manual_page
 
 NAMES = ("ratest", "ratest_plus")
 DOCUMENTS = ("README.md", "CHANGELOG.md", "LICENSE", "crates/rt_clause/LICENSE-circular_buffer")
 FOLDERS = ("docs", "examples")
+# The packages of python/, and the line of the script classroom that finds them.
+PACKAGES = ("ratest", "classroom")
+FOUND = 'os.path.join(os.path.dirname(os.path.realpath(__file__)), "python")'
+SECONDS = 60
 # A link to a file of the repository, without its anchor.
 LINK = re.compile(r"\]\(([^)#:\s]+)[^)]*\)")
 
 
-class Refused(Exception):
-    """Why nothing can be installed or packed."""
-
-
-def lay_out(top: Path, to: Path, zsh: str = "site-functions") -> None:
-    """Writes below the folder what stands below a prefix. `zsh` names the folder of its completions."""
+def lay_out(top: Path, to: Path, zsh: str = "site-functions", python: str = "python3.11") -> None:
+    """Writes below the folder what stands below a prefix. `zsh` names the folder of its completions, and
+    `python` the one in lib/ where Debian's Python looks."""
     for name in NAMES:
         lay_out_program(top, to, name)
+    lay_out_library(top, to)
+    lay_out_packages(top, to, python)
+    lay_out_classroom(top, to, python)
     put((top / "tools/completions/_ratest").read_bytes(), to / f"share/zsh/{zsh}/_ratest")
     lay_out_documents(top, to)
 
@@ -46,6 +53,37 @@ def lay_out_program(top: Path, to: Path, name: str) -> None:
     page = manual_page(name, texts.manual(str(top), name), (top / "VERSION").read_text().strip(), moment(top))
     put(gzip.compress(page, mtime=0), to / f"share/man/man1/{name}.1.gz")
     put((top / "tools/completions/ratest.bash").read_bytes(), to / "share/bash-completion/completions" / name)
+
+
+def lay_out_library(top: Path, to: Path) -> None:
+    """The header, both libraries, and what pkg-config says of them."""
+    with tempfile.TemporaryDirectory() as folder:
+        made = library.make(top, Path(folder))
+        for path in made:
+            put(path.read_bytes(), to / ("include" if path.suffix == ".h" else "lib/ratest") / path.name)
+    text = (top / "c/ratest.pc").read_text().replace("VERSION", (top / "VERSION").read_text().strip())
+    put(text.encode(), to / "share/pkgconfig/ratest.pc")
+
+
+def lay_out_packages(top: Path, to: Path, python: str) -> None:
+    """The packages of Python."""
+    for package in PACKAGES:
+        for path in sorted((top / "python" / package).rglob("*")):
+            if path.is_file() and path.suffix != ".pyc":
+                put(path.read_bytes(), to / "lib" / python / "dist-packages" / path.relative_to(top / "python"))
+
+
+def lay_out_classroom(top: Path, to: Path, python: str) -> None:
+    """The script `classroom` and its manual page."""
+    script = (top / "classroom").read_text()
+    if script.count(FOUND) != 1:
+        raise Refused("the script classroom does not find its package as it did")
+    place = f'os.path.join(os.path.dirname(os.path.dirname(os.path.realpath(__file__))), "lib/{python}/dist-packages")'
+    put(script.replace(FOUND, place).encode(), to / "bin/classroom", executable=True)
+    said = subprocess.run([sys.executable, top / "classroom", "--help"], capture_output=True, text=True, timeout=SECONDS,
+                          check=True, env={**os.environ, "COLUMNS": "80", "PYTHONDONTWRITEBYTECODE": "1"}).stdout
+    page = manual_page("classroom", said, (top / "VERSION").read_text().strip(), moment(top))
+    put(gzip.compress(page, mtime=0), to / "share/man/man1/classroom.1.gz")
 
 
 def lay_out_documents(top: Path, to: Path) -> None:
@@ -80,43 +118,3 @@ def examples_and_documents(top: Path) -> list[Path]:
         if ran.returncode == 0:
             return [Path(os.fsdecode(name)) for name in ran.stdout.split(b"\0") if name]
     return sorted(path.relative_to(top) for folder in FOLDERS for path in (top / folder).rglob("*") if path.is_file())
-
-
-def put(content: bytes, path: Path, executable: bool = False) -> None:
-    path.parent.mkdir(parents=True, exist_ok=True)
-    path.write_bytes(content)
-    path.chmod(0o755 if executable else 0o644)
-
-
-def moment(top: Path) -> int:
-    """The time of the commit, which stands for the time of all that is made of it; of the file VERSION where
-    git does not tell it."""
-    try:
-        ran = subprocess.run(["git", "-C", top, "log", "-1", "--format=%ct"], capture_output=True, text=True)
-        return int(ran.stdout)
-    except (OSError, ValueError):
-        return int((top / "VERSION").stat().st_mtime)
-
-
-def files_below(folder: Path) -> list[Path]:
-    """The files below the folder, relative to it and in order."""
-    return sorted(path.relative_to(folder) for path in folder.rglob("*") if not path.is_dir())
-
-
-def settle(folder: Path, seconds: int) -> None:
-    """Gives all below the folder this time and plain permissions, so that what is packed of it depends on
-    nothing else."""
-    for path in [*folder.rglob("*"), folder]:
-        mode = 0o755 if path.is_dir() or path.stat().st_mode & stat.S_IXUSR else 0o644
-        path.chmod(mode)
-        os.utime(path, (seconds, seconds))
-
-
-def copy(content: Path, path: Path) -> None:
-    """Copies a file to its place, whole or not at all."""
-    partly = path.with_name(f".{path.name}.{os.getpid()}")
-    try:
-        shutil.copy(content, partly)
-        os.replace(partly, path)
-    finally:
-        partly.unlink(missing_ok=True)

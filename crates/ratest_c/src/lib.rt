@@ -1,6 +1,7 @@
 //! RATest as one call for C: a command and its files go in as bytes, and the status and both texts come
 //! back as bytes.
 #![tactic(auto)]
+
 ghost use Rattle.std.specs.Prelude.{◌≡◌, None, IfOk, IsErrOf};
 ghost use Rattle.ratest_c.specs.Answers.{IsReply, Says};
 ghost use Rattle.ratest_c.specs.Frames.{request_of};

@@ -5,7 +5,7 @@ use Rattle.rt_value.specs.Keep.{size}
 use Rattle.rt_clause.specs.Literal.{Literal}
 use Rattle.rt_clause.specs.Lists.{line_at, IsBelow}
 use Rattle.rt_clause.specs.Models.{IsModel}
-use Rattle.rt_clause.specs.Refuting.{IsRefuted}
+use Rattle.rt_solver.specs.Answers.{HasNone}
 use Rattle.rt_clause.specs.Gates.{gate}
 use Rattle.rt_clause.proofs.Literals.{has-cases}
 use Rattle.rt_clause.proofs.Extending.{extends-gate, model-older}
@@ -76,7 +76,7 @@ pub record HasAsked (d : Shared) (goal : ℕ) (cone : List Bool) (lines firsts :
   pub asked_low : asked.var < next
 
 pub has-asked : (d : Shared) (goal : ℕ) (cone : List Bool) (lines given new firsts : List (List Literal)) (upto next : ℕ) (best : List Bool) (place kept row end : ℕ) (held earlier asked : Literal) → IsSettled d goal cone lines firsts upto next best place kept held → size best < upto
-    → IsNext best place row → row < d.rows → place ≤ end → end ≤ row → earlier ≡ first_at firsts end (kept + 1) → asked.var ≡ next → given ≡ lines ++ gate asked (held ∷ earlier ∷ []) → IsGrown given new (Some asked) (next + 1)
+    → IsNext best place row → row < d.rows → place ≤ end → end ≤ row → earlier ≡ first_at firsts end (kept + 1) → asked.var ≡ next → given ≡ lines ++ gate asked (held ∷ earlier ∷ []) → IsGrown given new (Some held) (next + 1)
     → HasAsked d goal cone new firsts upto (next + 1) best place kept end held asked
 has-asked d goal cone lines given new firsts upto next best place kept row end held earlier asked h room n r from to ee av ge s =
     let k = kept-within d goal cone lines best place kept row held h.leading n r in
@@ -84,7 +84,7 @@ has-asked d goal cone lines given new firsts upto next best place kept row end h
     let here : end ≤ d.rows = omega (arith, r, to) in
     let low = h.low in
     record {
-      aimed = s.aims d goal cone (omega (arith, av)) (given-aimed d goal cone lines given firsts upto next best place kept end held earlier asked h most here ee av ge);
+      aimed = s.aims d goal cone (omega (arith, low)) (given-aimed d goal cone lines given firsts upto next best place kept end held earlier asked h most here ee av ge);
       firsts_are = firsts-on d.rows upto (next + 1) (next + 1) given new _ firsts (omega arith) s.lines (firsts-on d.rows upto next (next + 1) lines given _ firsts (omega arith) ge h.firsts_are);
       question = asked-on d goal cone given new _ best place kept end held asked s.lines
           (asked-begun d goal cone lines given firsts upto next best place kept end held earlier asked h.leading from (λ v a b. n.bare v a (omega (arith, b, to))) here h.firsts_are most ee ge);
@@ -94,14 +94,14 @@ has-asked d goal cone lines given new firsts upto next best place kept row end h
 
 -- its answer is an earlier choice of as many rows
 pub earlier-found : (d : Shared) (goal : ℕ) (cone : List Bool) (new firsts : List (List Literal)) (upto next rows : ℕ) (best : List Bool) (place kept end row : ℕ) (held asked : Literal) (mid : List Bool) → rows ≡ d.rows
-    → HasAsked d goal cone new firsts upto next best place kept end held asked → IsAnswered new asked rows (Some mid) → IsNext mid place row → IsSettled d goal cone new firsts upto next mid place kept asked × (row < end)
+    → HasAsked d goal cone new firsts upto next best place kept end held asked → IsAnswered new held asked rows (Some mid) → IsNext mid place row → IsSettled d goal cone new firsts upto next mid place kept asked × (row < end)
 earlier-found d goal cone new firsts upto next rows best place kept end row held asked mid e h q n =
-    let g = model-sought d goal cone new (Some asked) next (length q.0) rows q.0 mid e q.1 q.3 h.aimed q.2 in
-    let m = asked-model d goal cone new best place kept end row held asked mid g h.question (model-asked d goal cone new best place kept end (length q.0) rows held asked q.0 mid e q.1 q.3 h.question q.2) n in
+    let g = model-sought d goal cone new (Some held) next (length q.0) rows q.0 mid e q.1 q.4 h.aimed q.2 in
+    let m = asked-model d goal cone new best place kept end row held asked mid g h.question (model-asked d goal cone new best place kept end rows held asked q.0 mid e q.1 q.4 h.question q.2.model q.3) n in
     (record { aimed = h.aimed; firsts_are = h.firsts_are; leading = m.0; low = h.asked_low }, m.1)
 
 -- or that there is none, so that the rows before the end are settled
-pub none-earlier : (d : Shared) (goal : ℕ) (cone : List Bool) (lines firsts : List (List Literal)) (upto next : ℕ) (best : List Bool) (place kept end : ℕ) (held asked : Literal) → HasAsked d goal cone lines firsts upto next best place kept end held asked → IsRefuted lines (Some asked)
+pub none-earlier : (d : Shared) (goal : ℕ) (cone : List Bool) (lines firsts : List (List Literal)) (upto next : ℕ) (best : List Bool) (place kept end : ℕ) (held asked : Literal) → HasAsked d goal cone lines firsts upto next best place kept end held asked → HasNone lines (Some held) asked
     → IsSettled d goal cone lines firsts upto next best end kept held
 none-earlier d goal cone lines firsts upto next best place kept end held asked h r = record {
   aimed = h.aimed;

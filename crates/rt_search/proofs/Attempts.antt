@@ -1,9 +1,11 @@
 -- What an attempt finds, from what each call of solve does.
-use Rattle.std.proofs.Common.{◌≡◌, ℕ, ◌<◌, ◌≤◌, Bool, List, ◌++◌, append_assoc, refl, ap, subst, ◌∙◌, Option, Some, None, IfSome, arith}
+use Rattle.std.proofs.Common.{◌≡◌, ℕ, ◌<◌, ◌≤◌, Bool, true, List, ◌++◌, append_assoc, refl, ap, subst, ◌∙◌, Option, Some, None, IfSome, arith}
 use Rattle.rt_clause.specs.Literal.{Literal}
+use Rattle.rt_clause.specs.Models.{lit_true}
 use Rattle.rt_formula.specs.Shared.{Shared}
 use Rattle.rt_solver.specs.Solving.{variables, HasSearched}
 use Rattle.rt_solver.specs.Answers.{IsFound, IsModelled}
+use Rattle.rt_solver.specs.Answers.{IsReply}
 use Rattle.rt_solver.specs.declared.solver.Found.{Found}
 use Rattle.rt_solver.specs.declared.solver.Found.TheVariants.{Model, Refuted, Spent}
 use Rattle.rt_search.specs.Aimed.{IsAimed}
@@ -41,3 +43,11 @@ told-second old mid new fo fn assume next rows (Some b) (Spent list) r g s h = r
 -- the aim after an attempt
 pub aimed-grown : (d : Shared) (goal : ℕ) (cone : List Bool) (old new : List (List Literal)) (assume : Option Literal) (next n : ℕ) → n ≡ next → IfSome assume (λ a. a.var < next) → IsAimed d goal cone old next → IsGrown old new assume n → IsAimed d goal cone new next
 aimed-grown d goal cone old new assume next n e a h g = let P : ℕ → Type 0 = λ m. IsGrown old new assume m in (subst P e g).aims d goal cone a h
+
+-- the model that a question finds
+pub reply-model : (old new : List (List Literal)) (held asked : Literal) (next rows : ℕ) (bools : List Bool) → rows ≤ next → IsReply new (Some held) asked (variables old (Some held) next) (Some bools) → (rows ≤ length bools) × IsModelled new (Some held) (length bools) bools × (lit_true bools asked ≡ true)
+reply-model old new held asked next rows bools r h = (
+  (let l = model-long old (Some held) next bools h.0.each in omega (arith, l, r)),
+  record { each = refl; model = h.0.model; assumed = h.0.assumed },
+  h.1,
+)

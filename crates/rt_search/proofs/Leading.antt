@@ -4,12 +4,11 @@ use Rattle.std.specs.Bool.{beq}
 use Rattle.rt_value.specs.Keep.{size}
 use Rattle.rt_clause.specs.Literal.{Literal}
 use Rattle.rt_clause.specs.Models.{lit_true, IsModel}
-use Rattle.rt_clause.specs.Refuting.{IsRefuted}
 use Rattle.rt_clause.specs.Gates.{gate, AgreeBelow}
 use Rattle.rt_clause.proofs.Bools.{bool-cases, and-both}
 use Rattle.rt_clause.proofs.Extending.{gate-means, model-older}
 use Rattle.rt_formula.specs.Shared.{Shared}
-use Rattle.rt_solver.specs.Answers.{IsModelled}
+use Rattle.rt_solver.specs.Answers.{HasNone}
 use Rattle.rt_totalizer.specs.Cells.{kept_below}
 use Rattle.rt_totalizer.specs.Outputs.{CountsFirst, first_at}
 use Rattle.rt_totalizer.proofs.Totals.{kept-agrees, kept-size}
@@ -19,7 +18,7 @@ use Rattle.rt_search.specs.Sought.{IsSought}
 use Rattle.rt_search.specs.Order.{ComesBefore, IsBare, IsNext}
 use Rattle.rt_search.specs.Leading.{AllFew, HasValue, IsLeading}
 use Rattle.rt_search.specs.Aimed.{IsAimed, IsCounted, fewer_than}
-use Rattle.rt_search.proofs.Aiming.{fewer-means, refuted-false, lt-not-le}
+use Rattle.rt_search.proofs.Aiming.{fewer-means, lt-not-le}
 use Rattle.rt_search.proofs.Keeps.{kept-none, kept-on, kept-some, agree-bare, bare-of, before-place, before-from, before-keeps, before-more, before-all, before-later}
 use Rattle.rt_search.proofs.Taking.{take-index, take-length}
 
@@ -281,8 +280,8 @@ leading-found d goal cone lines best place kept held asked mid l b h g t = recor
       let q : f.0.place ≡ place = omega (arith, a, z) in
       ap (λ c. c && slice_index_or s place false) v ∙ ap (λ i. slice_index_or s i false) (sym q) ∙ f.0.keeps
 
--- where the lines refute the question, the rows before its end are settled
-pub leading-refuted : (d : Shared) (goal : ℕ) (cone : List Bool) (lines : List (List Literal)) (next : ℕ) (best : List Bool) (place kept end : ℕ) (held asked : Literal) → IsAimed d goal cone lines next → IsAsked d goal cone lines best place kept end held asked → IsRefuted lines (Some asked)
+-- where no model makes the question true, the rows before its end are settled
+pub leading-refuted : (d : Shared) (goal : ℕ) (cone : List Bool) (lines : List (List Literal)) (next : ℕ) (best : List Bool) (place kept end : ℕ) (held asked : Literal) → IsAimed d goal cone lines next → IsAsked d goal cone lines best place kept end held asked → HasNone lines (Some held) asked
     → IsLeading d goal cone lines best end kept held
 leading-refuted d goal cone lines next best place kept end held asked h q r = leading-moved d goal cone lines best place kept end held l q.from q.bare bare where
   l : IsLeading d goal cone lines best place kept held
@@ -294,17 +293,17 @@ leading-refuted d goal cone lines next best place kept end held asked h q r = le
     | inr y ↦ absurd (
         let b : kept + 1 ≤ kept_below end s = search rules in
         let x = h.complete s g in
-        refuted-false lines (Some asked) x.0 r x.3 (q.asked_is s x.0 g.0 x.2 x.3 ∙ ap (λ z. z && nat_le (kept + 1) (kept_below end s)) v ∙ le-true (kept + 1) (kept_below end s) b))
+        r x.0 x.3 (l.held_is s x.0 g.0 x.2 x.3 ∙ v) (q.asked_is s x.0 g.0 x.2 x.3 ∙ ap (λ z. z && nat_le (kept + 1) (kept_below end s)) v ∙ le-true (kept + 1) (kept_below end s) b))
   ]
 
   bare : (s : List Bool) → IsSought d goal cone s → l.value s ≡ true → IsBare place end s
   bare s g v = let a = none s g v in let k = l.kept_is in bare-of place end s best (l.alike s g v) (omega (arith, a, k))
 
 -- the rows of a model of the question
-pub model-asked : (d : Shared) (goal : ℕ) (cone : List Bool) (lines : List (List Literal)) (best : List Bool) (place kept end m rows : ℕ) (held asked : Literal) (bools mid : List Bool) → rows ≡ d.rows → rows ≤ length bools → mid ≡ take rows bools
-    → (q : IsAsked d goal cone lines best place kept end held asked) → IsModelled lines (Some asked) m bools → (q.leading.value mid && nat_le (kept + 1) (kept_below end mid)) ≡ true
-model-asked d goal cone lines best place kept end m rows held asked bools mid e w k q h =
+pub model-asked : (d : Shared) (goal : ℕ) (cone : List Bool) (lines : List (List Literal)) (best : List Bool) (place kept end rows : ℕ) (held asked : Literal) (bools mid : List Bool) → rows ≡ d.rows → rows ≤ length bools → mid ≡ take rows bools
+    → (q : IsAsked d goal cone lines best place kept end held asked) → IsModel lines bools → lit_true bools asked ≡ true → (q.leading.value mid && nat_le (kept + 1) (kept_below end mid)) ≡ true
+model-asked d goal cone lines best place kept end rows held asked bools mid e w k q h t =
     let V : List Bool → Type 0 = λ s. (q.leading.value s && nat_le (kept + 1) (kept_below end s)) ≡ true in
     let L : ℕ → Type 0 = λ n. n ≤ length bools in
     let at : take rows bools ≡ take d.rows bools = ap (λ n. take n bools) e in
-    subst V (sym (k ∙ at)) (sym (q.asked_is (take d.rows bools) bools (take-length d.rows bools (subst L e w)) (take-index d.rows bools) h.model) ∙ h.assumed)
+    subst V (sym (k ∙ at)) (sym (q.asked_is (take d.rows bools) bools (take-length d.rows bools (subst L e w)) (take-index d.rows bools) h) ∙ t)

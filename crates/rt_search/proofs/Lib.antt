@@ -11,5 +11,6 @@ pub mod Others
 pub mod Places
 pub mod Rounds
 pub mod Taking
+pub mod Ways
 pub mod Targets
 pub mod Whole

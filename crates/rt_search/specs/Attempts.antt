@@ -1,11 +1,13 @@
 -- What a search over the lines finds, with clauses over all variables or over the rows.
-use Rattle.std.specs.Prelude.{◌≡◌, ℕ, ◌<◌, ◌≤◌, Bool, List, ◌++◌, take, length, Option, Some, None, IfSome, IsSomeAnd}
+use Rattle.std.specs.Prelude.{◌≡◌, ℕ, ◌<◌, ◌≤◌, Bool, true, List, ◌++◌, take, length, Option, Some, None, IfSome, IsSomeAnd}
 use Rattle.rt_clause.specs.Literal.{Literal}
+use Rattle.rt_clause.specs.Models.{lit_true}
 use Rattle.rt_clause.specs.Refuting.{IsRefuted}
 use Rattle.rt_formula.specs.Shared.{Shared}
 use Rattle.rt_solver.specs.Search.{KeepsModels}
 use Rattle.rt_solver.specs.Solving.{variables, IsSpent}
 use Rattle.rt_solver.specs.Answers.{IsModelled}
+use Rattle.rt_solver.specs.Answers.{HasNone}
 use Rattle.rt_solver.specs.declared.solver.Found.{Found}
 use Rattle.rt_solver.specs.declared.solver.Found.TheVariants.{Model, Refuted, Spent}
 use Rattle.rt_search.specs.Aimed.{IsAimed}
@@ -28,8 +30,8 @@ IsTold old new assume next rows budget (Model bools) = (rows ≤ length bools) �
 IsTold old new assume next rows budget Refuted = IsRefuted new assume
 IsTold old new assume next rows budget (Spent list) = IsSomeAnd budget (λ b. IsGivenUp old new assume next rows b list)
 
--- a choice of the rows is those of a model at which the literal is true; without one, the lines
--- refute the literal
-abbrev pub IsAnswered : List (List Literal) → Literal → ℕ → Option (List Bool) → Type 0
-IsAnswered lines asked rows (Some keep) = (bools : List Bool) × (rows ≤ length bools) × IsModelled lines (Some asked) (length bools) bools × (keep ≡ take rows bools)
-IsAnswered lines asked rows None = IsRefuted lines (Some asked)
+-- a choice of the rows is those of a model at which two literals are true; without one, there is
+-- no such model
+abbrev pub IsAnswered : List (List Literal) → Literal → Literal → ℕ → Option (List Bool) → Type 0
+IsAnswered lines held asked rows (Some keep) = (bools : List Bool) × (rows ≤ length bools) × IsModelled lines (Some held) (length bools) bools × (lit_true bools asked ≡ true) × (keep ≡ take rows bools)
+IsAnswered lines held asked rows None = HasNone lines (Some held) asked

@@ -1,14 +1,13 @@
-//! The question whether the best choice is the only one of its size. Mostly it is, and then no
-//! search for the first one is needed.
+//! The question for any other choice of at most as many rows as the best. Mostly there is none,
+//! and then no more has to be asked.
 
-ghost use Rattle.std.specs.Prelude.{◌≡◌, ◌≤◌, ◌<◌, ◌^◌, IfOk, IsTrue, length};
+ghost use Rattle.std.specs.Prelude.{◌≡◌, ◌≤◌, ◌<◌, ◌^◌, IfOk, length};
 ghost use Rattle.rt_search.specs.Aimed.{IsAimed};
-ghost use Rattle.rt_search.specs.Alone.{AreKept, IsAlone, IsLonger};
-ghost use Rattle.rt_search.specs.Leading.{AllFew};
+ghost use Rattle.rt_search.specs.Alone.{AllowsFew, AreKept, IsLonger, IsOther};
 ghost use Rattle.rt_search.specs.Sought.{IsSought};
 
-use crate::attempt::attempt;
-use crate::both::{MOST_VARIABLES, both};
+use crate::ask::ask;
+use crate::both::MOST_VARIABLES;
 use crate::counted::Counted;
 use rt_clause::{Lit, LitList, Named, gate};
 use rt_formula::{Dag, Node};
@@ -30,10 +29,9 @@ fn kept_rows(alloc: Global, keep: &Keep) -> Result<LitList, NoMemory>
     Ok(kept)
 }
 
-/// Whether the best choice is known to be the only one of its size, after one question. It asks
-/// for one of as few rows that leaves out a row of the best. `held` says that no more rows are
-/// kept.
-pub(crate) fn is_alone(
+/// Asks for another choice than the best one, of at most as many rows: for one that leaves out a
+/// row of the best. `held` says that no more rows are kept. `None` says that there is none.
+pub(crate) fn other(
     alloc: Global,
     solver: &mut Solver<Counted>,
     dag: &Dag,
@@ -42,27 +40,28 @@ pub(crate) fn is_alone(
     named: &mut Named,
     best: &Keep,
     held: Lit,
-) -> Result<bool, NoMemory>
+) -> Result<Option<Keep>, NoMemory>
     requires rows { named.old.rows ≡ dag.now.rows }
+    requires best { length best.now ≡ dag.now.rows }
     requires aimed { IsAimed dag.now goal cone.now solver.old.0.lines named.old.next }
-    requires few { AllFew dag.now goal cone.now solver.old.0.lines best.now held }
+    requires few { AllowsFew dag.now solver.old.0.lines best.now held }
     requires low { held.var < named.old.next }
     ensures rows { IfOk result (λ _. named.new.rows ≡ named.old.rows) }
     ensures wider { IfOk result (λ _. named.old.next ≤ named.new.next) }
     ensures small { IfOk result (λ _. named.new.next < 2 ^ 61) }
     ensures longer { IfOk result (λ _. IsLonger solver.old.0.lines solver.new.0.lines) }
     ensures aimed { IfOk result (λ _. IsAimed dag.now goal cone.now solver.new.0.lines named.new.next) }
-    ensures alone { IfOk result (λ alone. IsTrue alone → IsAlone (IsSought dag.now goal cone.now) best.now) }
+    ensures other { IfOk result (IsOther (IsSought dag.now goal cone.now) best.now) }
 {
+    let rows = named.rows();
     let next = named.next();
-    if next >= MOST_VARIABLES - 2 {
+    if next >= MOST_VARIABLES - 1 {
         return Err(NoMemory);
     }
     let kept = kept_rows(alloc, best)?;
     let all = Lit::of(next, true);
     gate(alloc, all, kept.as_slice(), solver)?;
-    let asked = both(alloc, held, all.negated(), next + 1, solver)?;
-    *named = Named::of(named.rows(), next + 2, named.goal());
-    attempt(solver, &Some(asked), named.rows(), next + 2, None)?;
-    Ok(solver.lines().refutes(Some(asked)))
+    *named = Named::of(rows, next + 1, named.goal());
+    let found = ask(alloc, solver, held, all.negated(), rows, next + 1)?;
+    Ok(found)
 }

@@ -1,23 +1,21 @@
 //! The first of the smallest choices without a budget: few questions, by the counter's literals
 //! that count the rows kept up to a place.
 
-ghost use Rattle.std.specs.Prelude.{◌≡◌, ◌≤◌, ◌<◌, ◌^◌, Some, IfOk, length};
+ghost use Rattle.std.specs.Prelude.{◌≡◌, ◌≤◌, ◌<◌, ◌^◌, IfOk, length};
 ghost use Rattle.rt_value.specs.Keep.{size};
 ghost use Rattle.rt_totalizer.specs.Outputs.{CountsFirst};
 ghost use Rattle.rt_search.specs.Aimed.{IsAimed};
-ghost use Rattle.rt_search.specs.Attempts.{IsAnswered, IsGrown};
 ghost use Rattle.rt_search.specs.Leading.{IsLeading};
 ghost use Rattle.rt_search.specs.Least.{IsLeast};
 ghost use Rattle.rt_search.specs.Order.{IsNext};
 ghost use Rattle.rt_search.specs.Sought.{IsSought};
 
-use crate::attempt::attempt;
+use crate::ask::ask;
 use crate::both::both;
-use crate::choice::rows_of;
 use crate::counted::Counted;
 use rt_clause::{Lit, Named};
 use rt_formula::{Dag, Node};
-use rt_solver::{Found, Solver};
+use rt_solver::Solver;
 use rt_totalizer::Outputs;
 use rt_value::{Keep, NoMemory};
 use std::alloc::Global;
@@ -33,34 +31,6 @@ fn next_kept(keep: &Keep, place: usize) -> usize
         }
     }
     keep.len()
-}
-
-// Asks for a choice of the rows at which a literal is true, or the checked answer that there is
-// none.
-fn ask(
-    alloc: Global,
-    solver: &mut Solver<Counted>,
-    asked: Lit,
-    rows: usize,
-    next: usize,
-) -> Result<Option<Keep>, NoMemory>
-    requires rows { rows ≤ next }
-    ensures grown { IfOk result (λ _. IsGrown solver.old.0.lines solver.new.0.lines (Some asked) next) }
-    ensures answered { IfOk result (IsAnswered solver.new.0.lines asked rows) }
-{
-    match attempt(solver, &Some(asked), rows, next, None)? {
-        Found::Model(model) => {
-            let keep = rows_of(alloc, &model, rows)?;
-            Ok(Some(keep))
-        }
-        Found::Refuted => {
-            if !solver.lines().refutes(Some(asked)) {
-                unreachable!();
-            }
-            Ok(None)
-        }
-        Found::Spent(_) => unreachable!(),
-    }
 }
 
 /// Goes on from a choice of the fewest rows to the first of them in the order of rows. Every row
@@ -120,7 +90,7 @@ pub(crate) fn by_cells(
         let earlier = counter.at_least(kept + 1, end);
         let asked = both(alloc, held, earlier, next, solver)?;
         next += 1;
-        if let Some(keep) = ask(alloc, solver, asked, rows, next)? {
+        if let Some(keep) = ask(alloc, solver, held, asked, rows, next)? {
             best = keep;
             held = asked;
             row = next_kept(&best, place);

@@ -1,15 +1,12 @@
-//! From the fewest rows to the first choice of as many: which way is taken.
+//! From the fewest rows to the first choice of as many, within a budget.
 
 ghost use Rattle.std.specs.Prelude.{◌≡◌, ◌≤◌, IfOk, IfSome};
 ghost use Rattle.rt_search.specs.Aimed.{IsUnderWay};
 ghost use Rattle.rt_search.specs.Least.{HasFewest};
 ghost use Rattle.rt_search.specs.Sought.{IsBestWithin, IsSought};
 
-use crate::alone::is_alone;
-use crate::attempt::is_small;
 use crate::best::Best;
 use crate::both::MOST_VARIABLES;
-use crate::by_cells::by_cells;
 use crate::by_rows::by_rows;
 use crate::counted::Counted;
 use crate::lower::fewer;
@@ -21,7 +18,7 @@ use rt_value::{Keep, NoMemory};
 use std::alloc::Global;
 
 /// Goes on from a choice of the fewest rows to the first of them in the order of rows, or until
-/// the budget is spent. Mostly there is no other one, which a single question settles.
+/// the budget is spent. A choice of all rows is the only one of its size.
 pub(crate) fn first(
     alloc: Global,
     solver: &mut Solver<Counted>,
@@ -47,14 +44,5 @@ pub(crate) fn first(
         return Err(NoMemory);
     }
     let held = fewer(&counter.outs, most + 1);
-    if is_small(budget, named.rows()) {
-        return by_rows(alloc, solver, dag, goal, cone, named, best, held, budget);
-    }
-    let mut named = named;
-    let alone = is_alone(alloc, solver, dag, goal, cone, &mut named, &best, held)?;
-    if alone {
-        return Ok(Best::Least(best));
-    }
-    let keep = by_cells(alloc, solver, dag, goal, cone, named, counter, best, held)?;
-    Ok(Best::Least(keep))
+    by_rows(alloc, solver, dag, goal, cone, named, best, held, budget)
 }

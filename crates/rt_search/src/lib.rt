@@ -12,6 +12,7 @@
 #![tactic(auto)]
 
 mod alone;
+mod ask;
 mod attempt;
 mod best;
 mod both;
@@ -22,6 +23,7 @@ mod counted;
 mod encode;
 mod first;
 mod lower;
+mod others;
 mod search;
 mod smaller;
 mod widened;

@@ -1,15 +1,16 @@
-//! From a choice to one of the fewest rows: each round assumes that fewer are kept than in the
-//! best.
+//! From a choice to one of the fewest rows. Within a budget, each round assumes that fewer are
+//! kept than in the best.
 
 ghost use Rattle.std.specs.Prelude.{◌≡◌, ◌≤◌, ◌<◌, IfOk, IfSome, length};
 ghost use Rattle.rt_search.specs.Aimed.{IsUnderWay, fewer_than};
 ghost use Rattle.rt_search.specs.Sought.{IsBestWithin};
 
-use crate::attempt::attempt;
+use crate::attempt::{attempt, is_small};
 use crate::best::{Best, SpentBest};
 use crate::choice::rows_of;
 use crate::counted::Counted;
 use crate::first::first;
+use crate::others::others;
 use rt_clause::{Lit, LitList, Named};
 use rt_formula::{Dag, Node};
 use rt_solver::{Found, Solver};
@@ -27,7 +28,8 @@ pub(crate) fn fewer(outs: &LitList, most: usize) -> Lit
 }
 
 /// Goes on from a choice to ones of fewer rows, until there is none, and then to the first of
-/// those of as many rows. It ends early when the budget is spent.
+/// those of as many rows. It ends early when the budget is spent. A budget that can't be spent is
+/// as none.
 pub(crate) fn lower(
     alloc: Global,
     solver: &mut Solver<Counted>,
@@ -40,6 +42,7 @@ pub(crate) fn lower(
     budget: Option<u64>,
 ) -> Result<Best, NoMemory>
     requires rows { named.rows ≡ dag.now.rows }
+    requires goal { goal < length dag.now.entries }
     requires budget { IfSome budget (λ b. 1 ≤ b) }
     requires way { IsUnderWay dag.now goal cone.now solver.old.0.lines named.next counter.now best }
     ensures { IfOk result (IsBestWithin dag.now goal cone.now budget) }
@@ -50,6 +53,10 @@ pub(crate) fn lower(
         let most = best.size();
         if most == 0 {
             return Ok(Best::Least(best));
+        }
+        if most < rows && !is_small(budget, rows) {
+            let keep = others(alloc, solver, dag, goal, cone, named, counter, best)?;
+            return Ok(Best::Least(keep));
         }
         let bound = fewer(&counter.outs, most);
         match attempt(solver, &Some(bound), rows, named.next(), budget)? {

@@ -28,6 +28,7 @@ pub mod Requeue
 pub mod Rounds
 pub mod Picks
 pub mod Ordered
+pub mod Seeks
 pub mod Reading
 mod Exchanging
 mod Membership

@@ -20,14 +20,14 @@ use Rattle.rt_solver.specs.Propagating.{AreForced, IsPropagated}
 use Rattle.rt_solver.proofs.Number.{none-apart}
 
 -- a true clause has a true literal
-true-among : (bools : List Bool) (c : List Literal) → clause_true bools c ≡ true → (k : Literal) × (has c k ≡ true) × (lit_true bools k ≡ true)
+pub true-among : (bools : List Bool) (c : List Literal) → clause_true bools c ≡ true → (k : Literal) × (has c k ≡ true) × (lit_true bools k ≡ true)
 true-among bools [] h = absurd (cc)
 true-among bools (l ∷ c) h = elim (or-cases (lit_true bools l) (clause_true bools c) h) [
   | inl a ↦ (l, has-head l c, a)
   | inr b ↦ (let r = true-among bools c b in (r.0, has-tail l r.0 c r.1, r.2))
 ]
 
-not-both : (bools : List Bool) (k : Literal) → lit_true bools k ≡ true → lit_true bools (negated k) ≡ true → ⊥
+pub not-both : (bools : List Bool) (k : Literal) → lit_true bools k ≡ true → lit_true bools (negated k) ≡ true → ⊥
 not-both bools k a b = differ (slice_index_or bools k.var false) k.on a b where
   differ : (x y : Bool) → beq x y ≡ true → beq x (not y) ≡ true → ⊥
   differ true true p q = cc
@@ -35,11 +35,11 @@ not-both bools k a b = differ (slice_index_or bools k.var false) k.on a b where
   differ false true p q = cc
   differ false false p q = cc
 
-abbrev AllTrue : List Bool → List Step → Type 0
+abbrev pub AllTrue : List Bool → List Step → Type 0
 AllTrue bools t = (l : Literal) → has (lits t) l ≡ true → lit_true bools l ≡ true
 
 -- what is no decision is true in each model in which all before it is
-forced : (lines : List (List Literal)) (assume : Option Literal) (bools : List Bool) (before : List Step) (l : Literal) (w : Why) → RestsOn lines assume before l w → IsModel lines bools → IfSome assume (λ a. lit_true bools a ≡ true)
+pub forced : (lines : List (List Literal)) (assume : Option Literal) (bools : List Bool) (before : List Step) (l : Literal) (w : Why) → RestsOn lines assume before l w → IsModel lines bools → IfSome assume (λ a. lit_true bools a ≡ true)
     → AllTrue bools before → (w ≡ Decided → lit_true bools l ≡ true) → lit_true bools l ≡ true
 forced lines assume bools before l (Line r) h m a all d =
     let k = true-among bools (line_at lines r) (m r h.0) in
@@ -50,7 +50,7 @@ forced lines assume bools before l (Line r) h m a all d =
 forced lines assume bools before l Decided h m a all d = d refl
 forced lines assume bools before l Assumed h m a all d = let P : Option Literal → Type 0 = λ o. IfSome o (λ x. lit_true bools x ≡ true) in subst P h a
 
-all-more : (bools : List Bool) (s : Step) (t : List Step) → lit_true bools s.lit ≡ true → AllTrue bools t → AllTrue bools (s ∷ t)
+pub all-more : (bools : List Bool) (s : Step) (t : List Step) → lit_true bools s.lit ≡ true → AllTrue bools t → AllTrue bools (s ∷ t)
 all-more bools s t h all l g = elim (has-cases s.lit l (lits t) g) [
   | inl e ↦ (let P : Literal → Type 0 = λ x. lit_true bools x ≡ true in subst P (sym e) h)
   | inr r ↦ all l r
@@ -100,7 +100,7 @@ false-there lines assume m bools other (s ∷ t) v ap' f o b md a e n =
       off-of false y h k = refl
 
 -- the literals of a trail are true where its values are read
-read-true : (m : ℕ) (t : List Step) (bools : List Bool) → IsApart m t → Reads m t bools → AllTrue bools t
+pub read-true : (m : ℕ) (t : List Step) (bools : List Bool) → IsApart m t → Reads m t bools → AllTrue bools t
 read-true m t bools a r l h =
     let low = var-low t l a h in
     let v = value-of t l a h in

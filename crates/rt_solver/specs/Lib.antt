@@ -17,3 +17,4 @@ pub mod Picking
 pub mod Fixed
 pub mod Members
 pub mod Places
+pub mod Seeking

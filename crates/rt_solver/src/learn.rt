@@ -2,11 +2,12 @@
 
 ghost use Rattle.std.specs.Prelude.{◌≡◌, [], ◌∷◌, ◌++◌, map, reverse, true, option_map, vec_items, IfSome, IfOk, IfErr};
 ghost use Rattle.std.specs.Option.{option_to_list};
-ghost use Rattle.rt_clause.specs.Literal.{negated};
+ghost use Rattle.rt_clause.specs.Literal.{Literal, negated};
 ghost use Rattle.rt_solver.specs.Analysis.{clause_of, IsRested};
 ghost use Rattle.rt_solver.specs.Propagating.{AreWatchedBefore, IsConflict, IsQueuedNow};
 ghost use Rattle.rt_solver.specs.Fixed.{AreSmallest};
 ghost use Rattle.rt_solver.specs.Picking.{IsOffered};
+ghost use Rattle.rt_solver.specs.Seeking.{IsLed};
 ghost use Rattle.rt_solver.specs.Search.{KeepsModels, IsReady, IsStep, IsFirst};
 
 use crate::back::back;
@@ -85,6 +86,7 @@ pub(crate) fn learn<L: Lines + Drop>(
     ensures bound { pick.new.bound ≡ pick.old.bound }
     ensures offered { IfOk result (λ _. IsOffered pick.new trail.new.steps) }
     ensures smallest { IfOk result (λ _. AreSmallest trail.old.steps → AreSmallest trail.new.steps) }
+    ensures led { IfOk result (λ _. (a : Literal) → IsLed a trail.old.steps → IsLed a trail.new.steps) }
     ensures rested { IfOk result (λ _. IsRested trail.new.vars walk.new) }
     ensures step { IfOk result (λ line. IsStep (L.lines base.old.0) (L.lines base.new.0) assume.now first trail.old trail.new (option_map vec_items line)) }
     ensures queued { IfOk result (λ line. IfSome (option_map vec_items line) (λ _. IsQueuedNow base.new.1 trail.new.steps)) }

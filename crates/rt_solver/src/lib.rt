@@ -20,6 +20,7 @@ pub mod laws;
 mod lead;
 mod learn;
 mod marks;
+mod next;
 mod order;
 mod pick;
 mod places;

@@ -1,7 +1,7 @@
 //! The two orders of decisions.
 
 ghost use Rattle.std.specs.Prelude.{◌≡◌, ◌<◌, ◌≤◌, ◌^◌, true};
-ghost use Rattle.rt_solver.specs.declared.order.Order.TheVariants.{Fixed};
+ghost use Rattle.rt_solver.specs.declared.order.Order.TheVariants.{Free, Fixed};
 
 use rt_clause::Lit;
 
@@ -17,6 +17,7 @@ impl Order {
     /// Of the first variables, below which ones that which counts most comes first.
     pub(crate) fn bound(self, first: usize) -> usize
         ensures low { result ≤ first }
+        ensures free { self ≡ Free → result ≡ first }
         ensures fixed { self ≡ Fixed → result ≡ 0 }
     {
         match self {

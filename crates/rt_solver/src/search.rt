@@ -6,11 +6,12 @@ ghost use Rattle.rt_solver.specs.Trail.{value_in, decisions};
 ghost use Rattle.rt_solver.specs.declared.order.Order.TheVariants.{Fixed};
 ghost use Rattle.rt_solver.specs.Fixed.{IfFixed, AreSmallest};
 ghost use Rattle.rt_solver.specs.Picking.{IsOffered};
-ghost use Rattle.rt_solver.specs.Search.{line_of, IsReady, HasValues};
-ghost use Rattle.rt_solver.specs.Solving.{HasSearched, IsEnding, IsUnspentEnding};
+ghost use Rattle.rt_solver.specs.Search.{line_of, IsReady};
+ghost use Rattle.rt_solver.specs.Solving.{HasSearched, IsEnding, IsSettled, IsUnspentEnding};
 
 use crate::base::Base;
 use crate::learn::learn;
+use crate::next::{Next, choose};
 use crate::order::Order;
 use crate::pick::Pick;
 use crate::trail::{Step, Trail, Why};
@@ -19,12 +20,13 @@ use rt_clause::{Lines, Lit};
 use rt_value::{List, NoMemory};
 use std::alloc::Global;
 
-/// How a search ended.
+/// How a search ended: `Missed` says that the question is false where the assumption is true.
 #[derive(Drop)]
 pub enum Ending {
     Whole,
     Refuted,
     Spent(List<List<Lit>>),
+    Missed,
 }
 
 fn is_spent(budget: Option<u64>, learned: usize) -> bool
@@ -65,7 +67,8 @@ fn keep(
     }
 }
 
-/// Searches until each variable has a value, the lines refute, or the budget is spent.
+/// Searches until each variable has a value, the lines refute, the budget is spent, or the question
+/// is false before any decision.
 pub(crate) fn run<L: Lines + Drop>(
     alloc: Global,
     base: &mut Base<L>,
@@ -75,6 +78,7 @@ pub(crate) fn run<L: Lines + Drop>(
     order: Order,
     pick: &mut Pick,
     trail: &mut Trail,
+    question: &Option<Lit>,
 ) -> Result<Ending, NoMemory>
     requires ready { IsReady (L.lines base.old.0) assume.now trail.old }
     requires few { trail.old.vars ≤ 2 ^ 62 }
@@ -84,8 +88,10 @@ pub(crate) fn run<L: Lines + Drop>(
     requires bound { pick.old.bound ≤ first }
     requires fixed { order ≡ Fixed → pick.old.bound ≡ 0 }
     requires offered { IsOffered pick.old trail.old.steps }
+    requires asked { IfSome question.now (λ a. a.var < pick.old.bound) }
     ensures vars { trail.new.vars ≡ trail.old.vars }
     ensures ending { IfOk result (λ ending. IsEnding (L.lines base.old.0) (L.lines base.new.0) assume.now first trail.new budget ending) }
+    ensures settled { IfOk result (IsSettled question.now trail.new.steps) }
     ensures smallest { IfOk result (λ _. IfFixed order (AreSmallest trail.new.steps)) }
     ensures unspent { IfOk result (λ ending. IsUnspentEnding (L.lines base.old.0) (L.lines base.new.0) budget ending) }
     ensures searched { HasSearched (L.lines base.old.0) (L.lines base.new.0) (L.derived base.old.0) (L.derived base.new.0) assume.now first trail.old.vars }
@@ -109,11 +115,11 @@ pub(crate) fn run<L: Lines + Drop>(
                     conflict = base.propagate(trail, from);
                 }
             },
-            None => match pick.pick(trail) {
-                None => return Ok(Ending::Whole),
-                Some(v) => {
+            None => match choose(order, question, pick, trail) {
+                Next::Whole => return Ok(Ending::Whole),
+                Next::Missed => return Ok(Ending::Missed),
+                Next::Decide(lit) => {
                     let from = trail.len();
-                    let lit = order.decision(v);
                     trail.push(Step {
                         lit,
                         why: Why::Decided,

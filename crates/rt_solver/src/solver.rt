@@ -1,6 +1,6 @@
-//! The public solver: lines are added, and `solve` searches over them.
+//! The public solver: lines are added, and `solve` and `seek` search over them.
 
-ghost use Rattle.std.specs.Prelude.{◌≡◌, ◌≤◌, ◌<◌, ◌^◌, ℕ, List as Seq, Bool, map, true, false, [], ◌∷◌, ◌++◌, length, max, drop, Some, IfSome, IfOk, IsErr, IsTrue, OnOk, OnErr};
+ghost use Rattle.std.specs.Prelude.{◌≡◌, ◌≤◌, ◌<◌, ◌^◌, ℕ, List as Seq, Bool, map, true, false, [], ◌∷◌, ◌++◌, length, max, drop, Some, None, IfSome, IfOk, IsErr, IsTrue, OnOk, OnErr};
 ghost use Rattle.std.specs.Option.{option_to_list};
 ghost use Rattle.rt_clause.specs.Literal.{Literal};
 ghost use Rattle.rt_clause.specs.Lists.{Determined};
@@ -9,7 +9,8 @@ ghost use Rattle.rt_solver.specs.Search.{line_of, HasValues};
 ghost use Rattle.rt_solver.specs.Solving.{reach, width, variables, HasSearched};
 ghost use Rattle.rt_solver.specs.State.{has_failed};
 ghost use Rattle.rt_solver.specs.Fixed.{IsInOrder};
-ghost use Rattle.rt_solver.specs.Answers.{Reads, IsFound, IsUnspent, IsBegun};
+ghost use Rattle.rt_solver.specs.Answers.{Reads, IsFound, IsUnspent, IsBegun, IsReplied, IsReply};
+ghost use Rattle.rt_solver.specs.declared.order.Order.TheVariants.{Fixed};
 
 use crate::base::Base;
 use crate::order::Order;
@@ -95,7 +96,8 @@ fn values(alloc: Global, trail: &Trail) -> Result<Keep, NoMemory>
     Ok(bools)
 }
 
-// Searches over as many variables as the call speaks of.
+// Searches over as many variables as the call speaks of. Without a model for the question, it may
+// answer `None`.
 fn find<L: Lines + Drop>(
     alloc: Global,
     base: &mut Base<L>,
@@ -104,12 +106,16 @@ fn find<L: Lines + Drop>(
     first: usize,
     budget: Option<u64>,
     order: Order,
-) -> Result<Found, NoMemory>
-    requires { IfSome budget (λ b. 1 ≤ b) }
+    question: &Option<Lit>,
+) -> Result<Option<Found>, NoMemory>
+    requires budget { IfSome budget (λ b. 1 ≤ b) }
+    requires asked { IfSome question.now (λ a. a.var < first) }
+    requires free { order ≡ Fixed → question.now ≡ None }
     ensures searched { HasSearched (L.lines base.old.0) (L.lines base.new.0) (L.derived base.old.0) (L.derived base.new.0) assume.now first (variables (L.lines base.old.0) assume.now first) }
-    ensures found { IfOk result (λ found. IsFound (L.lines base.old.0) (L.lines base.new.0) assume.now first (variables (L.lines base.old.0) assume.now first) budget found) }
-    ensures order { IfOk result (λ found. IsInOrder order (L.lines base.old.0) assume.now first found) }
-    ensures unspent { IfOk result (λ found. IsUnspent (L.lines base.old.0) (L.lines base.new.0) budget found) }
+    ensures found { IfOk result (λ found. IfSome found (IsFound (L.lines base.old.0) (L.lines base.new.0) assume.now first (variables (L.lines base.old.0) assume.now first) budget)) }
+    ensures order { IfOk result (λ found. IfSome found (IsInOrder order (L.lines base.old.0) assume.now first)) }
+    ensures replied { IfOk result (IsReplied (L.lines base.new.0) assume.now question.now) }
+    ensures unspent { IfOk result (λ found. IfSome found (IsUnspent (L.lines base.old.0) (L.lines base.new.0) budget)) }
 {
     let vars = variables_of(first, base.vars(), assume);
     if vars > MOST_VARIABLES {
@@ -117,10 +123,13 @@ fn find<L: Lines + Drop>(
     }
     let mut trail = begun(alloc, vars, assume)?;
     pick.begin(vars, order.bound(first))?;
-    let found = match run(alloc, base, assume, first, budget, order, pick, &mut trail)? {
-        Ending::Whole => Found::Model(values(alloc, &trail)?),
-        Ending::Refuted => Found::Refuted,
-        Ending::Spent(list) => Found::Spent(list),
+    let found = match run(
+        alloc, base, assume, first, budget, order, pick, &mut trail, question,
+    )? {
+        Ending::Whole => Some(Found::Model(values(alloc, &trail)?)),
+        Ending::Refuted => Some(Found::Refuted),
+        Ending::Spent(list) => Some(Found::Spent(list)),
+        Ending::Missed => None,
     };
     Ok(found)
 }
@@ -178,9 +187,52 @@ impl<L: Lines + Drop> Solver<L> {
             first,
             budget,
             order,
+            &None,
         )?;
         self.failed = false;
-        Ok(found)
+        match found {
+            Some(found) => Ok(found),
+            None => unreachable!(),
+        }
+    }
+
+    /// As `solve` without a budget, for a model at which the question is true too. The question is
+    /// decided first, and so the learned clauses hold whether it is true or not: they serve the next
+    /// question under the same assumption. `None` says that there is no such model.
+    pub fn seek(
+        &mut self,
+        assume: Option<Lit>,
+        question: Lit,
+        first: usize,
+    ) -> Result<Option<Keep>, NoMemory>
+        requires { question.var < first }
+        ensures searched { HasSearched (L.lines self.old.0) (L.lines self.new.0) (L.derived self.old.0) (L.derived self.new.0) assume first (variables (L.lines self.old.0) assume first) }
+        ensures sought { IfOk result (IsReply (L.lines self.new.0) assume question (variables (L.lines self.old.0) assume first)) }
+        ensures failed { IsTrue (has_failed self.old) → IsErr result }
+        ensures fails { OnErr result (IsTrue (has_failed self.new)) }
+        ensures works { OnOk result (has_failed self.new ≡ false) }
+    {
+        if self.failed {
+            return Err(NoMemory);
+        }
+        self.failed = true;
+        let found = find(
+            self.alloc,
+            &mut self.base,
+            &mut self.pick,
+            &assume,
+            first,
+            None,
+            Order::Free,
+            &Some(question),
+        )?;
+        self.failed = false;
+        match found {
+            Some(Found::Model(model)) => Ok(Some(model)),
+            Some(Found::Refuted) => Ok(None),
+            Some(Found::Spent(_)) => unreachable!(),
+            None => Ok(None),
+        }
     }
 }
 

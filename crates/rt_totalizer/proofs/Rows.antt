@@ -154,11 +154,11 @@ row-implied row old n lines new m now k out lower now' r count z b oe le we =
     let e : k ≡ suc j = omega (arith, z) in
     let kept : List Bool → ℕ = λ bools. kept_below (suc row) bools in
     let means : (bools : List Bool) → IsModel now bools → (i : ℕ) → i < length new → lit_true bools (cell_at new i) ≡ nat_le i (kept bools) =
-        λ bools h. (let M : List (List Literal) → Type 0 = λ ls. IsModel ls bools in
-            r.means bools h (count bools (model-older lines r.over.more bools (subst M r.over.lines h)))) in
+    λ bools h. (let M : List (List Literal) → Type 0 = λ ls. IsModel ls bools in
+    r.means bools h (count bools (model-older lines r.over.more bools (subst M r.over.lines h)))) in
     let V : ℕ → Type 0 = λ v. v < m in
     let low : (i : ℕ) → (l : Literal) → l ≡ cell_at new i → i < length new → l.var < m =
-        λ i l q g. subst V (ap (λ (x : Literal). x.var) (sym q)) (r.low (cell_at new i) (cell-has new i g)) in
+    λ i l q g. subst V (ap (λ (x : Literal). x.var) (sym q)) (r.low (cell_at new i) (cell-has new i g)) in
     let P : Literal → Type 0 = λ l. l.var < m in
     let W : List (List Literal) → Type 0 = λ ls. IsRowOf row old n lines new m ls in
     subst W (sym we) (record {
@@ -166,8 +166,8 @@ row-implied row old n lines new m now k out lower now' r count z b oe le we =
       over = extends-on lines now (now ++ clause ∷ []) n m m r.over (extends-implied now m clause
           (each-of_two P (negated out) lower (low k out oe b) (low j lower le (omega (arith, b, e))))
           (λ bools h. implied-true bools out lower (λ t.
-              let big : nat_le k (kept bools) ≡ true = sym (means bools h k b) ∙ ap (lit_true bools) (sym oe) ∙ t in
-              ap (lit_true bools) le ∙ means bools h j (omega (arith, b, e)) ∙ fewer k j (kept bools) e big)));
+          let big : nat_le k (kept bools) ≡ true = sym (means bools h k b) ∙ ap (lit_true bools) (sym oe) ∙ t in
+          ap (lit_true bools) le ∙ means bools h j (omega (arith, b, e)) ∙ fewer k j (kept bools) e big)));
       means = λ bools h a. r.means bools (model-older now (clause ∷ []) bools h) a;
     }) where
       fewer : (k j c : ℕ) → k ≡ suc j → nat_le k c ≡ true → nat_le j c ≡ true

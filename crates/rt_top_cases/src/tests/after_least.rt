@@ -13,7 +13,9 @@ use std::process::Abort;
 
 const SCHEMA: &str = "CREATE TABLE p (k INTEGER); CREATE TABLE q (k INTEGER, n INTEGER);
     CREATE TABLE r (k INTEGER, n INTEGER); CREATE TABLE a (k INTEGER); CREATE TABLE b (k INTEGER);";
+
 const FIVE: &str = "k,n\n1,1\n1,2\n1,3\n1,4\n1,5\n";
+
 const TABLES: [(&str, &str); 5] = [
     ("d/p.csv", "k\n1\n"),
     ("d/q.csv", FIVE),
@@ -21,7 +23,9 @@ const TABLES: [(&str, &str); 5] = [
     ("d/a.csv", "k\n1\n"),
     ("d/b.csv", "k\n1\n"),
 ];
+
 const JOINS: &str = "SELECT p.k FROM p, q, r UNION SELECT a.k FROM a, b";
+
 const NEVER: &str = "SELECT k FROM a WHERE k <> k";
 
 // The places of the row of `a` and of that of `b`: one row and twice five are before them.
@@ -62,8 +66,16 @@ fn ends_least(rt: &impl Abort, alloc: Global, number: &str, budget: u64, text: &
 #[test]
 fn a_budget_spent_after_the_least_size(rt: HostRuntime) {
     let table: &[(&str, u64, &str)] = &[
-        ("3", 3, "undecided: 3 conflicts\nbest so far: 2\na 1: 1\nb 1: 1\n"),
-        ("4", 4, "undecided: 4 conflicts\nbest so far: 2\na 1: 1\nb 1: 1\n"),
+        (
+            "3",
+            3,
+            "undecided: 3 conflicts\nbest so far: 2\na 1: 1\nb 1: 1\n",
+        ),
+        (
+            "4",
+            4,
+            "undecided: 4 conflicts\nbest so far: 2\na 1: 1\nb 1: 1\n",
+        ),
     ];
     for (number, budget, text) in table {
         assert!(rt;

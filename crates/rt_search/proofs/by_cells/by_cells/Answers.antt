@@ -71,7 +71,7 @@ first-smaller-in-Some c =
     let w = v.within in
     let a = has-asked c.args.dag.now c.args.goal c.args.cone.now c.first.solver.0.lines c.both-in-first.new.to.0.lines c.ask.new.solver.0.lines c.args.counter.now.firsts (length c.args.counter.now.outs) c.first.next
     c.first.best c.first.place c.first.kept c.first.row c.first.end c.first.held c.at_least-earlier.result c.in_ok-asked.asked v.settled v.room v.next_is (omega (arith, t, e)) v.from w c.at_least-earlier.ensures c.in_ok-asked.ensures.var c.in_ok-asked.ensures.gate c.in_ok-keep.ensures.grown in
-    let F : Option (List Bool) → Type 0 = λ f. IsAnswered c.ask.new.solver.0.lines c.in_ok-asked.asked c.rows-rows.result f in
+    let F : Option (List Bool) → Type 0 = λ f. IsAnswered c.ask.new.solver.0.lines c.first.held c.in_ok-asked.asked c.rows-rows.result f in
     let m = earlier-found c.args.dag.now c.args.goal c.args.cone.now c.ask.new.solver.0.lines c.args.counter.now.firsts (length c.args.counter.now.outs) (c.first.next + 1) c.rows-rows.result c.first.best c.first.place c.first.kept c.first.end c.next_kept-row-in-Some.result
     c.first.held c.in_ok-asked.asked c.in-Some.keep e a (subst F c.in-Some.is c.in_ok-keep.ensures.answered) c.next_kept-row-in-Some.ensures in
     let s = m.1 in
@@ -85,7 +85,7 @@ first-preserved-in-Some c =
     let w = v.within in
     let a = has-asked c.args.dag.now c.args.goal c.args.cone.now c.first.solver.0.lines c.both-in-first.new.to.0.lines c.ask.new.solver.0.lines c.args.counter.now.firsts (length c.args.counter.now.outs) c.first.next
     c.first.best c.first.place c.first.kept c.first.row c.first.end c.first.held c.at_least-earlier.result c.in_ok-asked.asked v.settled v.room v.next_is (omega (arith, t, e)) v.from w c.at_least-earlier.ensures c.in_ok-asked.ensures.var c.in_ok-asked.ensures.gate c.in_ok-keep.ensures.grown in
-    let F : Option (List Bool) → Type 0 = λ f. IsAnswered c.ask.new.solver.0.lines c.in_ok-asked.asked c.rows-rows.result f in
+    let F : Option (List Bool) → Type 0 = λ f. IsAnswered c.ask.new.solver.0.lines c.first.held c.in_ok-asked.asked c.rows-rows.result f in
     let m = earlier-found c.args.dag.now c.args.goal c.args.cone.now c.ask.new.solver.0.lines c.args.counter.now.firsts (length c.args.counter.now.outs) (c.first.next + 1) c.rows-rows.result c.first.best c.first.place c.first.kept c.first.end c.next_kept-row-in-Some.result
     c.first.held c.in_ok-asked.asked c.in-Some.keep e a (subst F c.in-Some.is c.in_ok-keep.ensures.answered) c.next_kept-row-in-Some.ensures in
     let z = m.0.leading.fewest c.first.best v.settled.leading.best_is in
@@ -123,7 +123,7 @@ first-preserved c =
     let from = v.from in
     let a = has-asked c.args.dag.now c.args.goal c.args.cone.now c.first.solver.0.lines c.both-in-first.new.to.0.lines c.ask.new.solver.0.lines c.args.counter.now.firsts (length c.args.counter.now.outs) c.first.next
     c.first.best c.first.place c.first.kept c.first.row c.first.end c.first.held c.at_least-earlier.result c.in_ok-asked.asked v.settled v.room n (omega (arith, t, e)) from w c.at_least-earlier.ensures c.in_ok-asked.ensures.var c.in_ok-asked.ensures.gate c.in_ok-keep.ensures.grown in
-    let F : Option (List Bool) → Type 0 = λ f. IsAnswered c.ask.new.solver.0.lines c.in_ok-asked.asked c.rows-rows.result f in
+    let F : Option (List Bool) → Type 0 = λ f. IsAnswered c.ask.new.solver.0.lines c.first.held c.in_ok-asked.asked c.rows-rows.result f in
     record {
       rows = e;
       small = v.small;
@@ -165,3 +165,10 @@ first-smaller-then-place-row c =
     let l = v.settled.leading.best_is.0 in
     let m = falls c.rows-rows.result c.first.place (c.first.place + 1) c.first.row c.next_kept-row-then-place-row.result (omega arith) (omega (arith, p, t)) (omega (arith, w, l, e)) in
     omega (arith, m)
+
+pub ask-requires-clause-rows : goal.ask-requires-clause-rows
+ask-requires-clause-rows c =
+    let v = c.first.invariant in
+    let e = v.rows in
+    let w = v.settled.aimed.wide in
+    omega (arith, e, w)

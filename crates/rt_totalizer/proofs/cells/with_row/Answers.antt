@@ -32,10 +32,10 @@ loop-k-preserved g c =
     let b : c.loop-k.k < length c.args.old.now.list = (let t = c.loop-k-test.true in let n = c.len-k-end.ensures in omega (arith, t, n)) in
     let longer : length c.push-in-loop-k.new.self ≡ c.loop-k.k + 1 = (let n = ap length c.in_ok-push-3.ensures.ok in let l = length-append c.loop-k.list (c.of-out.result ∷ []) in let k = v.len in omega (arith, n, l, k)) in
     let more = row-more c.args.row c.args.old.now.list c.args.old.now.next _ c.loop-k.list c.loop-k.next _ c.loop-k.k c.of-out.result c.of.result c.at-same.result c.at-in-loop-k.result _ _
-        v.row v.len (let k = c.loop-k.auto.k in omega (arith, k)) b c.requires.low c.requires.row
-        c.of-out.ensures.var c.of-out.ensures.on c.of.ensures.var c.of.ensures.on c.at-same.ensures c.at-in-loop-k.ensures c.in_ok-push-3.ensures.ok c.in_ok-cell.ensures in
+    v.row v.len (let k = c.loop-k.auto.k in omega (arith, k)) b c.requires.low c.requires.row
+    c.of-out.ensures.var c.of-out.ensures.on c.of.ensures.var c.of.ensures.on c.at-same.ensures c.at-in-loop-k.ensures c.in_ok-push-3.ensures.ok c.in_ok-cell.ensures in
     let last : c.of-out.result ≡ cell_at c.push-in-loop-k.new.self c.loop-k.k =
-        sym (ap (λ ns. cell_at ns c.loop-k.k) c.in_ok-push-3.ensures.ok ∙ ap (cell_at (c.loop-k.list ++ c.of-out.result ∷ [])) (sym v.len) ∙ cell-end c.loop-k.list c.of-out.result) in
+    sym (ap (λ ns. cell_at ns c.loop-k.k) c.in_ok-push-3.ensures.ok ∙ ap (cell_at (c.loop-k.list ++ c.of-out.result ∷ [])) (sym v.len) ∙ cell-end c.loop-k.list c.of-out.result) in
     let P : List (List Literal) → Type 0 = λ lines. IsRowOf c.args.row c.args.old.now.list c.args.old.now.next (g.A.Adds.lines c.args.to.now) c.push-in-loop-k.new.self (c.loop-k.next + 1) lines in
     record {
       len = longer;

@@ -1,0 +1,148 @@
+-- A question that is decided before all else: where it is false, nothing is decided, and so no model makes it true.
+use Rattle.std.proofs.Common.{◌≡◌, ℕ, ◌<◌, ◌≤◌, Bool, true, false, List, [], ◌∷◌, ◌++◌, length, refl, sym, ap, subst, ◌∙◌, ◌⊎◌, inl, inr, Option, Some, None, IfSome, IsSomeAnd, arith}
+use Rattle.rt_clause.specs.Literal.{Literal, negated}
+use Rattle.rt_clause.specs.Lists.{has, is_false, line_at}
+use Rattle.rt_clause.specs.Models.{lit_true, clause_true, IsModel}
+use Rattle.rt_clause.specs.Refuting.{Refutes, IsRefuted}
+use Rattle.rt_clause.proofs.Bools.{bool-cases}
+use Rattle.rt_clause.proofs.Literals.{has-head, has-tail, has-cases, negated-twice}
+use Rattle.rt_solver.specs.declared.trail.Step.{Step}
+use Rattle.rt_solver.specs.declared.trail.Why.{Why}
+use Rattle.rt_solver.specs.declared.trail.Why.TheVariants.{Line, Decided, Assumed}
+use Rattle.rt_solver.specs.declared.order.Order.{Order}
+use Rattle.rt_solver.specs.declared.order.Order.TheVariants.{Free, Fixed}
+use Rattle.rt_solver.specs.declared.next.Next.{Next}
+use Rattle.rt_solver.specs.declared.next.Next.TheVariants.{Whole, Missed, Decide}
+use Rattle.rt_solver.specs.Picking.{Picking, IsOffered}
+use Rattle.rt_solver.specs.Trail.{lits, value_in, IsApart, IsFounded, IfDecided, decisions, decided_by}
+use Rattle.rt_solver.specs.Propagating.{AreForced, IsPropagated}
+use Rattle.rt_solver.specs.Seeking.{IsLed, IsDenied, IsChosen, IsNext}
+use Rattle.rt_solver.specs.Answers.{HasNone}
+use Rattle.rt_solver.proofs.FreshLaws.{consistent}
+use Rattle.rt_solver.proofs.Picks.{offered-more}
+use Rattle.rt_solver.proofs.Ordered.{AllTrue, forced, all-more, not-both, true-among}
+
+-- of an optional literal
+pub if-some : (P Q : Literal → Type 0) (o : Option Literal) → ((a : Literal) → P a → Q a) → IfSome o P → IfSome o Q
+if-some P Q None f h = tt
+if-some P Q (Some a) f h = f a h
+
+pub all-some : (P : Literal → Type 0) (o : Option Literal) → ((a : Literal) → P a) → IfSome o P
+all-some P None f = tt
+all-some P (Some a) f = f a
+
+-- the question stays the first decision as steps come that are none, or go
+pub led-forced : (a : Literal) (lines : List (List Literal)) (old new : List Step) → IsPropagated lines old new → IsLed a old → IsLed a new
+led-forced a lines old new p h = let P : List Step → Type 0 = IsLed a in subst P (sym p.steps) (more p.above p.forced) where
+  more : (above : List Step) → AreForced lines above old → IsLed a (above ++ old)
+  more [] g = h
+  more (s ∷ above) g = (let x = g.0 in let Q : Why → Type 0 = λ w. IfDecided w ((s.lit ≡ a) ⊎ (has (lits (above ++ old)) a ≡ true)) in subst Q (sym x.why) tt, more above g.1)
+
+led-part : (a : Literal) (above kept : List Step) → IsLed a (above ++ kept) → IsLed a kept
+led-part a [] kept h = h
+led-part a (s ∷ above) kept h = led-part a above kept h.1
+
+pub led-learned : (a : Literal) (trail kept after above : List Step) (d l : Step) (n : ℕ) → trail ≡ above ++ d ∷ kept → after ≡ l ∷ kept → l.why ≡ Line n → IsLed a trail → IsLed a after
+led-learned a trail kept after above d l n e q w h =
+    let P : List Step → Type 0 = IsLed a in
+    let k = (led-part a above (d ∷ kept) (subst P e h)).1 in
+    let Q : Why → Type 0 = λ y. IfDecided y ((l.lit ≡ a) ⊎ (has (lits kept) a ≡ true)) in
+    subst P (sym q) (subst Q (sym w) tt, k)
+
+pub led-decided : (a : Literal) (before after : List Step) (s : Step) → after ≡ s ∷ before → s.why ≡ Decided → ((s.lit ≡ a) ⊎ (has (lits before) a ≡ true)) → IsLed a before → IsLed a after
+led-decided a before after s e w d h =
+    let P : List Step → Type 0 = IsLed a in
+    let Q : Why → Type 0 = λ y. IfDecided y ((s.lit ≡ a) ⊎ (has (lits before) a ≡ true)) in
+    subst P (sym e) (subst Q (sym w) d, h)
+
+-- so for an optional question
+pub led-more : (o : Option Literal) (before after : List Step) (s : Step) → after ≡ s ∷ before → s.why ≡ Decided → IfSome o (λ a. (s.lit ≡ a) ⊎ (has (lits before) a ≡ true)) → IfSome o (λ a. IsLed a before) → IfSome o (λ a. IsLed a after)
+led-more None before after s e w d h = tt
+led-more (Some a) before after s e w d h = led-decided a before after s e w d h
+
+-- no decision yet
+pub led-undecided : (a : Literal) (t : List Step) → decisions t ≡ [] → IsLed a t
+led-undecided a [] e = tt
+led-undecided a (s ∷ t) e = by s.why e (led-undecided a t) where
+  by : (w : Why) → decided_by w s.lit (decisions t) ≡ [] → (decisions t ≡ [] → IsLed a t) → IfDecided w ((s.lit ≡ a) ⊎ (has (lits t) a ≡ true)) × IsLed a t
+  by (Line r) q f = (tt, f q)
+  by Decided q f = absurd (cc)
+  by Assumed q f = (tt, f q)
+
+-- where the question is not true, nothing is decided
+led-none : (a : Literal) (t : List Step) → IsLed a t → has (lits t) a ≡ false → decisions t ≡ []
+led-none a [] h n = refl
+led-none a (s ∷ t) h n = by s.why h.0 (led-none a t h.1 older) where
+  clash : {b : Bool} → b ≡ true → b ≡ false → ⊥
+  clash p q = cc
+
+  older : has (lits t) a ≡ false
+  older = elim (bool-cases (has (lits t) a)) [ inl y ↦ absurd (clash (has-tail s.lit a (lits t) y) n) | inr z ↦ z ]
+
+  by : (w : Why) → IfDecided w ((s.lit ≡ a) ⊎ (has (lits t) a ≡ true)) → decisions t ≡ [] → decided_by w s.lit (decisions t) ≡ []
+  by (Line r) d e = e
+  by Assumed d e = e
+  by Decided d e = absurd (elim d [
+    | inl q ↦ (let P : Literal → Type 0 = λ k. has (s.lit ∷ lits t) k ≡ true in clash (subst P q (has-head s.lit (lits t))) n)
+    | inr y ↦ clash y older
+  ])
+
+denied-at : (m : ℕ) (a : Literal) (t : List Step) → IsApart m t → IsLed a t → is_false (lits t) a ≡ true → IsDenied t a
+denied-at m a t p l h =
+    let P : Literal → Type 0 = λ k. has (lits t) k ≡ false in
+    (h, led-none a t l (subst P (negated-twice a) (consistent m t p (negated a) h)))
+
+pub denied : (m : ℕ) (o : Option Literal) (t : List Step) → IsApart m t → IfSome o (λ a. IsLed a t) → IsSomeAnd o (λ a. is_false (lits t) a ≡ true) → IsSomeAnd o (IsDenied t)
+denied m None t p l h = h
+denied m (Some a) t p l h = denied-at m a t p l h
+
+-- where nothing is decided, what is on the trail is true in each model
+undecided-true : (lines : List (List Literal)) (assume : Option Literal) (bools : List Bool) (t : List Step) → IsFounded lines assume t → decisions t ≡ [] → IsModel lines bools → IfSome assume (λ a. lit_true bools a ≡ true) → AllTrue bools t
+undecided-true lines assume bools [] f e m a = λ l g. absurd (cc)
+undecided-true lines assume bools (s ∷ t) f e m a = each s.why refl e (λ d. undecided-true lines assume bools t f.1 d m a) where
+  more : AllTrue bools t → (s.why ≡ Decided → ⊥) → AllTrue bools (s ∷ t)
+  more all n = all-more bools s t (forced lines assume bools t s.lit s.why f.0 m a all (λ d. absurd (n d))) all
+
+  each : (w : Why) → s.why ≡ w → decided_by w s.lit (decisions t) ≡ [] → (decisions t ≡ [] → AllTrue bools t) → AllTrue bools (s ∷ t)
+  each (Line r) q d rest = more (rest d) (λ c. cc)
+  each Assumed q d rest = more (rest d) (λ c. cc)
+  each Decided q d rest = absurd (cc)
+
+-- so no model makes the question true
+pub denied-none : (lines : List (List Literal)) (assume o : Option Literal) (t : List Step) → IsFounded lines assume t → IsSomeAnd o (IsDenied t) → IsSomeAnd o (HasNone lines assume)
+denied-none lines assume None t f d = d
+denied-none lines assume (Some x) t f d = λ bools m a h. not-both bools x h (undecided-true lines assume bools t f d.1 m a (negated x) d.0)
+
+-- nor does any where the lines refute the assumption
+pub refuted-none : (lines : List (List Literal)) (assume : Option Literal) (x : Literal) → IsRefuted lines assume → HasNone lines assume x
+refuted-none lines assume x r bools m a h = by assume a r.2 (true-among bools (line_at lines r.0) (m r.0 r.1)) where
+  by : (o : Option Literal) → IfSome o (λ y. lit_true bools y ≡ true) → Refutes o (line_at lines r.0) → (k : Literal) × (has (line_at lines r.0) k ≡ true) × (lit_true bools k ≡ true) → ⊥
+  by o t (inl e) k = (let P : List Literal → Type 0 = λ ls. has ls k.0 ≡ true in let g = subst P e k.1 in cc)
+  by None t (inr e) k = e
+  by (Some y) t (inr e) k = (let P : List Literal → Type 0 = λ ls. has ls k.0 ≡ true in elim (has-cases (negated y) k.0 [] (subst P e k.1)) [
+    | inl q ↦ (let T : Literal → Type 0 = λ l. lit_true bools l ≡ true in not-both bools y t (subst T q k.2))
+    | inr c ↦ absurd (cc)
+  ])
+
+-- what comes next where no question is open, with a question that is true
+pub next-asked : (picking : Picking) (vars : ℕ) (order : Order) (a : Literal) (steps : List Step) (n : Next) → IsNext picking vars order None steps n → has (lits steps) a ≡ true → IsNext picking vars order (Some a) steps n
+next-asked picking vars order a steps Whole h t = (h.0, t)
+next-asked picking vars order a steps Missed h t = absurd h
+next-asked picking vars order a steps (Decide lit) h t = record { within = h.within; unset = h.unset; smallest = h.smallest; fixed = h.fixed; offered = h.offered; led = inr t }
+
+-- an open question may be decided next
+pub chosen-asked : (picking : Picking) (vars : ℕ) (order : Order) (a : Literal) (steps : List Step) → picking.bound ≤ vars → a.var < picking.bound → value_in steps a.var ≡ None → IsOffered picking steps → (order ≡ Fixed → picking.bound ≡ 0) → IsChosen picking vars order (Some a) steps a
+chosen-asked picking vars order a steps f l u o n = record {
+  within = omega (arith, f, l);
+  unset = u;
+  smallest = λ z. absurd (omega (arith, l, z));
+  fixed = λ z. absurd (let e = n z in omega (arith, l, e));
+  offered = λ s q. offered-more picking (s ∷ []) steps o;
+  led = inl refl;
+}
+
+-- the question is one of the variables that the heap offers
+pub asked-bound : (order : Order) (o : Option Literal) (first bound : ℕ) → (order ≡ Free → bound ≡ first) → (order ≡ Fixed → o ≡ None) → IfSome o (λ a. a.var < first) → IfSome o (λ a. a.var < bound)
+asked-bound Free None first bound f n h = tt
+asked-bound Free (Some a) first bound f n h = (let e = f refl in omega (arith, e, h))
+asked-bound Fixed o first bound f n h = (let P : Option Literal → Type 0 = λ q. IfSome q (λ a. a.var < bound) in subst P (sym (n refl)) tt)

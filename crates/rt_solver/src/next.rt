@@ -1,0 +1,54 @@
+//! What comes after propagation: the question first, then a variable that is open.
+
+ghost use Rattle.std.specs.Prelude.{◌≡◌, ◌<◌, ◌≤◌, ◌^◌, None, IfSome};
+ghost use Rattle.rt_solver.specs.declared.order.Order.TheVariants.{Fixed};
+ghost use Rattle.rt_solver.specs.Picking.{IsOffered};
+ghost use Rattle.rt_solver.specs.Seeking.{IsNext};
+
+use crate::order::Order;
+use crate::pick::Pick;
+use crate::trail::Trail;
+use rt_clause::Lit;
+
+/// What comes after propagation: each variable has a value, the question is false, or a literal
+/// is decided.
+#[derive(Clone, Copy)]
+pub enum Next {
+    Whole,
+    Missed,
+    Decide(Lit),
+}
+
+// What comes next where no question is open.
+fn picked(order: Order, pick: &mut Pick, trail: &Trail) -> Next
+    requires few { trail.now.vars ≤ 2 ^ 62 }
+    requires bound { pick.old.bound ≤ trail.now.vars }
+    requires offered { IsOffered pick.old trail.now.steps }
+    ensures bound { pick.new.bound ≡ pick.old.bound }
+    ensures next { IsNext pick.new trail.now.vars order None trail.now.steps result }
+{
+    match pick.pick(trail) {
+        None => Next::Whole,
+        Some(v) => Next::Decide(order.decision(v)),
+    }
+}
+
+/// What comes next: the question before all else, as long as it is open.
+pub(crate) fn choose(order: Order, question: &Option<Lit>, pick: &mut Pick, trail: &Trail) -> Next
+    requires few { trail.now.vars ≤ 2 ^ 62 }
+    requires bound { pick.old.bound ≤ trail.now.vars }
+    requires asked { IfSome question.now (λ a. a.var < pick.old.bound) }
+    requires offered { IsOffered pick.old trail.now.steps }
+    requires fixed { order ≡ Fixed → pick.old.bound ≡ 0 }
+    ensures bound { pick.new.bound ≡ pick.old.bound }
+    ensures next { IsNext pick.new trail.now.vars order question.now trail.now.steps result }
+{
+    match question {
+        None => picked(order, pick, trail),
+        Some(asked) => match trail.is(*asked) {
+            None => Next::Decide(*asked),
+            Some(false) => Next::Missed,
+            Some(true) => picked(order, pick, trail),
+        },
+    }
+}
