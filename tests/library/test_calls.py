@@ -163,7 +163,7 @@ def test_the_stack_that_the_header_names(shared: Path, kind: str) -> None:
         import ratest, threading
         def run():
             for n in [*range(1, 12), *range(50, 130, 3)]:
-                answer = ratest.explain("CREATE TABLE t (a INTEGER)", {{"t": [[1], [2]]}}, {NESTS[kind]}, "SELECT a FROM t", conflicts=50)
+                answer = ratest.explain("CREATE TABLE t (a INTEGER)", {{"t": [[1]]}}, {NESTS[kind]}, "SELECT a FROM t", conflicts=50)
                 kinds.append(str(answer) if isinstance(answer, ratest.Refused) else "read")
         kinds = []
         threading.stack_size(4 << 20)
