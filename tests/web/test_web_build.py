@@ -8,10 +8,11 @@ from pathlib import Path
 
 import pytest
 
+from release.keeping import keeping
 from web import module, retarget, webassembly
 from web.failed import Changed, Failed
 from web.kept import digest, kept
-from web.kit import Kit, kit_here, run
+from web.kit import kit_here, run
 from web.narrow import narrowed
 from web.page import exercises, page_of
 
@@ -212,29 +213,28 @@ def test_heap(top: Path, tmp_path: Path) -> None:
     assert in_node(top, tmp_path, HEAP_IN_C % webassembly.HEAP, HEAP_IN_NODE) == "0,true,true,true,0,0,true\n"
 
 
-def test_a_toolchain_that_keeps_no_module(tmp_path: Path) -> None:
+def test_a_compiler_that_keeps_the_module(tmp_path: Path) -> None:
     """A clang that is given an LLVM module keeps it, and any other call goes by."""
-    (tmp_path / "kit/bin").mkdir(parents=True)
-    (tmp_path / "kit/toolchain/bin").mkdir(parents=True)
-    for name in ("bin/rt", "bin/rtlib.py", "bin/rattle", "toolchain/bin/clang", "toolchain/bin/llvm-ar", "WHAT"):
-        (tmp_path / "kit" / name).write_text('#!/bin/sh\necho "$0" "$@"\n')
-        (tmp_path / "kit" / name).chmod(0o755)
-    kept = tmp_path / "module.bc"
-    kit = module.copied(Kit(tmp_path / "kit"), tmp_path / "copy", kept)
-    assert not (kit / "bin/rt").is_symlink() and not (kit / "bin/rtlib.py").is_symlink() and (kit / "bin/rattle").is_symlink()
+    (tmp_path / "toolchain/bin").mkdir(parents=True)
+    (tmp_path / "toolchain/lib").mkdir()
+    for name in ("clang", "llvm-ar"):
+        (tmp_path / "toolchain/bin" / name).write_text('#!/bin/sh\necho "$0" "$@"\n')
+        (tmp_path / "toolchain/bin" / name).chmod(0o755)
+    made = tmp_path / "module.bc"
+    copy = keeping(tmp_path / "toolchain", tmp_path / "copy", made)
+    assert sorted(it.name for it in copy.iterdir()) == ["bin", "lib"] and (copy / "bin/llvm-ar").is_symlink()
     with pytest.raises(Changed, match="hands its clang no LLVM module"):
-        module.check(kept)
+        module.check(made)
     (tmp_path / "given.bc").write_bytes(b"BC\xc0\xde and more")
-    clang = kit / "toolchain/bin/clang"
     for words in (["-c", "-x", "c", "given.bc"], ["-c", "-x", "ir", "given.bc", "-O3"]):
-        assert not kept.exists()
-        ran = subprocess.run([clang, *words], cwd=tmp_path, capture_output=True, text=True, check=True)
-        assert ran.stdout == f"{tmp_path}/kit/toolchain/bin/clang {' '.join(words)}\n"
-    module.check(kept)
-    assert kept.read_bytes() == b"BC\xc0\xde and more"
-    kept.write_text("; ModuleID")
+        assert not made.exists()
+        ran = subprocess.run([copy / "bin/clang", *words], cwd=tmp_path, capture_output=True, text=True, check=True)
+        assert ran.stdout == f"{tmp_path}/toolchain/bin/clang {' '.join(words)}\n"
+    module.check(made)
+    assert made.read_bytes() == b"BC\xc0\xde and more"
+    made.write_text("; ModuleID")
     with pytest.raises(Changed, match="no LLVM module"):
-        module.check(kept)
+        module.check(made)
 
 
 def built(top: Path, path: str, out: Path) -> subprocess.CompletedProcess[str]:
@@ -287,8 +287,9 @@ def test_what_is_kept(tmp_path: Path) -> None:
     for _ in range(2):
         assert kept(tmp_path / "new.wasm", make).read_text() == "new"
     assert len(made) == 1 and [it.name for it in tmp_path.iterdir()] == ["new.wasm"]
-    (tmp_path / "source").write_text("a")
-    first = digest(b"", tmp_path, [tmp_path / "source"])
-    assert first == digest(b"", tmp_path, [tmp_path / "source"]) != digest(b"1", tmp_path, [tmp_path / "source"])
-    (tmp_path / "source").write_text("b")
-    assert first != digest(b"", tmp_path, [tmp_path / "source"])
+    source = tmp_path / "source"
+    source.write_text("a")
+    first = digest([source])
+    assert first == digest([source]) != digest([source, source])
+    source.write_text("b")
+    assert first != digest([source])

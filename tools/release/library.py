@@ -10,6 +10,7 @@ from pathlib import Path
 from launcher.prove import copy_crates
 from launcher.sources import Program, crate_of
 from release.files import Refused, copy
+from release.keeping import keeping
 
 CRATE = "ratest_c"
 SHARED, STATIC, HEADER = "libratest.so", "libratest.a", "ratest.h"
@@ -21,10 +22,20 @@ def archive(top: Path) -> Path:
     return top / "crates" / CRATE / "out" / f"lib{CRATE}.a"
 
 
+def module(top: Path) -> Path:
+    """Where the LLVM module is left of which the archive is compiled."""
+    return archive(top).with_name(f"{CRATE}.bc")
+
+
 def is_built(top: Path) -> bool:
     """Whether the proved archive is there and no source is newer."""
+    return is_new(top, archive(top))
+
+
+def is_new(top: Path, path: Path) -> bool:
+    """Whether a file is there and no source of the crate is newer."""
     try:
-        made = archive(top).stat().st_mtime_ns
+        made = path.stat().st_mtime_ns
         return all(os.stat(it).st_mtime_ns <= made for it in Program(str(top), CRATE, "").sources())
     except OSError:
         return False
@@ -40,17 +51,21 @@ def build(top: Path) -> None:
         made, log = Path(folder) / "repository", top / "out" / f"{CRATE}.log"
         log.parent.mkdir(exist_ok=True)
         copy_crates(program, str(made))
+        kept = Path(folder) / "module.bc"
+        toolchain = keeping(kit() / "toolchain", Path(folder) / "toolchain", kept)
         with open(log, "wb") as said:
-            for words, where in ((["rt", "ci"], made), (compiler(program, made), made / "crates" / CRATE)):
+            for words, where in ((["rt", "ci"], made), (compiler(program, made, toolchain), made / "crates" / CRATE)):
                 ran = subprocess.run(words, cwd=where, stdin=subprocess.DEVNULL, stdout=said, stderr=said, check=False)
                 if ran.returncode:
                     raise Refused(f"{CRATE} could not be proved and built: {log} says why")
         archive(top).parent.mkdir(exist_ok=True)
         copy(Path(folder) / "archive", archive(top))
+        if kept.exists():
+            copy(kept, module(top))
     log.unlink()
 
 
-def compiler(program: Program, made: Path) -> list[str]:
+def compiler(program: Program, made: Path, toolchain: Path) -> list[str]:
     """The command that compiles the crate to `archive`, beside the folder of the crates that `rt ci` proved."""
     own, lines = kit(), {crate_of(line): line for line in program.crate_lines()}
     used = lines.pop(CRATE).split(":")[1].split()
@@ -60,7 +75,7 @@ def compiler(program: Program, made: Path) -> list[str]:
         folder = made / "crates" / name / "out/rlib"
         words += [*(["--extern", f"{name}={folder / name}.rlib"] if name in used else []), "-L", f"dependency={folder}"]
     return [*words, "--antt-project", f"{own}/rattle/logic/antt-project.json", "--logic-built", f"{own}/logic_built",
-            "--toolchain", f"{own}/toolchain", "-o", str(made.parent / "archive")]
+            "--toolchain", str(toolchain), "-o", str(made.parent / "archive")]
 
 
 def kit() -> Path:

@@ -1,5 +1,5 @@
-"""What is kept in out/web: the LLVM module and the WebAssembly module, for as long as nothing changes of which
-they are made. The name of a file is a digest of that."""
+"""What is kept in out/web: the WebAssembly module, for as long as nothing changes of which it is made. The name of
+its file is a digest of that."""
 from __future__ import annotations
 
 import hashlib
@@ -9,12 +9,11 @@ from collections.abc import Callable, Iterable
 from pathlib import Path
 
 
-def digest(start: bytes, top: Path, paths: Iterable[Path]) -> str:
-    """Of some bytes, and of the names and contents of files."""
-    made = hashlib.sha256(start)
-    for path in sorted(paths):
-        content = path.read_bytes()
-        made.update(f"{os.path.relpath(path, top)} {len(content)}\n".encode("utf-8", "surrogateescape") + content)
+def digest(paths: Iterable[Path]) -> str:
+    """Of the contents of files."""
+    made = hashlib.sha256()
+    for path in paths:
+        made.update(hashlib.sha256(path.read_bytes()).digest())
     return made.hexdigest()[:32]
 
 

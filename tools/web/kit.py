@@ -13,9 +13,7 @@ from launcher import toolchain
 
 from web.failed import Changed, Failed
 
-# Of addresses. The prover, which limits itself, takes more of them than it uses.
 MEMORY = 16 << 30
-FOR_PROVER = 128 << 30
 # Of what a program prints when it fails.
 SHOWN = 2000
 
@@ -60,15 +58,15 @@ def kit_here(top: Path) -> Kit:
     return found
 
 
-def run(words: Sequence[str | Path], seconds: float, folder: Path | None = None, memory: int = MEMORY) -> str:
+def run(words: Sequence[str | Path], seconds: float) -> str:
     """Runs a program within limits of time and memory, and gives what it printed."""
     def limit() -> None:
-        resource.setrlimit(resource.RLIMIT_AS, (memory, memory))
+        resource.setrlimit(resource.RLIMIT_AS, (MEMORY, MEMORY))
 
     name = Path(words[0]).name
     try:
-        ran = subprocess.run(words, cwd=folder, stdin=subprocess.DEVNULL, stdout=subprocess.PIPE, stderr=subprocess.STDOUT,
-                             text=True, errors="replace", timeout=seconds, check=False, preexec_fn=limit)
+        ran = subprocess.run(words, stdin=subprocess.DEVNULL, stdout=subprocess.PIPE, stderr=subprocess.STDOUT, text=True,
+                             errors="replace", timeout=seconds, check=False, preexec_fn=limit)
     except subprocess.TimeoutExpired:
         raise Failed(f"{name} has not ended within {seconds:g} seconds") from None
     if ran.returncode:

@@ -9,7 +9,7 @@ from web.binary import IMPORTS, exported, sections
 from web.failed import Changed
 from web.kept import digest, kept
 from web.kit import Kit, run
-from web.module import key, module_of
+from web.module import module_of
 from web.narrow import narrowed
 
 HEAP = Path(__file__).with_name("heap.c")
@@ -25,13 +25,14 @@ IN_PLACE = ("-mllvm", "-expand-div-rem-bits=64", "-mllvm", "-expand-fp-convert-b
 
 def binary_here(top: Path, kit: Kit) -> Path:
     """The WebAssembly module of the library as its sources are now."""
+    module = module_of(top)
+
     def make(folder: Path) -> Path:
         made = folder / "ratest.wasm"
-        made.write_bytes(binary_of(kit, module_of(top, kit), folder))
+        made.write_bytes(binary_of(kit, module, folder))
         return made
 
-    here = HEAP.parent
-    name = digest(key(top, kit).encode(), top, [*here.glob("*.py"), HEAP])
+    name = digest([module, kit.folder / "KIT-ID", *sorted(HEAP.parent.glob("*.py")), HEAP])
     return kept(top / "out/web" / f"{name}.wasm", make)
 
 
