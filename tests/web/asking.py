@@ -32,7 +32,7 @@ const text = (bytes) => btoa(Array.from(bytes, (byte) => String.fromCharCode(byt
     replies.push([reply.status, text(reply.out), text(reply.err)]);
   }
   done(replies);
-})().catch((fault) => done(String(fault)));
+})().catch((error) => done(String(error)));
 """
 
 

@@ -12,8 +12,8 @@ const given = JSON.parse(fs.readFileSync(0, "utf8"));
 let read;
 try {
   read = new WebAssembly.Module(zlib.gunzipSync(Buffer.from(given.module, "base64")));
-} catch (fault) {
-  console.error(String(fault));
+} catch (error) {
+  console.error(String(error));
   process.exit(3);
 }
 const replies = given.questions.map(({ words, files }) => {

@@ -51,9 +51,9 @@ attributes #1 = { nounwind }
     (b"ret i64 0", b"%r = call i64 @llvm.x86.rdtsc()", "what only x86-64 has"),
     (b"attributes #1 = { nounwind }", b'attributes #1 = { nounwind "tuned-for"="x86-64" }', 'attribute "x86-64"')])
 def test_a_module_that_has_changed(old: bytes, new: bytes, told: str) -> None:
-    with pytest.raises(Changed, match="^the toolchain's interface has changed: ") as fault:
+    with pytest.raises(Changed, match="^the toolchain's interface has changed: ") as error:
         retarget.retargeted(MODULE.replace(old, new))
-    assert told in str(fault.value)
+    assert told in str(error.value)
 
 
 EMPTY = b"\0asm\1\0\0\0"

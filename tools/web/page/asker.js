@@ -27,11 +27,11 @@ class Asker {
       this.end = resolve;
       this.worker.onmessage = ({ data }) => {
         this.end = null;
-        if (data.fault === undefined) {
+        if (data.error === undefined) {
           resolve(data);
         } else {
           this.stop();
-          reject(new Error(data.fault));
+          reject(new Error(data.error));
         }
       };
       this.worker.onerror = (event) => {

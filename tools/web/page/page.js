@@ -128,9 +128,9 @@ async function answer() {
       field("state").textContent = `Answered in ${passed()}.`;
       show(...answered(outcomeOf(reply.status, out, err, tables), texts, tables));
     }
-  } catch (fault) {
+  } catch (error) {
     field("state").textContent = "";
-    show(...verdict("no-verdict", "no verdict", `The program could not be run in this browser: ${fault.message}`));
+    show(...verdict("no-verdict", "no verdict", `The program could not be run in this browser: ${error.message}`));
   }
   clearTimeout(waits);
   field("ask").disabled = false;

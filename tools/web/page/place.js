@@ -1,5 +1,5 @@
 "use strict";
-// Where in a text the fault is that ratest names by a byte.
+// Where in a text the error is that ratest names by a byte.
 
 const WORD = /[\p{L}\p{N}\p{M}_]+/uy;
 

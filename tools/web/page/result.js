@@ -25,9 +25,9 @@ function outcomeOf(status, out, err, tables) {
   try {
     const outcome = new Reader(out, tables).outcome();
     return outcome.kind === fits ? outcome : none;
-  } catch (fault) {
-    if (fault instanceof Unreadable) return none;
-    throw fault;
+  } catch (error) {
+    if (error instanceof Unreadable) return none;
+    throw error;
   }
 }
 
@@ -147,8 +147,8 @@ class Reader {
         this.take(/: /y);
         const cells = this.row();
         if (cells.length === table.columns.length) return { table: table.name, number, cells };
-      } catch (fault) {
-        if (!(fault instanceof Unreadable)) throw fault;
+      } catch (error) {
+        if (!(error instanceof Unreadable)) throw error;
       }
     }
     throw new Unreadable();

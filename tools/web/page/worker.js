@@ -7,7 +7,7 @@ self.onmessage = ({ data }) => {
   try {
     if (data.module) module = new WebAssembly.Module(data.module);
     else self.postMessage(ask(module, data.words, data.files, data.limit));
-  } catch (fault) {
-    self.postMessage({ fault: String(fault) });
+  } catch (error) {
+    self.postMessage({ error: String(error) });
   }
 };
