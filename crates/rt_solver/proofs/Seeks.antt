@@ -113,34 +113,6 @@ pub denied-none : (lines : List (List Literal)) (assume o : Option Literal) (t :
 denied-none lines assume None t f d = d
 denied-none lines assume (Some x) t f d = λ bools m a h. not-both bools x h (undecided-true lines assume bools t f d.1 m a (negated x) d.0)
 
--- nor does any where the lines refute the assumption
-pub refuted-none : (lines : List (List Literal)) (assume : Option Literal) (x : Literal) → IsRefuted lines assume → HasNone lines assume x
-refuted-none lines assume x r bools m a h = by assume a r.2 (true-among bools (line_at lines r.0) (m r.0 r.1)) where
-  by : (o : Option Literal) → IfSome o (λ y. lit_true bools y ≡ true) → Refutes o (line_at lines r.0) → (k : Literal) × (has (line_at lines r.0) k ≡ true) × (lit_true bools k ≡ true) → ⊥
-  by o t (inl e) k = (let P : List Literal → Type 0 = λ ls. has ls k.0 ≡ true in let g = subst P e k.1 in cc)
-  by None t (inr e) k = e
-  by (Some y) t (inr e) k = (let P : List Literal → Type 0 = λ ls. has ls k.0 ≡ true in elim (has-cases (negated y) k.0 [] (subst P e k.1)) [
-    | inl q ↦ (let T : Literal → Type 0 = λ l. lit_true bools l ≡ true in not-both bools y t (subst T q k.2))
-    | inr c ↦ absurd (cc)
-  ])
-
--- what comes next where no question is open, with a question that is true
-pub next-asked : (picking : Picking) (vars : ℕ) (order : Order) (a : Literal) (steps : List Step) (n : Next) → IsNext picking vars order None steps n → has (lits steps) a ≡ true → IsNext picking vars order (Some a) steps n
-next-asked picking vars order a steps Whole h t = (h.0, t)
-next-asked picking vars order a steps Missed h t = absurd h
-next-asked picking vars order a steps (Decide lit) h t = record { within = h.within; unset = h.unset; smallest = h.smallest; fixed = h.fixed; offered = h.offered; led = inr t }
-
--- an open question may be decided next
-pub chosen-asked : (picking : Picking) (vars : ℕ) (order : Order) (a : Literal) (steps : List Step) → picking.bound ≤ vars → a.var < picking.bound → value_in steps a.var ≡ None → IsOffered picking steps → (order ≡ Fixed → picking.bound ≡ 0) → IsChosen picking vars order (Some a) steps a
-chosen-asked picking vars order a steps f l u o n = record {
-  within = omega (arith, f, l);
-  unset = u;
-  smallest = λ z. absurd (omega (arith, l, z));
-  fixed = λ z. absurd (let e = n z in omega (arith, l, e));
-  offered = λ s q. offered-more picking (s ∷ []) steps o;
-  led = inl refl;
-}
-
 -- the question is one of the variables that the heap offers
 pub asked-bound : (order : Order) (o : Option Literal) (first bound : ℕ) → (order ≡ Free → bound ≡ first) → (order ≡ Fixed → o ≡ None) → IfSome o (λ a. a.var < first) → IfSome o (λ a. a.var < bound)
 asked-bound Free None first bound f n h = tt

@@ -6,7 +6,9 @@
 //! are first ones. A literal that others of the analysis imply is left out. The search goes back to
 //! the oldest part of the trail before a decision at which the others are false, and this one becomes
 //! true there. The variable that was met most in analyses, the latest ones counting for more, is
-//! decided next; `Heap` finds it. There are no restarts and no clause is deleted, so that the solver's
+//! decided next; `Heap` finds it. A question, where there is one, is decided before all others: where
+//! it is false, nothing is decided, and so all that is true follows from the lines and what is assumed.
+//! There are no restarts and no clause is deleted, so that the solver's
 //! own clauses are the lines in order. It ends without a budget, by the second law of `laws`; a clause
 //! that it counts against a budget is fresh, by the first.
 #![tactic(auto)]
