@@ -63,7 +63,7 @@ others-preserved-then-size-most c =
     record {
       rows = v.rows;
       named = c.in_ok-other.ensures.rows ∙ v.named;
-      way = way-on c.args.dag.now c.args.goal c.args.cone.now c.others.solver.0.lines c.other.new.solver.0.lines _ c.others.named.next c.other.new.named.next c.args.counter.now c.others.best c.in_ok-keep.keep c.in_ok-other.ensures.longer.lines c.in_ok-other.ensures.wider c.in_ok-other.ensures.aimed v.way c.in_ok-keep.ensures (omega (arith, l, z, e)) v.room;
+      way = way-on c.args.dag.now c.args.goal c.args.cone.now c.others.solver.0.lines c.other.new.solver.0.lines _ c.others.named.next c.other.new.named.next c.args.counter.now c.others.best c.in_ok-keep-in-Some.keep c.in_ok-other.ensures.longer.lines c.in_ok-other.ensures.wider c.in_ok-other.ensures.aimed v.way c.in_ok-keep-in-Some.ensures (omega (arith, l, z, e)) v.room;
       room = (let r = v.room in omega (arith, l, z, e, r));
     }
 
