@@ -1,4 +1,4 @@
-"""What all tests share: the repository's folder, and the proved programs.
+"""What all tests share: the repository's folder, the proved programs, and a browser.
 
 A test of a proved program is skipped where the program is not built: `rt ci` at the top builds both, and so
 do `./ratest --build` and `./ratest_plus --build`.
@@ -6,10 +6,14 @@ do `./ratest --build` and `./ratest_plus --build`.
 from __future__ import annotations
 
 import os
+import shutil
+from collections.abc import Iterator
 from pathlib import Path
+from typing import Any
 
 import pytest
 
+BROWSERS = ("chromium", "chromium-browser", "google-chrome")
 TOP = Path(__file__).resolve().parent.parent
 
 
@@ -37,6 +41,24 @@ def ratest() -> Path:
 def ratest_plus() -> Path:
     """The program ratest_plus: $RATEST_PLUS, else the proved one."""
     return proved("ratest_plus", "RATEST_PLUS")
+
+
+@pytest.fixture(scope="session")
+def browser() -> Iterator[Any]:
+    """A chromium without a window."""
+    webdriver = pytest.importorskip("selenium.webdriver")
+    path = next(filter(None, map(shutil.which, BROWSERS)), None)
+    driver = shutil.which("chromedriver")
+    if not path or not driver:
+        pytest.skip("no chromium or chromedriver: apt-get install chromium chromium-driver")
+    options = webdriver.ChromeOptions()
+    options.binary_location = path
+    for word in ("--headless=new", "--no-sandbox", "--disable-gpu", "--hide-scrollbars", "--disable-dev-shm-usage"):
+        options.add_argument(word)
+    service = __import__("selenium.webdriver.chrome.service", fromlist=["Service"]).Service(driver)
+    opened = webdriver.Chrome(options=options, service=service)
+    yield opened
+    opened.quit()
 
 
 @pytest.fixture(scope="session")

@@ -8,12 +8,15 @@ from pathlib import Path
 
 import pytest
 
-# The folder in which mypy runs, and what it checks there.
+# The folder in which mypy runs, and what it checks there. Modules of these folders are found too.
 CHECKED = [
     ("python", ["classroom"]),
     ("tests", ["compare", "test_comparisons.py", "test_documents.py", "test_memory.py", "test_style.py"]),
     ("tests/hostile", ["."]),
+    ("tests/web", ["."]),
+    ("tools", ["web"]),
 ]
+FOUND = ("python", "tests", "tools")
 SCRIPTS = [".ci/run", "bench/classroom", "bench/run", "tests/mutants"]
 
 
@@ -23,7 +26,7 @@ def test_types(folder: str, checked: list[str], top: Path, tmp_path: Path) -> No
         pytest.skip("there is no mypy: apt-get install mypy")
     # Debian's mypy, which sees Debian's packages.
     done = subprocess.run(["/usr/bin/python3", "-m", "mypy", "--strict", "--explicit-package-bases", f"--cache-dir={tmp_path}", *checked],
-                          cwd=top / folder, capture_output=True, text=True, check=False, env={**os.environ, "MYPYPATH": ""})
+                          cwd=top / folder, capture_output=True, text=True, check=False, env={**os.environ, "MYPYPATH": ":".join(str(top / it) for it in FOUND)})
     assert done.returncode == 0, done.stdout
 
 

@@ -7,11 +7,9 @@ import sys
 import tempfile
 from collections.abc import Iterator
 from pathlib import Path
-from typing import Any
 
 import pytest
 
-BROWSERS = ("chromium", "chromium-browser", "google-chrome")
 TOP = Path(__file__).resolve().parents[2]
 sys.path[:0] = [str(TOP / "python")]
 
@@ -64,21 +62,3 @@ def beers(tmp_path: Path) -> Path:
     folder = tmp_path / "beers"
     shutil.copytree(TOP / "examples/beers", folder, ignore=shutil.ignore_patterns("results"))
     return folder
-
-
-@pytest.fixture(scope="session")
-def browser() -> Iterator[Any]:
-    """A chromium without a window."""
-    webdriver = pytest.importorskip("selenium.webdriver")
-    path = next(filter(None, map(shutil.which, BROWSERS)), None)
-    driver = shutil.which("chromedriver")
-    if not path or not driver:
-        pytest.skip("no chromium or chromedriver: apt-get install chromium chromium-driver")
-    options = webdriver.ChromeOptions()
-    options.binary_location = path
-    for word in ("--headless=new", "--no-sandbox", "--disable-gpu", "--hide-scrollbars", "--disable-dev-shm-usage"):
-        options.add_argument(word)
-    service = __import__("selenium.webdriver.chrome.service", fromlist=["Service"]).Service(driver)
-    opened = webdriver.Chrome(options=options, service=service)
-    yield opened
-    opened.quit()
