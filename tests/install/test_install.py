@@ -104,7 +104,7 @@ def test_the_library_for_c(prefix: Path, top: Path, tmp_path: Path) -> None:
     if not shutil.which("pkg-config"):
         pytest.skip("there is no program pkg-config")
     described = subprocess.run(["pkg-config", "--cflags", "--libs", "ratest"], text=True, capture_output=True, check=True,
-                               env={**os.environ, "PKG_CONFIG_PATH": str(prefix / "lib/pkgconfig")}).stdout
+                               env={**os.environ, "PKG_CONFIG_PATH": str(prefix / "share/pkgconfig")}).stdout
     for name, words in (("shared", shlex.split(described)), ("static", [f"-I{prefix}/include", str(prefix / "lib/ratest/libratest.a")])):
         subprocess.run(["cc", "-o", tmp_path / name, top / "examples/c/explain.c", *words], check=True, timeout=SECONDS)
         ran = run(tmp_path / name)

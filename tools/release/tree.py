@@ -62,7 +62,7 @@ def lay_out_library(top: Path, to: Path) -> None:
         for path in made:
             put(path.read_bytes(), to / ("include" if path.suffix == ".h" else "lib/ratest") / path.name)
     text = (top / "c/ratest.pc").read_text().replace("VERSION", (top / "VERSION").read_text().strip())
-    put(text.encode(), to / "lib/pkgconfig/ratest.pc")
+    put(text.encode(), to / "share/pkgconfig/ratest.pc")
 
 
 def lay_out_packages(top: Path, to: Path, python: str) -> None:

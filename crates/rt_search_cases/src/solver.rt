@@ -82,9 +82,7 @@ fn is_found(rt: &impl Abort, solver: &mut Solver<Checker>, question: Lit) -> boo
     requires { question.var < 3 }
 {
     let second = Lit::of(1, false);
-    let found = solver
-        .seek(Some(second), question, 3)
-        .expect(rt, "memory");
+    let found = solver.seek(Some(second), question, 3).expect(rt, "memory");
     match found {
         None => false,
         Some(keep) => {
