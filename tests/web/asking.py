@@ -81,7 +81,8 @@ class Node:
         program = shutil.which("node")
         if not program:
             raise Unable("there is no node: apt-get install nodejs")
-        ran = subprocess.run([program, NODE, SCRIPTS / "frame.js"], input=given, capture_output=True, text=True, timeout=SECONDS, check=False)
+        ran = subprocess.run([program, NODE, SCRIPTS / "frame.js"], input=given, capture_output=True, text=True,
+                             timeout=SECONDS, check=False)
         if ran.returncode == NOT_READ:
             raise Unable(f"node cannot read the module: {ran.stderr.strip()}")
         assert not ran.returncode, ran.stderr

@@ -20,8 +20,8 @@ TOP = Path(__file__).resolve().parents[2]
 WORDS = ("schema.sql", "data", "1.sql", "2.sql")
 # Arguments of which some are wrong.
 ARGUMENTS: tuple[tuple[str, ...], ...] = (
-    (), ("made",), ("made", "0"), ("made", "1"), ("made", "20"), ("made", "401"), ("made", "60", "--conflicts", "3"), ("nothing",),
-    WORDS[:3], (*WORDS, "more"), (*WORDS, "--work", "1"), (*WORDS, "--work", "0"), (*WORDS, "--conflicts", "1"),
+    (), ("made",), ("made", "0"), ("made", "1"), ("made", "20"), ("made", "401"), ("made", "60", "--conflicts", "3"),
+    ("nothing",), WORDS[:3], (*WORDS, "more"), (*WORDS, "--work", "1"), (*WORDS, "--work", "0"), (*WORDS, "--conflicts", "1"),
     (*WORDS, "--conflicts", "10000001"), ("schema.sql", "data", "1.sql", "none.sql"), ("none.sql", "data", "1.sql", "2.sql"),
     ("schema.sql", "elsewhere", "1.sql", "2.sql"), ("schema.sql", "data", "größe", "☃"))
 SECONDS = 60.0
@@ -77,14 +77,16 @@ def of_seed(seed: int, limits: Limits) -> Question:
 
 
 def hard() -> Question:
-    """One that takes many seconds: the fewest of 40 numbers that have one in each of 120 triples. A number that is
-    kept needs the first triple, and each triple the next one, so that all of them are kept."""
+    """One that takes many seconds: the fewest of 40 numbers that have one in each of 120 triples.
+
+    A number that is kept needs the first triple, and each triple the next one, so that all of them are kept.
+    """
     random = Random(1)
     triples = [random.sample(range(40), 3) for _ in range(120)]
     rows = "".join(f"{at},{','.join(map(str, triple))},{at + 1 if at < 119 else ''}\n" for at, triple in enumerate(triples))
     texts = {
-        "schema.sql": "CREATE TABLE e (id INTEGER PRIMARY KEY, a INTEGER, b INTEGER, c INTEGER, next INTEGER REFERENCES e (id));\n"
-                      "CREATE TABLE v (a INTEGER, head INTEGER REFERENCES e (id));\n",
+        "schema.sql": "CREATE TABLE e (id INTEGER PRIMARY KEY, a INTEGER, b INTEGER, c INTEGER,\n"
+                      "  next INTEGER REFERENCES e (id));\nCREATE TABLE v (a INTEGER, head INTEGER REFERENCES e (id));\n",
         "data/e.csv": f"id,a,b,c,next\n{rows}",
         "data/v.csv": "a,head\n" + "".join(f"{at},0\n" for at in range(40)),
         "1.sql": "SELECT a FROM v WHERE a < 0\n",
@@ -100,6 +102,6 @@ def native(program: Path, question: Question) -> Reply:
             path = Path(folder) / name
             path.parent.mkdir(exist_ok=True)
             path.write_bytes(content)
-        ran = subprocess.run([program.absolute(), *question.words], cwd=folder, stdin=subprocess.DEVNULL, capture_output=True,
-                             timeout=SECONDS, check=False, env={"PATH": os.defpath})
+        ran = subprocess.run([program.absolute(), *question.words], cwd=folder, stdin=subprocess.DEVNULL,
+                             capture_output=True, timeout=SECONDS, check=False, env={"PATH": os.defpath})
     return Reply(ran.returncode, ran.stdout, ran.stderr)

@@ -46,7 +46,7 @@ def answered(ratest: Path) -> list[tuple[Question, Reply]]:
 
 def compare(host: Asking, answered: Sequence[tuple[Question, Reply]]) -> None:
     found = host.ask([question for question, _ in answered])
-    differing = [(question, wanted, told) for (question, wanted), told in zip(answered, found, strict=True) if told != wanted]
+    differing = [(*pair, told) for pair, told in zip(answered, found, strict=True) if told != pair[1]]
     assert not differing, f"{len(differing)} of {len(found)} differ, the first: {differing[0]}"
 
 
@@ -118,14 +118,14 @@ def test_drawings_are_those_of_the_class_page(opened: Any, answered: list[tuple[
     assert compared > COUNT // 10
 
 
-TEXTS = ["", " ", "a", " a", "a ", "\ta", "a\x1c", "a\x85", "\ufeffa", "\xa0a", "a\u3000", "NULL", "null", "nULL ", "12", "-12", "--12", "1 2",
-         "'", "''", "'a'", "'a\n'b'", "it's", "a\r\nb", "a\rb", "\x00\x07\x7f\x80\x9f", "\u202ea\u2066", "\ufffe\uffff", "<b>&amp;</b>", "☃😀"]
+TEXTS = ["", " ", "a", " a", "a ", "\ta", "a\x1c", "a\x85", "\ufeffa", "\xa0a", "a\u3000", "NULL", "null", "nULL ", "12",
+         "-12", "--12", "1 2", "'", "''", "'a'", "'a\n'b'", "it's", "a\r\nb", "a\rb", "\x00\x07\x7f\x80\x9f", "\u202ea\u2066", "\ufffe\uffff", "<b>&amp;</b>", "☃😀"]
 
 
 def test_texts_are_drawn_as_in_the_class_page(opened: Any) -> None:
     values: list[int | str | None] = [*TEXTS, None, 0, -5, 2**127]
-    cells = [{"kind": "null", "text": "NULL"} if it is None else {"kind": "number", "text": str(it)} if isinstance(it, int)
-             else {"kind": "text", "text": it} for it in values]
+    cells = [{"kind": "null" if it is None else "number" if isinstance(it, int) else "text",
+              "text": "NULL" if it is None else str(it)} for it in values]
     found = opened.execute_script("return arguments[0].map(drawnCell)", cells)
     assert found == [asdict(draw.cell(it)) for it in values]
     found = opened.execute_script("return arguments[0].map(pictures)", TEXTS)
@@ -136,13 +136,14 @@ def test_texts_are_drawn_as_in_the_class_page(opened: Any) -> None:
 
 def test_places_are_those_of_the_served_page(opened: Any) -> None:
     random = Random(1)
-    texts = [question.files["1.sql"].decode() for question in (of_seed(seed, Limits()) for seed in range(20))] + ["", "é\n☃😀 größe\n", "\n\n"]
+    texts = [of_seed(seed, Limits()).files["1.sql"].decode() for seed in range(20)]
+    texts += ["", "é\n☃😀 größe\n", "\n\n"]
     asked = [(text, random.randrange(len(text.encode()) + 3)) for text in texts for _ in range(5)]
     found = opened.execute_script("return arguments[0].map(([text, byte]) => placeOf(text, byte))", asked)
-    for (text, byte), place in zip(asked, found, strict=True):
+    for (text, byte), it in zip(asked, found, strict=True):
         wanted = place_of(text, byte)
-        assert (place["line"], place["column"], place["before"], place["marked"], (place["from"], place["to"])) == (
-            wanted.line, wanted.column, wanted.before, wanted.marked, wanted.span)
+        assert (it["line"], it["column"], it["before"], it["marked"]) == (wanted.line, wanted.column, wanted.before, wanted.marked)
+        assert (it["from"], it["to"]) == wanted.span
 
 
 @pytest.mark.parametrize("status, out, err, kind", [
@@ -153,7 +154,8 @@ def test_places_are_those_of_the_served_page(opened: Any) -> None:
     (4, "undecided: 7 conflicts\n", "", "undecided"), (3, "", "ratest: query 2: unknown column: a\nb<i>\n", "refused"),
     (3, "", "refused\n", "none"), (5, "", "ratest: limit: work 662 is above 9\n", "limit"), (5, "", "", "none")])
 def test_printed_texts(opened: Any, status: int, out: str, err: str, kind: str) -> None:
-    found = opened.execute_script("return outcomeOf(...arguments)", status, out, err, [{"name": "t", "columns": [{"name": "a", "kind": "INTEGER"}]}])
+    tables = [{"name": "t", "columns": [{"name": "a", "kind": "INTEGER"}]}]
+    found = opened.execute_script("return outcomeOf(...arguments)", status, out, err, tables)
     assert found["kind"] == kind
     if kind == "none":
         assert found["printed"] == out + err
@@ -177,7 +179,8 @@ def put_tables(browser: Any, rows: dict[str, str]) -> None:
     """Of a page that has one empty table."""
     for _ in range(len(rows) - 1):
         browser.find_element("id", "add").click()
-    for field, text in zip(browser.find_elements("css selector", "#rows .name, #rows .rows"), (it for pair in rows.items() for it in pair), strict=True):
+    fields = browser.find_elements("css selector", "#rows .name, #rows .rows")
+    for field, text in zip(fields, (it for pair in rows.items() for it in pair), strict=True):
         browser.execute_script("arguments[0].value = arguments[1]", field, text)
 
 
@@ -217,7 +220,8 @@ def test_a_student_asks(opened: Any) -> None:
     choose(opened, "numbers")
     assert ask(opened) == ["differs on 1 row"] and texts(opened, ".kept td") == ["2", "20"]
     # Nothing is asked for, and nothing is refused.
-    assert opened.execute_script("return performance.getEntriesByType('resource').filter(it => !it.name.startsWith('blob:'))") == []
+    entries = opened.execute_script("return performance.getEntriesByType('resource').map(it => it.name)")
+    assert not [name for name in entries if not name.startswith("blob:")]
     assert not opened.get_log("browser")
 
 
@@ -260,7 +264,8 @@ def test_stop(opened: Any) -> None:
 
 
 def test_page_opens_in_a_narrow_window(opened: Any) -> None:
-    opened.execute_cdp_cmd("Emulation.setDeviceMetricsOverride", {"width": 390, "height": 1200, "deviceScaleFactor": 1, "mobile": True})
+    opened.execute_cdp_cmd("Emulation.setDeviceMetricsOverride", {
+        "width": 390, "height": 1200, "deviceScaleFactor": 1, "mobile": True})
     choose(opened, "beers, task 3, answer b")
     assert ask(opened) == ["differs on 5 rows"]
     assert opened.execute_script("return document.documentElement.scrollWidth") == 390

@@ -10,6 +10,7 @@ import pytest
 
 from web import module, retarget, webassembly
 from web.failed import Changed, Failed
+from web.kept import digest, kept
 from web.kit import Kit, kit_here, run
 from web.narrow import narrowed
 from web.page import exercises, page_of
@@ -115,7 +116,9 @@ IN_NODE = """
 const module = new WebAssembly.Module(require("node:fs").readFileSync(0));
 const it = new WebAssembly.Instance(module, {}).exports;
 const size = it.size(1n);
-console.log(String([it.widths(-3n), it.filled(50n), it.called(0n), it.called(1n), it.grown(2n) - size, it.size(1n) - size, it.grown(1n << 20n)]));
+const grown = it.grown(2n) - size;
+console.log(String([it.widths(-3n), it.filled(50n), it.called(0n), it.called(1n), grown, it.size(1n) - size,
+  it.grown(1n << 20n)]));
 """
 
 
@@ -127,10 +130,11 @@ def test_a_narrowed_module_does_the_same(top: Path, tmp_path: Path) -> None:
         pytest.skip("there is no node: apt-get install nodejs")
     kit = kit_here(top)
     (tmp_path / "it.c").write_text(IN_C)
-    run([kit.clang, *webassembly.TARGET, "-O1", "-ffreestanding", "-nostdinc", "-c", tmp_path / "it.c", "-o", tmp_path / "it.o"], 60)
-    run([kit.archiver, "--format=gnu", "rcsD", tmp_path / "it.a", tmp_path / "it.o"], 60)
-    run([kit.linker, "--target", "wasm64-unknown-unknown", "--toolchain", kit.llvm, "-o", tmp_path / "it.wasm", tmp_path / "it.a"], 60)
-    made = narrowed((tmp_path / "it.wasm").read_bytes())
+    source, compiled, archive, linked = (tmp_path / f"it.{end}" for end in ("c", "o", "a", "wasm"))
+    run([kit.clang, *webassembly.TARGET, "-O1", "-ffreestanding", "-nostdinc", "-c", source, "-o", compiled], 60)
+    run([kit.archiver, "--format=gnu", "rcsD", archive, compiled], 60)
+    run([kit.linker, "--target", "wasm64-unknown-unknown", "--toolchain", kit.llvm, "-o", linked, archive], 60)
+    made = narrowed(linked.read_bytes())
     ran = subprocess.run(["node", "-e", IN_NODE], input=made, capture_output=True, check=False)
     # The sum of 253 and five times -3, a byte that was copied and one that was not, and so on by hand.
     assert (ran.stdout, ran.stderr) == (b"238,7000,18,81,0,2,-1\n", b"")
@@ -162,7 +166,8 @@ def test_a_toolchain_that_keeps_no_module(tmp_path: Path) -> None:
 
 
 def built(top: Path, path: str, out: Path) -> subprocess.CompletedProcess[str]:
-    return subprocess.run([top / "tools/web/build", "--out", out], env={**os.environ, "PATH": path}, capture_output=True, text=True, check=False)
+    return subprocess.run([top / "tools/web/build", "--out", out], env={**os.environ, "PATH": path}, capture_output=True,
+                          text=True, check=False)
 
 
 def test_no_toolchain(top: Path, tmp_path: Path) -> None:
@@ -195,3 +200,23 @@ def test_a_script_that_would_end(top: Path, tmp_path: Path, monkeypatch: pytest.
 
     with pytest.raises(Failed, match="what ends a script"):
         joined(("a.js",))
+
+
+def test_what_is_kept(tmp_path: Path) -> None:
+    """A file is made once, and takes the place of older ones."""
+    made = []
+
+    def make(folder: Path) -> Path:
+        made.append(folder)
+        (folder / "it").write_text("new")
+        return folder / "it"
+
+    (tmp_path / "old.wasm").write_text("old")
+    for _ in range(2):
+        assert kept(tmp_path / "new.wasm", make).read_text() == "new"
+    assert len(made) == 1 and [it.name for it in tmp_path.iterdir()] == ["new.wasm"]
+    (tmp_path / "source").write_text("a")
+    first = digest(b"", tmp_path, [tmp_path / "source"])
+    assert first == digest(b"", tmp_path, [tmp_path / "source"]) != digest(b"1", tmp_path, [tmp_path / "source"])
+    (tmp_path / "source").write_text("b")
+    assert first != digest(b"", tmp_path, [tmp_path / "source"])

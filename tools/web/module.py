@@ -1,19 +1,17 @@
 """The LLVM module of the static library, which `rt lib` hands to the toolchain's clang.
 
-`rt lib` runs in a copy of the toolchain by links, whose clang keeps the module before it compiles it. The
-module is kept in out/web for as long as no source and no part of the toolchain changes.
+`rt lib` runs in a copy of the toolchain by links, whose clang keeps the module before it compiles it.
 """
 from __future__ import annotations
 
-import hashlib
-import os
 import shutil
-import tempfile
+import sys
 from pathlib import Path
 
 from launcher.sources import Program
 
 from web.failed import Changed
+from web.kept import digest, kept
 from web.kit import Kit, run
 
 CRATE = "ratest_c"
@@ -31,28 +29,21 @@ os.execv({clang!r}, ["clang", *words])
 """
 
 
-def module_of(top: Path, kit: Kit) -> Path:
-    """The module of the library as its sources are now."""
-    kept = top / "out/web" / f"{key(top, kit)}.bc"
-    if not kept.exists():
-        kept.parent.mkdir(parents=True, exist_ok=True)
-        with tempfile.TemporaryDirectory(dir=kept.parent) as folder:
-            made = Path(folder) / "module.bc"
-            run([copied(kit, Path(folder) / "kit", made) / "bin/rt", "lib"], SECONDS, top / "crates" / CRATE)
-            check(made)
-            for old in kept.parent.glob("*.bc"):
-                old.unlink()
-            os.replace(made, kept)
-    return kept
-
-
 def key(top: Path, kit: Kit) -> str:
     """A digest of all that the module is made from."""
-    digest = hashlib.sha256((kit.folder / "KIT-ID").read_bytes())
-    for path in sorted(Program(str(top), CRATE, CRATE).sources()):
-        content = Path(path).read_bytes()
-        digest.update(f"{os.path.relpath(path, top)} {len(content)}\n".encode("utf-8", "surrogateescape") + content)
-    return digest.hexdigest()[:32]
+    return digest((kit.folder / "KIT-ID").read_bytes(), top, map(Path, Program(str(top), CRATE, CRATE).sources()))
+
+
+def module_of(top: Path, kit: Kit) -> Path:
+    """The module of the library as its sources are now."""
+    def make(folder: Path) -> Path:
+        print("build: rt lib proves and builds the static library", file=sys.stderr, flush=True)
+        made = folder / "module.bc"
+        run([copied(kit, folder / "kit", made) / "bin/rt", "lib"], SECONDS, top / "crates" / CRATE)
+        check(made)
+        return made
+
+    return kept(top / "out/web" / f"{key(top, kit)}.bc", make)
 
 
 def copied(kit: Kit, to: Path, module: Path) -> Path:

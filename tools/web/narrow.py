@@ -8,7 +8,8 @@ from __future__ import annotations
 
 from collections.abc import Callable
 
-from web.binary import CODE, CUSTOM, DATA, ELEMENTS, FUNCTIONS, HEAD, MEMORIES, TABLES, TYPES, Reader, number, sections, signed
+from web.binary import (CODE, CUSTOM, DATA, ELEMENTS, FUNCTIONS, HEAD, MEMORIES, TABLES, TYPES, Reader, number, sections,
+                        signed)
 from web.failed import Changed
 
 IS_WIDE = 4

@@ -54,7 +54,7 @@ def page_of(top: Path, module: bytes) -> bytes:
         style="".join(path.read_text(encoding="utf-8") for path in style),
         version=(top / "VERSION").read_text(encoding="utf-8").strip(),
         # A text that no parser of HTML can take for a tag.
-        exercises=json.dumps([asdict(it) for it in exercises(top / "examples")], ensure_ascii=False).replace("<", "\\u003c"),
+        exercises=json.dumps(list(map(asdict, exercises(top / "examples"))), ensure_ascii=False).replace("<", "\\u003c"),
         worker=joined(WORKER),
         module=base64.b64encode(gzip.compress(module, 9, mtime=0)).decode(),
         script=script).encode()
@@ -79,7 +79,8 @@ def exercises(folder: Path) -> Iterator[Exercise]:
 def queries(folder: Path) -> Iterator[Queries]:
     for reference in sorted(folder.glob("*/reference.sql")):
         for answer in sorted(reference.parent.glob("answers/*.sql")):
-            yield Queries(f"{folder.name}, task {reference.parent.name}, answer {answer.stem}", text_of(reference), text_of(answer))
+            name = f"{folder.name}, task {reference.parent.name}, answer {answer.stem}"
+            yield Queries(name, text_of(reference), text_of(answer))
     if (folder / "query1.sql").exists():
         yield Queries(folder.name, text_of(folder / "query1.sql"), text_of(folder / "query2.sql"))
 

@@ -15,12 +15,15 @@ FROM_LAYOUT = b"e-m:e-p270:32:32-p271:32:32-p272:64:64-i64:64-i128:128-f80:128-n
 LAYOUT = b"e-m:e-p:64:64-p10:8:8-p20:8:8-i64:64-i128:128-n32:64-S128-ni:1:10:20"
 HEADS = ((b"datalayout", FROM_LAYOUT, LAYOUT), (b"triple", b"x86_64-unknown-linux-gnu", TARGET))
 # What is said of the processor and its stack in the attributes of functions.
-OF_PROCESSOR = re.compile(rb' (?:"(?:probe-stack|stack-probe-size|target-cpu|target-features|tune-cpu)"="[^"]*"|sanitize_address)')
+OF_PROCESSOR = re.compile(
+    rb' (?:"(?:probe-stack|stack-probe-size|target-cpu|target-features|tune-cpu)"="[^"]*"|sanitize_address)')
 FRAME, NO_FRAME = b'"frame-pointer"="all"', b'"frame-pointer"="none"'
 ATTRIBUTES = re.compile(rb"^attributes #\d+ = .*$", re.MULTILINE)
-EXPORT = re.compile(rb"^define (?!internal |private )[^@\n]*\bi64 @ratest_ask\(ptr [^,)]*, i64 [^,)]*, ptr [^,)]*, i64 [^,)]*\)", re.MULTILINE)
+EXPORT = re.compile(rb"^define (?!internal |private )[^@\n]*\bi64 @ratest_ask\(ptr [^,)]*, i64 [^,)]*, ptr [^,)]*, i64 [^,)]*\)",
+                    re.MULTILINE)
 REFUSED = (
-    (re.compile(rb"\basm (?:sideeffect |alignstack |inteldialect |unwind )*\"|^module asm ", re.MULTILINE), "the module has code in assembler"),
+    (re.compile(rb"\basm (?:sideeffect |alignstack |inteldialect |unwind )*\"|^module asm ", re.MULTILINE),
+     "the module has code in assembler"),
     (re.compile(rb"@llvm\.x86\."), "the module calls what only x86-64 has"),
     (re.compile(rb"\bthread_local\b"), "the module has values of a thread"),
     (re.compile(rb"\bx86_fp80\b|\baddrspace\("), "the module has types that only x86-64 has"))

@@ -7,7 +7,9 @@ from pathlib import Path
 from web import retarget
 from web.binary import IMPORTS, exported, sections
 from web.failed import Changed
+from web.kept import digest, kept
 from web.kit import Kit, run
+from web.module import key, module_of
 from web.narrow import narrowed
 
 HEAP = Path(__file__).with_name("heap.c")
@@ -15,9 +17,22 @@ SECONDS = 1800.0
 STACK = 8 << 20
 EXPORTS = {"memory", "ask", "room", "limit", "size"}
 PLAIN = ("--no-default-config", "-no-canonical-prefixes", "-fintegrated-cc1", "-Werror", "-Wno-override-module")
-TARGET = (f"--target={retarget.TARGET.decode()}", *PLAIN, "-mcpu=lime1", "-mbulk-memory", "-ffunction-sections", "-fdata-sections")
+TARGET = (f"--target={retarget.TARGET.decode()}", *PLAIN, "-mcpu=lime1", "-mbulk-memory", "-ffunction-sections",
+          "-fdata-sections")
 # Integers of more than 64 bits are divided, and floats made of them, in place: there is no library of such calls.
 IN_PLACE = ("-mllvm", "-expand-div-rem-bits=64", "-mllvm", "-expand-fp-convert-bits=64")
+
+
+def binary_here(top: Path, kit: Kit) -> Path:
+    """The WebAssembly module of the library as its sources are now."""
+    def make(folder: Path) -> Path:
+        made = folder / "ratest.wasm"
+        made.write_bytes(binary_of(kit, module_of(top, kit), folder))
+        return made
+
+    here = HEAP.parent
+    name = digest(key(top, kit).encode(), top, [*here.glob("*.py"), HEAP])
+    return kept(top / "out/web" / f"{name}.wasm", make)
 
 
 def binary_of(kit: Kit, module: Path, folder: Path) -> bytes:
@@ -38,8 +53,8 @@ def archive_of(kit: Kit, module: Path, folder: Path) -> Path:
     text.write_bytes(retarget.retargeted(text.read_bytes()))
     run([kit.clang, *TARGET, *IN_PLACE, "-O3", "-c", "-x", "ir", text, "-o", objects[0]], SECONDS)
     text.unlink()
-    run([kit.clang, *TARGET, "-std=c17", "-Wall", "-Wextra", "-O2", "-ffreestanding", "-fno-builtin", "-nostdinc", "-c", HEAP,
-         "-o", objects[1]], SECONDS)
+    run([kit.clang, *TARGET, "-std=c17", "-Wall", "-Wextra", "-O2", "-ffreestanding", "-fno-builtin", "-nostdinc",
+         "-c", HEAP, "-o", objects[1]], SECONDS)
     run([kit.archiver, "--format=gnu", "rcsD", archive, *objects], SECONDS)
     return archive
 

@@ -90,17 +90,21 @@ function keptElement({ name, columns, lines }) {
   const heads = columns.map((column) => element("th", { scope: "col" }, column));
   const rows = lines.map(({ number, cells }) =>
     element("tr", {}, element("th", { scope: "row", class: "row" }, number), ...cellElements(cells)));
-  return element("div", { class: "box" }, element("table", { class: "kept" }, element("caption", {}, name),
+  return element("div", { class: "box" }, element("table", { class: "kept" },
+    element("caption", {}, name),
     element("thead", {}, element("tr", {}, element("th", { scope: "col", class: "row" }, "row"), ...heads)),
     element("tbody", {}, ...rows)));
 }
 
 function answerElement(title, rows) {
-  const drawn = rows.map(({ isOnly, cells }) =>
-    element("tr", { class: isOnly ? "only" : "both" }, element("th", { scope: "row" }, isOnly ? "only here" : "in both"), ...cellElements(cells)));
+  const lines = rows.map(({ isOnly, cells }) => {
+    const [kind, words] = isOnly ? ["only", "only here"] : ["both", "in both"];
+    return element("tr", { class: kind }, element("th", { scope: "row" }, words), ...cellElements(cells));
+  });
   const none = element("tr", { class: "none" }, element("td", {}, "no rows"));
   return element("div", { class: "box" }, element("table", { class: "result" },
-    element("caption", {}, `${title}: ${counted(rows.length, "row")}`), element("tbody", {}, ...(drawn.length ? drawn : [none]))));
+    element("caption", {}, `${title}: ${counted(rows.length, "row")}`),
+    element("tbody", {}, ...(lines.length ? lines : [none]))));
 }
 
 function drawn(drawing) {
@@ -109,8 +113,8 @@ function drawn(drawing) {
     element("div", { class: "tables" }, ...drawing.tables.map(keptElement)),
   ];
   if (drawing.answer) {
-    made.push(element("h3", {}, "Answers on these rows"),
-      element("div", { class: "pair" }, answerElement("Reference", drawing.reference), answerElement("Answer", drawing.answer)));
+    const pair = [answerElement("Reference", drawing.reference), answerElement("Answer", drawing.answer)];
+    made.push(element("h3", {}, "Answers on these rows"), element("div", { class: "pair" }, ...pair));
   }
   made.push(element("details", { class: "sql" }, element("summary", {}, "These rows as SQL"),
     element("pre", { tabindex: "0" }, element("code", {}, drawing.sql))));

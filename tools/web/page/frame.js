@@ -16,7 +16,8 @@ function numberOf(value) {
 // The bytes of a request: `files` are pairs of a name and its contents, each a text or bytes.
 function requestOf(words, files) {
   const fields = [...words, ...files.flat()].map(bytesOf);
-  const parts = [numberOf(words.length), numberOf(files.length), ...fields.flatMap((field) => [numberOf(field.length), field])];
+  const counts = [words.length, files.length].map(numberOf);
+  const parts = [...counts, ...fields.flatMap((field) => [numberOf(field.length), field])];
   const request = new Uint8Array(parts.reduce((size, part) => size + part.length, 0));
   let at = 0;
   for (const part of parts) {

@@ -11,8 +11,9 @@ const asker = new Asker(field("worker").textContent, field("module").textContent
 // The fields.
 
 function addTable(name, rows) {
-  const title = element("input", { class: "name", "aria-label": "Name of the table", spellcheck: "false", autocomplete: "off" });
-  const text = element("textarea", { class: "rows", "aria-label": "Rows as CSV", rows: "6", spellcheck: "false", autocomplete: "off" });
+  const plain = { spellcheck: "false", autocomplete: "off" };
+  const title = element("input", { class: "name", "aria-label": "Name of the table", ...plain });
+  const text = element("textarea", { class: "rows", "aria-label": "Rows as CSV", rows: "6", ...plain });
   const remove = element("button", { type: "button" }, "Remove");
   const table = element("div", { class: "table" }, element("p", {}, title, " ", remove), text);
   title.value = name;
@@ -34,8 +35,9 @@ function choose(exercise) {
 
 function listExercises() {
   const empty = { schema: "", tables: [{ name: "", rows: "" }], reference: "", query: "" };
-  const chosen = exercises.flatMap((exercise) => exercise.queries.map(({ name, ...texts }) => ({ name, ...exercise, ...texts })));
-  field("exercise").append(...chosen.map(({ name }, at) => element("option", { value: String(at) }, name)), element("option", { value: "" }, "your own"));
+  const chosen = exercises.flatMap(({ schema, tables, queries }) => queries.map((pair) => ({ schema, tables, ...pair })));
+  const option = (value, name) => element("option", { value }, name);
+  field("exercise").append(...chosen.map(({ name }, at) => option(String(at), name)), option("", "your own"));
   field("exercise").addEventListener("change", () => choose(chosen[field("exercise").value] ?? empty));
   choose(chosen[0]);
 }
@@ -76,21 +78,36 @@ function refused({ part, fault, place }, texts) {
 }
 
 function differing(outcome, tables) {
-  if (outcome.kind === "undecided" && outcome.best === null) return verdict("undecided", "undecided", "The search ended before it found rows on which the answers differ.");
+  if (outcome.kind === "undecided" && outcome.best === null) {
+    return verdict("undecided", "undecided", "The search ended before it found rows on which the answers differ.");
+  }
   const rows = counted((outcome.kept ?? outcome.best).length, "row");
   const head = outcome.kind === "witness"
-    ? verdict("differs", `differs on ${rows}`, "These are the fewest of the rows on which the query and the reference answer differently.")
-    : verdict("undecided", `differs on ${rows}, perhaps on fewer`, "The search ended before it could tell whether fewer rows are enough.");
+    ? verdict("differs", `differs on ${rows}`,
+      "These are the fewest of the rows on which the query and the reference answer differently.")
+    : verdict("undecided", `differs on ${rows}, perhaps on fewer`,
+      "The search ended before it could tell whether fewer rows are enough.");
   return [...head, ...drawn(drawingOf(outcome, tables))];
 }
 
 function answered(outcome, texts, tables) {
-  if (outcome.kind === "agree") return verdict("agrees", "agrees", "The query and the reference have the same answer on every part of the rows that meets the schema.");
-  if (outcome.kind === "witness" || outcome.kind === "undecided") return differing(outcome, tables);
-  if (outcome.kind === "refused") return refused(outcome, texts);
-  if (outcome.kind === "limit") return verdict("passes-a-limit", `passes a limit: ${outcome.fault}`);
-  if (outcome.kind === "memory") return verdict("no-verdict", "no verdict", `The question needs more memory than this page has: ${MOST_MEMORY / 2 ** 20} MiB.`);
-  return [...verdict("no-verdict", "no verdict", "What the program printed:"), element("pre", { tabindex: "0" }, element("code", {}, outcome.printed))];
+  switch (outcome.kind) {
+    case "agree":
+      return verdict("agrees", "agrees",
+        "The query and the reference have the same answer on every part of the rows that meets the schema.");
+    case "witness":
+    case "undecided":
+      return differing(outcome, tables);
+    case "refused":
+      return refused(outcome, texts);
+    case "limit":
+      return verdict("passes-a-limit", `passes a limit: ${outcome.fault}`);
+    case "memory":
+      return verdict("no-verdict", "no verdict", `The question needs more memory than ${MOST_MEMORY / 2 ** 20} MiB.`);
+    default:
+      return [...verdict("no-verdict", "no verdict", "What the program printed:"),
+        element("pre", { tabindex: "0" }, element("code", {}, outcome.printed))];
+  }
 }
 
 async function answer() {

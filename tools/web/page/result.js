@@ -3,7 +3,11 @@
 // quotes, so it is read from the left by its grammar and never cut into lines first.
 
 const STATUS = { agree: 0, witness: 1, refused: 3, spent: 4, limit: 5, memory: 7 };
-const PLACE = /^(?:syntax fault near byte|(?:not UTF-8|number past 128 bits) at byte|(?:text|comment) without end from byte|unexpected byte at) ([0-9]{1,9})$/;
+const PLACED = [
+  "syntax fault near byte", "not UTF-8 at byte", "number past 128 bits at byte", "text without end from byte",
+  "comment without end from byte", "unexpected byte at",
+];
+const PLACE = new RegExp(`^(?:${PLACED.join("|")}) ([0-9]{1,9})$`);
 
 class Unreadable extends Error {}
 
@@ -33,7 +37,8 @@ function refusalOf(err, tables) {
   const start = "ratest: ";
   if (!err.startsWith(start)) return null;
   const rest = err.slice(start.length);
-  const part = ["schema", "query 1", "query 2", "queries", ...names].find((it) => rest.startsWith(`${it}: `)) ?? /^table [^]+?(?=: )/.exec(rest)?.[0];
+  const parts = ["schema", "query 1", "query 2", "queries", ...names];
+  const part = parts.find((it) => rest.startsWith(`${it}: `)) ?? /^table [^]+?(?=: )/.exec(rest)?.[0];
   if (part === undefined) return null;
   const fault = withoutLineEnd(rest.slice(part.length + 2));
   const place = PLACE.exec(fault);
@@ -61,13 +66,14 @@ class Reader {
     let outcome = { kind: "agree" };
     if (this.has("witness: ")) {
       const kept = this.keptRows(this.count("witness"));
-      const [onlyFirst, onlySecond, both] = ["only query 1", "only query 2", "both"].map((words) => this.answerRows(words));
+      const [onlyFirst, onlySecond, both] = ["only query 1", "only query 2", "both"].map((it) => this.answerRows(it));
       outcome = { kind: "witness", kept, onlyFirst, onlySecond, both };
     } else if (this.has("undecided: ")) {
       this.take(/undecided: /y);
       const conflicts = this.take(/[0-9]{1,20}/y);
       this.take(/ conflicts\n/y);
-      outcome = { kind: "undecided", conflicts, best: this.at < this.text.length ? this.keptRows(this.count("best so far")) : null };
+      const best = this.at < this.text.length ? this.keptRows(this.count("best so far")) : null;
+      outcome = { kind: "undecided", conflicts, best };
     } else {
       this.take(/agree\n/y);
     }

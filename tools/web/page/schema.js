@@ -2,13 +2,16 @@
 // The tables and columns of a schema, in the words that ratest reads. Only names and kinds are read here;
 // whether the text is a schema at all says ratest, which is asked first.
 
-const TOKEN = /((?:[ \t\r\n\f]|--[^\n]*|\/\*[^]*?\*\/)+)|([A-Za-z_][A-Za-z0-9_]*)|("[^"]*(?:""[^"]*)*")|('[^']*(?:''[^']*)*')|([^])/gu;
+// White space and comments, a word, a quoted name, a text, or a letter.
+const TOKEN = new RegExp([
+  /(?:[ \t\r\n\f]|--[^\n]*|\/\*[^]*?\*\/)+/, /([A-Za-z_][A-Za-z0-9_]*)/, /("[^"]*(?:""[^"]*)*")/, /('[^']*(?:''[^']*)*')/, /([^])/,
+].map((part) => part.source).join("|"), "gu");
 const KINDS = { integer: "INTEGER", int: "INTEGER", bigint: "INTEGER" };
 const RULES = ["constraint", "primary", "unique", "foreign", "check", "dependency"];
 
 function tokensOf(text) {
   const tokens = [];
-  for (const [, , word, quoted, literal, other] of text.replace(/^\ufeff/, "").matchAll(TOKEN)) {
+  for (const [, word, quoted, literal, other] of text.replace(/^\ufeff/, "").matchAll(TOKEN)) {
     if (word !== undefined) tokens.push({ kind: "word", text: word.toLowerCase() });
     else if (quoted !== undefined) tokens.push({ kind: "quoted", text: quoted.slice(1, -1).replaceAll('""', '"') });
     else if (literal !== undefined) tokens.push({ kind: "text", text: literal });

@@ -1,0 +1,30 @@
+"""What is kept in out/web: the LLVM module and the WebAssembly module, for as long as nothing changes of which
+they are made. The name of a file is a digest of that."""
+from __future__ import annotations
+
+import hashlib
+import os
+import tempfile
+from collections.abc import Callable, Iterable
+from pathlib import Path
+
+
+def digest(start: bytes, top: Path, paths: Iterable[Path]) -> str:
+    """Of some bytes, and of the names and contents of files."""
+    made = hashlib.sha256(start)
+    for path in sorted(paths):
+        content = path.read_bytes()
+        made.update(f"{os.path.relpath(path, top)} {len(content)}\n".encode("utf-8", "surrogateescape") + content)
+    return made.hexdigest()[:32]
+
+
+def kept(path: Path, make: Callable[[Path], Path]) -> Path:
+    """A file that is made in a folder for the time being, where it is not there yet; older ones of its kind go."""
+    if not path.exists():
+        path.parent.mkdir(parents=True, exist_ok=True)
+        with tempfile.TemporaryDirectory(dir=path.parent) as folder:
+            made = make(Path(folder))
+            for old in path.parent.glob(f"*{path.suffix}"):
+                old.unlink()
+            os.replace(made, path)
+    return path
