@@ -114,7 +114,7 @@ def test_statuses_of_the_readme_are_those_of_the_manual_pages() -> None:
 
 def crates() -> list[str]:
     lines = (TOP / "crates.txt").read_text(encoding="utf-8").splitlines()
-    return [line.partition(":")[0] for line in lines if line.strip()]
+    return [line.partition(":")[0].split()[0] for line in lines if line.strip()]
 
 
 @pytest.mark.parametrize("document", ["docs/GUARANTEES.md", "docs/ARCHITECTURE.md"])

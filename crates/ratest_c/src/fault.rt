@@ -1,3 +1,5 @@
+//! Why a request gets no reply.
+
 use rt_value::NoMemory;
 
 /// Why there is no reply.

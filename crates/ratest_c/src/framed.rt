@@ -1,3 +1,4 @@
+//! The files of a request, as those that a command reads. Nothing else can be read.
 ghost use Rattle.std.specs.Prelude.{◌≡◌, ◌≤◌, ℕ, List, [], true, length, drop, min, take};
 ghost use Rattle.std.specs.Option.{option_map, option_map_or, ForSome};
 ghost use Rattle.ratest_c.specs.Files.{held_in, has_in, counts_in};
@@ -37,7 +38,7 @@ impl Framed {
     }
 }
 
-/// Puts as many of the bytes in front as fit.
+// Puts as many of the bytes in front as fit.
 fn give(bytes: &[u8], buf: &mut [u8]) -> usize
     ensures count { result ≡ min (length bytes.now) (length buf.old) }
     ensures front { take result buf.new ≡ take result bytes.now }
@@ -60,7 +61,8 @@ impl Files for Framed {
 
     ghost taken = { λ f. option_map_or (λ c. c.at) f.current 0 };
 
-    // A file with bytes never fails.
+    // A file with bytes never fails. A name without bytes may be absent, so its count is the last that a
+    // `u64` has: there a call that fails has no count to raise, whatever the files hold afterwards.
     ghost faults = { λ f. counts_in f.files };
 
     ghost begun = { λ f. f.begun.items };

@@ -20,14 +20,14 @@ use fault::Fault;
 use rt_value::Bytes;
 use std::alloc::Global;
 
-/// What the call gives where the request is no frame.
+// What the call gives where the request is no frame.
 const MALFORMED: i64 = -1;
 
-/// What it gives where it ran out of memory before the command began or after it ended, or where a text
-/// has 4 GiB or more.
+// What it gives where it ran out of memory before the command began or after it ended, or where a text
+// has 4 GiB or more.
 const NO_MEMORY: i64 = -2;
 
-/// The bytes of the reply to a request.
+// The bytes of the reply to a request.
 fn answered(alloc: Global, request: &[u8]) -> Result<Bytes, Fault>
     ensures ok { IfOk result (λ bytes. IsReply request.now bytes) }
     ensures err { IsErrOf result Fault.Malformed → request_of request.now ≡ None }

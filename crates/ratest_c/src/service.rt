@@ -1,3 +1,4 @@
+//! Which of the four calls answers a command.
 ghost use Rattle.std.specs.Prelude.{◌≡◌};
 ghost use Rattle.ratest_c.specs.Services.{service_of};
 

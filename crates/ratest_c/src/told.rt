@@ -1,3 +1,5 @@
+//! What a command ended with, before it is framed.
+
 use rt_io::SureSink;
 
 /// What a command ends with: its status, and what it wrote.
