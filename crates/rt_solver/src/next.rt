@@ -32,12 +32,7 @@ fn picked(order: Order, pick: &mut Pick, trail: &Trail) -> Next
 }
 
 /// What comes next: the question before all else, as long as it is open.
-pub(crate) fn choose(
-    order: Order,
-    question: &Option<Lit>,
-    pick: &mut Pick,
-    trail: &Trail,
-) -> Next
+pub(crate) fn choose(order: Order, question: &Option<Lit>, pick: &mut Pick, trail: &Trail) -> Next
     requires few { trail.now.vars ≤ 2 ^ 62 }
     requires bound { pick.old.bound ≤ trail.now.vars }
     requires asked { IfSome question.now (λ a. a.var < pick.old.bound) }

@@ -121,7 +121,9 @@ fn find<L: Lines + Drop>(
     }
     let mut trail = begun(alloc, vars, assume)?;
     pick.begin(vars, order.bound(first))?;
-    let found = match run(alloc, base, assume, first, budget, order, pick, &mut trail, question)? {
+    let found = match run(
+        alloc, base, assume, first, budget, order, pick, &mut trail, question,
+    )? {
         Ending::Whole => Some(Found::Model(values(alloc, &trail)?)),
         Ending::Refuted => Some(Found::Refuted),
         Ending::Spent(list) => Some(Found::Spent(list)),

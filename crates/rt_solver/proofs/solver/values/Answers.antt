@@ -1,4 +1,4 @@
-use Rattle.std.proofs.Common.{◌≡◌, ◌∙◌, ◌++◌, ◌∷◌, ◌<◌, [], Bool, false, Option, IsSome, ap, length, length-append, subst, sym, arith}
+use Rattle.std.proofs.Common.{◌≡◌, ◌∙◌, ◌++◌, ◌∷◌, [], Bool, false, Option, IsSome, ap, length, length-append, subst, sym, arith}
 use Rattle.std.specs.Option.{unwrap_or}
 use Rattle.rt_solver.proofs.Reading.{reads-push}
 use Rattle.rt_solver.proofs.solver.values.Goals as goal
