@@ -62,9 +62,7 @@ pub(crate) fn others(
         let bound = fewer(&counter.outs, most);
         match ask(alloc, solver, held, bound, rows, named.next())? {
             None => {
-                return by_cells(
-                    alloc, solver, dag, goal, cone, named, counter, best, held,
-                );
+                return by_cells(alloc, solver, dag, goal, cone, named, counter, best, held);
             }
             Some(keep) => best = keep,
         }
