@@ -10,7 +10,7 @@ import pytest
 
 # The folder in which mypy runs, and what it checks there. Modules of these folders are found too.
 CHECKED = [
-    ("python", ["classroom"]),
+    ("python", ["classroom", "ratest"]),
     ("tests", ["compare", "test_comparisons.py", "test_documents.py", "test_memory.py", "test_style.py"]),
     ("tests/hostile", ["."]),
     ("tests/web", ["."]),

@@ -2,9 +2,11 @@
 from __future__ import annotations
 
 import itertools
+import os
 import random
 import struct
 import subprocess
+import sys
 import threading
 from collections.abc import Iterator
 from pathlib import Path
@@ -141,3 +143,36 @@ def test_limits_of_a_child_process(shared: Path) -> None:
         child.answered(request[:-1], shared, package.Limits())
     with pytest.raises(package.NoLibrary):
         child.answered(request, shared.with_name("none.so"), package.Limits())
+
+
+NESTS = {
+    "parentheses": "'SELECT a FROM t WHERE ' + '(' * n + 'a = 1' + ')' * n",
+    "not": "'SELECT a FROM t WHERE ' + 'NOT ' * n + 'a = 1'",
+    "exists": "'SELECT a FROM t WHERE EXISTS (' * n + 'SELECT a FROM t' + ')' * n",
+    "from": "'SELECT a FROM (' * n + 'SELECT a FROM t' + ') x' * n",
+    "sum": "'SELECT ' + '(' * n + 'a' + ' + 1)' * n + ' FROM t'",
+    "union": "' UNION '.join(['SELECT a FROM t'] * (n + 1))",
+    "and": "'SELECT a FROM t WHERE ' + ' AND '.join(['a < 9'] * (1000 * n))",
+}
+
+
+@pytest.mark.parametrize("kind", NESTS)
+def test_the_stack_that_the_header_names(shared: Path, kind: str) -> None:
+    """Nests up to the limit, in a thread of 4 MiB. A child runs them, which too small a stack would end."""
+    code = f"""if True:
+        import ratest, threading
+        def run():
+            for n in [*range(1, 12), *range(50, 130, 3)]:
+                answer = ratest.explain("CREATE TABLE t (a INTEGER)", {{"t": [[1]]}}, {NESTS[kind]}, "SELECT a FROM t", conflicts=50)
+                kinds.append(str(answer) if isinstance(answer, ratest.Refused) else "read")
+        kinds = []
+        threading.stack_size(4 << 20)
+        thread = threading.Thread(target=run)
+        thread.start()
+        thread.join()
+        print(sorted(set(kinds)))
+        """
+    ran = subprocess.run([sys.executable, "-c", code], capture_output=True, text=True, timeout=SECONDS,
+                         env={**os.environ, "PYTHONPATH": str(TOP / "python"), "PYTHONDONTWRITEBYTECODE": "1"})
+    assert (ran.returncode, ran.stderr) == (0, "")
+    assert ran.stdout == ("['read']\n" if kind == "and" else "['query 1: nested too deep', 'read']\n")

@@ -2,6 +2,8 @@
 from __future__ import annotations
 
 import html.parser
+import inspect
+import re
 import sqlite3
 import subprocess
 import sys
@@ -209,3 +211,15 @@ def test_no_library_is_said_at_the_call(tmp_path: Path) -> None:
                          capture_output=True, text=True, timeout=SECONDS)
     assert (ran.returncode, ran.stdout, ran.stderr) == (
         0, "there is no libratest.so: tools/library makes it, and $LIBRATEST may name it\n", "")
+
+
+def test_the_guide(capsys: pytest.CaptureFixture[str]) -> None:
+    """Its program prints what it shows, and its table names just the calls that there are."""
+    chapter = (TOP / "docs/GUIDE.md").read_text(encoding="utf-8").split("## In other programs")[1]
+    code, shown = re.findall(r"```(?:python)?\n(.*?)```", chapter, re.DOTALL)[:2]
+    exec(code, {})
+    assert capsys.readouterr().out == shown
+    calls = dict(re.findall(r"^\| `(\w+)\((.*?)\)`", chapter, re.MULTILINE))
+    assert set(calls) == {name for name in ratest.__all__ if name.islower()}
+    for name, words in calls.items():
+        assert list(inspect.signature(getattr(ratest, name)).parameters)[:words.count(",") + 1] == words.split(", ")

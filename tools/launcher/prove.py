@@ -10,7 +10,7 @@ import subprocess
 import time
 
 from launcher import stopping
-from launcher.sources import Program
+from launcher.sources import Program, crate_of
 
 PARTS = ("src", "specs", "proofs", "stdin", "stdout", "args", "status", "data")
 KEPT = re.compile(r"rt: (\S+) is kept: ")
@@ -69,7 +69,7 @@ def copy_crates(program: Program, to_top: str) -> int:
         file.writelines(lines)
     shutil.copy(os.path.join(program.top, "HANDLES"), to_top)
     for line in lines:
-        crate = line.split(":")[0]
+        crate = crate_of(line)
         to = os.path.join(to_top, "crates", crate)
         os.makedirs(to)
         for part in PARTS:

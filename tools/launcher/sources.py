@@ -10,6 +10,11 @@ import sys
 from collections.abc import Iterator
 
 
+def crate_of(line: str) -> str:
+    """The crate of a line of crates.txt, `NAME: ..` or `NAME staticlib: ..`."""
+    return line.split(":")[0].split()[0]
+
+
 class Program:
     """The program `name` of the repository at `top`, which the caller named `called`."""
 
@@ -29,7 +34,7 @@ class Program:
     def crate_lines(self) -> list[str]:
         """The lines of crates.txt for the program's crate and all that it stands on, in their order."""
         with open(self.crates_file, encoding="utf-8") as file:
-            lines = {line.split(":")[0]: line for line in file if ":" in line and not line.startswith("#")}
+            lines = {crate_of(line): line for line in file if ":" in line and not line.startswith("#")}
         taken, left = set(), [self.name]
         while left:
             crate = left.pop()
@@ -42,7 +47,7 @@ class Program:
         """The files that a build of the program reads."""
         yield self.crates_file
         for line in self.crate_lines():
-            folder = os.path.join(self.top, "crates", line.split(":")[0])
+            folder = os.path.join(self.top, "crates", crate_of(line))
             for part in ("src", "specs", "proofs"):
                 for at, _, names in os.walk(os.path.join(folder, part)):
                     yield from (os.path.join(at, name) for name in names if name.endswith((".rt", ".antt")))

@@ -7,7 +7,8 @@ import subprocess
 import tempfile
 from pathlib import Path
 
-from launcher.sources import Program
+from launcher.prove import copy_crates
+from launcher.sources import Program, crate_of
 from release.files import Refused, copy
 
 CRATE = "ratest_c"
@@ -30,16 +31,47 @@ def is_built(top: Path) -> bool:
 
 
 def build(top: Path) -> None:
-    """Proves and builds the archive."""
+    """Proves and builds the archive: `rt ci` over the crates that it needs, in a folder of their own, which
+    takes what an earlier run on this machine proved, and then the toolchain's compiler over what that made."""
     if not shutil.which("rt"):
         raise Refused("there is no command rt on the PATH; README.md says where it comes from")
-    subprocess.run(["rt", "lib"], cwd=top / "crates" / CRATE, stdin=subprocess.DEVNULL, stdout=subprocess.DEVNULL, check=True)
+    program = Program(str(top), CRATE, "")
+    with tempfile.TemporaryDirectory() as folder:
+        made, log = Path(folder) / "repository", top / "out" / f"{CRATE}.log"
+        log.parent.mkdir(exist_ok=True)
+        copy_crates(program, str(made))
+        with open(log, "wb") as said:
+            for words, where in ((["rt", "ci"], made), (compiler(program, made), made / "crates" / CRATE)):
+                ran = subprocess.run(words, cwd=where, stdin=subprocess.DEVNULL, stdout=said, stderr=said, check=False)
+                if ran.returncode:
+                    raise Refused(f"{CRATE} could not be proved and built: {log} says why")
+        archive(top).parent.mkdir(exist_ok=True)
+        copy(Path(folder) / "archive", archive(top))
+    log.unlink()
+
+
+def compiler(program: Program, made: Path) -> list[str]:
+    """The command that compiles the crate to `archive`, beside the folder of the crates that `rt ci` proved."""
+    own, lines = kit(), {crate_of(line): line for line in program.crate_lines()}
+    used = lines.pop(CRATE).split(":")[1].split()
+    words = [f"{own}/bin/rattle", "build", "--crate-name", CRATE, "src/lib.rt", "--crate-type", "staticlib",
+             "--extern", f"std={own}/rlibs/std.rlib", "-L", f"dependency={own}/rlibs"]
+    for name in lines:
+        folder = made / "crates" / name / "out/rlib"
+        words += [*(["--extern", f"{name}={folder / name}.rlib"] if name in used else []), "-L", f"dependency={folder}"]
+    return [*words, "--antt-project", f"{own}/rattle/logic/antt-project.json", "--logic-built", f"{own}/logic_built",
+            "--toolchain", f"{own}/toolchain", "-o", str(made.parent / "archive")]
+
+
+def kit() -> Path:
+    """The folder of the toolchain."""
+    ran = subprocess.run(["rt", "doc"], capture_output=True, text=True, timeout=SECONDS, check=True)
+    return Path(ran.stdout.strip()).parent
 
 
 def heap() -> Path:
     """The toolchain's archive by which a program's malloc, realloc and free are called."""
-    ran = subprocess.run(["rt", "doc"], capture_output=True, text=True, timeout=SECONDS, check=True)
-    path = Path(ran.stdout.strip()).parent / "c/liblibc_c.a"
+    path = kit() / "c/liblibc_c.a"
     if not path.is_file():
         raise Refused(f"the toolchain has no {path}")
     return path

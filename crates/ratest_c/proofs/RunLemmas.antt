@@ -6,9 +6,10 @@ use Rattle.rt_input.specs.declared.outcome.Outcome.{Outcome}
 use Rattle.rt_ra_run.specs.declared.outcome.RaOutcome.{RaOutcome}
 use Rattle.rt_tools.specs.declared.outcome.ToolOutcome.{ToolOutcome}
 use Rattle.rt_cert.specs.declared.outcome.CertOutcome.{CertOutcome}
-use Rattle.ratest_c.specs.Answers.{Ends, EndsIn, IsAnswer, IsCallOn, filled}
+use Rattle.ratest_c.specs.Answers.{Ends, IsAnswer, IsCallOn, filled}
 use Rattle.ratest_c.specs.Calls.{RatestEnds, AlgebraEnds, ToolEnds, CertificateEnds}
 use Rattle.ratest_c.specs.Files.{count_of, counts_in, held_in}
+use Rattle.ratest_c.specs.Runs.{EndsIn}
 use Rattle.ratest_c.specs.Services.{service_of}
 use Rattle.ratest_c.specs.declared.file.File.{File}
 use Rattle.ratest_c.specs.declared.request.Request.{Request}

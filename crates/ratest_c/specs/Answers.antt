@@ -1,7 +1,6 @@
 -- What the reply to a request is.
 use Rattle.std.specs.Prelude.{◌≡◌, ℕ, ◌+◌, ◌<◌, ◌≤◌, ℤ, pos, negsuc, zero, suc, List, [], length, take, drop, IsTrue, true, None, Some}
 use Rattle.rt_io.specs.Logs.{Log}
-use Rattle.rt_io.specs.declared.sure_sink.SureSink.{SureSink}
 use Rattle.rt_input.specs.Reading.{Call}
 use Rattle.rt_input.specs.Texts.{status_of}
 use Rattle.rt_input.specs.declared.outcome.Outcome.{Outcome}
@@ -19,7 +18,6 @@ use Rattle.ratest_c.specs.Services.{service_of}
 use Rattle.ratest_c.specs.declared.request.Request.{Request}
 use Rattle.ratest_c.specs.declared.service.Service.{Service}
 use Rattle.ratest_c.specs.declared.service.Service.TheVariants.{Ratest, Algebra, Tools, Certificates}
-use Rattle.ratest_c.specs.declared.told.Told.{Told}
 
 -- a call on the arguments of the request, over files that tell their contents: those of the request. A
 -- file with bytes never failed.
@@ -40,10 +38,6 @@ Ends Ratest c status out err = (o : Outcome) × (status ≡ status_of o) × Rate
 Ends Algebra c status out err = (o : RaOutcome) × (status ≡ ra.status_of o) × AlgebraEnds c (filled out) (filled err) o
 Ends Tools c status out err = (o : ToolOutcome) × (status ≡ tools.status_of o) × ToolEnds c (filled out) (filled err) o
 Ends Certificates c status out err = (o : CertOutcome) × (status ≡ cert.status_of o) × CertificateEnds c (filled out) (filled err) o
-
--- the same of what a command ended with
-abbrev pub EndsIn : Service → Call → Told → Type 0
-EndsIn s c t = Ends s c t.status t.out.held.items t.err.held.items
 
 -- what the command of a request ended with
 pub record IsAnswer (r : Request) (status : ℕ) (out err : List ℕ) : Type 0 where

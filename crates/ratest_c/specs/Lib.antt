@@ -4,3 +4,4 @@ pub mod Replies
 pub mod Services
 pub mod Calls
 pub mod Answers
+pub mod Runs

@@ -1,7 +1,8 @@
 //! The command of a request, run over its files.
 ghost use Rattle.std.specs.Prelude.{◌≡◌};
 ghost use Rattle.rt_input.specs.Reading.{call};
-ghost use Rattle.ratest_c.specs.Answers.{EndsIn, IsAnswer};
+ghost use Rattle.ratest_c.specs.Answers.{IsAnswer};
+ghost use Rattle.ratest_c.specs.Runs.{EndsIn};
 ghost use Rattle.ratest_c.specs.Files.{held_in};
 
 use crate::framed::Framed;

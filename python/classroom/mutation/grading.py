@@ -3,7 +3,6 @@ from __future__ import annotations
 
 import json
 import os
-import re
 from collections.abc import Mapping, Sequence
 from dataclasses import asdict, dataclass
 from pathlib import Path
@@ -13,12 +12,12 @@ from classroom.exercise import digest
 from classroom.limited import Ran
 from classroom.mutation.questions import Question
 from classroom.results import write
+from ratest import printed
 
 MOST_IN_LIST = 256    # that the program takes
 # In few lists a core may wait for one with the slow queries; in many the rows are read more often.
 SHORT_LIST = 8
 AGREES, TOLD, REFUSED, OPEN = "agrees", "told", "refused", "no verdict"
-LINE = re.compile(r"(?:witness (?P<rows>[0-9]+)|(?P<agree>agree)|refused: (?P<fault>.*)|(?P<open>.*))\Z", re.DOTALL)
 
 
 @dataclass(frozen=True)
@@ -95,25 +94,18 @@ def lists_of(left: Mapping[str, Question], most: int, means: parallel.Means) -> 
 
 
 def read(ran: Ran, keys: Sequence[str]) -> dict[str, Verdict]:
-    """The verdicts of a list by their keys; none where the call failed. A fault may hold line ends."""
-    found = {}
-    text = ran.stdout.decode("utf-8", "replace")
+    """The verdicts of a list by their keys; none where the call failed."""
     if ran.passed or ran.status != program.AGREE:
         return {}
-    for key, after in zip(keys, [*keys[1:], None]):
-        end = text.find(f"\n{after}: " if after else "\ngraded: ")
-        line = text[len(key) + 2:end]
-        match = LINE.match(line)
-        if not text.startswith(f"{key}: ") or end < 0 or not match:
-            break
-        text = text[end + 1:]
-        found[key] = verdict_of(match)
-    return found
+    try:
+        grades = printed.grades_of(ran.stdout.decode("utf-8", "replace"), keys)
+    except printed.Unreadable:
+        return {}
+    return {key: verdict_of(grade) for key, grade in zip(keys, grades)}
 
 
-def verdict_of(line: re.Match[str]) -> Verdict:
-    if line["rows"]:
-        return Verdict(TOLD, int(line["rows"]))
-    if line["agree"]:
-        return Verdict(AGREES)
-    return Verdict(REFUSED, why=line["fault"]) if line["fault"] is not None else Verdict(OPEN, why=line["open"])
+def verdict_of(grade: printed.Grade) -> Verdict:
+    if grade.kind == "differs":
+        return Verdict(TOLD, grade.rows or 0)
+    kind = {"agrees": AGREES, "refused": REFUSED}.get(grade.kind, OPEN)
+    return Verdict(kind, why=grade.fault or ("undecided" if grade.kind == "undecided" else ""))
