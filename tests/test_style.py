@@ -26,7 +26,8 @@ def test_types(folder: str, checked: list[str], top: Path, tmp_path: Path) -> No
         pytest.skip("there is no mypy: apt-get install mypy")
     # Debian's mypy, which sees Debian's packages.
     done = subprocess.run(["/usr/bin/python3", "-m", "mypy", "--strict", "--explicit-package-bases", f"--cache-dir={tmp_path}", *checked],
-                          cwd=top / folder, capture_output=True, text=True, check=False, env={**os.environ, "MYPYPATH": ":".join(str(top / it) for it in FOUND)})
+                          cwd=top / folder, capture_output=True, text=True, check=False,
+                          env={**os.environ, "MYPYPATH": ":".join(str(top / it) for it in FOUND)})
     assert done.returncode == 0, done.stdout
 
 

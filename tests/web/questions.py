@@ -95,6 +95,14 @@ def hard() -> Question:
     return Question(WORDS, {name: text.encode() for name, text in texts.items()})
 
 
+def large() -> list[Question]:
+    """Texts of up to four megabytes, long or deep, and a query of many columns."""
+    stars = "SELECT s.*, s.* FROM (" * 16 + "SELECT a FROM t" + ") s" * 16
+    firsts = (" UNION ".join(["SELECT a FROM t"] * 180_000), "(" * 4_000_000, " " * ((4 << 20) + 1), stars)
+    files = {"schema.sql": b"CREATE TABLE t (a INTEGER);\n", "data/t.csv": b"a\n1\n2\n", "2.sql": stars.encode()}
+    return [Question(WORDS, {**files, "1.sql": first.encode()}) for first in firsts]
+
+
 def native(program: Path, question: Question) -> Reply:
     """What the native program answers."""
     with tempfile.TemporaryDirectory(prefix="ratest-web-") as folder:

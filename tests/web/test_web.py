@@ -14,7 +14,7 @@ from typing import Any
 import pytest
 from asking import AMPLE, MEBIBYTE, Asking, Browser, Node, Unable
 from compare.draw import Limits
-from questions import ARGUMENTS, Question, Reply, hard, native, of_seed, questions
+from questions import ARGUMENTS, Question, Reply, hard, large, native, of_seed, questions
 
 from ratest import draw, printed
 from ratest.places import place_of
@@ -30,7 +30,7 @@ LARGE = Question(("made", "400"), {})
 @pytest.fixture
 def opened(browser: Any, page: Path) -> Any:
     browser.execute_cdp_cmd("Emulation.setDeviceMetricsOverride", {
-        "width": 1000, "height": 1200, "deviceScaleFactor": 1, "mobile": False})
+        "width": 1000, "height": 980, "deviceScaleFactor": 1, "mobile": False})
     browser.get(page.as_uri())
     browser.get_log("browser")
     return browser
@@ -63,6 +63,17 @@ def test_in_a_browser(opened: Any, answered: list[tuple[Question, Reply]]) -> No
 def test_in_node(page: Path, answered: list[tuple[Question, Reply]]) -> None:
     try:
         compare(Node(page), answered)
+    except Unable as why:
+        pytest.skip(str(why))
+
+
+def test_large_texts(opened: Any, page: Path, ratest: Path) -> None:
+    asked = large()
+    wanted = [native(ratest, it) for it in asked]
+    assert [it.status for it in wanted] == [3, 3, 5, 0]
+    assert [Browser(opened).ask([it]) for it in asked] == [[it] for it in wanted]
+    try:
+        assert Node(page).ask(asked) == wanted
     except Unable as why:
         pytest.skip(str(why))
 

@@ -122,22 +122,94 @@ console.log(String([it.widths(-3n), it.filled(50n), it.called(0n), it.called(1n)
 """
 
 
-def test_a_narrowed_module_does_the_same(top: Path, tmp_path: Path) -> None:
-    """Accesses of each width, blocks that are filled and copied, calls by a table, and a memory that grows."""
+def in_node(top: Path, folder: Path, text: str, script: str) -> str:
+    """What a script prints of a narrowed module that is made of a text in C."""
     if not shutil.which("rt"):
         pytest.skip("there is no toolchain")
     if not shutil.which("node"):
         pytest.skip("there is no node: apt-get install nodejs")
     kit = kit_here(top)
-    (tmp_path / "it.c").write_text(IN_C)
-    source, compiled, archive, linked = (tmp_path / f"it.{end}" for end in ("c", "o", "a", "wasm"))
+    source, compiled, archive, linked = (folder / f"it.{end}" for end in ("c", "o", "a", "wasm"))
+    source.write_text(text)
     run([kit.clang, *webassembly.TARGET, "-O1", "-ffreestanding", "-nostdinc", "-c", source, "-o", compiled], 60)
     run([kit.archiver, "--format=gnu", "rcsD", archive, compiled], 60)
     run([kit.linker, "--target", "wasm64-unknown-unknown", "--toolchain", kit.llvm, "-o", linked, archive], 60)
     made = narrowed(linked.read_bytes())
-    ran = subprocess.run(["node", "-e", IN_NODE], input=made, capture_output=True, check=False)
+    ran = subprocess.run(["node", "-e", script], input=made, capture_output=True, check=False)
+    assert not ran.returncode, ran.stderr.decode()
+    return ran.stdout.decode()
+
+
+def test_a_narrowed_module_does_the_same(top: Path, tmp_path: Path) -> None:
+    """Accesses of each width, blocks that are filled and copied, calls by a table, and a memory that grows."""
     # The sum of 253 and five times -3, a byte that was copied and one that was not, and so on by hand.
-    assert (ran.stdout, ran.stderr) == (b"238,7000,18,81,0,2,-1\n", b"")
+    assert in_node(top, tmp_path, IN_C, IN_NODE) == "238,7000,18,81,0,2,-1\n"
+
+
+# Blocks of all sizes are taken, made larger and smaller, and freed, in an order of chance; each keeps its bytes.
+HEAP_IN_C = """
+#include "%s"
+#define BLOCKS 300
+static struct { byte *block; size_t size; byte mark; } held[BLOCKS];
+static unsigned long state = 1;
+static size_t drawn(size_t below) { state = state * 6364136223846793005ul + 1442695040888963407ul; return (state >> 33) %% below; }
+
+static long wrong(long at, size_t size) {
+    long count = (size_t)held[at].block %% 16 != 0;
+    for (size_t place = 0; place < size; place++) count += held[at].block[place] != held[at].mark;
+    return count;
+}
+
+static void mark(long at, size_t size) {
+    held[at].size = size;
+    held[at].mark = drawn(256);
+    __builtin_memset(held[at].block, held[at].mark, size);
+}
+
+/* The number of wrong bytes in so many steps, or -1 where a block is refused. */
+long ratest_ask(const byte *request, size_t steps, byte *reply, size_t reply_size) {
+    (void)request; (void)reply; (void)reply_size;
+    long count = 0;
+    while (steps--) {
+        long at = drawn(BLOCKS);
+        size_t size = 1 + drawn(1ul << drawn(18));
+        if (!held[at].block) {
+            struct taken made = rattle_alloc(size, 8);
+            if (!made.is_there) return -1;
+            held[at].block = made.block;
+        } else if (drawn(2)) {
+            size_t kept = held[at].size < size ? held[at].size : size;
+            struct taken made = rattle_realloc(held[at].block, kept, size, 8);
+            if (!made.is_there) return -1;
+            held[at].block = made.block;
+            count += wrong(at, kept);
+        } else {
+            count += wrong(at, held[at].size);
+            rattle_dealloc(held[at].block);
+            held[at].block = 0;
+            continue;
+        }
+        mark(at, size);
+    }
+    return count;
+}
+"""
+HEAP_IN_NODE = """
+const module = new WebAssembly.Module(require("node:fs").readFileSync(0));
+const made = (bytes) => { const it = new WebAssembly.Instance(module, {}).exports; it.limit(bytes); return it; };
+const ample = made(1n << 30n);
+const found = [ample.ask(0n, 30000n, 0n, 0n), ample.size() < 1n << 26n];
+// One block after another, until there are no more; then all that is left is small.
+const small = made(16n << 20n);
+let count = 0;
+while (small.room(1n << 20n)) count++;
+found.push(count > 10 && count < 16, small.size() <= 16n << 20n, small.room(1n << 40n), small.room(1n << 63n), small.room(16n) !== 0n);
+console.log(String(found));
+"""
+
+
+def test_heap(top: Path, tmp_path: Path) -> None:
+    assert in_node(top, tmp_path, HEAP_IN_C % webassembly.HEAP, HEAP_IN_NODE) == "0,true,true,true,0,0,true\n"
 
 
 def test_a_toolchain_that_keeps_no_module(tmp_path: Path) -> None:

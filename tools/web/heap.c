@@ -1,8 +1,8 @@
 /* The heap of the WebAssembly module, and the call that a host makes.
 
    Blocks come in classes of sizes, four of them for each doubling, from a memory that only grows. A freed
-   block goes to the list of its class, and neighbours are never merged: a host makes a new instance for each
-   question, so that nothing is left over. */
+   block goes to the list of its class, but for the last one, which is given back; neighbours are never merged.
+   A host makes a new instance for each question, so that nothing is left over. */
 typedef unsigned long size_t;
 typedef unsigned char byte;
 
@@ -13,9 +13,10 @@ extern byte __heap_base;
 #define AHEAD 64ul /* pages that are taken at a time, where there are so many */
 #define HEAD 16ul  /* before each block: its class, and what keeps blocks aligned to 16 bytes */
 #define CLASSES 256
+#define MOST (1ul << 32) /* bytes of a memory of 32 bits, of which no size and no place may lose a bit */
 
-static size_t top, end;         /* what is taken of the memory, and what there is */
-static size_t most = ~0ul;      /* the bytes that the memory may have */
+static size_t top, end;    /* what is taken of the memory, and what there is */
+static size_t most = MOST; /* the bytes that the memory may have */
 static void *freed[CLASSES];
 
 static size_t class_of(size_t size) {
@@ -58,7 +59,7 @@ static byte *fresh(size_t size) {
 }
 
 static void *take(size_t size) {
-    if (size > 1ul << 40) {
+    if (size > MOST) {
         return 0;
     }
     size_t class = class_of(size);
@@ -77,16 +78,30 @@ static void *take(size_t size) {
 
 static size_t *class_at(void *block) { return (size_t *)((byte *)block - HEAD); }
 
+static _Bool is_last(void *block) { return (size_t)block + room_of(*class_at(block)) == top; }
+
+static void give_back(void *block) {
+    if (is_last(block)) {
+        top = (size_t)block - HEAD;
+        return;
+    }
+    *(void **)block = freed[*class_at(block)];
+    freed[*class_at(block)] = block;
+}
+
 static void *retake(void *block, size_t size) {
     size_t room = room_of(*class_at(block));
     if (size <= room && size >= room / 4) {
         return block;
     }
+    if (size > room && size <= MOST && is_last(block) && fresh(room_of(class_of(size)) - room)) {
+        *class_at(block) = class_of(size);
+        return block;
+    }
     void *made = take(size);
     if (made) {
         __builtin_memcpy(made, block, size < room ? size : room);
-        *(void **)block = freed[*class_at(block)];
-        freed[*class_at(block)] = block;
+        give_back(block);
     }
     return made;
 }
@@ -108,10 +123,7 @@ struct taken rattle_realloc(void *block, size_t kept, size_t size, size_t alignm
     return taken(retake(block, size ? size : alignment));
 }
 
-void rattle_dealloc(void *block) {
-    *(void **)block = freed[*class_at(block)];
-    freed[*class_at(block)] = block;
-}
+void rattle_dealloc(void *block) { give_back(block); }
 
 /* For the host: a block, 0 where there is none; a limit of the memory, before anything else; its size; and
    the question, as ratest.h has it. */
@@ -119,7 +131,7 @@ long ratest_ask(const byte *request, size_t request_size, byte *reply, size_t re
 
 EXPORT(room) void *host_room(size_t size) { return take(size); }
 
-EXPORT(limit) void host_limit(size_t bytes) { most = bytes; }
+EXPORT(limit) void host_limit(size_t bytes) { most = bytes < MOST ? bytes : MOST; }
 
 EXPORT(size) size_t host_size(void) { return __builtin_wasm_memory_size(0) * PAGE; }
 

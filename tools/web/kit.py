@@ -13,7 +13,9 @@ from launcher import toolchain
 
 from web.failed import Changed, Failed
 
+# Of addresses. The prover, which limits itself, takes more of them than it uses.
 MEMORY = 16 << 30
+FOR_PROVER = 128 << 30
 # Of what a program prints when it fails.
 SHOWN = 2000
 
@@ -58,10 +60,10 @@ def kit_here(top: Path) -> Kit:
     return found
 
 
-def run(words: Sequence[str | Path], seconds: float, folder: Path | None = None) -> str:
+def run(words: Sequence[str | Path], seconds: float, folder: Path | None = None, memory: int = MEMORY) -> str:
     """Runs a program within limits of time and memory, and gives what it printed."""
     def limit() -> None:
-        resource.setrlimit(resource.RLIMIT_AS, (MEMORY, MEMORY))
+        resource.setrlimit(resource.RLIMIT_AS, (memory, memory))
 
     name = Path(words[0]).name
     try:

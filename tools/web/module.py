@@ -12,7 +12,7 @@ from launcher.sources import Program
 
 from web.failed import Changed
 from web.kept import digest, kept
-from web.kit import Kit, run
+from web.kit import FOR_PROVER, Kit, run
 
 CRATE = "ratest_c"
 # A first call proves the crates below too.
@@ -39,7 +39,7 @@ def module_of(top: Path, kit: Kit) -> Path:
     def make(folder: Path) -> Path:
         print("build: rt lib proves and builds the static library", file=sys.stderr, flush=True)
         made = folder / "module.bc"
-        run([copied(kit, folder / "kit", made) / "bin/rt", "lib"], SECONDS, top / "crates" / CRATE)
+        run([copied(kit, folder / "kit", made) / "bin/rt", "lib"], SECONDS, top / "crates" / CRATE, FOR_PROVER)
         check(made)
         return made
 

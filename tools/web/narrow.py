@@ -2,7 +2,7 @@
 
 Addresses stay numbers of 64 bits, and each is cut to 32 where the memory or the table takes it. The memory has
 at most 4 GiB then, so that no address of a block has a bit that is lost. A module of any other form than the
-linker gives today is refused.
+linker gives today is refused. (Debian 12 has binaryen 108, whose pass for this refuses a table of 64 bits.)
 """
 from __future__ import annotations
 
