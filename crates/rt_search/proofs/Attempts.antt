@@ -1,5 +1,5 @@
 -- What an attempt finds, from what each call of solve does.
-use Rattle.std.proofs.Common.{◌≡◌, ℕ, ◌<◌, ◌≤◌, Bool, true, List, ◌++◌, append_assoc, refl, ap, subst, ◌∙◌, Option, Some, None, IfSome, arith}
+use Rattle.std.proofs.Common.{◌≡◌, ℕ, ◌<◌, ◌≤◌, Bool, true, List, ◌++◌, append_assoc, length, refl, ap, subst, ◌∙◌, Option, Some, None, IfSome, arith}
 use Rattle.rt_clause.specs.Literal.{Literal}
 use Rattle.rt_clause.specs.Models.{lit_true}
 use Rattle.rt_formula.specs.Shared.{Shared}

@@ -7,7 +7,7 @@ pub mod Leading
 pub mod Leaving
 pub mod LeftOut
 pub mod Nogoods
-pub mod Others
+pub mod Only
 pub mod Places
 pub mod Rounds
 pub mod Taking

@@ -2,13 +2,16 @@
 //!
 //! One solver is kept from round to round. The formula is encoded once, with a clause for each row
 //! that cannot matter. The first model is made smaller by leaving rows out. Then a counter of the
-//! kept rows is added, up to one more than that model's size. Each further round assumes that
-//! fewer rows are kept than in the best choice so far.
+//! kept rows is added, up to one more than that model's size.
 //!
-//! When there is none of fewer, one round asks whether there is any other of as many rows. If so,
-//! each further one asks for one that keeps an earlier row, by the counter's own literals. Within
-//! a budget that is asked row by row, so that what was learned holds at every choice of as few
-//! rows. A refutation counts only if the checker's own lines have it.
+//! Each further round assumes that no more rows are kept than in the best choice so far. It asks
+//! whether there is any other such choice; if so, whether there is one of fewer rows. When there
+//! is none of fewer, each further question asks for one that keeps an earlier row, by the
+//! counter's own literals. What is learned for one question serves those after it.
+//!
+//! Within a budget each round assumes that fewer rows are kept, and the order is asked about row
+//! by row, so that what was learned holds at every choice of as few rows. There a refutation
+//! counts only if the checker's own lines have it.
 #![tactic(auto)]
 
 mod alone;

@@ -77,6 +77,37 @@ fn clauses_may_be_added_between_calls(rt: HostRuntime) {
 }
 
 // In fixed order both are decided, and each is set to true.
+// Whether there is a model at which the second of three variables is false and a question is true.
+fn is_found(rt: &impl Abort, solver: &mut Solver<Checker>, question: Lit) -> bool
+    requires { question.var < 3 }
+{
+    let second = Lit::of(1, false);
+    let found = solver.seek(Some(second), question, 3).expect(rt, "memory");
+    match found {
+        None => false,
+        Some(keep) => {
+            assert!(rt; keep.len() == 3);
+            !keep.is(1) && keep.is(question.var()) == question.on()
+        }
+    }
+}
+
+#[test]
+fn questions_under_one_assumption(rt: HostRuntime) {
+    let mut solver = solver(rt.alloc());
+    let either = [Lit::of(0, true), Lit::of(1, true)];
+    let follows = [Lit::of(0, false), Lit::of(2, true)];
+    solver.add(&either).expect(&rt, "memory");
+    solver.add(&follows).expect(&rt, "memory");
+    assert!(rt; !is_found(&rt, &mut solver, Lit::of(2, false)));
+    assert!(rt; is_found(&rt, &mut solver, Lit::of(2, true)));
+    assert!(rt; !is_found(&rt, &mut solver, Lit::of(0, false)));
+    let free = solver
+        .seek(None, Lit::of(2, false), 3)
+        .expect(&rt, "memory");
+    assert!(rt; free.is_some());
+}
+
 #[test]
 fn both_of_two_in_fixed_order(rt: HostRuntime) {
     let mut solver = solver(rt.alloc());

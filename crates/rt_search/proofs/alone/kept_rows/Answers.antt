@@ -1,7 +1,7 @@
 use Rattle.std.proofs.Common.{◌+◌, ◌∙◌, List, sym, subst}
 use Rattle.rt_clause.specs.Literal.{Literal}
 use Rattle.rt_search.specs.Alone.{AreKept}
-use Rattle.rt_search.proofs.Others.{kept-not, kept-too}
+use Rattle.rt_search.proofs.Only.{kept-not, kept-too}
 use Rattle.rt_search.proofs.alone.kept_rows.Goals as goal
 use Rattle.rt_search.proofs.alone.kept_rows.Goals.{then-is+in_ok-push, else-is}
 

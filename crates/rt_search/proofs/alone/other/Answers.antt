@@ -1,6 +1,7 @@
-use Rattle.std.proofs.Common.{◌+◌, ◌∙◌, ℕ, List, Bool, Option, Some, None, sym, subst, arith}
+use Rattle.std.proofs.Common.{◌+◌, ◌∙◌, ℕ, List, Bool, Option, Some, None, sym, ap, subst, arith}
+use Rattle.rt_clause.specs.Literal.{Literal}
 use Rattle.rt_search.specs.Aimed.{IsAimed}
-use Rattle.rt_search.proofs.Others.{other-begun, other-aimed, other-answer, other-longer}
+use Rattle.rt_search.proofs.Only.{other-begun, other-aimed, other-answer, other-longer}
 use Rattle.rt_search.proofs.alone.other.Goals as goal
 
 pub returns-clause-longer : goal.returns-clause-longer

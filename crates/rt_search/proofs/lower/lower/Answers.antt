@@ -78,3 +78,10 @@ returns-in-Spent c =
     let r = round-begun c.args.dag.now c.args.goal c.args.cone.now c.lower.solver.0.lines c.args.named.next c.args.counter.now.outs c.lower.best c.size-most.result c.fewer-bound.result v.way.aimed v.way.counted v.way.sought c.fewer-bound.ensures c.size-most.ensures c.if-most-eq0.false v.way.within in
     let F : Found → Type 0 = λ f. IsTold c.lower.solver.0.lines c.attempt.new.solver.0.lines (Some c.fewer-bound.result) c.next.result c.rows-rows.result c.args.budget f in
     round-spent _ _ _ _ _ _ c.next.result c.rows-rows.result _ _ _ _ _ _ c.next.ensures v.rows r (subst F c.in-Spent.is c.in_ok-model.ensures.told)
+
+pub others-requires-clause-room : goal.others-requires-clause-room
+others-requires-clause-room c =
+    let v = c.lower.invariant in
+    let e = c.size-most.ensures in
+    let r = v.rows in
+    omega (arith, e, r)
