@@ -96,9 +96,9 @@ def hard() -> Question:
 
 
 def large() -> list[Question]:
-    """Texts of up to four megabytes, long or deep, and a query of many columns."""
+    """Texts of up to a megabyte, long or deep, and a query of many columns."""
     stars = "SELECT s.*, s.* FROM (" * 16 + "SELECT a FROM t" + ") s" * 16
-    firsts = (" UNION ".join(["SELECT a FROM t"] * 180_000), "(" * 4_000_000, stars)
+    firsts = (" UNION ".join(["SELECT a FROM t"] * 40_000), "(" * 1_000_000, stars)
     files = {"schema.sql": b"CREATE TABLE t (a INTEGER);\n", "data/t.csv": b"a\n1\n2\n", "2.sql": stars.encode()}
     return [Question(WORDS, {**files, "1.sql": first.encode()}) for first in firsts]
 
