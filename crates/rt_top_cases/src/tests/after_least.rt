@@ -28,8 +28,10 @@ const JOINS: &str = "SELECT p.k FROM p, q, r UNION SELECT a.k FROM a, b";
 
 const NEVER: &str = "SELECT k FROM a WHERE k <> k";
 
-// The places of the row of `a` and of that of `b`: one row and twice five are before them.
-const BEST: [usize; 2] = [11, 12];
+// The choice of the row of `a` and of that of `b`: one row and twice five are before them.
+const BEST: [bool; 13] = [
+    false, false, false, false, false, false, false, false, false, false, false, true, true,
+];
 
 // Whether the outcome is a spent budget of so many clauses, with the two rows as the best choice and
 // no smaller one left.
@@ -42,9 +44,7 @@ fn is_least(outcome: &Outcome, budget: u64) -> bool {
             spent.budget == budget
                 && spent.least
                 && spent.nogoods.len() as u64 == budget
-                && best.size() == 2
-                && best.is(BEST[0])
-                && best.is(BEST[1])
+                && best.as_slice() == BEST.as_slice()
         }
         _ => false,
     }
