@@ -1,5 +1,5 @@
 -- What a call over the files of a request answers.
-use Rattle.std.proofs.Common.{◌≡◌, ◌∙◌, ℕ, List, [], true, ap, subst}
+use Rattle.std.proofs.Common.{◌≡◌, ◌∙◌, ℕ, List, [], true, Result, Ok, Err, IfOk, ap, refl, subst}
 use Rattle.rt_io.specs.Logs.{Log}
 use Rattle.rt_input.specs.Reading.{Call}
 use Rattle.rt_input.specs.declared.outcome.Outcome.{Outcome}
@@ -66,3 +66,8 @@ tool_ended c o = of_empty (λ out err. ToolEnds c out err o)
 pub certificate_ended : (c : Call) (o : CertOutcome) (old_out out old_err err : List ℕ) → old_out ≡ [] → old_err ≡ []
     → CertificateEnds c (sink_over old_out out) (sink_over old_err err) o → CertificateEnds c (filled out) (filled err) o
 certificate_ended c o = of_empty (λ out err. CertificateEnds c out err o)
+
+-- what holds of each value that a result may have holds where it is one
+pub if_ok : {T E : Type 0} (r : Result T E) (P : T → Type 0) → ((x : T) → r ≡ Ok x → P x) → IfOk r P
+if_ok (Ok x) P holds = holds x refl
+if_ok (Err e) P holds = tt

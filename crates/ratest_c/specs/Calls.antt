@@ -1,5 +1,5 @@
 -- What the calls that answer commands promise: their clauses, but for those on which files are begun.
-use Rattle.std.specs.Prelude.{◌≡◌, ◌<◌, ◌⊎◌, ℕ, IsTrue, length, None, Some, Ok, Err}
+use Rattle.std.specs.Prelude.{◌≡◌, ◌<◌, ◌⊎◌, ℕ, IsTrue, length, None, Some, Ok, Err, IfOk}
 use Rattle.rt_io.specs.Command.{command}
 use Rattle.rt_io.specs.Logs.{Log, NoSinkRose, WritesNothing}
 use Rattle.rt_input.specs.Accepted.{Accepted}
@@ -11,7 +11,6 @@ use Rattle.rt_top.specs.Answers as top
 use Rattle.rt_ra_run.specs.Answers as ra
 use Rattle.rt_ra_run.specs.Judged.{ra_judged}
 use Rattle.rt_ra_run.specs.Words.{ra_command}
-use Rattle.rt_ra_run.specs.declared.asked.Asked.{Asked}
 use Rattle.rt_ra_run.specs.declared.outcome.RaOutcome.{RaOutcome}
 use Rattle.rt_tools.specs.Answers as tools
 use Rattle.rt_tools.specs.Judged.{HasRoomFor, IsAsJudged, IsNoFault, IsToldTool, IsUsageOrFault, NoNamedRose, refusal_of}
@@ -59,8 +58,8 @@ pub record AlgebraEnds (c : Call) (out err : Log) (o : RaOutcome) : Type 0 where
   pub write_fault : ra.IfVerdict o (λ v. top.IfWriteFault v ((allowed : RaOutcome) × ra.WritesUntilFault c out err allowed))
   pub no_memory : ra.IfVerdict o (λ v. top.IfNoMemory v (WritesNothing out err ⊎ ((allowed : RaOutcome) × ra.WritesPart c out err allowed)))
   pub said : ra.IfSaid o (ra.WritesAll c o out err)
-  pub complete : IsTrue c.files.tells → ra.NoFileRose c → NoSinkRose out err → (asked : Asked) → ra_judged c.words c.files.held ≡ Ok asked
-      → top.HasRoom asked.input → ra.IsVerdictOrMemory o
+  pub complete : IsTrue c.files.tells → ra.NoFileRose c → NoSinkRose out err
+      → IfOk (ra_judged c.words c.files.held) (λ asked. top.HasRoom asked.input → ra.IsVerdictOrMemory o)
 
 -- `rt_tools::tool_run`
 pub record ToolEnds (c : Call) (out err : Log) (o : ToolOutcome) : Type 0 where

@@ -1,4 +1,4 @@
-use Rattle.ratest_c.proofs.RunLemmas.{algebra_ended}
+use Rattle.ratest_c.proofs.RunLemmas.{algebra_ended, if_ok}
 use Rattle.ratest_c.proofs.run.run_algebra.Goals as goal
 
 pub returns-clause-ends : goal.returns-clause-ends
@@ -19,6 +19,6 @@ returns-clause-ends c = (
     write_fault = c.ra_run.ensures.write_fault;
     no_memory = c.ra_run.ensures.no_memory;
     said = c.ra_run.ensures.said;
-    complete = c.ra_run.ensures.complete;
+    complete = λ told calm sinks. if_ok _ _ (c.ra_run.ensures.complete told calm sinks);
   }),
 )
