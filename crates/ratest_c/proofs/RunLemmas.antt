@@ -23,11 +23,11 @@ counts_of held name = count_of (held name)
 pub counts_stay : (old new : List File) → held_in new ≡ held_in old → counts_in new ≡ counts_in old
 counts_stay old new same = ap counts_of same
 
-pub answered_by : (r : Request) (s : Service) (c : Call) (t : Told) (old new : List File)
+pub answered_by : (r : Request) (s : Service) (c : Call) (t : Told) (old new : List File) → EndsIn s c t
     → s ≡ service_of c.words → c.words ≡ r.words → c.files.tells ≡ true → c.files.held ≡ held_in old
     → c.files.before ≡ counts_in old → c.files.after ≡ counts_in new → old ≡ r.files → held_in new ≡ held_in old
-    → EndsIn s c t → IsAnswer r t.status t.out.held.items t.err.held.items
-answered_by r s c t old new is words tells held before after files same ends = record {
+    → IsAnswer r t.status t.out.held.items t.err.held.items
+answered_by r s c t old new ends is words tells held before after files same = record {
   call = c;
   over = record {
     words = words;
