@@ -305,7 +305,7 @@ def test_counts_of_searches_are_those_of_measure(students: int) -> None:
     ran = subprocess.run([measure, "made", str(students)], capture_output=True, text=True, check=True)
     counted = dict(re.findall(r"^(\w+) (\d+)$", ran.stdout, re.MULTILINE))
     row = table_rows("docs/PERFORMANCE.md", f"`made {students}` |")[0]
-    assert [it.replace(",", "") for it in row[3:6]] == [counted[it] for it in ("nodes", "clauses", "conflicts")]
+    assert [it.replace(",", "") for it in row[2:5]] == [counted[it] for it in ("nodes", "clauses", "conflicts")]
 
 
 @pytest.mark.parametrize("students", [20, 400])
