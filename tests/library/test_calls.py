@@ -132,10 +132,15 @@ def test_threads_call_at_once(shared: Path) -> None:
 def test_limits_of_a_child_process(shared: Path) -> None:
     small = package.explain("CREATE TABLE t (a INT)", {"t": [[1]]}, "SELECT a FROM t", "SELECT a FROM t", limits=package.Limits())
     assert small == package.Agree()
-    request = library.framed(["made", "400"], {})
+    # A search of several seconds.
+    slow = TOP / "bench/inputs/student_1000_3_02_x"
+    files = {"s": (slow / "schema.sql").read_bytes(), "p": (slow / "q1.sql").read_bytes(), "q": (slow / "q2.sql").read_bytes()}
+    files |= {f"d/{table.name}": table.read_bytes() for table in (slow / "data").iterdir()}
+    request = library.framed(["s", "d", "p", "q", "--work", "32000000"], files)
     with pytest.raises(package.Stopped) as stopped:
-        child.answered(request, shared, package.Limits(seconds=0.2))
+        child.answered(request, shared, package.Limits(seconds=1))
     assert stopped.value.passed == "time"
+    request = library.framed(["made", "400"], {})
     with pytest.raises(package.Stopped) as stopped:
         child.answered(request, shared, package.Limits(megabytes=20))
     assert stopped.value.passed == "memory"
