@@ -6,10 +6,8 @@ use Rattle.rt_clause.proofs.Bools.{bool-cases, or-cases, or-right, or-left}
 use Rattle.rt_clause.proofs.Literals.{has-cases}
 use Rattle.rt_solver.specs.declared.trail.Step.{Step}
 use Rattle.rt_solver.specs.Trail.{lits, value_in, IsApart}
-use Rattle.rt_solver.specs.Watching.{stands}
-use Rattle.rt_solver.specs.Marking.{Marked, mark_at, marked_by, marked_steps, steps_marked, IsMarking, IsUnmarked}
+use Rattle.rt_solver.specs.Marking.{stands, Marked, mark_at, marked_by, marked_steps, steps_marked, IsMarking, IsUnmarked}
 use Rattle.rt_solver.specs.Analysis.{HasMarked}
-use Rattle.rt_solver.proofs.Chains.{stands-cases, stands-head}
 use Rattle.rt_solver.proofs.Number.{none-apart}
 
 pub count-older : (marks : List Bool) (s : Step) (t : List Step) → steps_marked marks t ≤ steps_marked marks (s ∷ t)
@@ -66,6 +64,15 @@ count-set marks v n (s ∷ t) a = elim (bool-cases (nat_eq s.lit.var v)) [
 ]
 
 -- the list of the marked ones
+eqb-same : (v w : ℕ) → eqb v w ≡ true → v ≡ w
+eqb-same v w h = search rules
+
+stands-cases : (w v : ℕ) (ws : List ℕ) → stands (w ∷ ws) v ≡ true → (v ≡ w) ⊎ (stands ws v ≡ true)
+stands-cases w v ws h = elim (or-cases (eqb v w) (stands ws v) h) [ inl e ↦ inl (eqb-same v w e) | inr r ↦ inr r ]
+
+stands-head : (w : ℕ) (ws : List ℕ) → stands (w ∷ ws) w ≡ true
+stands-head w ws = let e : eqb w w ≡ true = search rules in rw e refl
+
 pub stands-push : (ws : List ℕ) (v w : ℕ) → stands (ws ++ v ∷ []) w ≡ true → (stands ws w ≡ true) ⊎ (w ≡ v)
 stands-push ws v w h = elim (or-cases (stands ws w) (stands (v ∷ []) w) (sym (list_any-append (eqb w) ws (v ∷ [])) ∙ h)) [
   | inl a ↦ inl a

@@ -1,5 +1,5 @@
 -- What is watched, as the trail and the clause change.
-use Rattle.std.proofs.Common.{◌≡◌, ℕ, zero, suc, ◌-◌, ◌<◌, ◌≤◌, true, false, List, [], ◌∷◌, ◌++◌, length, drop, refl, sym, ap, subst, ◌∙◌, inl, inr, Some, arith, length-append}
+use Rattle.std.proofs.Common.{◌≡◌, ℕ, zero, suc, ◌-◌, ◌<◌, ◌≤◌, cond, nat_eq, ◌≢◌, true, false, List, [], ◌∷◌, ◌++◌, length, drop, refl, sym, ap, subst, ◌∙◌, inl, inr, Some, arith, length-append}
 use Rattle.rt_clause.specs.Literal.{Literal, negated}
 use Rattle.rt_clause.specs.Lists.{has, is_false, line_at, IsMet}
 use Rattle.rt_clause.proofs.Bools.{bool-cases}
@@ -7,12 +7,12 @@ use Rattle.rt_clause.proofs.Literals.{has-head, has-tail}
 use Rattle.rt_solver.specs.declared.trail.Step.{Step}
 use Rattle.rt_solver.specs.declared.trail.Why.{Why}
 use Rattle.rt_solver.specs.declared.trail.Why.TheVariants.{Line, Decided, Assumed}
-use Rattle.rt_solver.specs.Trail.{lits, IsApart, IsUnit, BeforeDecisions, IfDecided, oldest, decisions, decided_by}
-use Rattle.rt_solver.specs.Looking.{IsBroken}
+use Rattle.rt_solver.specs.Trail.{lits, IsUnit, BeforeDecisions, IfDecided, oldest, decisions, decided_by}
+use Rattle.rt_solver.specs.Looking.{IsBroken, HasTrue}
 use Rattle.rt_solver.specs.Same.{IsSame, AreSame, IsSpread}
 use Rattle.rt_solver.specs.Watching.{literal_in}
-use Rattle.rt_solver.specs.Propagating.{IsWatched, IsPart, IsForced, AreForced, IsPropagated}
-use Rattle.rt_solver.proofs.FreshLaws.{consistent}
+use Rattle.rt_solver.specs.Turning.{IsMoved}
+use Rattle.rt_solver.specs.Propagating.{AreLeft, IsWatched, IsPart, IsForced, AreForced, IsPropagated}
 
 -- what holds before each decision
 if-map : (P Q : List Literal → Type 0) (w : Why) (set : List Literal) → (P set → Q set) → IfDecided w (P set) → IfDecided w (Q set)
@@ -78,65 +78,54 @@ part-drop (suc n) [] l g = g
 part-drop (suc n) (s ∷ t) l g = has-tail s.lit l (lits t) (part-drop n t l g)
 
 -- a watched clause
+pub true-same : (set a b : List Literal) → IsSame a b → HasTrue set a → HasTrue set b
+true-same set a b s h = (h.0, s.to h.0 h.1, h.2)
+
+pub true-more : (set more c : List Literal) → IsPart set more → HasTrue set c → HasTrue more c
+true-more set more c h x = (x.0, x.1, h x.0 x.2)
+
 pub watched-more : (early set more c : List Literal) → IsPart set more → IsWatched early set c → IsWatched early more c
-watched-more early set more [] h w = absurd w
-watched-more early set more (a ∷ []) h w = h a w
-watched-more early set more (a ∷ b ∷ c) h w = ((λ f. h b (w.0 f)), (λ f. h a (w.1 f)))
+watched-more early set more c h w = elim w [ inl x ↦ inl (true-more set more c h x) | inr y ↦ inr y ]
 
-pub watched-less : (less early set c : List Literal) → IsPart less early → IsWatched early set c → IsWatched less set c
-watched-less less early set [] h w = absurd w
-watched-less less early set (a ∷ []) h w = w
-watched-less less early set (a ∷ b ∷ c) h w = ((λ f. w.0 (h (negated a) f)), (λ f. w.1 (h (negated b) f)))
+-- the two literals that are left
+pub left-at : (early c : List Literal) (p : ℕ) (l : Literal) → p < 2 → literal_in c p ≡ Some l → AreLeft early c → is_false early l ≡ false
+left-at early [] p l b e h = absurd h
+left-at early (a ∷ []) p l b e h = absurd h
+left-at early (a ∷ d ∷ c) zero l b e h = let x : a ≡ l = cc in let P : Literal → Type 0 = λ k. is_false early k ≡ false in subst P x h.0
+left-at early (a ∷ d ∷ c) (suc zero) l b e h = let x : d ≡ l = cc in let P : Literal → Type 0 = λ k. is_false early k ≡ false in subst P x h.1
+left-at early (a ∷ d ∷ c) (suc (suc p)) l b e h = absurd (omega arith)
 
-pub watched-of : (early set c : List Literal) (p : ℕ) (k l : Literal) → p < 2 → literal_in c p ≡ Some k → literal_in c (1 - p) ≡ Some l → IsWatched early set c → (is_false early k ≡ true → has set l ≡ true) × (is_false early l ≡ true → has set k ≡ true)
-watched-of early set [] p k l b e f w = absurd w
-watched-of early set (a ∷ []) p k l b e f w = absurd (cc)
-watched-of early set (a ∷ d ∷ c) zero k l b e f w =
-    let x : a ≡ k = cc in let y : d ≡ l = cc in
-    let P : Literal → Literal → Type 0 = λ i j. (is_false early i ≡ true → has set j ≡ true) × (is_false early j ≡ true → has set i ≡ true) in
-    let Q : Literal → Type 0 = λ i. P i d in
-    subst (P k) y (subst Q x w)
-watched-of early set (a ∷ d ∷ c) (suc zero) k l b e f w =
-    let x : d ≡ k = cc in let y : a ≡ l = cc in
-    let P : Literal → Literal → Type 0 = λ i j. (is_false early i ≡ true → has set j ≡ true) × (is_false early j ≡ true → has set i ≡ true) in
-    let Q : Literal → Type 0 = λ i. P i a in
-    subst (P k) y (subst Q x (w.1, w.0))
-watched-of early set (a ∷ d ∷ c) (suc (suc p)) k l b e f w = absurd (omega arith)
+pub left-by : (early c : List Literal) (p : ℕ) (k l : Literal) → p < 2 → literal_in c p ≡ Some k → literal_in c (1 - p) ≡ Some l → is_false early k ≡ false → is_false early l ≡ false → AreLeft early c
+left-by early [] p k l b e f g h = absurd (cc)
+left-by early (a ∷ []) p k l b e f g h = absurd (cc)
+left-by early (a ∷ d ∷ c) zero k l b e f g h =
+    let x : k ≡ a = cc in let y : l ≡ d = cc in let P : Literal → Type 0 = λ k. is_false early k ≡ false in (subst P x g, subst P y h)
+left-by early (a ∷ d ∷ c) (suc zero) k l b e f g h =
+    let x : k ≡ d = cc in let y : l ≡ a = cc in let P : Literal → Type 0 = λ k. is_false early k ≡ false in (subst P y h, subst P x g)
+left-by early (a ∷ d ∷ c) (suc (suc p)) k l b e f g h = absurd (omega arith)
 
-pub watched-by : (early set c : List Literal) (p : ℕ) (k l : Literal) → p < 2 → literal_in c p ≡ Some k → literal_in c (1 - p) ≡ Some l → (is_false early k ≡ true → has set l ≡ true) → (is_false early l ≡ true → has set k ≡ true) → IsWatched early set c
-watched-by early set [] p k l b e f g h = absurd (cc)
-watched-by early set (a ∷ []) p k l b e f g h = absurd (cc)
-watched-by early set (a ∷ d ∷ c) zero k l b e f g h =
-    let x : k ≡ a = cc in let y : l ≡ d = cc in
-    let P : Literal → Literal → Type 0 = λ i j. (is_false early i ≡ true → has set j ≡ true) × (is_false early j ≡ true → has set i ≡ true) in
-    let Q : Literal → Type 0 = λ i. P i l in
-    subst (P a) y (subst Q x (g, h))
-watched-by early set (a ∷ d ∷ c) (suc zero) k l b e f g h =
-    let x : k ≡ d = cc in let y : l ≡ a = cc in
-    let P : Literal → Literal → Type 0 = λ i j. (is_false early i ≡ true → has set j ≡ true) × (is_false early j ≡ true → has set i ≡ true) in
-    let Q : Literal → Type 0 = λ i. P i l in
-    let r = subst (P d) y (subst Q x (g, h)) in (r.1, r.0)
-watched-by early set (a ∷ d ∷ c) (suc (suc p)) k l b e f g h = absurd (omega arith)
+left-other : (early c : List Literal) (p : ℕ) → AreLeft early c → (o : Literal) × (literal_in c (1 - p) ≡ Some o)
+left-other early [] p h = absurd h
+left-other early (a ∷ []) p h = absurd h
+left-other early (a ∷ d ∷ c) p h = (cond (nat_eq (1 - p) 0) a d, refl)
 
--- another literal, which is not false, in the place of a false one
-pub watched-moved : (m : ℕ) (t : List Step) (early set c new : List Literal) (p : ℕ) (k l other : Literal) → IsApart m t → p < 2 → literal_in c p ≡ Some k → literal_in c (1 - p) ≡ Some other → literal_in new p ≡ Some l → literal_in new (1 - p) ≡ Some other
-    → is_false (lits t) k ≡ true → is_false (lits t) l ≡ false → IsPart early (lits t) → IsPart set (lits t) → IsWatched early set c → IsWatched early set new
-watched-moved m t early set c new p k l other apart b ek eo el en f n pe ps w =
-    watched-by early set new p l other b el en
-    (λ g. absurd (let x = pe (negated l) g in cc))
-    (λ g. absurd (let x = ps k ((watched-of early set c p k other b ek eo w).1 g) in let y = consistent m t apart k x in cc))
+-- another literal, which is not false, is watched
+pub watched-moved : (t : List Step) (early set c new : List Literal) (p : ℕ) (l : Literal) → p < 2 → IsMoved c new p l → is_false (lits t) l ≡ false → IsPart early (lits t) → IsWatched early set c → IsWatched early set new
+watched-moved t early set c new p l b mv f pe w = elim w [
+  | inl x ↦ inl (true-same set c new mv.same x)
+  | inr y ↦ (let o = left-other early c p y in
+      inr (left-by early new p l o.0 b mv.at (mv.other ∙ o.1) usable (left-at early c (1 - p) o.0 (omega arith) o.1 y)))
+] where
+  usable : is_false early l ≡ false
+  usable = elim (bool-cases (is_false early l)) [ inl g ↦ absurd (let x = pe (negated l) g in cc) | inr g ↦ g ]
 
 -- a watched clause is met
-pub watched-met : (m : ℕ) (t : List Step) (c : List Literal) → IsApart m t → IsSpread c → IsWatched (lits t) (lits t) c → IsMet (lits t) c
-watched-met m t [] apart s w = absurd w
-watched-met m t (a ∷ []) apart s w = inl (a, has-head a [], w)
-watched-met m t (a ∷ b ∷ c) apart s w = elim (bool-cases (is_false (lits t) a)) [
-  | inl y ↦ inl (b, has-tail a b (b ∷ c) (has-head b c), w.0 y)
-  | inr n ↦ elim (bool-cases (is_false (lits t) b)) [
-    | inl y ↦ inl (a, has-head a (b ∷ c), w.1 y)
-    | inr q ↦ inr (a, b, has-head a (b ∷ c), has-tail a b (b ∷ c) (has-head b c), s, n, q)
-  ]
-]
+pub watched-met : (set c : List Literal) → IsSpread c → IsWatched set set c → IsMet set c
+watched-met set c s w = elim w [ inl x ↦ inl x | inr y ↦ inr (two c s y) ] where
+  two : (d : List Literal) → IsSpread d → AreLeft set d → (k : Literal) × (l : Literal) × (has d k ≡ true) × (has d l ≡ true) × (k ≢ l) × (is_false set k ≡ false) × (is_false set l ≡ false)
+  two [] q y = absurd y
+  two (a ∷ []) q y = absurd y
+  two (a ∷ b ∷ d) q y = (a, b, has-head a (b ∷ d), has-tail a b (b ∷ d) (has-head b d), q, y.0, y.1)
 
 -- what depends on the members of a clause alone
 pub met-same : (set a b : List Literal) → IsSame a b → IsMet set b → IsMet set a

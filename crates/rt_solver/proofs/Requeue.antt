@@ -2,7 +2,7 @@
 use Rattle.std.proofs.Common.{◌≡◌, ◌≢◌, ℕ, true, false, List, [], ◌∷◌, ◌++◌, map, reverse, sym, ap, subst, ◌∙◌, inl, inr, Option, Some, None}
 use Rattle.std.specs.Option.{option_to_list}
 use Rattle.rt_clause.specs.Literal.{Literal, negated}
-use Rattle.rt_clause.specs.Lists.{has, is_false, line_at}
+use Rattle.rt_clause.specs.Lists.{has, line_at}
 use Rattle.rt_clause.proofs.Literals.{has-head, has-tail, has-append_left, has-append_right, has-append_cases, negated-twice, negated-same}
 use Rattle.rt_solver.specs.declared.trail.Step.{Step}
 use Rattle.rt_solver.specs.declared.trail.Why.{Why}
@@ -69,22 +69,16 @@ learned-before : (kept : List Step) (late : Literal) (ds : List Literal) (assume
 learned-before kept late [] assume out o = before-map (Lacks []) (λ set. IsWatched set set (copy_of (late ∷ []) assume)) kept (λ set h. absurd h) o
 learned-before kept late (d ∷ ds) assume out o =
     before-map (λ set. (has set late ≡ false) × Lacks (d ∷ ds) set) (λ set. IsWatched set set (copy_of (late ∷ d ∷ ds) assume)) kept
-    (λ set p. ((λ g. absurd (let x : has set late ≡ true = ap (has set) (sym (negated-twice late)) ∙ g in let y = p.0 in cc)), (λ g. absurd (let x : has set d ≡ true = ap (has set) (sym (negated-twice d)) ∙ g in let y : has set d ≡ false = p.1 in cc))))
+    (λ set p. inr (ap (has set) (negated-twice late) ∙ p.0, ap (has set) (negated-twice d) ∙ p.1))
     (before-both (λ set. has set late ≡ false) (Lacks (d ∷ ds)) kept (nowhere-before [] late kept out) o)
 
 -- and after the step back
-learned-done : (kept : List Step) (late : Literal) (ds : List Literal) (assume : Option Literal) (s : Step) → has (lits kept) late ≡ false → s.lit ≡ negated late → IsWatched (lits kept) (lits (s ∷ kept)) (copy_of (late ∷ ds) assume)
-learned-done kept late ds assume s out e = by ds assume where
-  now : has (lits (s ∷ kept)) (negated late) ≡ true
-  now = let P : Literal → Type 0 = λ k. has (k ∷ lits kept) (negated late) ≡ true in subst P (sym e) (has-head (negated late) (lits kept))
-
-  never : {X : Type 0} → is_false (lits kept) (negated late) ≡ true → X
-  never g = absurd (let x : has (lits kept) late ≡ true = ap (has (lits kept)) (sym (negated-twice late)) ∙ g in cc)
-
-  by : (xs : List Literal) (o : Option Literal) → IsWatched (lits kept) (lits (s ∷ kept)) (copy_of (late ∷ xs) o)
-  by [] None = now
-  by [] (Some a) = ((λ g. never g), (λ g. now))
-  by (x ∷ xs) o = ((λ g. never g), (λ g. now))
+learned-done : (kept : List Step) (late : Literal) (ds : List Literal) (assume : Option Literal) (s : Step) → s.lit ≡ negated late → IsWatched (lits kept) (lits (s ∷ kept)) (copy_of (late ∷ ds) assume)
+learned-done kept late ds assume s e = inl (
+  negated late,
+  has-head (negated late) (map negated (ds ++ option_to_list assume)),
+  (let P : Literal → Type 0 = λ k. has (k ∷ lits kept) (negated late) ≡ true in subst P (sym e) (has-head (negated late) (lits kept))),
+)
 
 pub learned-queued : (first m : ℕ) (clauses new : List (List Literal)) (t kept after : List Step) (found copy : List Literal) (assume : Option Literal) (late : Literal) (ds : List Literal) (s : Step) (n : ℕ)
     → IsApart m t → found ≡ late ∷ ds → IsPlaced first late ds t kept → AreWatchedBefore clauses t → copy ≡ copy_of found assume → new ≡ clauses ++ copy ∷ [] → s.lit ≡ negated late → s.why ≡ Line n → after ≡ s ∷ kept → IsQueuedNow new after
@@ -101,7 +95,7 @@ learned-queued first m clauses new t kept after found copy assume late ds s n a 
       before = lines-of clauses copy W (λ i l. fresh (line_at clauses i) (before-suffix (λ set. IsWatched set set (line_at clauses i)) (c.step ∷ []) kept (before-suffix (λ set. IsWatched set set (line_at clauses i)) c.above (c.step ∷ kept) (bc i l))))
           (subst W (sym ce) (fresh (copy_of (late ∷ ds) assume) (learned-before kept late ds assume out p.oldest)));
       done = lines-of clauses copy D (λ i l. watched-more (lits kept) (lits kept) (lits (s ∷ kept)) (line_at clauses i) (λ x g. has-tail s.lit x (lits kept) g) (before-cut (λ set. IsWatched set set (line_at clauses i)) c.above kept c.step c.decided (bc i l)))
-          (subst D (sym ce) (learned-done kept late ds assume s out sl));
+          (subst D (sym ce) (learned-done kept late ds assume s sl));
       within = before-line (λ set. IsPart set (lits kept)) s kept n sw (before-within (lits kept) kept (λ l g. g));
     } in
     let Q : List (List Literal) → Type 0 = λ x. IsQueuedNow x (s ∷ kept) in

@@ -13,7 +13,7 @@ use Rattle.rt_solver.proofs.Counting.{learned-none, learned-goes, learned-decide
 use Rattle.rt_solver.proofs.Searching.{decision-low, decision-all, spent}
 use Rattle.rt_solver.specs.Table.{Tracked}
 use Rattle.rt_solver.specs.Propagating.{IsQueued, IsQueuedNow, IsConflict, IsDone, IsPropagated, AreListed}
-use Rattle.rt_solver.specs.Watching.{Lists}
+use Rattle.rt_solver.specs.Watching.{Listed}
 use Rattle.std.specs.Prelude.{MatchOption, IsSomeAnd}
 use Rattle.rt_solver.proofs.Queues.{met-same, watched-met, broken-same}
 
@@ -37,19 +37,19 @@ queue-decided clauses t after s n e a h =
     subst P (sym (ap (λ x. lits (oldest n x)) a ∙ ap (λ k. lits (drop k (s ∷ t))) z)) h
 
 -- where all is propagated, each line is met
-pub queue-met : (lines clauses : List (List Literal)) (m : ℕ) (t : List Step) → IsApart m t → AreSame lines clauses → ((i : ℕ) → i < length clauses → IsSpread (line_at clauses i)) → IsQueued clauses (lits t) t → (i : ℕ) → i < length lines → IsMet (lits t) (line_at lines i)
-queue-met lines clauses m t a s sp q i b =
+pub queue-met : (lines clauses : List (List Literal)) (t : List Step) → AreSame lines clauses → ((i : ℕ) → i < length clauses → IsSpread (line_at clauses i)) → IsQueued clauses (lits t) t → (i : ℕ) → i < length lines → IsMet (lits t) (line_at lines i)
+queue-met lines clauses t s sp q i b =
     let c : i < length clauses = (let e = s.each in omega (arith, e, b)) in
-    met-same (lits t) (line_at lines i) (line_at clauses i) (s.same i b) (watched-met m t (line_at clauses i) a (sp i c) (q.done i c))
+    met-same (lits t) (line_at lines i) (line_at clauses i) (s.same i b) (watched-met (lits t) (line_at clauses i) (sp i c) (q.done i c))
 
 -- the line that was learned is that of the clause
 pub same-line : (old new : List (List Literal)) (a b : List Literal) → new ≡ old ++ a ∷ [] → new ≡ old ++ b ∷ [] → a ≡ b
 same-line old new a b e f = let q = append_cancel_left old (a ∷ []) (b ∷ []) (sym e ∙ f) in cc
 
-pub done-of : (lines : List (List Literal)) (m : ℕ) (t : List Step) (after : Lists) (new : List (List Literal)) (o : Option ℕ) → IsApart m t → AreSame lines new → AreListed new after
+pub done-of : (lines : List (List Literal)) (t : List Step) (after : List (List Listed)) (new : List (List Literal)) (o : Option ℕ) → AreSame lines new → AreListed new after
     → MatchOption o (IsQueued new (lits t) t) (λ i. IsConflict new t i) → MatchOption o (IsDone lines new t) (λ i. IsConflict lines t i)
-done-of lines m t after new None a s l h = (h, queue-met lines new m t a s l.spread h)
-done-of lines m t after new (Some i) a s l h = let b : i < length lines = (let e = s.each in let x = h.0 in omega (arith, e, x)) in (b, broken-same (line_at lines i) (line_at new i) (lits t) (s.same i b) h.1)
+done-of lines t after new None s l h = (h, queue-met lines new t s l.spread h)
+done-of lines t after new (Some i) s l h = let b : i < length lines = (let e = s.each in let x = h.0 in omega (arith, e, x)) in (b, broken-same (line_at lines i) (line_at new i) (lits t) (s.same i b) h.1)
 
 -- what was learned, kept where there is a budget
 pub record IsKept (old new : List (List Literal)) (fo fn : List Bool) (assume : Option Literal) (first : ℕ) (trail : Tracked) (budget : Option ℕ) (kept : List (List Literal)) : Type 0 where

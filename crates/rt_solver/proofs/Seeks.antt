@@ -1,8 +1,8 @@
 -- A question that is decided before all else: where it is false, nothing is decided, and so no model makes it true.
-use Rattle.std.proofs.Common.{◌≡◌, ℕ, ◌<◌, ◌≤◌, Bool, true, false, List, [], ◌∷◌, ◌++◌, length, refl, sym, ap, subst, ◌∙◌, ◌⊎◌, inl, inr, Option, Some, None, IfSome, IsSomeAnd, arith}
+use Rattle.std.proofs.Common.{◌≡◌, ℕ, ◌<◌, ◌≤◌, Bool, true, false, List, [], ◌∷◌, ◌++◌, refl, sym, subst, ◌⊎◌, inl, inr, Option, Some, None, IfSome, IsSomeAnd, arith}
 use Rattle.rt_clause.specs.Literal.{Literal, negated}
 use Rattle.rt_clause.specs.Lists.{has, is_false, line_at}
-use Rattle.rt_clause.specs.Models.{lit_true, clause_true, IsModel}
+use Rattle.rt_clause.specs.Models.{lit_true, IsModel}
 use Rattle.rt_clause.specs.Refuting.{Refutes, IsRefuted}
 use Rattle.rt_clause.proofs.Bools.{bool-cases}
 use Rattle.rt_clause.proofs.Literals.{has-head, has-tail, has-cases, negated-twice}

@@ -48,7 +48,7 @@ settled-all clauses short t j h e w i b = elim (bool-cases (nat_lt (length (line
   long : (c : List Literal) → 2 ≤ length c → IsWatched [] (lits t) c
   long [] q = absurd (omega (arith, q))
   long (a ∷ []) q = absurd (omega (arith, q))
-  long (a ∷ b ∷ c) q = (λ f. absurd (cc), λ f. absurd (cc))
+  long (a ∷ b ∷ c) q = inr (refl, refl)
 
 -- then nothing is propagated yet
 pub begun-queue : (clauses : List (List Literal)) (t : List Step) → decisions t ≡ [] → ((i : ℕ) → i < length clauses → IsWatched [] (lits t) (line_at clauses i)) → IsQueued clauses [] t

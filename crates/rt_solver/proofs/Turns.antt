@@ -9,13 +9,12 @@ use Rattle.rt_clause.proofs.Bools.{bool-cases}
 use Rattle.rt_clause.proofs.Literals.{has-head, has-cases, lit_eq-refl}
 use Rattle.rt_solver.specs.declared.trail.Step.{Step}
 use Rattle.rt_solver.specs.Trail.{lits, value_in, IsApart, IsUnit}
-use Rattle.rt_solver.specs.Looking.{IsBroken}
 use Rattle.rt_solver.specs.Same.{IsSame, IsSpread, AreFirst, HasOther}
 use Rattle.rt_solver.specs.Watching.{literal_in}
-use Rattle.rt_solver.specs.Turning.{AreFalseWithin, AreFalseFrom, IsFreeAt, IsMoved, IsHeld}
+use Rattle.rt_solver.specs.Turning.{AreFalseWithin, AreFalseFrom, IsFreeAt, IsMoved, IsHeld, IsLast}
 use Rattle.rt_solver.specs.declared.trail.Why.TheVariants.{Line}
 use Rattle.rt_solver.specs.Table.{IsStatus}
-use Rattle.rt_solver.proofs.FreshLaws.{consistent}
+use Rattle.rt_solver.proofs.FreshLaws.{consistent, absent-lit}
 use Rattle.rt_solver.proofs.Looks.{has-at, open-not-false}
 
 -- the place of a literal of a clause
@@ -82,35 +81,25 @@ held-unit t c p l other b e f o rest = record {
   others = others-false t c p l other b e f o rest;
 }
 
-pub all-false : (t : List Step) (c : List Literal) (p : ℕ) (l other : Literal) → p < 2 → literal_in c p ≡ Some l → is_false (lits t) l ≡ true → literal_in c (1 - p) ≡ Some other → AreFalseFrom t c other → is_false (lits t) other ≡ true → IsBroken (lits t) c
-all-false t c p l other b e f o rest g k h = elim (others-false t c p l other b e f o rest k h) [
-  | inl q ↦ (let P : Literal → Type 0 = λ x. is_false (lits t) x ≡ true in subst P (sym q) g)
-  | inr r ↦ r
-]
-
 pub swap-same : (c new : List Literal) (i j : ℕ) → i < length c → j < length c → new ≡ swap c i j → IsSame c new
 swap-same c new i j a b e =
     let q = λ (l : Literal). list_any-IsPermutation (lit_eq l) c new (IsPermutation-swap c new i j a b e) in
     record { to = λ l h. sym (q l) ∙ h; from = λ l h. q l ∙ h }
 
-pub moved : (t : List Step) (c new : List Literal) (p j : ℕ) (other l : Literal) → p < 2 → literal_in c (1 - p) ≡ Some other → IsFreeAt t c other j → l ≡ get_or c j l → new ≡ swap c p j → IsMoved c new t p l
-moved t c new p j other l b w f e s =
+pub moved : (c new : List Literal) (p j : ℕ) (other l : Literal) → p < 2 → literal_in c (1 - p) ≡ Some other → 2 ≤ j → j < length c → l ≡ get_or c j l → l ≢ other → new ≡ swap c p j → IsMoved c new p l
+moved c new p j other l b w low jw e d s =
     let long = literal-long c (1 - p) other w in
     let o = literal-read c (1 - p) other (omega arith) w in
-    let jw = f.within in
     let x = swapped_from_swap c new p j l (omega (arith, b, long)) jw s in
     let y = swapped_from_swap c new p j other (omega (arith, b, long)) jw s in
     let n : length new ≡ length c = ap length s ∙ length-swap c p j in
     let at : literal_in new p ≡ Some l = literal-at new p l b (omega (arith, n, long)) (e ∙ sym x.0) in
-    let low = f.low in
     let kept : literal_in new (1 - p) ≡ Some other = literal-at new (1 - p) other (omega arith) (omega (arith, n, long)) (o ∙ sym (y.2 (1 - p) (λ q. omega (arith, q, b)) (λ q. omega (arith, q, b, low)))) in
-    let u = f.usable l e in
     record {
       same = swap-same c new p j (omega (arith, b, long)) jw s;
       at = at;
       other = kept ∙ sym (literal-at c (1 - p) other (omega arith) long o);
-      usable = u.1;
-      spread = spread-from new p l other b at kept u.0;
+      spread = spread-from new p l other b at kept d;
     }
 
 -- a copy in which the first two literals differ
@@ -170,6 +159,14 @@ pub false-some : (m : ℕ) (t : List Step) (l : Literal) (b : Bool) → IsApart 
 false-some m t l true a s = sym (consistent m t a l s)
 false-some m t l false a s = sym s
 
+-- whether it is true
+pub true-none : (t : List Step) (l : Literal) → value_in t l.var ≡ None → false ≡ has (lits t) l
+true-none t l v = sym (absent-lit t l v)
+
+pub true-some : (m : ℕ) (t : List Step) (l : Literal) (b : Bool) → IsApart m t → IsStatus (lits t) (value_in t l.var) l (Some b) → b ≡ has (lits t) l
+true-some m t l true a s = sym s
+true-some m t l false a s = elim (bool-cases (has (lits t) l)) [ inl y ↦ absurd (let x = consistent m t a l y in cc) | inr n ↦ sym n ]
+
 pub literal-below : (m : ℕ) (c : List Literal) (p : ℕ) (l : Literal) → p < 2 → literal_in c p ≡ Some l → ((k : Literal) → has c k ≡ true → k.var < m) → l.var < m
 literal-below m c p l b e h = let long = literal-long c p l e in h l (has-at c p l (omega (arith, b, long)) (literal-read c p l b e))
 
@@ -189,22 +186,25 @@ pub other-read : (c ls : List Literal) (p : ℕ) (k l : Literal) → p < 2 → l
 other-read c ls p k l b w e o = let P : List Literal → Type 0 = λ xs. l ≡ get_or xs (1 - p) l in
     literal-at c (1 - p) l (omega arith) (literal-long c p k w) (subst P e o)
 
--- the other literal became true
-pub held : (t after : List Step) (c : List Literal) (p n : ℕ) (other : Literal) → literal_in c (1 - p) ≡ Some other → after ≡ record { lit = other; why = Line n } ∷ t → IsUnit c (lits t) other → IsHeld c t after p n
-held t after c p n other e s u = record {
-  other = other;
-  at = e;
-  true_now = ap (λ x. has (lits x) other) s ∙ has-head other (lits t);
+-- the last literal that is left became true
+pub held : (t after : List Step) (c : List Literal) (n : ℕ) (l : Literal) → after ≡ record { lit = l; why = Line n } ∷ t → IsUnit c (lits t) l → IsHeld c t after n l
+held t after c n l s u = record {
+  among = u.among;
+  true_now = ap (λ x. has (lits x) l) s ∙ has-head l (lits t);
   steps = inr (s, u);
 }
 
 -- or was true
-pub held-already : (t : List Step) (c : List Literal) (p n : ℕ) (other : Literal) → literal_in c (1 - p) ≡ Some other → has (lits t) other ≡ true → IsHeld c t t p n
-held-already t c p n other e h = record { other = other; at = e; true_now = h; steps = inl refl }
+pub held-already : (t : List Step) (c : List Literal) (n : ℕ) (l : Literal) → has c l ≡ true → has (lits t) l ≡ true → IsHeld c t t n l
+held-already t c n l e h = record { among = e; true_now = h; steps = inl refl }
 
--- the two statuses of a literal with a value
-pub told-false : (t : List Step) (l : Literal) (b : Bool) → b ≡ false → IsStatus (lits t) (value_in t l.var) l (Some b) → is_false (lits t) l ≡ true
-told-false t l b e s = let P : Bool → Type 0 = λ x. IsStatus (lits t) (value_in t l.var) l (Some x) in subst P e s
-
-pub told-true : (t : List Step) (l : Literal) (b : Bool) → b ≡ true → IsStatus (lits t) (value_in t l.var) l (Some b) → has (lits t) l ≡ true
-told-true t l b e s = let P : Bool → Type 0 = λ x. IsStatus (lits t) (value_in t l.var) l (Some x) in subst P e s
+-- or is false
+pub last-told : (t : List Step) (c : List Literal) (n : ℕ) (l : Literal) (on : Bool) → IsUnit c (lits t) l → IsStatus (lits t) (value_in t l.var) l (Some on) → IsLast c t t n l (not on)
+last-told t c n l true u s = held-already t c n l u.among s
+last-told t c n l false u s = (
+  λ k h. elim (u.others k h) [
+    | inl q ↦ (let P : Literal → Type 0 = λ x. is_false (lits t) x ≡ true in subst P (sym q) s)
+    | inr r ↦ r
+  ],
+  refl,
+)

@@ -7,3 +7,7 @@ pub use Rattle.rt_clause.specs.Lists.{IsBelow, AreBelow}
 -- each literal of the clause is false
 abbrev pub IsBroken : List Literal → List Literal → Type 0
 IsBroken set clause = (k : Literal) → has clause k ≡ true → is_false set k ≡ true
+
+-- some literal of the clause is true
+abbrev pub HasTrue : List Literal → List Literal → Type 0
+HasTrue set clause = (l : Literal) × (has clause l ≡ true) × (has set l ≡ true)

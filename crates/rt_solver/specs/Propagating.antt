@@ -2,19 +2,24 @@
 use Rattle.std.specs.Prelude.{◌≡◌, ℕ, ◌/◌, ◌%◌, ◌<◌, Bool, true, false, List, [], ◌∷◌, ◌++◌, length, Some, ◌⊎◌}
 use Rattle.std.specs.List.{All as Each, Contains}
 use Rattle.rt_clause.specs.Literal.{Literal}
+use Rattle.rt_clause.specs.Packed.{packed}
 use Rattle.rt_clause.specs.Lists.{has, is_false, line_at, IsMet}
 use Rattle.rt_solver.specs.declared.trail.Step.{Step}
 use Rattle.rt_solver.specs.declared.trail.Why.TheVariants.{Line}
 use Rattle.rt_solver.specs.Trail.{lits, IsUnit, BeforeDecisions}
-use Rattle.rt_solver.specs.Looking.{IsBroken}
+use Rattle.rt_solver.specs.Looking.{IsBroken, HasTrue}
 use Rattle.rt_solver.specs.Same.{IsSpread}
-use Rattle.rt_solver.specs.Watching.{Lists, list_at, stands, literal_in, key}
+use Rattle.rt_solver.specs.Watching.{Listed, Lists, list_at, room_at, times, literal_in}
 
--- where one of the first two literals is false under the early ones, the other one is true. A clause of one literal is true
+-- there are two literals, and neither of the first two is false
+abbrev pub AreLeft : List Literal → List Literal → Type 0
+AreLeft early [] = ⊥
+AreLeft early (a ∷ []) = ⊥
+AreLeft early (a ∷ b ∷ ls) = (is_false early a ≡ false) × (is_false early b ≡ false)
+
+-- some literal is true, or neither of the first two is false under the early ones
 abbrev pub IsWatched : List Literal → List Literal → List Literal → Type 0
-IsWatched early set [] = ⊥
-IsWatched early set (a ∷ []) = has set a ≡ true
-IsWatched early set (a ∷ b ∷ ls) = (is_false early a ≡ true → has set b ≡ true) × (is_false early b ≡ true → has set a ≡ true)
+IsWatched early set clause = HasTrue set clause ⊎ AreLeft early clause
 
 abbrev pub IsPart : List Literal → List Literal → Type 0
 IsPart part set = (l : Literal) → has part l ≡ true → has set l ≡ true
@@ -77,16 +82,28 @@ pub record AreShort (clauses : List (List Literal)) (numbers : List ℕ) : Type 
 pub record IsWatchOf (clauses : List (List Literal)) (w k : ℕ) : Type 0 where
   pub lit : Literal
   pub at : literal_in (line_at clauses (w / 2)) (w % 2) ≡ Some lit
-  pub home : key lit ≡ k
+  pub home : packed lit ≡ k
 
--- each watch is in its literal's list and in no other, the first two literals of a clause differ, and
+-- an entry of this list: of a watch of it, with a literal of the clause, which is the other one of two where it says so
+pub record IsEntry (clauses : List (List Literal)) (k : ℕ) (e : Listed) : Type 0 where
+  pub watch : IsWatchOf clauses e.watch k
+  pub among : has (line_at clauses (e.watch / 2)) e.other ≡ true
+  pub pair : e.two ≡ true → (l : Literal) → has (line_at clauses (e.watch / 2)) l ≡ true → (l ≡ watch.lit) ⊎ (l ≡ e.other)
+
+-- each list has entries of its watches alone, and each watch one, the first two literals of a clause differ, and
 -- there are lists for all literals
-pub record AreListed (clauses : List (List Literal)) (watches : Lists) : Type 0 where
-  pub stand : (k w : ℕ) → stands (list_at watches.lists k) w ≡ true → IsWatchOf clauses w k
-  pub listed : (k w : ℕ) → IsWatchOf clauses w k → stands (list_at watches.lists k) w ≡ true
+pub record AreListed (clauses : List (List Literal)) (lists : List (List Listed)) : Type 0 where
+  pub entries : (k : ℕ) → Each (IsEntry clauses k) (list_at lists k)
+  pub once : (k w : ℕ) → IsWatchOf clauses w k → times w (list_at lists k) ≡ 1
   pub spread : (i : ℕ) → i < length clauses → IsSpread (line_at clauses i)
-  pub wide : (i : ℕ) → i < length clauses → (l : Literal) → has (line_at clauses i) l ≡ true → key l < length watches.lists
+  pub wide : (i : ℕ) → i < length clauses → (l : Literal) → has (line_at clauses i) l ≡ true → packed l < length lists
 
 -- there is a list for each of these literals
-abbrev pub HasLists : Lists → List Literal → Type 0
-HasLists watches clause = (l : Literal) → has clause l ≡ true → key l < length watches.lists
+abbrev pub HasLists : List (List Listed) → List Literal → Type 0
+HasLists lists clause = (l : Literal) → has clause l ≡ true → packed l < length lists
+
+-- and room in those of the first two, where there are two
+abbrev pub HasRoom : Lists → List Literal → Type 0
+HasRoom watches [] = Unit {0}
+HasRoom watches (a ∷ []) = Unit {0}
+HasRoom watches (a ∷ b ∷ ls) = (0 < room_at watches.rooms (packed a)) × (0 < room_at watches.rooms (packed b))

@@ -1,20 +1,21 @@
 //! The lines, and the solver's own copies of them, which are watched. How they are watched is private:
 //! contracts see the lines and the copies.
 
-ghost use Rattle.std.specs.Prelude.{◌≡◌, [], ◌∷◌, ◌++◌, ◌+◌, ◌*◌, ◌<◌, ◌≤◌, ◌^◌, length, vec_len, vec_capacity, true, false, OnOk, OnErr, MatchOption};
+ghost use Rattle.std.specs.Prelude.{◌≡◌, [], ◌∷◌, ◌++◌, ◌+◌, ◌*◌, ◌<◌, ◌≤◌, ◌^◌, length, vec_len, vec_capacity, true, false, OnOk, OnErr, IfOk, MatchOption};
 ghost use Rattle.std.specs.List.{All as Each};
 ghost use Rattle.rt_clause.specs.Lists.{line_at, follows};
 ghost use Rattle.rt_solver.specs.Trail.{lits, IsApart, oldest, decisions};
-ghost use Rattle.rt_solver.specs.Looking.{AreBelow};
+ghost use Rattle.rt_solver.specs.Looking.{IsBelow, AreBelow};
 ghost use Rattle.rt_solver.specs.Search.{KeepsModels};
 ghost use Rattle.rt_solver.specs.Same.{IsSame, AreSame, IsSpread};
 ghost use Rattle.rt_solver.specs.Solving.{reach, width};
-ghost use Rattle.rt_solver.specs.Propagating.{AreWatchedBefore, IsQueued, IsPropagated, IsConflict, IsDone, AreListed, AreShort, HasLists};
+ghost use Rattle.rt_solver.specs.Propagating.{AreWatchedBefore, IsQueued, IsPropagated, IsConflict, IsDone, AreListed, AreShort, HasLists, HasRoom};
 
 use crate::clause::Clause;
+use crate::entry::Entry;
 use crate::propagate::{propagate, settle};
 use crate::trail::Trail;
-use crate::watch::{Watch, key};
+use crate::watch::Watch;
 use crate::watches::Watches;
 use rt_clause::{Lines, Lit};
 use rt_value::NoMemory;
@@ -62,7 +63,7 @@ impl<L: Lines + Drop> Model for Base<L> {
 
     ghost view = { λ b. (b.lines, b.clauses.items) };
 
-    ghost invariant = { λ b. IsBased (L.lines b.lines) b.clauses.items b.watches b.vars b.short.items };
+    ghost invariant = { λ b. IsBased (L.lines b.lines) b.clauses.items b.watches.lists b.vars b.short.items };
 }
 
 // Hands a line to the lines, which take it.
@@ -86,20 +87,27 @@ fn put(clauses: &mut Vec<Clause>, short: &mut Vec<usize>, watches: &mut Watches,
     requires room { vec_len clauses.old < vec_capacity clauses.old }
     requires short_room { vec_len short.old < vec_capacity short.old }
     requires few { vec_len clauses.old < 2 ^ 62 }
-    requires count { 2 * vec_len clauses.old + 2 ≤ watches.old.count }
-    requires listed { AreListed clauses.old.items watches.old }
+    requires listed { AreListed clauses.old.items watches.old.lists }
     requires short { AreShort clauses.old.items short.old.items }
     requires spread { IsSpread clause }
-    requires wide { HasLists watches.old clause }
+    requires wide { HasLists watches.old.lists clause }
+    requires list_room { HasRoom watches.old clause }
     ensures items { clauses.new.items ≡ clauses.old.items ++ clause ∷ [] }
-    ensures listed { AreListed clauses.new.items watches.new }
+    ensures listed { AreListed clauses.new.items watches.new.lists }
     ensures short { AreShort clauses.new.items short.new.items }
 {
     let number = clauses.len();
     match clause.lits() {
         [first, second, ..] => {
-            watches.join(Watch::first(number), key(*first));
-            watches.join(Watch::second(number), key(*second));
+            let two = clause.lits().len() == 2;
+            watches.join(
+                first.index(),
+                Entry::new(Watch::first(number), two, *second),
+            );
+            watches.join(
+                second.index(),
+                Entry::new(Watch::second(number), two, *first),
+            );
             clauses.push_reserved(clause);
         }
         _ => {
@@ -115,22 +123,30 @@ fn make_room(
     clauses: &mut Vec<Clause>,
     short: &mut Vec<usize>,
     watches: &mut Watches,
+    clause: &Clause,
     vars: usize,
 ) -> Result<(), NoMemory>
     requires vars { vars ≤ 2 ^ 62 }
-    requires few { vec_len clauses.old < 2 ^ 62 }
-    requires listed { AreListed clauses.old.items watches.old }
+    requires below { IsBelow vars clause.now }
+    requires listed { AreListed clauses.old.items watches.old.lists }
     ensures items { clauses.new.items ≡ clauses.old.items }
-    ensures listed { AreListed clauses.new.items watches.new }
+    ensures listed { AreListed clauses.new.items watches.new.lists }
     ensures short { short.new.items ≡ short.old.items }
     ensures room { OnOk result (vec_len clauses.new < vec_capacity clauses.new) }
     ensures short_room { OnOk result (vec_len short.new < vec_capacity short.new) }
-    ensures count { OnOk result (2 * vec_len clauses.new + 2 ≤ watches.new.count) }
-    ensures wide { OnOk result (2 * vars + 1 ≤ length watches.new.lists) }
+    ensures wide { OnOk result (HasLists watches.new.lists clause.now) }
+    ensures list_room { OnOk result (HasRoom watches.new clause.now) }
 {
     clauses.reserve(1)?;
     short.reserve(1)?;
-    watches.grow(2 * vars + 1, 2 * clauses.len() + 2)
+    watches.grow(2 * vars)?;
+    match clause.lits() {
+        [first, second, ..] => {
+            watches.reserve(first.index())?;
+            watches.reserve(second.index())
+        }
+        _ => Ok(()),
+    }
 }
 
 impl<L: Lines + Drop> Base<L> {
@@ -185,7 +201,13 @@ impl<L: Lines + Drop> Base<L> {
     {
         let clause = Clause::of(alloc, lits)?;
         let vars = reach(self.vars, lits);
-        make_room(&mut self.clauses, &mut self.short, &mut self.watches, vars)?;
+        make_room(
+            &mut self.clauses,
+            &mut self.short,
+            &mut self.watches,
+            &clause,
+            vars,
+        )?;
         self.lines.add(lits)?;
         put(
             &mut self.clauses,
@@ -216,7 +238,13 @@ impl<L: Lines + Drop> Base<L> {
         ensures err_derived { OnErr result (L.derived self.new.0 ≡ L.derived self.old.0) }
     {
         let vars = reach(self.vars, lits);
-        make_room(&mut self.clauses, &mut self.short, &mut self.watches, vars)?;
+        make_room(
+            &mut self.clauses,
+            &mut self.short,
+            &mut self.watches,
+            &clause,
+            vars,
+        )?;
         accept(&mut self.lines, lits, hints)?;
         put(
             &mut self.clauses,
@@ -229,7 +257,11 @@ impl<L: Lines + Drop> Base<L> {
     }
 
     /// Propagates the steps from a place on, and names a line that is false.
-    pub(crate) fn propagate(&mut self, trail: &mut Trail, from: usize) -> Option<usize>
+    pub(crate) fn propagate(
+        &mut self,
+        trail: &mut Trail,
+        from: usize,
+    ) -> Result<Option<usize>, NoMemory>
         requires place { from ≤ length trail.old.steps }
         requires below { AreBelow trail.old.vars (L.lines self.old.0) }
         requires queued { IsQueued self.old.1 (lits (oldest from trail.old.steps)) trail.old.steps }
@@ -238,13 +270,13 @@ impl<L: Lines + Drop> Base<L> {
         ensures lines { self.new.0 ≡ self.old.0 }
         ensures steps { IsPropagated (L.lines self.old.0) trail.old.steps trail.new.steps }
         ensures before { AreWatchedBefore self.new.1 trail.new.steps }
-        ensures done { MatchOption result (IsDone (L.lines self.new.0) self.new.1 trail.new.steps) (λ i. IsConflict (L.lines self.new.0) trail.new.steps i) }
+        ensures done { IfOk result (λ end. MatchOption end (IsDone (L.lines self.new.0) self.new.1 trail.new.steps) (λ i. IsConflict (L.lines self.new.0) trail.new.steps i)) }
     {
         propagate(&mut self.clauses, &mut self.watches, trail, from)
     }
 
     /// Propagates from the lines of one literal on, before any decision.
-    pub(crate) fn begin(&mut self, trail: &mut Trail) -> Option<usize>
+    pub(crate) fn begin(&mut self, trail: &mut Trail) -> Result<Option<usize>, NoMemory>
         requires below { AreBelow trail.old.vars (L.lines self.old.0) }
         requires apart { IsApart trail.old.vars trail.old.steps }
         requires undecided { decisions trail.old.steps ≡ [] }
@@ -253,10 +285,10 @@ impl<L: Lines + Drop> Base<L> {
         ensures lines { self.new.0 ≡ self.old.0 }
         ensures steps { IsPropagated (L.lines self.old.0) trail.old.steps trail.new.steps }
         ensures before { AreWatchedBefore self.new.1 trail.new.steps }
-        ensures done { MatchOption result (IsDone (L.lines self.new.0) self.new.1 trail.new.steps) (λ i. IsConflict (L.lines self.new.0) trail.new.steps i) }
+        ensures done { IfOk result (λ end. MatchOption end (IsDone (L.lines self.new.0) self.new.1 trail.new.steps) (λ i. IsConflict (L.lines self.new.0) trail.new.steps i)) }
     {
         if let Some(i) = settle(self.clauses.as_slice(), self.short.as_slice(), trail) {
-            return Some(i);
+            return Ok(Some(i));
         }
         propagate(&mut self.clauses, &mut self.watches, trail, 0)
     }

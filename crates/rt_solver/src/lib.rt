@@ -14,6 +14,7 @@
 mod back;
 mod base;
 mod clause;
+mod entry;
 mod explain;
 mod heap;
 pub mod laws;

@@ -1,18 +1,49 @@
 //! Unit propagation by two watched literals.
 
-ghost use Rattle.std.specs.Prelude.{◌≡◌, ℕ, ◌+◌, ◌<◌, ◌≤◌, [], length, MatchOption};
+ghost use Rattle.std.specs.Prelude.{◌≡◌, ℕ, ◌+◌, ◌<◌, ◌≤◌, ◌/◌, [], length, slice_index_or, MatchOption, IfOk, OnOk, OnErr};
 ghost use Rattle.rt_clause.specs.Lists.{line_at};
 ghost use Rattle.rt_solver.specs.Trail.{lits, IsApart, oldest};
 ghost use Rattle.rt_solver.specs.Looking.{IsBelow, AreBelow};
 ghost use Rattle.rt_solver.specs.Same.{AreSame};
+ghost use Rattle.rt_solver.specs.Watching.{Listed, list_at};
+ghost use Rattle.rt_solver.specs.Turning.{IsUnwatched, IsShifted};
 ghost use Rattle.rt_solver.specs.Propagating.{IsWatched, AreWatchedBefore, IsQueued, IsPropagated, AreListed, AreShort, IsConflict, IsTakenStep, IsShortAs};
 
 use crate::clause::Clause;
 use crate::trail::{Step, Trail, Why};
-use crate::turn::{Turn, rewatch};
-use crate::watch::key;
-use crate::watches::{PENDING, Watches};
+use crate::turn::{Turn, examine};
+use crate::watches::Watches;
 use rt_clause::Lit;
+use rt_value::NoMemory;
+
+// Moves an entry to the list of the literal at a place of its clause, which is watched from then on.
+// After an error all is as it was.
+fn shift(
+    clauses: &mut Vec<Clause>,
+    watches: &mut Watches,
+    home: usize,
+    i: usize,
+    ended: usize,
+) -> Result<(), NoMemory>
+    requires home { home < length watches.old.lists }
+    requires within { i < length (list_at watches.old.lists home) }
+    requires listed { AreListed clauses.old.items watches.old.lists }
+    requires unwatched { (e : Listed) → e ≡ slice_index_or (list_at watches.old.lists home) i e → IsUnwatched (line_at clauses.old.items (e.watch / 2)) ended }
+    ensures ok { OnOk result (IsShifted clauses.old.items clauses.new.items watches.old.lists watches.new.lists home i ended) }
+    ensures err_clauses { OnErr result (clauses.new.items ≡ clauses.old.items) }
+    ensures err_lists { OnErr result (watches.new.lists ≡ watches.old.lists) }
+{
+    let entry = watches.at(home, i);
+    let place = entry.watch().place();
+    let clause = &mut clauses[entry.watch().clause()];
+    let to = clause.lits()[ended].index();
+    let other = clause.lits()[1 - place];
+    watches.reserve(to)?;
+    clause.exchange(place, ended);
+    watches.leave(home, i);
+    watches.join(to, entry.noting(other));
+    Ok(())
+}
 
 // Visits the watches of the literal that became false by a step. A clause in which each literal is
 // false ends the visit.
@@ -21,38 +52,37 @@ fn visit(
     watches: &mut Watches,
     trail: &mut Trail,
     done: usize,
-) -> Option<usize>
+) -> Result<Option<usize>, NoMemory>
     requires place { done < length trail.old.steps }
     requires below { AreBelow trail.old.vars clauses.old.items }
-    requires listed { AreListed clauses.old.items watches.old }
+    requires listed { AreListed clauses.old.items watches.old.lists }
     requires queued { IsQueued clauses.old.items (lits (oldest done trail.old.steps)) trail.old.steps }
     ensures vars { trail.new.vars ≡ trail.old.vars }
     ensures apart { IsApart trail.new.vars trail.new.steps }
     ensures same { AreSame clauses.old.items clauses.new.items }
-    ensures listed { AreListed clauses.new.items watches.new }
+    ensures listed { AreListed clauses.new.items watches.new.lists }
     ensures steps { IsPropagated clauses.old.items trail.old.steps trail.new.steps }
     ensures before { AreWatchedBefore clauses.new.items trail.new.steps }
-    ensures visited { MatchOption result (IsQueued clauses.new.items (lits (oldest (done + 1) trail.new.steps)) trail.new.steps) (λ i. IsConflict clauses.new.items trail.new.steps i) }
+    ensures visited { IfOk result (λ end. MatchOption end (IsQueued clauses.new.items (lits (oldest (done + 1) trail.new.steps)) trail.new.steps) (λ i. IsConflict clauses.new.items trail.new.steps i)) }
 {
     let step = trail.at(done);
-    let home = key(step.lit.negated());
+    let home = step.lit.negated().index();
     if watches.len() <= home {
-        return None;
+        return Ok(None);
     }
-    watches.take(home);
-    'watches: while let Some(watch) = watches.pop(PENDING) {
-        let number = watch.clause();
-        match rewatch(&mut clauses[number], trail, watch.place(), number) {
-            Turn::Stays => watches.join(watch, home),
-            Turn::Moves(lit) => watches.join(watch, key(lit)),
-            Turn::Broken => {
-                watches.join(watch, home);
-                watches.restore(home);
-                return Some(number);
-            }
+    let mut left = watches.count(home);
+    'watches: while left > 0 {
+        let i = left - 1;
+        let entry = watches.at(home, i);
+        match examine(clauses.as_slice(), trail, entry) {
+            Turn::Met => {}
+            Turn::Stays(other) => watches.note(home, i, other),
+            Turn::Moves(ended) => shift(clauses, watches, home, i, ended)?,
+            Turn::Broken => return Ok(Some(entry.watch().clause())),
         }
+        left = i;
     }
-    None
+    Ok(None)
 }
 
 /// Propagates the steps from a place on, in their order, until nothing is left to do or a clause
@@ -62,27 +92,27 @@ pub(crate) fn propagate(
     watches: &mut Watches,
     trail: &mut Trail,
     from: usize,
-) -> Option<usize>
+) -> Result<Option<usize>, NoMemory>
     requires place { from ≤ length trail.old.steps }
     requires below { AreBelow trail.old.vars clauses.old.items }
-    requires listed { AreListed clauses.old.items watches.old }
+    requires listed { AreListed clauses.old.items watches.old.lists }
     requires queued { IsQueued clauses.old.items (lits (oldest from trail.old.steps)) trail.old.steps }
     ensures vars { trail.new.vars ≡ trail.old.vars }
     ensures apart { IsApart trail.new.vars trail.new.steps }
     ensures same { AreSame clauses.old.items clauses.new.items }
-    ensures listed { AreListed clauses.new.items watches.new }
+    ensures listed { AreListed clauses.new.items watches.new.lists }
     ensures steps { IsPropagated clauses.old.items trail.old.steps trail.new.steps }
     ensures before { AreWatchedBefore clauses.new.items trail.new.steps }
-    ensures done { MatchOption result (IsQueued clauses.new.items (lits trail.new.steps) trail.new.steps) (λ i. IsConflict clauses.new.items trail.new.steps i) }
+    ensures done { IfOk result (λ end. MatchOption end (IsQueued clauses.new.items (lits trail.new.steps) trail.new.steps) (λ i. IsConflict clauses.new.items trail.new.steps i)) }
 {
     let mut done = from;
     'steps: while done < trail.len() {
-        if let Some(number) = visit(clauses, watches, trail, done) {
-            return Some(number);
+        if let Some(number) = visit(clauses, watches, trail, done)? {
+            return Ok(Some(number));
         }
         done += 1;
     }
-    None
+    Ok(None)
 }
 
 // Takes the literal of a clause of one literal as a step, unless it has a value, and answers whether

@@ -99,7 +99,7 @@ pub(crate) fn run<L: Lines + Drop>(
     let start = base.len();
     let mut kept: List<List<Lit>> = List::new(alloc);
     let mut walk = Walk::new(alloc, trail.vars())?;
-    let mut conflict = base.begin(trail);
+    let mut conflict = base.begin(trail)?;
     'search: loop {
         match conflict {
             Some(number) => match learn(
@@ -112,7 +112,7 @@ pub(crate) fn run<L: Lines + Drop>(
                         return Ok(Ending::Spent(kept));
                     }
                     let from = trail.len() - 1;
-                    conflict = base.propagate(trail, from);
+                    conflict = base.propagate(trail, from)?;
                 }
             },
             None => match choose(order, question, pick, trail) {
@@ -124,7 +124,7 @@ pub(crate) fn run<L: Lines + Drop>(
                         lit,
                         why: Why::Decided,
                     });
-                    conflict = base.propagate(trail, from);
+                    conflict = base.propagate(trail, from)?;
                 }
             },
         }

@@ -58,7 +58,7 @@ impl Model for Trail {
 impl Trail {
     ghost use Rattle.std.specs.Prelude.{◌≡◌, [], ◌∷◌, ◌<◌, ◌≤◌, length, Some, None, IfOk, MatchOption};
     ghost use Rattle.std.specs.Prelude.{◌+◌};
-    ghost use Rattle.rt_clause.specs.Lists.{is_false};
+    ghost use Rattle.rt_clause.specs.Lists.{has, is_false};
     ghost use Rattle.rt_solver.specs.Trail.{value_in, IsApart, lits, oldest};
     ghost use Rattle.rt_solver.specs.Table.{IsStatus};
 
@@ -101,6 +101,17 @@ impl Trail {
         match self.values[lit.var()] {
             None => None,
             Some(on) => Some(on == lit.on()),
+        }
+    }
+
+    pub fn is_true(&self, lit: Lit) -> bool
+        requires { lit.var < self.now.vars }
+        ensures is { result ≡ has (lits self.now.steps) lit }
+        ensures apart { IsApart self.now.vars self.now.steps }
+    {
+        match self.is(lit) {
+            None => false,
+            Some(on) => on,
         }
     }
 

@@ -1,23 +1,24 @@
 //! What becomes of one watch whose literal is false.
 
-ghost use Rattle.std.specs.Prelude.{◌≡◌, ◌<◌, ◌≤◌, ◌-◌, true, length, Some, MatchOption};
+ghost use Rattle.std.specs.Prelude.{◌≡◌, ℕ, ◌<◌, ◌≤◌, ◌-◌, ◌/◌, ◌%◌, true, List, length, Some, MatchOption};
 ghost use Rattle.rt_clause.specs.Literal.{Literal};
-ghost use Rattle.rt_clause.specs.Lists.{is_false, IsBelow};
-ghost use Rattle.rt_solver.specs.Trail.{lits, IsApart};
-ghost use Rattle.rt_solver.specs.Same.{IsSpread};
+ghost use Rattle.rt_clause.specs.Lists.{is_false, line_at, IsBelow, AreBelow};
+ghost use Rattle.rt_solver.specs.Trail.{lits, IsApart, IsUnit};
 ghost use Rattle.rt_solver.specs.Watching.{literal_in};
-ghost use Rattle.rt_solver.specs.Turning.{AreFalseWithin, AreFalseFrom, IsFreeAt, IsMoved, IsTurn};
+ghost use Rattle.rt_solver.specs.Turning.{AreFalseWithin, AreFalseFrom, IsFreeAt, IsLast, IsTurn, IsTurned};
 
 use crate::clause::Clause;
+use crate::entry::Entry;
 use crate::trail::{Step, Trail, Why};
 use rt_clause::Lit;
 
-/// What becomes of a watch whose literal is false: it stays, since the other watched literal is
-/// true; or another literal is watched in its place; or all literals are false.
+/// What becomes of a watch whose literal is false: it stays, since the literal of its entry is true,
+/// or another one; or the literal at a place is watched instead; or all literals are false.
 #[derive(Clone, Copy)]
 pub enum Turn {
-    Stays,
-    Moves(Lit),
+    Met,
+    Stays(Lit),
+    Moves(usize),
     Broken,
 }
 
@@ -52,44 +53,68 @@ fn search(clause: &Clause, trail: &Trail, other: Lit) -> Option<usize>
     }
 }
 
-// Puts such a literal into the watched place.
-fn replace(clause: &mut Clause, trail: &Trail, place: usize, other: Lit) -> Option<Lit>
-    requires place { place < 2 }
-    requires other { literal_in clause.old (1 - place) ≡ Some other }
-    requires below { IsBelow trail.now.vars clause.old }
-    ensures { MatchOption result ((clause.new ≡ clause.old) × AreFalseFrom trail.now.steps clause.old other) (λ l. IsMoved clause.old clause.new trail.now.steps place l) }
-{
-    let j = search(clause, trail, other)?;
-    let lit = clause.lits()[j];
-    clause.exchange(place, j);
-    Some(lit)
-}
-
-/// Looks at a watched literal that is false, in one of the first two places of a clause. Where the
-/// other watched literal is left, it becomes true.
-pub(crate) fn rewatch(clause: &mut Clause, trail: &mut Trail, place: usize, number: usize) -> Turn
-    requires place { place < 2 }
-    requires watched { (l : Literal) × (literal_in clause.old place ≡ Some l) × (is_false (lits trail.old.steps) l ≡ true) }
-    requires below { IsBelow trail.old.vars clause.old }
-    requires spread { IsSpread clause.old }
+// Takes the last literal that is left of a clause, unless it has a value, and answers whether it is
+// false.
+fn is_broken(trail: &mut Trail, lit: Lit, number: usize) -> bool
+    requires below { lit.var < trail.old.vars }
     ensures vars { trail.new.vars ≡ trail.old.vars }
     ensures apart { IsApart trail.new.vars trail.new.steps }
-    ensures turn { IsTurn clause.old clause.new trail.old.steps trail.new.steps place number result }
+    ensures last { (clause : List Literal) → IsUnit clause (lits trail.old.steps) lit → IsLast clause trail.old.steps trail.new.steps number lit result }
+{
+    match trail.is(lit) {
+        Some(on) => !on,
+        None => {
+            let why = Why::Line(number);
+            trail.push(Step { lit, why });
+            false
+        }
+    }
+}
+
+// Looks at a clause, of whose first two literals the one at a place is false.
+fn rewatch(clause: &Clause, trail: &mut Trail, place: usize, number: usize) -> Turn
+    requires place { place < 2 }
+    requires watched { (l : Literal) × (literal_in clause.now place ≡ Some l) × (is_false (lits trail.old.steps) l ≡ true) }
+    requires below { IsBelow trail.old.vars clause.now }
+    ensures vars { trail.new.vars ≡ trail.old.vars }
+    ensures apart { IsApart trail.new.vars trail.new.steps }
+    ensures turn { IsTurn clause.now trail.old.steps trail.new.steps place number result }
 {
     let other = clause.lits()[1 - place];
-    match trail.is(other) {
-        Some(true) => Turn::Stays,
-        Some(false) => match replace(clause, trail, place, other) {
-            Some(lit) => Turn::Moves(lit),
-            None => Turn::Broken,
-        },
-        None => match replace(clause, trail, place, other) {
-            Some(lit) => Turn::Moves(lit),
-            None => {
-                let why = Why::Line(number);
-                trail.push(Step { lit: other, why });
-                Turn::Stays
-            }
-        },
+    if trail.is_true(other) {
+        return Turn::Stays(other);
     }
+    match search(clause, trail, other) {
+        Some(j) => Turn::Moves(j),
+        None => {
+            if is_broken(trail, other, number) {
+                Turn::Broken
+            } else {
+                Turn::Stays(other)
+            }
+        }
+    }
+}
+
+/// Looks at an entry whose watched literal is false, and at its clause where the entry doesn't tell.
+pub(crate) fn examine(clauses: &[Clause], trail: &mut Trail, entry: Entry) -> Turn
+    requires below { AreBelow trail.old.vars clauses.now }
+    requires entry { IsTurned clauses.now trail.old.steps entry }
+    ensures vars { trail.new.vars ≡ trail.old.vars }
+    ensures apart { IsApart trail.new.vars trail.new.steps }
+    ensures turn { IsTurn (line_at clauses.now (entry.watch / 2)) trail.old.steps trail.new.steps (entry.watch % 2) (entry.watch / 2) result }
+{
+    let other = entry.other();
+    let number = entry.watch().clause();
+    if trail.is_true(other) {
+        return Turn::Met;
+    }
+    if entry.is_two() {
+        return if is_broken(trail, other, number) {
+            Turn::Broken
+        } else {
+            Turn::Met
+        };
+    }
+    rewatch(&clauses[number], trail, entry.watch().place(), number)
 }

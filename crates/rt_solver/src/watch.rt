@@ -1,9 +1,7 @@
-//! The number of a watch, and the number of a literal's list.
+//! The number of a watch.
 
 ghost use Rattle.std.specs.Prelude.{◌≡◌, ◌<◌, ◌≤◌, ◌+◌, ◌*◌, ◌/◌, ◌%◌, ◌^◌};
-ghost use Rattle.rt_solver.specs.Watching.{key};
 
-use rt_clause::Lit;
 use std::marker::Model;
 
 /// One of the first two places of a clause: its literal is watched.
@@ -39,6 +37,12 @@ impl Watch {
         }
     }
 
+    pub(crate) fn of(number: usize) -> Watch
+        ensures { result ≡ number }
+    {
+        Watch { number }
+    }
+
     pub(crate) fn number(self) -> usize
         ensures { result ≡ self }
     {
@@ -56,13 +60,4 @@ impl Watch {
     {
         self.number % 2
     }
-}
-
-/// The number of a literal's list. The list 0 is no literal's.
-pub(crate) fn key(lit: Lit) -> usize
-    ensures is { result ≡ key lit }
-    ensures small { result ≤ 2 ^ 63 }
-{
-    let v = lit.var();
-    if lit.on() { 2 * v + 2 } else { 2 * v + 1 }
 }

@@ -1,54 +1,38 @@
 //! The lists of watches.
 
-ghost use Rattle.std.specs.Prelude.{◌≡◌, ◌≢◌, ℕ, ◌<◌, ◌≤◌, [], length, true, false, None, MatchOption, OnOk};
-ghost use Rattle.rt_solver.specs.Watching.{list_at, stands, IsJoined, IsTaken, slot};
+ghost use Rattle.std.specs.Prelude.{◌≡◌, ◌≢◌, ℕ, ◌+◌, ◌<◌, ◌≤◌, [], ◌∷◌, ◌++◌, length, slice_index_or, slice_set, OnOk, OnErr};
+ghost use Rattle.std.specs.List.{swap_remove};
+ghost use Rattle.rt_solver.specs.Watching.{Listed, list_at, room_at, noted, IsEdited};
 
-use crate::watch::Watch;
+use crate::entry::Entry;
+use rt_clause::Lit;
 use rt_value::NoMemory;
 use std::alloc::Global;
 use std::marker::Model;
 
-/// Lists of watches, linked through an array: each watch is in at most one list, and once. No
-/// call but `grow` takes memory.
+/// A list of entries for each literal.
 #[derive(Drop)]
 pub(crate) struct Watches {
-    heads: Vec<Option<Watch>>,
-    next: Vec<Option<Watch>>,
+    lists: Vec<Vec<Entry>>,
+    alloc: Global,
 }
 
 impl Model for Watches {
-    ghost use Rattle.rt_solver.specs.Watching.{Lists, lists_of, IsLinked};
-    ghost use Rattle.std.specs.Prelude.{length};
+    ghost use Rattle.rt_solver.specs.Watching.{Lists};
+    ghost use Rattle.std.specs.Prelude.{map, vec_items, vec_len, vec_capacity, ◌-◌};
 
     ghost Value = { Lists };
 
-    ghost view = { λ w. record { lists = lists_of w.heads.items w.next.items; count = length w.next.items } };
-
-    ghost invariant = { λ w. IsLinked w.heads.items w.next.items };
-}
-
-/// The list that holds those watches of a literal that are still to be visited.
-pub(crate) const PENDING: usize = 0;
-
-fn widen(slots: &mut Vec<Option<Watch>>, count: usize) -> Result<(), NoMemory>
-    ensures kept { (k : ℕ) → slot slots.new.items k ≡ slot slots.old.items k }
-    ensures longer { length slots.old.items ≤ length slots.new.items }
-    ensures ok { OnOk result (count ≤ length slots.new.items) }
-{
-    'slots: while slots.len() < count {
-        slots.push(None)?;
-    }
-    Ok(())
+    ghost view = { λ w. record { lists = map vec_items w.lists.items; rooms = map (λ v. vec_capacity v - vec_len v) w.lists.items } };
 }
 
 impl Watches {
     pub(crate) fn new(alloc: Global) -> Watches
-        ensures none { (k : ℕ) → list_at result.lists k ≡ [] }
-        ensures count { result.count ≡ 0 }
+        ensures { result.lists ≡ [] }
     {
         Watches {
-            heads: Vec::new(alloc),
-            next: Vec::new(alloc),
+            lists: Vec::new(alloc),
+            alloc,
         }
     }
 
@@ -56,72 +40,77 @@ impl Watches {
     pub(crate) fn len(&self) -> usize
         ensures { result ≡ length self.now.lists }
     {
-        self.heads.len()
+        self.lists.len()
     }
 
-    /// Makes room for so many lists and watches.
-    pub(crate) fn grow(&mut self, lists: usize, count: usize) -> Result<(), NoMemory>
+    /// How many entries a list has.
+    pub(crate) fn count(&self, list: usize) -> usize
+        requires { list < length self.now.lists }
+        ensures { result ≡ length (list_at self.now.lists list) }
+    {
+        self.lists[list].len()
+    }
+
+    /// The entry at a place of a list.
+    pub(crate) fn at(&self, list: usize, i: usize) -> Entry
+        requires list { list < length self.now.lists }
+        requires within { i < length (list_at self.now.lists list) }
+        ensures { result ≡ slice_index_or (list_at self.now.lists list) i result }
+    {
+        self.lists[list][i]
+    }
+
+    /// Makes so many lists, where there are fewer.
+    pub(crate) fn grow(&mut self, lists: usize) -> Result<(), NoMemory>
         ensures kept { (k : ℕ) → list_at self.new.lists k ≡ list_at self.old.lists k }
         ensures longer { length self.old.lists ≤ length self.new.lists }
-        ensures more { self.old.count ≤ self.new.count }
-        ensures lists { OnOk result (lists ≤ length self.new.lists) }
-        ensures count { OnOk result (count ≤ self.new.count) }
+        ensures ok { OnOk result (lists ≤ length self.new.lists) }
     {
-        widen(&mut self.heads, lists)?;
-        widen(&mut self.next, count)
-    }
-
-    /// Moves a list to be the pending one.
-    pub(crate) fn take(&mut self, from: usize)
-        requires other { from ≢ 0 }
-        requires within { from < length self.old.lists }
-        requires none { list_at self.old.lists 0 ≡ [] }
-        ensures pending { list_at self.new.lists 0 ≡ list_at self.old.lists from }
-        ensures from { list_at self.new.lists from ≡ [] }
-        ensures others { (k : ℕ) → k ≢ 0 → k ≢ from → list_at self.new.lists k ≡ list_at self.old.lists k }
-        ensures len { length self.new.lists ≡ length self.old.lists }
-        ensures count { self.new.count ≡ self.old.count }
-    {
-        let head = self.heads[from];
-        self.heads[from] = None;
-        self.heads[PENDING] = head;
-    }
-
-    /// Takes the first watch off a list.
-    pub(crate) fn pop(&mut self, from: usize) -> Option<Watch>
-        requires within { from < length self.old.lists }
-        ensures { MatchOption result ((list_at self.old.lists from ≡ []) × (self.new ≡ self.old)) (λ w. IsTaken self.old self.new from w) }
-    {
-        let watch = self.heads[from]?;
-        self.heads[from] = self.next[watch.number()];
-        Some(watch)
-    }
-
-    /// Puts a watch that is in no list at the head of a list.
-    pub(crate) fn join(&mut self, watch: Watch, to: usize)
-        requires there { watch < self.old.count }
-        requires within { to < length self.old.lists }
-        requires free { (k : ℕ) → stands (list_at self.old.lists k) watch ≡ false }
-        ensures { IsJoined self.old self.new to watch }
-    {
-        self.next[watch.number()] = self.heads[to];
-        self.heads[to] = Some(watch);
-    }
-
-    /// Puts all that is pending into a list.
-    pub(crate) fn restore(&mut self, to: usize)
-        requires other { to ≢ 0 }
-        requires within { to < length self.old.lists }
-        ensures none { list_at self.new.lists 0 ≡ [] }
-        ensures others { (k : ℕ) → k ≢ 0 → k ≢ to → list_at self.new.lists k ≡ list_at self.old.lists k }
-        ensures kept { (v : ℕ) → stands (list_at self.old.lists to) v ≡ true → stands (list_at self.new.lists to) v ≡ true }
-        ensures moved { (v : ℕ) → stands (list_at self.old.lists 0) v ≡ true → stands (list_at self.new.lists to) v ≡ true }
-        ensures back { (v : ℕ) → stands (list_at self.new.lists to) v ≡ true → stands (list_at self.old.lists to) v ≡ false → stands (list_at self.old.lists 0) v ≡ true }
-        ensures len { length self.new.lists ≡ length self.old.lists }
-        ensures count { self.new.count ≡ self.old.count }
-    {
-        'pending: while let Some(watch) = self.pop(PENDING) {
-            self.join(watch, to);
+        'lists: while self.lists.len() < lists {
+            self.lists.push(Vec::new(self.alloc))?;
         }
+        Ok(())
+    }
+
+    /// Makes room for one entry more in a list.
+    pub(crate) fn reserve(&mut self, list: usize) -> Result<(), NoMemory>
+        requires { list < length self.old.lists }
+        ensures lists { self.new.lists ≡ self.old.lists }
+        ensures rooms { (k : ℕ) → room_at self.old.rooms k ≤ room_at self.new.rooms k }
+        ensures ok { OnOk result (0 < room_at self.new.rooms list) }
+    {
+        self.lists[list].reserve(1)?;
+        Ok(())
+    }
+
+    /// Puts an entry at the end of a list, where there is room.
+    pub(crate) fn join(&mut self, list: usize, entry: Entry)
+        requires list { list < length self.old.lists }
+        requires room { 0 < room_at self.old.rooms list }
+        ensures list { list_at self.new.lists list ≡ list_at self.old.lists list ++ entry ∷ [] }
+        ensures edited { IsEdited self.old self.new list }
+    {
+        self.lists[list].push_reserved(entry);
+    }
+
+    /// Notes another literal of the clause.
+    pub(crate) fn note(&mut self, list: usize, i: usize, other: Lit)
+        requires list { list < length self.old.lists }
+        requires within { i < length (list_at self.old.lists list) }
+        ensures list { (e : Listed) → e ≡ slice_index_or (list_at self.old.lists list) i e → list_at self.new.lists list ≡ slice_set (list_at self.old.lists list) i (noted e other) }
+        ensures edited { IsEdited self.old self.new list }
+    {
+        let entries = &mut self.lists[list];
+        entries[i] = entries[i].noting(other);
+    }
+
+    /// Takes an entry out of a list. The last one takes its place.
+    pub(crate) fn leave(&mut self, list: usize, i: usize)
+        requires list { list < length self.old.lists }
+        requires within { i < length (list_at self.old.lists list) }
+        ensures list { (e : Listed) → e ≡ slice_index_or (list_at self.old.lists list) i e → list_at self.new.lists list ≡ swap_remove (list_at self.old.lists list) i e }
+        ensures edited { IsEdited self.old self.new list }
+    {
+        let _entry = self.lists[list].swap_remove(i);
     }
 }

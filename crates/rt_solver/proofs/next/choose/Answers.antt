@@ -1,8 +1,6 @@
-use Rattle.std.proofs.Common.{◌≡◌, ◌<◌, Option, Some, None, IfSome, sym, subst}
+use Rattle.std.proofs.Common.{Option, sym, subst}
 use Rattle.rt_clause.specs.Literal.{Literal}
-use Rattle.rt_solver.specs.declared.order.Order.TheVariants.{Fixed}
 use Rattle.rt_solver.specs.Seeking.{IsNext}
-use Rattle.rt_solver.proofs.Seeks.{chosen-asked, next-asked}
 use Rattle.rt_solver.proofs.next.choose.Goals as goal
 
 pub returns-in-None-clause-next : goal.returns-in-None-clause-next

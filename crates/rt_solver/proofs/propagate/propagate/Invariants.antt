@@ -9,7 +9,7 @@ invariant-steps l = record {
   place : l.done ≤ length l.trail.steps;
   vars : l.trail.vars ≡ l.fn.trail.vars;
   same : AreSame l.fn.clauses.items l.clauses.items;
-  listed : AreListed l.clauses.items l.watches;
+  listed : AreListed l.clauses.items l.watches.lists;
   steps : IsPropagated l.fn.clauses.items l.fn.trail.steps l.trail.steps;
   queued : IsQueued l.clauses.items (lits (oldest l.done l.trail.steps)) l.trail.steps;
 }

@@ -1,4 +1,4 @@
-use Rattle.std.proofs.Common.{◌≡◌, ◌≤◌, ◌∙◌, ℕ, refl, sym, ap, subst, List, Option, IfSome, max, arith}
+use Rattle.std.proofs.Common.{◌≡◌, ◌≤◌, ◌∙◌, ℕ, refl, sym, ap, subst, Option, IfSome, max, arith}
 use Rattle.std.proofs.Math.Nat.{le-max_left}
 use Rattle.rt_solver.proofs.Widths.{reach-least, assumed-below}
 use Rattle.std.specs.Option.{option_to_list}

@@ -1,4 +1,5 @@
 use Rattle.std.proofs.Common.{sym, ap, subst, List, [], ℕ, length, ◌<◌}
+use Rattle.std.proofs.lemmas.Result.{IfOk-weaker}
 use Rattle.rt_clause.specs.Literal.{Literal}
 use Rattle.rt_clause.specs.Lists.{line_at}
 use Rattle.rt_solver.specs.Trail.{lits}
@@ -46,4 +47,4 @@ returns-clause-steps g c =
 pub returns-clause-done : goal.returns-clause-done
 returns-clause-done g c =
     let s = all-trans (g.L.Adds.lines c.self.inside.lines) c.self.inside.clauses.items c.propagate.new.clauses.items c.self.invariant.same c.propagate.ensures.same in
-    done-of (g.L.Adds.lines c.self.inside.lines) c.propagate.new.trail.vars c.propagate.new.trail.steps c.propagate.new.watches c.propagate.new.clauses.items c.propagate.result c.propagate.ensures.apart s c.propagate.ensures.listed c.propagate.ensures.done
+    IfOk-weaker c.propagate.result _ _ (λ o. done-of (g.L.Adds.lines c.self.inside.lines) c.propagate.new.trail.steps c.propagate.new.watches.lists c.propagate.new.clauses.items o s c.propagate.ensures.listed) c.propagate.ensures.done

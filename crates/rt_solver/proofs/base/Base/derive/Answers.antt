@@ -2,31 +2,28 @@ use Rattle.std.proofs.Common.{◌∙◌, ap, arith, sym, subst, List, ◌∷◌,
 use Rattle.std.proofs.lemmas.Grind.{common_steps}
 use Rattle.rt_clause.specs.Literal.{Literal}
 use Rattle.rt_solver.specs.Based.{IsBased}
-use Rattle.rt_solver.proofs.Basing.{has-lists, based-push, based-room}
+use Rattle.rt_solver.proofs.Basing.{copy-below, based-push, based-room}
 use Rattle.rt_solver.proofs.base.Base.derive.Goals as goal
 
-pub put-requires-clause-wide : goal.put-requires-clause-wide
-put-requires-clause-wide g c = has-lists c.self.inside.vars c.reach-vars.result c.args.lits.now c.args.clause c.make_room.new.watches c.requires.same c.reach-vars.ensures.is c.in_ok-make_room.ensures.wide
+pub make_room-requires-clause-below : goal.make_room-requires-clause-below
+make_room-requires-clause-below g c = copy-below c.self.inside.vars c.reach-vars.result c.args.lits.now c.args.clause c.requires.same c.reach-vars.ensures.is
 
 pub invariant_of-self-2 : goal.invariant_of-self-2
 invariant_of-self-2 g c =
-    based-push (g.L.Adds.lines c.self.inside.lines) (g.L.Adds.lines c.accept.new.lines) c.self.inside.clauses.items c.put.new.clauses.items c.self.inside.watches c.put.new.watches c.self.inside.vars c.reach-vars.result c.self.inside.short.items c.put.new.short.items c.args.lits.now c.args.clause
+    based-push (g.L.Adds.lines c.self.inside.lines) (g.L.Adds.lines c.accept.new.lines) c.self.inside.clauses.items c.put.new.clauses.items c.self.inside.watches.lists c.put.new.watches.lists c.self.inside.vars c.reach-vars.result c.self.inside.short.items c.put.new.short.items c.args.lits.now c.args.clause
     c.self.invariant c.in_ok-accept.ensures.lines (c.put.ensures.items ∙ ap (λ xs. xs ++ c.args.clause ∷ []) c.in_ok-make_room.ensures.items) c.requires.same c.put.ensures.listed c.put.ensures.short c.reach-vars.ensures.is (c.reach-vars.ensures.few c.self.invariant.few)
 
 pub invariant_of-self : goal.invariant_of-self
 invariant_of-self g c =
-    based-room (g.L.Adds.lines c.self.inside.lines) c.self.inside.clauses.items c.make_room.new.clauses.items c.self.inside.watches c.make_room.new.watches c.self.inside.vars c.self.inside.short.items c.make_room.new.short.items c.self.invariant
+    based-room (g.L.Adds.lines c.self.inside.lines) c.self.inside.clauses.items c.make_room.new.clauses.items c.self.inside.watches.lists c.make_room.new.watches.lists c.self.inside.vars c.self.inside.short.items c.make_room.new.short.items c.self.invariant
     c.in_err-make_room.ensures.items c.in_err-make_room.ensures.short c.in_err-make_room.ensures.listed
 
 pub invariant_of-self-in_err-accept : goal.invariant_of-self-in_err-accept
 invariant_of-self-in_err-accept g c =
-    let B : List (List Literal) → Type 0 = λ ls. IsBased ls c.make_room.new.clauses.items c.make_room.new.watches c.self.inside.vars c.make_room.new.short.items in
+    let B : List (List Literal) → Type 0 = λ ls. IsBased ls c.make_room.new.clauses.items c.make_room.new.watches.lists c.self.inside.vars c.make_room.new.short.items in
     subst B (sym c.in_err-accept.ensures.err_lines)
-    (based-room (g.L.Adds.lines c.self.inside.lines) c.self.inside.clauses.items c.make_room.new.clauses.items c.self.inside.watches c.make_room.new.watches c.self.inside.vars c.self.inside.short.items c.make_room.new.short.items c.self.invariant
+    (based-room (g.L.Adds.lines c.self.inside.lines) c.self.inside.clauses.items c.make_room.new.clauses.items c.self.inside.watches.lists c.make_room.new.watches.lists c.self.inside.vars c.self.inside.short.items c.make_room.new.short.items c.self.invariant
     c.in_ok-make_room.ensures.items c.in_ok-make_room.ensures.short c.in_ok-make_room.ensures.listed)
-
-pub make_room-requires-clause-few : goal.make_room-requires-clause-few
-make_room-requires-clause-few g c = grind (arith, common_steps)
 
 pub put-requires-clause-few : goal.put-requires-clause-few
 put-requires-clause-few g c = grind (arith, common_steps)

@@ -1,9 +1,5 @@
-use Rattle.std.proofs.Common.{◌≡◌, refl, ap, subst, List, Option, Some, None, IfSome}
-use Rattle.rt_clause.specs.Literal.{Literal}
-use Rattle.rt_solver.specs.declared.solver.Found.{Found}
-use Rattle.rt_solver.specs.Answers.{IsFound, IsReplied}
+use Rattle.std.proofs.Common.{refl}
 use Rattle.rt_solver.proofs.Founds.{searched-none}
-use Rattle.rt_solver.proofs.Seeks.{refuted-none}
 use Rattle.rt_solver.proofs.solver.Solver.seek.Goals as goal
 
 pub returns-then-self-clause-searched : goal.returns-then-self-clause-searched

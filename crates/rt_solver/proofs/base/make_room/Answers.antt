@@ -1,0 +1,22 @@
+use Rattle.std.proofs.Common.{◌≡◌, List, get_or, length, ap, subst, arith}
+use Rattle.rt_clause.specs.Literal.{Literal}
+use Rattle.rt_solver.proofs.Looks.{has-at}
+use Rattle.rt_solver.proofs.Basing.{has-lists}
+use Rattle.rt_solver.proofs.base.make_room.Goals as goal
+
+pub reserve-requires-in-len2-up : goal.reserve-requires-in-len2-up
+reserve-requires-in-len2-up c =
+    let A : List Literal → Type 0 = λ ls. c.first-item.result ≡ get_or ls 0 c.first-item.result in
+    let n = c.in-len2-up.len_at_least in
+    let l = ap length c.lits.ensures in
+    let w = has-lists c.args.vars c.args.clause.now c.grow.new.self.lists c.requires.below c.in_ok-grow.ensures.ok c.first-item.result (has-at c.args.clause.now 0 c.first-item.result (omega (arith, n, l)) (subst A c.lits.ensures c.first-item.is)) in
+    let e = c.index.ensures.is in omega (arith, w, e)
+
+pub reserve-requires-in-len2-up-2 : goal.reserve-requires-in-len2-up-2
+reserve-requires-in-len2-up-2 c =
+    let A : List Literal → Type 0 = λ ls. c.second-item.result ≡ get_or ls 1 c.second-item.result in
+    let n = c.in-len2-up.len_at_least in
+    let l = ap length c.lits.ensures in
+    let w = has-lists c.args.vars c.args.clause.now c.grow.new.self.lists c.requires.below c.in_ok-grow.ensures.ok c.second-item.result (has-at c.args.clause.now 1 c.second-item.result (omega (arith, n, l)) (subst A c.lits.ensures c.second-item.is)) in
+    let e = c.index-in-len2-up.ensures.is in
+    let s = ap length c.in_ok-reserve-in-len2-up.ensures.lists in omega (arith, w, e, s)
