@@ -1,5 +1,5 @@
 -- What stays as the Dag grows.
-use Rattle.std.proofs.Common.{◌≡◌, ℕ, zero, suc, ◌<◌, ◌≤◌, Bool, not, ◌&&◌, ◌||◌, List, [], ◌∷◌, ◌++◌, length, length-append, map, refl, sym, subst, ap, ap₂, arith, ◌∙◌}
+use Rattle.std.proofs.Common.{◌≡◌, ℕ, zero, suc, ◌<◌, ◌≤◌, Bool, true, false, not, ◌&&◌, ◌||◌, List, [], ◌∷◌, ◌++◌, length, length-append, map, refl, sym, subst, ap, ap₂, arith, ◌∙◌}
 use mathlib.Core.Path.{fun_ext}
 use Rattle.std.proofs.lemmas.List.{append_assoc, append-nil}
 use Rattle.std.specs.List.{list_all, list_any}
@@ -77,6 +77,14 @@ module _ {old now new : Shared} (g : IsGrown old now) (n : ℕ) (ns ms : List �
 
 pub node_as : {d : Shared} {n : ℕ} {f : Formula} (h : Formula) → ((s : List Bool) → f s ≡ h s) → IsNode d n f → IsNode d n h
 node_as h e i = record { below = i.below; same = λ s. i.same s ∙ e s }
+
+and_false : (b : Bool) → (b && false) ≡ false
+and_false true = refl
+and_false false = refl
+
+-- a node that is never true is that of any condition with one that is never true
+pub node_never : {d : Shared} {n : ℕ} (f g : Formula) → n < length d.entries → ((s : List Bool) → val d s n ≡ false) → ((s : List Bool) → g s ≡ false) → IsNode d n (λ s. f s && g s)
+node_never f g l never h = record { below = l; same = λ s. never s ∙ sym (ap (λ b. f s && b) (h s) ∙ and_false (f s)) }
 
 pub not_over : {old new : Shared} (n m : ℕ) {f : Formula} → IsNode old n f → m < length new.entries → ((s : List Bool) → val new s m ≡ not (val old s n)) → IsNode new m (λ s. not (f s))
 not_over n m i l h = record { below = l; same = λ s. h s ∙ ap not (i.same s) }

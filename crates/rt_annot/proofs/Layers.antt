@@ -29,7 +29,7 @@ use Rattle.rt_annot.specs.Annotated.{formula, entry_of, entries_of, AreMerged, A
 use Rattle.rt_annot.specs.Known.{exists_test, among_test}
 use Rattle.rt_algebra.proofs.Equations.{at_and, at_or, at_exists, at_member}
 use Rattle.rt_annot.proofs.Alike.{same_append, same_except, same_intersect, same_map, same_member_no, same_member_yes, same_some_yes}
-use Rattle.rt_annot.proofs.Growing.{grown_trans, node_as, noted_stay, entries_stay}
+use Rattle.rt_annot.proofs.Growing.{grown_refl, grown_trans, node_as, noted_stay, entries_stay}
 use Rattle.rt_annot.proofs.Walking.{noted_push, entry_is, projected_same, projected_below}
 use mathlib.Core.Path.{fun_ext}
 
@@ -258,6 +258,11 @@ module _ {old now next : Shared} {out : List Noted} {rest more whole : List Entr
         ∙ ap (λ b. rows_at s (entries_of now out) ++ cond b (r ∷ rows_at s more) (rows_at s more)) (sym (h s))
         ∙ sym (append_exact s (entries_of now out) ((r, f) ∷ more)) ∙ ap (λ es. rows_at s (entries_of now out ++ es)) (sym c) ∙ a.same s;
   }
+
+pub choosing_start : (old : Shared) {out : List Noted} {rest whole : List Entry} → out ≡ [] → rest ≡ whole → Choosing old old out rest whole
+choosing_start old {rest = rest} {whole = whole} e q =
+    let P : List Noted → Type 0 = λ ns. Choosing old old ns rest whole in
+    subst P (sym e) (record { grown = grown_refl old; below = λ k n l. absurd (omega arith); same = λ s. ap (rows_at s) q })
 
 pub choosing_at : {old x y : Shared} {a b : List Noted} {rest whole : List Entry} → y ≡ x → b ≡ a → Choosing old x a rest whole → Choosing old y b rest whole
 choosing_at {old} {x} {y} {a} {b} {rest} {whole} p q m =

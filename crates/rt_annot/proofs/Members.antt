@@ -16,7 +16,7 @@ use Rattle.rt_algebra.specs.declared.query.Query.TheVariants as v
 use Rattle.rt_formula.specs.Shared.{Shared, IsGrown}
 use Rattle.rt_formula.specs.declared.noted.Noted.{Noted}
 use Rattle.rt_annot.specs.declared.joint.Joint.{Joint}
-use Rattle.rt_annot.specs.Entries.{rows_at, selected}
+use Rattle.rt_annot.specs.Entries.{Entry, rows_at, selected}
 use Rattle.rt_annot.specs.Annotated.{entries_of, AreNoted, Gives, Reads, Choosing, test_under, yes_when}
 use Rattle.rt_annot.specs.Joints.{joint_entries, AreJoints, product_joints, unit_joints, member_rows, AreMembers, GiveEach, Makes}
 use Rattle.rt_annot.specs.Narrowed.{IsNarrowed, IsSelected}
@@ -33,16 +33,23 @@ narrowed_rows {d} {joints} {members} {rows} p env n m s db r =
     ap (λ xs. has_row xs r) (n.same d s db) ∙ same_filter t (product_rows ([] ∷ []) (member_rows d s members)) (rows s) (m.same s) r
 
 -- those that it leaves
+pub chosen_rows : {old now : Shared} {out : List Noted} (es : List Entry) (p : Pred) (given : Tables) (env : Env) → Choosing old now out [] (selected es (test_under p given env))
+    → Gives now out (λ s. filter (λ r. yes_when p given (r ∷ env) s) (rows_at s es))
+chosen_rows {old} {now} {out} es p given env a = record {
+  below = a.below;
+  same = λ s r. ap (λ xs. has_row xs r) (ap (rows_at s) (sym (append-nil (entries_of now out))) ∙ a.same s
+      ∙ select_exact s es (test_under p given env) (λ x. yes_when p given (x ∷ env) s) (λ x. refl));
+}
+
 pub choosing_rows : {old now : Shared} {out : List Noted} {joints chosen : List Joint} (rows : List Bool → Rows) (p : Pred) (given : Tables) (env : Env)
     → chosen ≡ joints → Choosing old now out [] (selected (joint_entries old chosen) (test_under p given env)) → IsSelected old p env joints rows
     → Gives now out (λ s. filter (λ r. yes_when p given (r ∷ env) s) (rows s))
-choosing_rows {old} {now} {out} {joints} {chosen} rows p given env e a n = record {
-  below = a.below;
-  same = λ s r. ap (λ xs. has_row xs r) (ap (rows_at s) (sym (append-nil (entries_of now out))) ∙ a.same s
-      ∙ select_exact s (joint_entries old chosen) (test_under p given env) (λ x. yes_when p given (x ∷ env) s) (λ x. refl)
-      ∙ ap (λ (js : List Joint). filter (λ x. yes_when p given (x ∷ env) s) (rows_at s (joint_entries old js))) e)
-      ∙ n s (kept given s) r;
-}
+choosing_rows {old} {now} {out} {joints} {chosen} rows p given env e a n =
+    let all = chosen_rows (joint_entries old chosen) p given env a in
+    record {
+      below = all.below;
+      same = λ s r. all.same s r ∙ ap (λ (js : List Joint). has_row (filter (λ x. yes_when p given (x ∷ env) s) (rows_at s (joint_entries old js))) r) e ∙ n s (kept given s) r;
+    }
 
 -- the rows of a product
 pub whole_rows : {d now : Shared} {out : List Noted} {joints : List Joint} {members : List (List Noted)} {rows : List Bool → Rows}

@@ -1,5 +1,5 @@
 -- A loop that notes one row after the other.
-use Rattle.std.proofs.Common.{◌≡◌, ℕ, zero, suc, ◌+◌, ◌<◌, Bool, ◌&&◌, List, [], ◌∷◌, ◌++◌, length, drop, get_or, refl, sym, subst, ap, ap₂, arith, ◌∙◌, add_assoc, add-one, add-zero, zero-add, ◌≤◌}
+use Rattle.std.proofs.Common.{◌≡◌, ℕ, zero, suc, ◌+◌, ◌<◌, Bool, ◌&&◌, List, [], ◌∷◌, ◌++◌, length, drop, get_or, Bor, slice_set, map, refl, sym, subst, ap, ap₂, arith, ◌∙◌, add_assoc, add-one, add-zero, zero-add, ◌≤◌}
 use mathlib.Core.Path.{fun_ext}
 use Rattle.std.proofs.Math.Seq.{drop-cons}
 use Rattle.std.proofs.lemmas.List.{append_assoc, append-nil, map-append}
@@ -155,7 +155,23 @@ table_placed (t ∷ ts) b (suc n) =
 pub table_entries : (ts : Tables) (n : ℕ) → placed (base_of n ts) (get_or ts n []) ≡ of_table ts (λ s. s) n
 table_entries ts n = ap (λ k. placed k (get_or ts n [])) (sym (zero-add (base_of n ts))) ∙ table_placed ts 0 n
 
-pub base_within : (ts : Tables) (n : ℕ) → n < length ts → base_of n ts + length (get_or ts n []) ≤ places ts
-base_within [] n l = absurd (omega arith)
-base_within (t ∷ ts) zero l = omega arith
-base_within (t ∷ ts) (suc n) l = let h = base_within ts n (omega arith) in omega arith
+-- the places of a table's rows are among all places
+pub base_within : (ts : Tables) (n : ℕ) → base_of n ts + length (get_or ts n []) ≤ places ts
+base_within [] n = omega arith
+base_within (t ∷ ts) zero = omega arith
+base_within (t ∷ ts) (suc n) = let h = base_within ts n in omega arith
+
+-- the innermost of the rows in scope gives way to others
+pub scope_with : (inner : List (Bor (List Value))) (row : List Value) (outer : Env) → map (λ r. r.now) inner ≡ row ∷ outer
+    → (r : Bor (List Value)) → map (λ x. x.now) (slice_set inner 0 r) ≡ r.now ∷ outer
+scope_with [] row outer h r = absurd (cc)
+scope_with (q ∷ inner) row outer h r = let e : map (λ x. x.now) inner ≡ outer = cc in ap (λ rows. r.now ∷ rows) e
+
+pub scope_again : (inner : List (Bor (List Value))) (q : Bor (List Value)) (outer : Env) → ((r : Bor (List Value)) → map (λ x. x.now) (slice_set inner 0 r) ≡ r.now ∷ outer)
+    → (r : Bor (List Value)) → map (λ x. x.now) (slice_set (slice_set inner 0 q) 0 r) ≡ r.now ∷ outer
+scope_again [] q outer h r = h r
+scope_again (p ∷ inner) q outer h r = h r
+
+pub scope_room : (inner : List (Bor (List Value))) (outer : Env) → ((r : Bor (List Value)) → map (λ x. x.now) (slice_set inner 0 r) ≡ r.now ∷ outer) → 0 < length inner
+scope_room [] outer h = let e = h (record { ref_ptr = (0, 0); now = [] }) in absurd (cc)
+scope_room (p ∷ inner) outer h = omega arith

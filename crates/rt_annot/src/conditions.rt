@@ -11,7 +11,7 @@ ghost use Rattle.rt_schema.specs.Kept.{kept};
 ghost use Rattle.rt_formula.specs.Shared.{IsGrown};
 ghost use Rattle.rt_annot.specs.Entries.{constant};
 ghost use Rattle.rt_annot.specs.Annotated.{IsGate, yes_when, no_when, test_under, test_joined};
-ghost use Rattle.rt_annot.specs.Known.{AreKnown, Tells, TellsOf, sought_test};
+ghost use Rattle.rt_annot.specs.Known.{AreKnown, Tells, TellsOf, exists_test, sought_test};
 ghost use Rattle.rt_annot.specs.declared.subquery.Subquery.{Subquery};
 
 use crate::evaluate::annotated;
@@ -21,7 +21,8 @@ use crate::member::among;
 use crate::subquery::{Subquery, place_of};
 use rt_algebra::{Expr, Pred, Query, one_of_truth, query_is_closed, scope, value};
 use rt_formula::Dag;
-use rt_value::{List, NoMemory, Op, Row, Value, compare, null_truth};
+use rt_split::compared;
+use rt_value::{List, NoMemory, Op, Row, Value, null_truth};
 use std::alloc::Global;
 
 /// Where a condition is true and where it is false.
@@ -41,7 +42,7 @@ pub fn test<'q>(
     ensures gate { IfOk result (λ g. IsGate dag.new g (yes_when p.now tables.now (map (λ r. r.now) env.now), no_when p.now tables.now (map (λ r. r.now) env.now))) }
 {
     match p {
-        Pred::Cmp(op, a, b) => compared(alloc, dag, *op, a, b, env),
+        Pred::Cmp(op, a, b) => comparison(alloc, dag, *op, a, b, env),
         Pred::IsNull(e) => missing(alloc, dag, e, env),
         Pred::OneOf(e, items) => listed(alloc, dag, e, items.as_slice(), env),
         Pred::And(ps) => {
@@ -68,7 +69,7 @@ pub fn test<'q>(
 }
 
 // A comparison, which no choice of rows changes.
-fn compared(
+fn comparison(
     alloc: Global,
     dag: &Dag,
     op: Op,
@@ -78,9 +79,8 @@ fn compared(
 ) -> Result<TruthNodes, NoMemory>
     ensures { IfOk result (λ g. IsGate dag.now g (constant (value_truth op (value_by wrapped a.now (map (λ r. r.now) env.now)) (value_by wrapped b.now (map (λ r. r.now) env.now))))) }
 {
-    let x = value(alloc, a, env)?;
-    let y = value(alloc, b, env)?;
-    Ok(constant(dag, compare(&x, &y, op)))
+    let truth = compared(alloc, op, a, b, env)?;
+    Ok(constant(dag, truth))
 }
 
 // The test for NULL, which no choice of rows changes.
@@ -125,9 +125,37 @@ fn asked<'q>(
 {
     match looked_up(alloc, dag, tables, known, q)? {
         Some(at) => known.as_slice()[at].found.gate(alloc, dag, sought),
-        None => {
+        None => match sought {
+            None => some_row(alloc, dag, tables, known, q, env),
+            Some(_) => {
+                let rows = annotated(alloc, dag, tables, known, q, env)?;
+                among(alloc, dag, sought, rows.as_slice())
+            }
+        },
+    }
+}
+
+// Where the query has a row. A projection has one exactly where its source has, so it is not made.
+#[cycle(annotate)]
+fn some_row<'q>(
+    alloc: Global,
+    dag: &mut Dag,
+    tables: &[List<Row>],
+    known: &mut List<Subquery<'q>>,
+    q: &'q Query,
+    env: &[&Row],
+) -> Result<TruthNodes, NoMemory>
+    requires places { dag.old.rows ≡ places tables.now }
+    requires known { AreKnown dag.old tables.now known.old }
+    ensures grown { IsGrown dag.old dag.new }
+    ensures known { AreKnown dag.new tables.now known.new }
+    ensures gate { IfOk result (λ g. IsGate dag.new g (exists_test (λ s. answer_by wrapped q.now (kept tables.now s) (map (λ r. r.now) env.now)))) }
+{
+    match q {
+        Query::Project(a, _) => some_row(alloc, dag, tables, known, a.get(), env),
+        _ => {
             let rows = annotated(alloc, dag, tables, known, q, env)?;
-            among(alloc, dag, sought, rows.as_slice())
+            among(alloc, dag, None, rows.as_slice())
         }
     }
 }

@@ -1,27 +1,29 @@
 //! The evaluation of queries over all given rows, operator by operator. For a join, rows are
 //! chosen before they get a node.
 
-ghost use Rattle.std.specs.Prelude.{◌≡◌, List, Bool, [], map, IfOk};
+ghost use Rattle.std.specs.Prelude.{◌≡◌, ◌<◌, ◌&&◌, List, Bool, [], map, IfOk};
 ghost use Rattle.rt_algebra.specs.Answer.{answer_by};
 ghost use Rattle.rt_algebra.specs.Expression.{wrapped};
-ghost use Rattle.rt_schema.specs.Given.{Rows, places};
+ghost use Rattle.rt_schema.specs.Given.{Rows, base_of, places, rows_at};
 ghost use Rattle.rt_schema.specs.Kept.{kept};
-ghost use Rattle.rt_formula.specs.Shared.{IsGrown};
+ghost use Rattle.rt_formula.specs.Shared.{IsGrown, bool_at};
 ghost use Rattle.rt_annot.specs.Entries.{selected};
-ghost use Rattle.rt_annot.specs.Annotated.{AreNoted, Gives, Choosing, set_rows, test_under};
+ghost use Rattle.rt_annot.specs.Annotated.{AreNoted, Choosing, Gives, IsNode, placed, set_rows, test_under, yes_when};
 ghost use Rattle.rt_annot.specs.Known.{AreKnown};
 ghost use Rattle.rt_annot.specs.Joints.{AreJoints, GiveEach, Makes, joint_entries};
 ghost use Rattle.rt_annot.specs.Narrowed.{IsSelected};
 
-use crate::conditions::test_row;
+use crate::conditions::{test, test_row};
 use crate::gate::is_never;
 use crate::join::narrowed;
-use crate::joint::{Joint, meeting, noted_product};
-use crate::rows::{alone, note, projection, table};
+use crate::joint::{Joint, meeting, noted_product, row_meeting};
+use crate::rows::{alone, first_place, note, projection, table};
 use crate::sets::{Side, set_rows};
 use crate::subquery::Subquery;
-use rt_algebra::{Pred, Query};
-use rt_formula::{Dag, Noted};
+use rt_algebra::{Pred, Query, scope};
+use rt_formula::{Dag, Node, Noted};
+use rt_schema::rows_at;
+use rt_split::is_refused;
 use rt_value::{List, NoMemory, Row};
 use std::alloc::Global;
 
@@ -53,6 +55,66 @@ fn chosen<'q>(
         }
     }
     Ok(out)
+}
+
+// The rows of a table whose condition may be true. They are tested where they stand: in the one list
+// of the rows in scope, each takes the innermost place of the one before.
+#[cycle(annotate)]
+fn table_selection<'q, 'a>(
+    alloc: Global,
+    dag: &mut Dag,
+    tables: &'a [List<Row>],
+    known: &mut List<Subquery<'q>>,
+    number: usize,
+    p: &'q Pred,
+    env: &[&'a Row],
+) -> Result<List<Noted>, NoMemory>
+    requires places { dag.old.rows ≡ places tables.now }
+    requires known { AreKnown dag.old tables.now known.old }
+    ensures grown { IsGrown dag.old dag.new }
+    ensures known { AreKnown dag.new tables.now known.new }
+    ensures chosen { IfOk result (λ out. Choosing dag.old dag.new out [] (selected (placed (base_of number tables.now) (rows_at tables.now number)) (test_under p.now tables.now (map (λ r. r.now) env.now)))) }
+{
+    let _rows = dag.rows();
+    let base = first_place(tables, number);
+    let rows = rows_at(tables, number);
+    let mut out = List::new(alloc);
+    let no_row = Row::new(alloc);
+    let mut inner = List::from_vec(scope(alloc, &no_row, env)?);
+    for (at, row) in rows.iter().enumerate() {
+        inner.set(0, row);
+        let node = row_where(alloc, dag, tables, known, p, base + at, inner.as_slice())?;
+        if !is_never(dag, node) {
+            note(alloc, &mut out, row, node)?;
+        }
+    }
+    Ok(out)
+}
+
+// The node that says where the row of a place is there and the condition is true. A condition that
+// the rows in scope alone refuse is not evaluated.
+#[cycle(annotate)]
+fn row_where<'q>(
+    alloc: Global,
+    dag: &mut Dag,
+    tables: &[List<Row>],
+    known: &mut List<Subquery<'q>>,
+    p: &'q Pred,
+    place: usize,
+    env: &[&Row],
+) -> Result<Node, NoMemory>
+    requires places { dag.old.rows ≡ places tables.now }
+    requires known { AreKnown dag.old tables.now known.old }
+    requires place { place < dag.old.rows }
+    ensures grown { IsGrown dag.old dag.new }
+    ensures known { AreKnown dag.new tables.now known.new }
+    ensures node { IfOk result (λ n. IsNode dag.new n (λ s. bool_at s place && yes_when p.now tables.now (map (λ r. r.now) env.now) s)) }
+{
+    if is_refused(alloc, p, env)? {
+        return Ok(dag.no());
+    }
+    let gate = test(alloc, dag, tables, known, p, env)?;
+    row_meeting(dag, place, gate.yes)
 }
 
 // The rows of each of the queries.
@@ -122,10 +184,13 @@ pub fn annotated<'q>(
 {
     match q {
         Query::Table(t) => table(alloc, dag, tables, *t),
-        Query::Select(a, p) => {
-            let joints = joints(alloc, dag, tables, known, a.get(), p, env)?;
-            chosen(alloc, dag, tables, known, p, joints.as_slice(), env)
-        }
+        Query::Select(a, p) => match a.get() {
+            Query::Table(t) => table_selection(alloc, dag, tables, known, *t, p, &*env),
+            source => {
+                let joints = joints(alloc, dag, tables, known, source, p, env)?;
+                chosen(alloc, dag, tables, known, p, joints.as_slice(), env)
+            }
+        },
         Query::Project(a, items) => {
             let rows = annotated(alloc, dag, tables, known, a.get(), env)?;
             projection(alloc, dag, rows.as_slice(), items.as_slice(), env)

@@ -2,11 +2,11 @@
 
 ghost use Rattle.std.specs.Prelude.{◌≡◌, ◌++◌, ◌∷◌, [], ◌<◌, ◌&&◌, length, nat_eq, IfOk, OnOk};
 ghost use Rattle.std.specs.List.{list_all, list_any};
-ghost use Rattle.rt_formula.specs.Shared.{val, IsGrown};
+ghost use Rattle.rt_formula.specs.Shared.{bool_at, val, IsGrown};
 ghost use Rattle.rt_annot.specs.Annotated.{AreNodes, IsNode, Reads};
 ghost use Rattle.rt_annot.specs.Joints.{AreJoints, AreMembers, join_joint, pair_joints, product_joints, unit_joints, joint_entries};
 
-use crate::gate::is_never;
+use crate::gate::{both, is_never};
 use crate::rows::note;
 use rt_formula::{Dag, Node, Noted};
 use rt_value::{List, NoMemory, Row};
@@ -146,4 +146,19 @@ pub fn meeting(
     }
     let children = with_node(alloc, nodes, condition)?;
     dag.all(children.as_slice())
+}
+
+/// The node that is true where the row of the place is there and the condition is true. A condition
+/// that is never true makes no new node.
+pub fn row_meeting(dag: &mut Dag, place: usize, condition: Node) -> Result<Node, NoMemory>
+    requires place { place < dag.old.rows }
+    requires condition { condition < length dag.old.entries }
+    ensures grown { IsGrown dag.old dag.new }
+    ensures node { IfOk result (λ n. IsNode dag.new n (λ s. bool_at s place && val dag.old s condition)) }
+{
+    if is_never(dag, condition) {
+        return Ok(condition);
+    }
+    let row = dag.row(place)?;
+    both(dag, row, condition)
 }

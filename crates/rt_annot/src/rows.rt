@@ -43,8 +43,8 @@ fn placed(alloc: Global, dag: &mut Dag, rows: &[Row], base: usize) -> Result<Lis
     Ok(out)
 }
 
-// The place of the first row of a table.
-fn first_place(given: &[List<Row>], number: usize) -> usize
+/// The place of the first row of a table.
+pub fn first_place(given: &[List<Row>], number: usize) -> usize
     requires { places given.now < 2 ^ 64 }
     ensures { result ≡ base_of number given.now }
 {

@@ -1,14 +1,14 @@
 //! The truth of conditions, subqueries included (ISO/IEC 9075-2, search condition). The innermost
 //! row in scope comes first in `env`.
-ghost use Rattle.std.specs.Prelude.{◌≡◌, map, IfOk, IfSome};
-ghost use Rattle.rt_value.specs.Value.{value_truth};
-ghost use Rattle.rt_algebra.specs.Expression.{wrapped, cell_of, value_by};
+ghost use Rattle.std.specs.Prelude.{◌≡◌, map, IfOk};
+ghost use Rattle.rt_algebra.specs.Expression.{wrapped};
 ghost use Rattle.rt_algebra.specs.Answer.{pred_by, is_yes, all_of, any_of};
 
 use crate::lists::{member_truth, some_truth};
 use crate::query::answer;
-use rt_algebra::{Expr, Pred, one_of_truth, value};
-use rt_value::{List, NoMemory, Op, Row, Truth, Value, compare, null_truth};
+use rt_algebra::{Pred, one_of_truth, value};
+use rt_split::compared;
+use rt_value::{List, NoMemory, Row, Truth, null_truth};
 use std::alloc::Global;
 
 /// The truth of a condition on the rows of the tables, under the rows in scope.
@@ -98,37 +98,4 @@ pub fn is_yes(truth: Truth) -> bool
     ensures { result ≡ is_yes truth }
 {
     truth == Truth::Yes
-}
-
-// The comparison of two expressions. Columns are compared in place, without copies.
-fn compared(alloc: Global, op: Op, a: &Expr, b: &Expr, env: &[&Row]) -> Result<Truth, NoMemory>
-    ensures { IfOk result (λ t. t ≡ value_truth op (value_by wrapped a.now (map (λ r. r.now) env.now)) (value_by wrapped b.now (map (λ r. r.now) env.now))) }
-{
-    match (column(a, env), column(b, env)) {
-        (Some(left), Some(right)) => Ok(compare(left, right, op)),
-        _ => {
-            let left = value(alloc, a, env)?;
-            let right = value(alloc, b, env)?;
-            Ok(compare(&left, &right, op))
-        }
-    }
-}
-
-// The value of a column that is there.
-fn column<'a>(expr: &Expr, env: &[&'a Row]) -> Option<&'a Value>
-    ensures { IfSome result (λ v. v.now ≡ value_by wrapped expr.now (map (λ r. r.now) env.now)) }
-{
-    match expr {
-        Expr::Col(up, at) => cell(env, *up, *at),
-        _ => None,
-    }
-}
-
-fn cell<'a>(env: &[&'a Row], up: usize, at: usize) -> Option<&'a Value>
-    ensures { IfSome result (λ v. v.now ≡ cell_of (map (λ r. r.now) env.now) up at) }
-{
-    match env.get(up) {
-        Some(row) => row.as_slice().get(at),
-        None => None,
-    }
 }

@@ -72,7 +72,15 @@ group_is old new k group inserted q =
       by true = refl
       by false = refl
 
--- a node joins the group of a row
+-- a node joins the group of a row, in place
+pub group_grows : (old new : Grouped) (k : List Value) (group : List ℕ) (n : ℕ) → group ≡ group_at old k → ((q : List Value) → group_at new q ≡ cond (row_eq q k) (group ++ n ∷ []) (group_at old q))
+    → (q : List Value) → group_at new q ≡ group_at old q ++ cond (row_eq q k) (n ∷ []) []
+group_grows old new k group n g joined q = joined q ∙ by (row_eq q k) refl where
+  by : (b : Bool) → row_eq q k ≡ b → cond b (group ++ n ∷ []) (group_at old q) ≡ group_at old q ++ cond b (n ∷ []) []
+  by true h = ap (λ ks. ks ++ n ∷ []) (g ∙ ap (group_at old) (at_same k q (at_is k q ∙ h)))
+  by false h = sym (append-nil (group_at old q))
+
+-- the same where the group is taken out and put back
 pub group_joins : (old less new : Grouped) (k : List Value) (group : List ℕ) (n : ℕ) → group ≡ group_at old k
     → ((q : List Value) → lookup (is_at (row_cmp q)) less ≡ cond (is_at (row_cmp k) q) None (lookup (is_at (row_cmp q)) old))
     → ((q : List Value) → lookup (is_at (row_cmp q)) new ≡ cond (is_at (row_cmp k) q) (Some (group ++ n ∷ [])) (lookup (is_at (row_cmp q)) less))

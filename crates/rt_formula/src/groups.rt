@@ -46,18 +46,17 @@ impl Groups {
         }
     }
 
-    /// Notes one more row. After an error the rows that are the same as it may be lost.
+    /// Notes one more row.
     pub fn put(&mut self, noted: &Noted) -> Result<(), NoMemory>
         ensures { OnOk result ((row : List Value) → group_at self.new row ≡ group_at self.old row ++ cond (row_eq row noted.now.row) (noted.now.node ∷ []) []) }
     {
-        let mut group = self
-            .nodes
-            .remove(&noted.row)
-            .unwrap_or(List::new(self.alloc));
-        group.push(noted.node)?;
-        let key = noted.row.copy(self.alloc)?;
-        self.nodes.insert(key, group)?;
-        Ok(())
+        match self.nodes.get_mut(&noted.row) {
+            Some(group) => group.push(noted.node),
+            None => {
+                let row = noted.row.copy(self.alloc)?;
+                self.set(row, noted.node)
+            }
+        }
     }
 
     /// Makes one node the whole group of a row. After an error the rows that are the same as it

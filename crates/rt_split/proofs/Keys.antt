@@ -1,12 +1,12 @@
 -- Rows that match by keys are those whose key columns are the same without NULL.
-use Rattle.std.proofs.Common.{◌≡◌, ℕ, ◌+◌, Bool, true, false, not, cond, ◌&&◌, ◌||◌, List, [], ◌∷◌, ◌++◌, map, Bor, None, Some, refl, sym, ap, ap₂, ◌∙◌, inl, inr, slice_index_or, Result, Ok, Err, IfOk}
-use Rattle.std.proofs.lemmas.Bool.{cases_Bool}
+use Rattle.std.proofs.Common.{◌≡◌, ℕ, ◌+◌, Bool, true, false, not, cond, ◌&&◌, ◌||◌, List, [], ◌∷◌, ◌++◌, map, Bor, Some, refl, sym, ap, ap₂, ◌∙◌, slice_index_or, Result, Ok, Err, IfOk}
 use Rattle.std.proofs.lemmas.List.{append-nil}
 use Rattle.std.proofs.lemmas.Map.Lookups.{CmpEqualImpliesEq, exact_signed, exact_bytes}
 use Rattle.std.specs.declared.cmp.Ordering.{Ordering}
 use Rattle.std.specs.declared.cmp.Ordering.TheVariants.{Less, Equal, Greater}
 use Rattle.std.specs.Map.{lookup}
 use Rattle.std.specs.BTreeMap.{is_at}
+use Rattle.std.specs.Option.{unwrap_or}
 use Rattle.std.specs.Ordering.{ordering_then, is_eq}
 use Rattle.rt_value.specs.declared.value.Op.TheVariants.{Eq}
 use Rattle.rt_value.specs.declared.value.Value.{Value}
@@ -57,22 +57,14 @@ at_is : (k q : List Value) → is_at (row_cmp k) q ≡ row_eq q k
 at_is k q = sym (row_ties k q) ∙ row_eq_equiv.symm k q
 
 -- a place joins those of a key
-pub place_joins : (old less new : Placed) (k : List Value) (places : List ℕ) (n : ℕ) → places ≡ places_at old k
-    → ((q : List Value) → lookup (is_at (row_cmp q)) less ≡ cond (is_at (row_cmp k) q) None (lookup (is_at (row_cmp q)) old))
-    → ((q : List Value) → lookup (is_at (row_cmp q)) new ≡ cond (is_at (row_cmp k) q) (Some (places ++ n ∷ [])) (lookup (is_at (row_cmp q)) less))
+pub place_joins : (old new : Placed) (k : List Value) (places : List ℕ) (n : ℕ) → places ≡ places_at old k
+    → ((q : List Value) → lookup (is_at (row_cmp q)) new ≡ cond (is_at (row_cmp k) q) (Some (places ++ n ∷ [])) (lookup (is_at (row_cmp q)) old))
     → (q : List Value) → places_at new q ≡ places_at old q ++ cond (row_eq q k) (n ∷ []) []
-place_joins old less new k places n g removed inserted q = elim (cases_Bool (is_at (row_cmp k) q)) [
-  | inl h ↦
-      let same : k ≡ q = at_same k q h in
-      let found : lookup (is_at (row_cmp q)) new ≡ Some (places ++ n ∷ []) = inserted q ∙ ap (λ b. cond b (Some (places ++ n ∷ [])) (lookup (is_at (row_cmp q)) less)) h in
-      let here : row_eq q k ≡ true = sym (at_is k q) ∙ h in
-      rw (found, here) (ap (λ ks. ks ++ n ∷ []) (g ∙ ap (places_at old) same))
-  | inr h ↦
-      let apart : lookup (is_at (row_cmp q)) new ≡ lookup (is_at (row_cmp q)) old =
-      inserted q ∙ ap (λ b. cond b (Some (places ++ n ∷ [])) (lookup (is_at (row_cmp q)) less)) h ∙ removed q ∙ ap (λ b. cond b None (lookup (is_at (row_cmp q)) old)) h in
-      let other : row_eq q k ≡ false = sym (at_is k q) ∙ h in
-      rw (apart, other) (sym (append-nil (places_at old q)))
-]
+place_joins old new k places n were joined q =
+    ap (λ o. unwrap_or o []) (joined q ∙ ap (λ b. cond b (Some (places ++ n ∷ [])) (lookup (is_at (row_cmp q)) old)) (at_is k q)) ∙ by (row_eq q k) refl where
+      by : (b : Bool) → row_eq q k ≡ b → unwrap_or (cond b (Some (places ++ n ∷ [])) (lookup (is_at (row_cmp q)) old)) [] ≡ places_at old q ++ cond b (n ∷ []) []
+      by true h = ap (λ ks. ks ++ n ∷ []) (were ∙ ap (places_at old) (at_same k q (at_is k q ∙ h)))
+      by false h = sym (append-nil (places_at old q))
 
 -- keys that compare Yes
 equal_yes : (x y : Value) → is_null x ≡ false → is_yes (op_truth Eq (value_cmp x y)) ≡ value_eq x y

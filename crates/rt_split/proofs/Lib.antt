@@ -4,3 +4,4 @@ pub mod Keys
 pub mod Joins
 pub mod Places
 pub mod Steps
+pub mod Refusing

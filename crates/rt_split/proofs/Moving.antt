@@ -294,7 +294,7 @@ module _ (fit : ℤ → ℤ) (base width : ℕ) (db : Tables) (env : Env) where
   simply : (y : Pred-F Pred Query) → simple_by fit (roll-Pred y) env ≡ simple_step fit (map-Pred Pred Query (Env → Truth) (Unit {0}) (simple_by fit) no_query y) env
   simply y = ap (λ f. f env) (fold-roll-Pred (Env → Truth) (Unit {0}) (simple_step fit) (λ q. tt) y)
 
-  layered : (y : Pred-F Pred Query) (d : Pred) → d ≡ roll-Pred y
+  pub layered : (y : Pred-F Pred Query) (d : Pred) → d ≡ roll-Pred y
       → pred_step fit (map-Pred Pred Query Condition Answer (pred_by fit) (answer_by fit) y) db env ≡ simple_step fit (map-Pred Pred Query (Env → Truth) (Unit {0}) (simple_by fit) no_query y) env
       → pred_by fit d db env ≡ simple_by fit d env
   layered y d e h = ap (λ x. pred_by fit x db env) e ∙ worth y ∙ h ∙ sym (simply y) ∙ ap (λ x. simple_by fit x env) (sym e)

@@ -1,3 +1,4 @@
 pub mod Index
 pub mod Join
+pub mod Refused
 pub mod Split

@@ -38,14 +38,19 @@ impl Index {
         }
     }
 
-    /// Puts the place of one more row. After an error the rows with the same key may be lost.
+    /// Puts the place of one more row.
     pub fn put(&mut self, key: Row, place: usize) -> Result<(), NoMemory>
         ensures { OnOk result ((other : List Value) → places_at self.new other ≡ places_at self.old other ++ cond (row_eq other key) (place ∷ []) []) }
     {
-        let mut places = self.places.remove(&key).unwrap_or(List::new(self.alloc));
-        places.push(place)?;
-        self.places.insert(key, places)?;
-        Ok(())
+        match self.places.get_mut(&key) {
+            Some(places) => places.push(place),
+            None => {
+                let mut places = List::new(self.alloc);
+                places.push(place)?;
+                self.places.insert(key, places)?;
+                Ok(())
+            }
+        }
     }
 
     /// The places of the rows with the key, none where no row has it.

@@ -3,8 +3,9 @@ ghost use Rattle.std.specs.Prelude.{◌≡◌, map, IfOk};
 ghost use Rattle.rt_algebra.specs.Expression.{wrapped};
 ghost use Rattle.rt_split.specs.Split.{simple_by, simple_all, simple_any, all_simple};
 
+use crate::comparison::compared;
 use rt_algebra::{Pred, one_of_truth, value};
-use rt_value::{NoMemory, Row, Truth, compare, null_truth};
+use rt_value::{NoMemory, Row, Truth, null_truth};
 use std::alloc::Global;
 
 /// Whether each of the conditions is true. They hold no subquery: a condition with one is unknown.
@@ -20,16 +21,13 @@ pub fn all_true(alloc: Global, conditions: &[Pred], env: &[&Row]) -> Result<bool
     Ok(true)
 }
 
+/// The truth of a condition, unknown where it asks a query.
 #[cycle(simple)]
-fn simple(alloc: Global, condition: &Pred, env: &[&Row]) -> Result<Truth, NoMemory>
+pub fn simple(alloc: Global, condition: &Pred, env: &[&Row]) -> Result<Truth, NoMemory>
     ensures { IfOk result (λ t. t ≡ simple_by wrapped condition.now (map (λ r. r.now) env.now)) }
 {
     match condition {
-        Pred::Cmp(op, a, b) => {
-            let left = value(alloc, a, env)?;
-            let right = value(alloc, b, env)?;
-            Ok(compare(&left, &right, *op))
-        }
+        Pred::Cmp(op, a, b) => compared(alloc, *op, a, b, env),
         Pred::IsNull(expr) => {
             let value = value(alloc, expr, env)?;
             Ok(null_truth(&value))

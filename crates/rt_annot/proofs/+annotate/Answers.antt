@@ -1,8 +1,8 @@
-use Rattle.std.proofs.Common.{◌∙◌, ap, ap₂, sym, None, Some, List, Bool, map, Bor, ◌∷◌, ◌&&◌, refl, [], subst, IfOk}
+use Rattle.std.proofs.Common.{◌∙◌, ◌+◌, ap, ap₂, sym, None, Some, List, Bool, map, Bor, ◌∷◌, ◌&&◌, refl, [], subst, IfOk, get_or, arith, length, rules, slice_set, add-zero, ◌≡◌}
 use Rattle.std.proofs.lemmas.List.{take_all}
 use Rattle.std.proofs.lemmas.Result.{IfOk-weaker}
 use Rattle.std.specs.List.{filter, list_all}
-use Rattle.rt_formula.specs.Shared.{val}
+use Rattle.rt_formula.specs.Shared.{bool_at, val}
 use Rattle.rt_value.specs.declared.value.Value.{Value}
 use Rattle.rt_value.specs.Value.{null_truth, value_truth}
 use Rattle.rt_algebra.specs.Answer.{answer_by, has_row, one_of_truth}
@@ -10,23 +10,24 @@ use Rattle.rt_algebra.specs.Expression.{wrapped, Env, row_by, value_by}
 use Rattle.rt_algebra.specs.declared.query.Query.{Query}
 use Rattle.rt_algebra.specs.declared.query.Pred.TheVariants as w
 use Rattle.rt_algebra.specs.declared.query.Query.TheVariants as v
+use Rattle.rt_schema.specs.Given.{base_of}
 use Rattle.rt_schema.specs.Kept.{kept}
 use Rattle.rt_annot.specs.Entries.{rows_at, selected}
-use Rattle.rt_annot.specs.Annotated.{IsGate, IsNode, entries_of, set_rows, test_under, yes_when, no_when, yes_of, no_of}
+use Rattle.rt_annot.specs.Annotated.{IsGate, IsNode, entries_of, placed, set_rows, test_under, yes_when, no_when, yes_of, no_of}
 use Rattle.rt_annot.specs.Joints.{GiveEach, joint_entries}
 use Rattle.rt_annot.proofs.Exact.{table_exact}
 use Rattle.rt_annot.specs.declared.sets.Side.TheVariants.{Standing, Missing}
 use Rattle.rt_annot.specs.Known.{AreKnown}
 use Rattle.rt_annot.proofs.Knowing.{known_last, known_more, last_within, known_place, known_places, known_stay, tells_same, tells_under}
-use Rattle.rt_annot.proofs.Growing.{grown_trans, all_stays, mean_stays, node_as, nodes_are, nodes_stay, noted_stay}
+use Rattle.rt_annot.proofs.Growing.{grown_trans, all_stays, mean_stays, node_as, node_never, nodes_are, nodes_stay, noted_stay}
 use Rattle.rt_annot.proofs.Distinct.{noted_at}
-use Rattle.rt_annot.proofs.Walking.{next_is, table_entries}
+use Rattle.rt_annot.proofs.Walking.{base_within, next_is, next_placed, scope_again, scope_room, scope_with, table_entries}
 use Rattle.rt_algebra.proofs.Equations.{at_table, at_cmp, at_is_null, at_one_of, at_select, at_project, at_union, at_except, at_intersect}
-use Rattle.rt_annot.proofs.Layers.{outcome, mean_push, mean_as, yes_more, no_more, joined_gate, joined_stops, and_gate, or_gate, exists_gate, member_gate, gives_as, gives_same, gives_stay, gives_of, gives_projected, gives_merged, choose, leave_out, choosing_at}
+use Rattle.rt_annot.proofs.Layers.{outcome, mean_push, mean_as, yes_more, no_more, joined_gate, joined_stops, and_gate, or_gate, exists_gate, member_gate, gives_as, gives_same, gives_stay, gives_of, gives_projected, gives_merged, choose, leave_out, choosing_at, choosing_start}
 use Rattle.rt_annot.proofs.Joining.{joint_below}
-use Rattle.rt_annot.proofs.Members.{choosing_rows, narrowed_rows, whole_rows, members_same, members_below, makes_product, makes_single, give_push, answers_more}
+use Rattle.rt_annot.proofs.Members.{chosen_rows, choosing_rows, narrowed_rows, whole_rows, members_same, members_below, makes_product, makes_single, give_push, answers_more}
 use Rattle.rt_annot.proofs.+annotate.Goals as goal
-use Rattle.rt_annot.proofs.+annotate.Goals.{evaluate::chosen-then-not-is_never+in_ok-note, evaluate::chosen-else-not-is_never}
+use Rattle.rt_annot.proofs.+annotate.Goals.{evaluate::chosen-then-not-is_never+in_ok-note, evaluate::chosen-else-not-is_never, evaluate::table_selection-then-not-is_never+in_ok-note, evaluate::table_selection-else-not-is_never}
 
 abbrev scope_of : List (Bor (List Value)) → Env
 scope_of rows = map (λ r. r.now) rows
@@ -239,8 +240,8 @@ conditions::test-returns-in-Cmp-clause-gate t c =
     let g = c.args.tables.now in
     let e = scope_of c.args.env.now in
     let k = c.in-Cmp in
-    IfOk-weaker c.compared.result _ _
-    (λ x h. outcome g e c.args.p.now (λ s. value_truth k.op (value_by wrapped k.a e) (value_by wrapped k.b e)) (λ s. at_cmp (kept g s) e k.op k.a k.b k.is) (λ s. refl) (λ s. refl) h) c.compared.ensures
+    IfOk-weaker c.comparison.result _ _
+    (λ x h. outcome g e c.args.p.now (λ s. value_truth k.op (value_by wrapped k.a e) (value_by wrapped k.b e)) (λ s. at_cmp (kept g s) e k.op k.a k.b k.is) (λ s. refl) (λ s. refl) h) c.comparison.ensures
 
 pub conditions::test-returns-in-IsNull-clause-gate : goal.conditions::test-returns-in-IsNull-clause-gate
 conditions::test-returns-in-IsNull-clause-gate t c =
@@ -269,25 +270,79 @@ conditions::test_row-returns-clause-gate t c =
 pub conditions::asked-returns-in-Some-clause-known : goal.conditions::asked-returns-in-Some-clause-known
 conditions::asked-returns-in-Some-clause-known t c = known_stay c.gate.ensures.grown c.looked_up.ensures.known
 
-pub conditions::asked-returns-in_ok-rows-in-None-clause-known : goal.conditions::asked-returns-in_ok-rows-in-None-clause-known
-conditions::asked-returns-in_ok-rows-in-None-clause-known t c = known_stay c.among.ensures.grown c.annotated.ensures.known
-
-pub conditions::asked-returns-in_ok-rows-in-None-clause-gate : goal.conditions::asked-returns-in_ok-rows-in-None-clause-gate
-conditions::asked-returns-in_ok-rows-in-None-clause-gate t c =
-    IfOk-weaker c.among.result _ _ (λ g h. h _ (gives_same c.as_slice-in-None.ensures c.in_ok-rows-in-None.ensures.gives)) c.among.ensures.gate
-
-pub evaluate::annotated-returns-in_ok-joints-in-Select-clause-grown : goal.evaluate::annotated-returns-in_ok-joints-in-Select-clause-grown
-evaluate::annotated-returns-in_ok-joints-in-Select-clause-grown t c = grown_trans c.joints.ensures.grown c.chosen.ensures.grown
-
-pub evaluate::annotated-returns-in_ok-joints-in-Select-clause-gives : goal.evaluate::annotated-returns-in_ok-joints-in-Select-clause-gives
-evaluate::annotated-returns-in_ok-joints-in-Select-clause-gives t c =
+pub evaluate::table_selection-loop-at-preserved : goal.evaluate::table_selection-loop-at-preserved
+evaluate::table_selection-loop-at-preserved t c =
     let g = c.args.tables.now in
     let e = scope_of c.args.env.now in
-    let p = c.in-Select.p in
-    IfOk-weaker c.chosen.result _ _
-    (λ out h. gives_as (λ s. answer_by wrapped c.args.q.now (kept g s) e)
-    (λ s. ap (λ x. filter (λ r. yes_when p g (r ∷ e) s) (answer_by wrapped x (kept g s) e)) c.get.ensures ∙ sym (at_select (kept g s) e c.in-Select.a p c.in-Select.is))
-    (choosing_rows (λ s. answer_by wrapped c.get.result.now (kept g s) e) p g e c.as_slice.ensures h c.in_ok-joints-in-Select.ensures.selected)) c.chosen.ensures.chosen
+    let p = c.args.p.now in
+    let i = c.loop-at.at in
+    let r = c.index-rows-at.result in
+    let base = c.first_place-base.result in
+    let u = test_under p g e in
+    let v = c.loop-at.invariant.choosing in
+    let f = λ (s : List Bool). bool_at s (base + i) && (u r).0 s in
+    let node : IsNode c.row_where.new.dag c.in_ok-node.node f =
+    node_as f (λ s. ap (λ x. bool_at s (base + i) && yes_when p g x s) (ap scope_of (c.as_slice.ensures ∙ c.set.ensures) ∙ c.loop-at.invariant.scope _)) c.in_ok-node.ensures.node in
+    let next = ap (λ es. selected es u) (next_placed base c.rows_at-rows.result.now i r c.loop-at-test.true c.index-rows-at.is) in
+    let P : List (Bor (List Value)) → Type 0 = λ inner. (row : Bor (List Value)) → map (λ r. r.now) (slice_set inner 0 row) ≡ row.now ∷ e in
+    let scope = subst P (sym c.set.ensures) (scope_again c.loop-at.inner _ e c.loop-at.invariant.scope) in
+    elim c.if-not-is_never.branch [
+      | evaluate::table_selection-then-not-is_never+in_ok-note w ↦ record { choosing = choosing_at refl w.out-is (choose r f v next c.row_where.ensures.grown (record { row = r; node = c.in_ok-node.node }) refl node w.in_ok-note.ensures); scope = scope; known = c.row_where.ensures.known }
+      | evaluate::table_selection-else-not-is_never w ↦ record { choosing = choosing_at refl w.out-is (leave_out r f v next c.row_where.ensures.grown (λ s. sym (node.same s) ∙ c.is_never.ensures w.if-not-is_never.false s)); scope = scope; known = c.row_where.ensures.known }
+    ]
+
+pub evaluate::table_selection-returns-in_err-node-clause-grown : goal.evaluate::table_selection-returns-in_err-node-clause-grown
+evaluate::table_selection-returns-in_err-node-clause-grown t c = grown_trans c.loop-at.invariant.choosing.grown c.row_where.ensures.grown
+
+pub evaluate::table_selection-returns-in_err-note-clause-grown : goal.evaluate::table_selection-returns-in_err-note-clause-grown
+evaluate::table_selection-returns-in_err-note-clause-grown t c = grown_trans c.loop-at.invariant.choosing.grown c.row_where.ensures.grown
+
+pub evaluate::table_selection-row_where-requires : goal.evaluate::table_selection-row_where-requires
+evaluate::table_selection-row_where-requires t c =
+    let rows : length c.rows_at-rows.result.now ≡ length (get_or c.args.tables.now c.args.number []) = ap length c.rows_at-rows.ensures in
+    let room = base_within c.args.tables.now c.args.number in
+    let base = c.first_place-base.ensures in
+    let all = c.loop-at.invariant.choosing.grown.rows ∙ c.requires.places in
+    let here = c.loop-at-test.true in
+    (search rules, (all, (c.loop-at.invariant.known, omega (arith, rows, room, base, all, here))))
+
+pub evaluate::table_selection-loop-at-init : goal.evaluate::table_selection-loop-at-init
+evaluate::table_selection-loop-at-init t c =
+    let e = scope_of c.args.env.now in
+    let u = test_under c.args.p.now c.args.tables.now e in
+    record {
+      choosing = choosing_start c.args.dag.now c.new-out.ensures (ap (λ k. selected (placed k c.rows_at-rows.result.now) u) (add-zero c.first_place-base.result));
+      scope = scope_with c.from_vec-inner.result _ e (ap scope_of c.from_vec-inner.ensures ∙ c.in_ok-scope.ensures);
+      known = c.requires.known;
+    }
+
+pub evaluate::table_selection-set-requires : goal.evaluate::table_selection-set-requires
+evaluate::table_selection-set-requires t c = scope_room c.loop-at.inner (scope_of c.args.env.now) c.loop-at.invariant.scope
+
+pub evaluate::table_selection-overflow_add-base : goal.evaluate::table_selection-overflow_add-base
+evaluate::table_selection-overflow_add-base t c =
+    let rows : length c.rows_at-rows.result.now ≡ length (get_or c.args.tables.now c.args.number []) = ap length c.rows_at-rows.ensures in
+    let room = base_within c.args.tables.now c.args.number in
+    let base = c.first_place-base.ensures in
+    let all = c.loop-at.invariant.choosing.grown.rows ∙ c.requires.places in
+    let here = c.loop-at-test.true in
+    omega (arith, rows, room, base, all, here)
+
+pub evaluate::row_where-returns-then-branch-clause-node : goal.evaluate::row_where-returns-then-branch-clause-node
+evaluate::row_where-returns-then-branch-clause-node t c =
+    node_never (λ s. bool_at s c.args.place) (λ s. yes_when c.args.p.now c.args.tables.now (scope_of c.args.env.now) s) c.no.ensures.node c.no.ensures.means (λ s. c.in_ok-is_refused.ensures c.if-branch.true (kept c.args.tables.now s))
+
+pub evaluate::row_where-returns-clause-grown : goal.evaluate::row_where-returns-clause-grown
+evaluate::row_where-returns-clause-grown t c = grown_trans c.test.ensures.grown c.row_meeting.ensures.grown
+
+pub evaluate::row_where-returns-clause-known : goal.evaluate::row_where-returns-clause-known
+evaluate::row_where-returns-clause-known t c = known_stay c.row_meeting.ensures.grown c.test.ensures.known
+
+pub evaluate::row_where-returns-clause-node : goal.evaluate::row_where-returns-clause-node
+evaluate::row_where-returns-clause-node t c =
+    let gate : IsGate c.test.new.dag c.in_ok-gate.gate (yes_when c.args.p.now c.args.tables.now (scope_of c.args.env.now), no_when c.args.p.now c.args.tables.now (scope_of c.args.env.now)) = c.in_ok-gate.ensures.gate in
+    IfOk-weaker c.row_meeting.result _ _
+    (λ n h. node_as (λ s. bool_at s c.args.place && yes_when c.args.p.now c.args.tables.now (scope_of c.args.env.now) s) (λ s. ap (λ b. bool_at s c.args.place && b) (gate.yes.same s)) h) c.row_meeting.ensures.node
 
 pub evaluate::annotated-returns-in_ok-first-in-Union-clause-grown : goal.evaluate::annotated-returns-in_ok-first-in-Union-clause-grown
 evaluate::annotated-returns-in_ok-first-in-Union-clause-grown t c = grown_trans c.annotated-in-Union.ensures.grown c.combined.ensures.grown
@@ -379,17 +434,56 @@ conditions::looked_up-returns-clause-within t c = last_within c.newly.new.known 
 pub conditions::asked-returns-in-Some-clause-grown : goal.conditions::asked-returns-in-Some-clause-grown
 conditions::asked-returns-in-Some-clause-grown t c = grown_trans c.looked_up.ensures.grown c.gate.ensures.grown
 
-pub conditions::asked-returns-in_err-rows-in-None-clause-grown : goal.conditions::asked-returns-in_err-rows-in-None-clause-grown
-conditions::asked-returns-in_err-rows-in-None-clause-grown t c = grown_trans c.looked_up.ensures.grown c.annotated.ensures.grown
-
-pub conditions::asked-returns-in_ok-rows-in-None-clause-grown : goal.conditions::asked-returns-in_ok-rows-in-None-clause-grown
-conditions::asked-returns-in_ok-rows-in-None-clause-grown t c = grown_trans (grown_trans c.looked_up.ensures.grown c.annotated.ensures.grown) c.among.ensures.grown
-
 pub conditions::asked-among-requires : goal.conditions::asked-among-requires
-conditions::asked-among-requires t c = noted_at c.annotated.new.dag c.as_slice-in-None.ensures c.in_ok-rows-in-None.ensures.gives.below
+conditions::asked-among-requires t c = noted_at c.annotated.new.dag c.as_slice-in-Some-sought.ensures c.in_ok-rows-in-Some-sought.ensures.gives.below
 
 pub evaluate::members-returns-clause-give : goal.evaluate::members-returns-clause-give
 evaluate::members-returns-clause-give t c =
     let rows = λ (q : Query) (s : List Bool). answer_by wrapped q (kept c.args.tables.now s) (scope_of c.args.env.now) in
     let P : List Query → Type 0 = λ qs. GiveEach c.loop-q.dag c.loop-q.out (λ s. map (λ q. rows q s) qs) in
     subst P (take_all c.loop-q.q-index c.args.qs.now c.loop-q-test.false) c.loop-q.invariant.give
+
+pub conditions::asked-returns-in_ok-rows-in-Some-sought-clause-known : goal.conditions::asked-returns-in_ok-rows-in-Some-sought-clause-known
+conditions::asked-returns-in_ok-rows-in-Some-sought-clause-known t c = known_stay c.among.ensures.grown c.annotated.ensures.known
+
+pub conditions::asked-returns-in_ok-rows-in-Some-sought-clause-gate : goal.conditions::asked-returns-in_ok-rows-in-Some-sought-clause-gate
+conditions::asked-returns-in_ok-rows-in-Some-sought-clause-gate t c =
+    IfOk-weaker c.among.result _ _ (λ g h. h _ (gives_same c.as_slice-in-Some-sought.ensures c.in_ok-rows-in-Some-sought.ensures.gives)) c.among.ensures.gate
+
+pub conditions::some_row-returns-in_ok-rows-in_default-clause-grown : goal.conditions::some_row-returns-in_ok-rows-in_default-clause-grown
+conditions::some_row-returns-in_ok-rows-in_default-clause-grown t c = grown_trans c.annotated.ensures.grown c.among.ensures.grown
+
+pub conditions::some_row-returns-in_ok-rows-in_default-clause-known : goal.conditions::some_row-returns-in_ok-rows-in_default-clause-known
+conditions::some_row-returns-in_ok-rows-in_default-clause-known t c = known_stay c.among.ensures.grown c.annotated.ensures.known
+
+pub conditions::some_row-returns-in_ok-rows-in_default-clause-gate : goal.conditions::some_row-returns-in_ok-rows-in_default-clause-gate
+conditions::some_row-returns-in_ok-rows-in_default-clause-gate t c =
+    IfOk-weaker c.among.result _ _ (λ g h. h _ (gives_same c.as_slice.ensures c.in_ok-rows-in_default.ensures.gives)) c.among.ensures.gate
+
+pub evaluate::annotated-returns-in-Table-get-clause-gives : goal.evaluate::annotated-returns-in-Table-get-clause-gives
+evaluate::annotated-returns-in-Table-get-clause-gives t c =
+    let g = c.args.tables.now in
+    let e = scope_of c.args.env.now in
+    let p = c.in-Select.p in
+    let n = c.in-Table-get.t in
+    IfOk-weaker c.table_selection.result _ _
+    (λ out h. gives_as (λ s. answer_by wrapped c.args.q.now (kept g s) e)
+    (λ s. ap (filter (λ r. yes_when p g (r ∷ e) s)) (ap (rows_at s) (table_entries g n) ∙ table_exact s g (λ u. u) n ∙ sym (at_table (kept g s) e n (sym c.get.ensures ∙ c.in-Table-get.is)))
+    ∙ sym (at_select (kept g s) e c.in-Select.a p c.in-Select.is))
+    (chosen_rows (placed (base_of n g) (get_or g n [])) p g e h)) c.table_selection.ensures.chosen
+
+pub evaluate::annotated-returns-in_ok-joints-in_default-clause-grown : goal.evaluate::annotated-returns-in_ok-joints-in_default-clause-grown
+evaluate::annotated-returns-in_ok-joints-in_default-clause-grown t c = grown_trans c.joints.ensures.grown c.chosen.ensures.grown
+
+pub evaluate::annotated-returns-in_ok-joints-in_default-clause-known : goal.evaluate::annotated-returns-in_ok-joints-in_default-clause-known
+evaluate::annotated-returns-in_ok-joints-in_default-clause-known t c = c.chosen.ensures.known
+
+pub evaluate::annotated-returns-in_ok-joints-in_default-clause-gives : goal.evaluate::annotated-returns-in_ok-joints-in_default-clause-gives
+evaluate::annotated-returns-in_ok-joints-in_default-clause-gives t c =
+    let g = c.args.tables.now in
+    let e = scope_of c.args.env.now in
+    let p = c.in-Select.p in
+    IfOk-weaker c.chosen.result _ _
+    (λ out h. gives_as (λ s. answer_by wrapped c.args.q.now (kept g s) e)
+    (λ s. ap (λ x. filter (λ r. yes_when p g (r ∷ e) s) (answer_by wrapped x (kept g s) e)) c.get.ensures ∙ sym (at_select (kept g s) e c.in-Select.a p c.in-Select.is))
+    (choosing_rows (λ s. answer_by wrapped c.get.result.now (kept g s) e) p g e c.as_slice.ensures h c.in_ok-joints-in_default.ensures.selected)) c.chosen.ensures.chosen

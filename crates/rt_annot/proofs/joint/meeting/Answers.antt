@@ -1,23 +1,16 @@
-use Rattle.std.proofs.Common.{◌≡◌, ◌<◌, ◌∙◌, Bool, true, false, ◌&&◌, List, length, sym, ap, refl}
+use Rattle.std.proofs.Common.{◌≡◌, ◌<◌, ◌∙◌, Bool, ◌&&◌, List, length, ap}
 use Rattle.std.specs.List.{list_all}
 use Rattle.rt_formula.specs.Shared.{val}
 use Rattle.rt_annot.specs.Annotated.{IsNode}
-use Rattle.rt_annot.proofs.Growing.{nodes_are}
+use Rattle.rt_annot.proofs.Growing.{node_never, nodes_are}
 use Rattle.rt_annot.proofs.Joining.{all_more, both_hold, one_more}
 use Rattle.rt_annot.proofs.joint.meeting.Goals as goal
 
-and_false : (b : Bool) → (b && false) ≡ false
-and_false true = refl
-and_false false = refl
-
 pub returns-then-is_never-clause-node : goal.returns-then-is_never-clause-node
-returns-then-is_never-clause-node c = record {
-  below = c.requires.condition;
-  same = λ s.
-      let f = c.is_never.ensures c.if-is_never.true s in
-      let others = list_all (val c.args.dag.now s) c.args.nodes.now in
-      f ∙ sym (ap (λ b. others && b) f ∙ and_false others);
-}
+returns-then-is_never-clause-node c =
+    let v = λ (s : List Bool). val c.args.dag.now s in
+    let never = c.is_never.ensures c.if-is_never.true in
+    node_never (λ s. list_all (v s) c.args.nodes.now) (λ s. v s c.args.condition) c.requires.condition never never
 
 pub all-requires : goal.all-requires
 all-requires c =
