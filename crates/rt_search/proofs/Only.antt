@@ -14,7 +14,7 @@ use Rattle.rt_clause.proofs.Extending.{extends-gate, gate-means, model-older}
 use Rattle.rt_formula.specs.Shared.{Shared}
 use Rattle.rt_solver.specs.Answers.{HasNone}
 use Rattle.rt_search.specs.Aimed.{IsAimed}
-use Rattle.rt_search.specs.Alone.{AllowsFew, AreKept, IsLonger, IsOnly, IsOther}
+use Rattle.rt_search.specs.Alone.{AllowsFew, AreKept, HasMoreLines, IsOnly, IsOther}
 use Rattle.rt_search.specs.Attempts.{IsAnswered, IsGrown}
 use Rattle.rt_search.specs.Least.{IsLeast}
 use Rattle.rt_search.specs.Sought.{IsSought}
@@ -104,7 +104,7 @@ other-begun d goal cone lines first new next n best lits kept held all asked a l
       grown = g;
     }
 
-pub other-longer : (d : Shared) (goal : ℕ) (cone : List Bool) (lines first new : List (List Literal)) (next : ℕ) (best : List Bool) (lits : List Literal) (held all asked : Literal) → IsPut d goal cone lines first new next best lits held all asked → IsLonger lines new
+pub other-longer : (d : Shared) (goal : ℕ) (cone : List Bool) (lines first new : List (List Literal)) (next : ℕ) (best : List Bool) (lits : List Literal) (held all asked : Literal) → IsPut d goal cone lines first new next best lits held all asked → HasMoreLines lines new
 other-longer d goal cone lines first new next best lits held all asked o = record {
   more = gate all lits ++ o.grown.more;
   lines = o.grown.lines ∙ ap (λ ls. ls ++ o.grown.more) o.all_is ∙ append_assoc lines (gate all lits) o.grown.more;

@@ -26,6 +26,6 @@ pub record AreKept (keep : List Bool) (rows : ℕ) (lits : List Literal) : Type 
   pub each : (v : ℕ) → v < rows → slice_index_or keep v false ≡ true → (l : Literal) × (has lits l ≡ true) × (l.var ≡ v) × (l.on ≡ true)
 
 -- lines were added
-pub record IsLonger (old new : List (List Literal)) : Type 0 where
+pub record HasMoreLines (old new : List (List Literal)) : Type 0 where
   pub more : List (List Literal)
   pub lines : new ≡ old ++ more

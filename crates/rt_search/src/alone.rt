@@ -3,7 +3,7 @@
 
 ghost use Rattle.std.specs.Prelude.{◌≡◌, ◌≤◌, ◌<◌, ◌^◌, IfOk, length};
 ghost use Rattle.rt_search.specs.Aimed.{IsAimed};
-ghost use Rattle.rt_search.specs.Alone.{AllowsFew, AreKept, IsLonger, IsOther};
+ghost use Rattle.rt_search.specs.Alone.{AllowsFew, AreKept, HasMoreLines, IsOther};
 ghost use Rattle.rt_search.specs.Sought.{IsSought};
 
 use crate::ask::ask;
@@ -49,7 +49,7 @@ pub(crate) fn other(
     ensures rows { IfOk result (λ _. named.new.rows ≡ named.old.rows) }
     ensures wider { IfOk result (λ _. named.old.next ≤ named.new.next) }
     ensures small { IfOk result (λ _. named.new.next < 2 ^ 61) }
-    ensures longer { IfOk result (λ _. IsLonger solver.old.0.lines solver.new.0.lines) }
+    ensures longer { IfOk result (λ _. HasMoreLines solver.old.0.lines solver.new.0.lines) }
     ensures aimed { IfOk result (λ _. IsAimed dag.now goal cone.now solver.new.0.lines named.new.next) }
     ensures other { IfOk result (IsOther (IsSought dag.now goal cone.now) best.now) }
 {
