@@ -3,6 +3,7 @@ from __future__ import annotations
 
 import getpass
 import os
+import pwd
 import shutil
 import signal
 import socket
@@ -66,8 +67,8 @@ def hosts(tmp_path_factory: pytest.TempPathFactory) -> Iterator[list[str]]:
 
 
 def place_of(exercise: Path) -> Path:
-    """What an exercise has on the hosts."""
-    return Path.home() / place_on_hosts(exercise / "results/work")
+    """What an exercise has on the hosts, where sshd begins in the home of the user's account, whatever HOME says."""
+    return Path(pwd.getpwuid(os.getuid()).pw_dir) / place_on_hosts(exercise / "results/work")
 
 
 def test_two_hosts(ratest: Path, tmp_path: Path, hosts: list[str]) -> None:

@@ -2,8 +2,8 @@
 hypothesis can put a generator of its own in its place.
 
 SQLite is kept away from what it does otherwise than the standard: no sum that could leave 64 bits, no text
-compared with a number (`ratest` refuses it), no column in ON of a source that comes later, foreign keys to
-keys alone. PostgreSQL has no type for an expression of NULLs alone, so none is drawn.
+compared with a number (`ratest` refuses it), no column in ON of a source outside of its join, also where a
+source around has the same name, foreign keys to keys alone. PostgreSQL has no type for an expression of NULLs alone, so none is drawn.
 """
 from __future__ import annotations
 
@@ -29,7 +29,7 @@ WIDE_NUMBERS: tuple[int, ...] = NUMBERS + (2**63 - 1, -2**63, 2**62, -(2**63) + 
 TEXTS: tuple[str, ...] = ("a", "b", "A", "it's", "é", "☃😀", "a,b", 'say "x"', " a", "NULL", "10", "9", "line\nend", "--")
 COLUMN_NAMES = ("a", "b", "c", "d")
 TABLE_NAMES = ("t", "u", "v", "Odd name", "größe")
-ALIASES = ("x", "y", "z", "w", "p", "q", "r", "s")
+ALIASES = ("x", "y", "z", "w", "p", "q", "r", "s", "g", "h", "j", "k", "l", "m", "n", "o")
 
 
 @dataclass(frozen=True)
@@ -159,11 +159,12 @@ class Draw:
 
     def select(self, depth: int, outer: list[list[Visible]], kinds: Optional[tuple[Kind, ...]]) -> Select:
         taken: list[str] = []
+        closed: set[str] = set()
         own: list[Visible] = []
         everything: list[tuple[str, Kind]] = []
         sources = []
         for _ in range(1 if self.chance(0.6) else self.random.randint(1, self.limits.sources)):
-            sources.append(self.source(depth, outer, taken, own, everything))
+            sources.append(self.source(depth, outer, taken, closed, own, everything))
         scopes = [own] + outer
         where = self.condition(depth, scopes) if self.chance(0.7) else None
         if kinds is None and self.chance(0.2):
@@ -174,23 +175,26 @@ class Draw:
                       for at, (item, kind) in enumerate(zip(items, wanted)))
         return Select(items, tuple(sources), where, named)
 
-    def source(self, depth: int, outer: list[list[Visible]], taken: list[str], own: list[Visible],
+    def source(self, depth: int, outer: list[list[Visible]], taken: list[str], closed: set[str], own: list[Visible],
                everything: list[tuple[str, Kind]]) -> Source:
-        head, seen = self.base(depth, outer, taken, everything)
+        head, seen = self.base(depth, outer, taken, closed, everything)
         visible = [seen]
         joins = []
         while len(taken) < self.limits.sources and self.chance(0.25):
-            base, seen = self.base(depth, outer, taken, everything)
+            base, seen = self.base(depth, outer, taken, closed, everything)
             visible.append(seen)
-            on = None if self.chance(0.15) else self.condition(min(depth, 1), [list(visible)] + outer)
+            # In ON, SQLite sees each source of FROM in place of one around that has its name.
+            around = [[other for other in scope if other.alias not in taken] for scope in outer]
+            closed |= {other.alias for scope in around for other in scope}
+            on = None if self.chance(0.15) else self.condition(min(depth, 1), [list(visible)] + around)
             joins.append(Join(base, on))
         own += visible
         return Source(head, tuple(joins))
 
-    def base(self, depth: int, outer: list[list[Visible]], taken: list[str],
+    def base(self, depth: int, outer: list[list[Visible]], taken: list[str], closed: set[str],
              everything: list[tuple[str, Kind]]) -> tuple[Base, Visible]:
-        # An alias may hide one of a scope around.
-        alias = self.pick([name for name in ALIASES if name not in taken])
+        # An alias may hide one of a scope around, where no ON before it spoke of that scope.
+        alias = self.pick([name for name in ALIASES if name not in taken and name not in closed])
         taken.append(alias)
         of: Union[str, Query]
         if depth > 0 and self.chance(0.15):
