@@ -9,16 +9,21 @@ import subprocess
 import sys
 
 PR_SET_PDEATHSIG = 1
+ENDINGS = (signal.SIGTERM, signal.SIGHUP, signal.SIGINT)
 
 
 def main() -> int:
-    for number in (signal.SIGTERM, signal.SIGHUP, signal.SIGINT):
+    # A signal waits until the program is known, so that none leaves it behind.
+    waiting = signal.pthread_sigmask(signal.SIG_BLOCK, ENDINGS)
+    for number in ENDINGS:
         signal.signal(number, lambda *_: sys.exit(1))
     ctypes.CDLL(None).prctl(PR_SET_PDEATHSIG, signal.SIGTERM)
     if os.getppid() != int(sys.argv[1]):
         return 1
-    process = subprocess.Popen(sys.argv[2:], process_group=0)
+    process = subprocess.Popen(
+        sys.argv[2:], process_group=0, preexec_fn=lambda: signal.pthread_sigmask(signal.SIG_SETMASK, waiting))
     try:
+        signal.pthread_sigmask(signal.SIG_SETMASK, waiting)
         return process.wait()
     finally:
         try:

@@ -36,13 +36,14 @@ class Ran(NamedTuple):
 def run(words: Sequence[str], limits: Limits, folder: Optional[str] = None) -> Ran:
     """Runs a program in a folder, with nothing on its standard input and no environment but a PATH.
 
-    The first word is the program's path. A program that doesn't start raises OSError. Where the caller is
-    stopped, so is the program.
+    The first word is the program's path. A program that doesn't start raises OSError. Where the caller
+    ends, however it does, so does the program.
     """
     if not os.access(words[0], os.X_OK):
         raise FileNotFoundError(2, "no program", words[0])
     most = round(limits.output * MEGABYTE)
-    wrapped = ["prlimit", f"--as={limits.megabytes * MEGABYTE}", f"--fsize={most + 1}", "--core=0", "--", *words]
+    wrapped = ["setpriv", "--pdeathsig", "KILL", "prlimit", f"--as={limits.megabytes * MEGABYTE}",
+               f"--fsize={most + 1}", "--core=0", "--", *words]
     with tempfile.TemporaryFile() as out, tempfile.TemporaryFile() as err:
         begun = time.monotonic()
         process = subprocess.Popen(

@@ -29,7 +29,7 @@ from classroom.limited import Limits, Ran
 MOST_HERE, MOST_ON_HOSTS = 16, 64    # jobs in a batch
 # It ends with GNU parallel, and then the worker on the host does at its next line.
 SSH = "setpriv --pdeathsig KILL ssh -o BatchMode=yes -o ConnectTimeout=10"
-MAIN = "import sys\nfrom classroom.worker import main\nsys.exit(main(sys.argv[0], sys.argv[1]))\n"
+MAIN = "import sys\nfrom classroom.worker import main\nsys.exit(main(*sys.argv))\n"
 
 
 @dataclass(frozen=True)
@@ -71,7 +71,7 @@ def run(jobs: Sequence[Job], programs: Mapping[str, Path], shared: Mapping[str, 
         words += ["--sshloginfile", "hosts", "--ssh", SSH, "--basefile", "./bundle.pyz",
                   "--workdir", place_on_hosts(work), "--cleanup", "--retries", "3", "exec python3 bundle.pyz {}"]
     else:
-        words += [f"exec {shlex.quote(sys.executable)} -S -P bundle.pyz {{}}"]
+        words += [f"exec {shlex.quote(sys.executable)} -S -P bundle.pyz {{}} $PARALLEL_PID"]
     try:
         yield from lines(words, work, means)
     finally:
@@ -197,7 +197,7 @@ def fault_of(parallel: Sequence[str], host: str, work: Path) -> str:
     try:
         ran = subprocess.run(
             [*parallel, "--nonall", "--ssh", SSH, "--sshlogin", host,
-             "for program in python3 rsync prlimit; do command -v $program >/dev/null || echo $program; done"],
+             "for program in python3 rsync prlimit setpriv; do command -v $program >/dev/null || echo $program; done"],
             stdin=subprocess.DEVNULL, capture_output=True, encoding="utf-8", errors="replace", timeout=40,
             env=environment(work), check=False)
     except subprocess.TimeoutExpired:

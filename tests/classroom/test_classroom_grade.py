@@ -183,6 +183,15 @@ def at_work(folder: Path) -> list[str]:
     return found
 
 
+def is_left(folder: Path) -> bool:
+    """Whether nothing runs in a folder any more, within ten seconds."""
+    for _ in range(200):
+        if not at_work(folder):
+            return True
+        time.sleep(0.05)
+    return False
+
+
 @pytest.mark.parametrize("number", [signal.SIGKILL, signal.SIGTERM, signal.SIGINT])
 def test_nothing_runs_on(tmp_path: Path, number: signal.Signals) -> None:
     """What a run that is stopped started ends with it."""
@@ -192,11 +201,11 @@ def test_nothing_runs_on(tmp_path: Path, number: signal.Signals) -> None:
     program.chmod(0o755)
     process = subprocess.Popen([TOP / "classroom", "grade", exercise], stdout=subprocess.DEVNULL, stderr=subprocess.PIPE,
                                start_new_session=True, env={**os.environ, "RATEST": str(program)})
-    for _ in range(400):
+    for _ in range(2000):
         if any(words.startswith("sleep") for words in at_work(exercise / "results")):
             break
         time.sleep(0.05)
-    assert at_work(exercise / "results")
+    assert any(words.startswith("sleep") for words in at_work(exercise / "results"))
     if number == signal.SIGINT:
         os.killpg(process.pid, number)
     else:
@@ -205,11 +214,25 @@ def test_nothing_runs_on(tmp_path: Path, number: signal.Signals) -> None:
     if number == signal.SIGINT:
         assert process.returncode == 130
         assert told == b"classroom: stopped; the same command goes on from here\n"
-    for _ in range(200):
-        if not at_work(exercise / "results"):
-            break
-        time.sleep(0.05)
-    assert at_work(exercise / "results") == []
+    assert is_left(exercise / "results")
+
+
+def test_nothing_runs_on_that_has_just_begun(tmp_path: Path) -> None:
+    """The same where the run is killed while what it starts is still starting."""
+    exercise = single(tmp_path / "x", endless="SELECT * FROM t")
+    program = tmp_path / "ratest"
+    program.write_text('#!/bin/sh\ncmp -s "$3" "$4" || exec sleep 100\n')
+    program.chmod(0o755)
+    chosen = random.Random(7)
+    for _ in range(12):
+        process = subprocess.Popen([TOP / "classroom", "grade", exercise], stdout=subprocess.DEVNULL, stderr=subprocess.DEVNULL,
+                                   start_new_session=True, env={**os.environ, "RATEST": str(program)})
+        while not at_work(exercise / "results") and process.poll() is None:
+            time.sleep(0.01)
+        time.sleep(chosen.uniform(0, 0.5))
+        process.kill()
+        process.wait()
+        assert is_left(exercise / "results")
 
 
 def test_progress_is_shown_on_a_terminal_alone(ratest: Path, beers: Path) -> None:
