@@ -251,7 +251,7 @@ if text.startswith("tells"):
 if "for best" in text:
     print("undecided: 50 conflicts\\nbest so far: 1\\nbar 1: 'Joe''s', 'Durham'")
     sys.exit(4)
-time.sleep(0.3 if text.startswith("takes") else 0)
+time.sleep(1 if text.startswith("takes") else 0)
 print("agree")
 """
 
@@ -283,7 +283,7 @@ def test_time_and_the_best_rows_so_far(beers: Path, stand_in: Path) -> None:
     with serving(beers, "--time", "2", ratest=stand_in) as server:
         begun = time.monotonic()
         got = server.ask("1", "sleeps")
-        assert 1.9 < time.monotonic() - begun < 6
+        assert 1.9 < time.monotonic() - begun < 20
         assert got.verdict == "no verdict" and "There is no verdict within 2 seconds." in got.answer
         got = server.ask("1", "sleeps for best")
         assert got.verdict == "differs on 1 row, perhaps on fewer" and "Best rows so far" in got.answer
@@ -361,7 +361,7 @@ def test_stopped_while_it_answers(beers: Path, stand_in: Path, ends: str) -> Non
         asker = threading.Thread(target=lambda: pytest.raises(Exception, server.ask, "1", "sleeps"))
         asker.start()
         family: list[int] = []
-        for _ in range(200):
+        for _ in range(1200):
             family = server.family()
             if family and (stand_in.parent / "calls").exists() and calls(stand_in, "sleeps"):
                 break
@@ -372,7 +372,7 @@ def test_stopped_while_it_answers(beers: Path, stand_in: Path, ends: str) -> Non
         else:
             assert server.stop() == 0
         asker.join()
-        for _ in range(100):
+        for _ in range(600):
             if not any(Path(f"/proc/{number}").exists() for number in family):
                 break
             time.sleep(0.05)
@@ -430,7 +430,7 @@ def test_slow_requests_hold_nobody_up(server: Server) -> None:
             slow.append(connection)
         begun = time.monotonic()
         assert server.ask("3", RIGHT).verdict == "agrees"
-        assert time.monotonic() - begun < 5
+        assert time.monotonic() - begun < 20
     finally:
         for connection in slow:
             connection.close()
