@@ -22,6 +22,7 @@ from classroom.limited import Ran
 
 FULL = bool(os.environ.get("CLASSROOM_FULL"))
 PYTHON = "/usr/bin/python3"
+SLEEP = "sleep\x00100\x00"    # the words of a process, as /proc has them
 
 
 def lines(exercise: Path) -> dict[tuple[str, str], list[str]]:
@@ -202,10 +203,10 @@ def test_nothing_runs_on(tmp_path: Path, number: signal.Signals) -> None:
     process = subprocess.Popen([TOP / "classroom", "grade", exercise], stdout=subprocess.DEVNULL, stderr=subprocess.PIPE,
                                start_new_session=True, env={**os.environ, "RATEST": str(program)})
     for _ in range(2000):
-        if any(words.startswith("sleep") for words in at_work(exercise / "results")):
+        if any(words == SLEEP for words in at_work(exercise / "results")):
             break
         time.sleep(0.05)
-    assert any(words.startswith("sleep") for words in at_work(exercise / "results"))
+    assert any(words == SLEEP for words in at_work(exercise / "results"))
     if number == signal.SIGINT:
         os.killpg(process.pid, number)
     else:
