@@ -17,6 +17,8 @@ TOP = Path(__file__).resolve().parents[2]
 SECONDS = 60.0
 MEMORY = 4 << 30
 NO_VARIABLES: dict[str, str] = {}
+# A file system in memory: on a disk, making and removing the folder takes longer than all else of a small case.
+IN_MEMORY = "/dev/shm"
 
 
 def program(name: str) -> str:
@@ -62,10 +64,15 @@ def query_text(query: Query) -> str:
     return Writer("ratest").query(query) + "\n"
 
 
+def place_of_folders() -> Optional[str]:
+    """Where folders are made: in memory where that can be had, unless TMPDIR says where; else where Python makes them."""
+    return None if "TMPDIR" in os.environ or not os.access(IN_MEMORY, os.W_OK | os.X_OK) else IN_MEMORY
+
+
 @contextmanager
 def folder_of(case: Case) -> Iterator[Path]:
     """A folder with `schema.sql`, a CSV file a table, `1.sql` and `2.sql`."""
-    with tempfile.TemporaryDirectory(prefix="ratest-compare-") as place:
+    with tempfile.TemporaryDirectory(prefix="ratest-compare-", dir=place_of_folders()) as place:
         folder = Path(place)
         (folder / "schema.sql").write_text(schema(case, "ratest"), encoding="utf-8")
         for table in case.tables:
