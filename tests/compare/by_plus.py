@@ -95,7 +95,7 @@ class Rows:
         for choice in database.choices():
             if database.put(choice):
                 found |= database.answer(database.first)
-                database.clear()
+                database.clear(choice)
             if len(found) >= 3:
                 break
         if not found:
@@ -106,7 +106,7 @@ class Rows:
         for choice in database.choices():
             if database.put(choice):
                 first, second = database.answer(database.first), database.answer(database.second)
-                database.clear()
+                database.clear(choice)
                 if row in first and row not in second:
                     return witness_text(database.case, list(choice), first, second)
         return "never\n"

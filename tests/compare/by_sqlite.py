@@ -40,10 +40,11 @@ class Database:
             return False
         return True
 
-    def clear(self) -> None:
+    def clear(self, places: tuple[Place, ...]) -> None:
+        """Takes these rows out again, which are all that are there."""
         self.connection.execute("BEGIN")
-        for table in self.case.tables:
-            self.connection.execute(f"DELETE FROM {quoted(table.name)}")
+        for name in {name for name, _ in places}:
+            self.connection.execute(f"DELETE FROM {quoted(name)}")
         self.connection.execute("COMMIT")
 
     def close(self) -> None:
@@ -61,13 +62,13 @@ class Database:
     def choices(self) -> Iterator[tuple[Place, ...]]:
         """From the smallest, in the order of the rows; without rows that no choice may have."""
         places = []
+        # Foreign keys are left to the whole choice.
+        self.connection.execute("PRAGMA foreign_keys = OFF")
         for place in self.case.places():
-            # Foreign keys are left to the whole choice.
-            self.connection.execute("PRAGMA foreign_keys = OFF")
             if self.put((place,)):
                 places.append(place)
-                self.clear()
-            self.connection.execute("PRAGMA foreign_keys = ON")
+                self.clear((place,))
+        self.connection.execute("PRAGMA foreign_keys = ON")
         for size in range(len(places) + 1):
             yield from combinations(places, size)
 
@@ -84,7 +85,7 @@ def expected(database: Database) -> str:
             if database.do_differ():
                 first, second = database.answer(database.first), database.answer(database.second)
                 return witness_text(database.case, list(choice), first, second)
-            database.clear()
+            database.clear(choice)
     return "agree\n"
 
 
