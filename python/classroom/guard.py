@@ -14,16 +14,16 @@ ENDINGS = (signal.SIGTERM, signal.SIGHUP, signal.SIGINT)
 
 def main() -> int:
     # A signal waits until the program is known, so that none leaves it behind.
-    waiting = signal.pthread_sigmask(signal.SIG_BLOCK, ENDINGS)
+    before = signal.pthread_sigmask(signal.SIG_BLOCK, ENDINGS)
     for number in ENDINGS:
         signal.signal(number, lambda *_: sys.exit(1))
     ctypes.CDLL(None).prctl(PR_SET_PDEATHSIG, signal.SIGTERM)
     if os.getppid() != int(sys.argv[1]):
         return 1
     process = subprocess.Popen(
-        sys.argv[2:], process_group=0, preexec_fn=lambda: signal.pthread_sigmask(signal.SIG_SETMASK, waiting))
+        sys.argv[2:], process_group=0, preexec_fn=lambda: signal.pthread_sigmask(signal.SIG_SETMASK, before))
     try:
-        signal.pthread_sigmask(signal.SIG_SETMASK, waiting)
+        signal.pthread_sigmask(signal.SIG_SETMASK, before)
         return process.wait()
     finally:
         try:

@@ -184,8 +184,22 @@ def at_work(folder: Path) -> list[str]:
     return found
 
 
-def is_left(folder: Path) -> bool:
-    """Whether nothing runs in a folder any more, within ten seconds."""
+def endless(folder: Path) -> Path:
+    """An exercise, beside a program that stands for `ratest` and sleeps where the queries differ."""
+    program = folder / "ratest"
+    program.write_text('#!/bin/sh\ncmp -s "$3" "$4" || exec sleep 100\n')
+    program.chmod(0o755)
+    return single(folder / "x", endless="SELECT * FROM t")
+
+
+def begun(exercise: Path, errors: int) -> subprocess.Popen[bytes]:
+    """A run that grades it with that program."""
+    return subprocess.Popen([TOP / "classroom", "grade", exercise], stdout=subprocess.DEVNULL, stderr=errors,
+                            start_new_session=True, env={**os.environ, "RATEST": str(exercise.parent / "ratest")})
+
+
+def comes_to_rest(folder: Path) -> bool:
+    """Whether within ten seconds nothing runs in a folder any more."""
     for _ in range(200):
         if not at_work(folder):
             return True
@@ -196,12 +210,8 @@ def is_left(folder: Path) -> bool:
 @pytest.mark.parametrize("number", [signal.SIGKILL, signal.SIGTERM, signal.SIGINT])
 def test_nothing_runs_on(tmp_path: Path, number: signal.Signals) -> None:
     """What a run that is stopped started ends with it."""
-    exercise = single(tmp_path / "x", endless="SELECT * FROM t")
-    program = tmp_path / "ratest"
-    program.write_text('#!/bin/sh\ncmp -s "$3" "$4" || exec sleep 100\n')
-    program.chmod(0o755)
-    process = subprocess.Popen([TOP / "classroom", "grade", exercise], stdout=subprocess.DEVNULL, stderr=subprocess.PIPE,
-                               start_new_session=True, env={**os.environ, "RATEST": str(program)})
+    exercise = endless(tmp_path)
+    process = begun(exercise, subprocess.PIPE)
     for _ in range(2000):
         if any(words == SLEEP for words in at_work(exercise / "results")):
             break
@@ -215,25 +225,21 @@ def test_nothing_runs_on(tmp_path: Path, number: signal.Signals) -> None:
     if number == signal.SIGINT:
         assert process.returncode == 130
         assert told == b"classroom: stopped; the same command goes on from here\n"
-    assert is_left(exercise / "results")
+    assert comes_to_rest(exercise / "results")
 
 
 def test_nothing_runs_on_that_has_just_begun(tmp_path: Path) -> None:
     """The same where the run is killed while what it starts is still starting."""
-    exercise = single(tmp_path / "x", endless="SELECT * FROM t")
-    program = tmp_path / "ratest"
-    program.write_text('#!/bin/sh\ncmp -s "$3" "$4" || exec sleep 100\n')
-    program.chmod(0o755)
+    exercise = endless(tmp_path)
     chosen = random.Random(7)
     for _ in range(12):
-        process = subprocess.Popen([TOP / "classroom", "grade", exercise], stdout=subprocess.DEVNULL, stderr=subprocess.DEVNULL,
-                                   start_new_session=True, env={**os.environ, "RATEST": str(program)})
+        process = begun(exercise, subprocess.DEVNULL)
         while not at_work(exercise / "results") and process.poll() is None:
             time.sleep(0.01)
         time.sleep(chosen.uniform(0, 0.5))
         process.kill()
         process.wait()
-        assert is_left(exercise / "results")
+        assert comes_to_rest(exercise / "results")
 
 
 def test_progress_is_shown_on_a_terminal_alone(ratest: Path, beers: Path) -> None:

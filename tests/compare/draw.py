@@ -3,7 +3,8 @@ hypothesis can put a generator of its own in its place.
 
 SQLite is kept away from what it does otherwise than the standard: no sum that could leave 64 bits, no text
 compared with a number (`ratest` refuses it), no column in ON of a source outside of its join, also where a
-source around has the same name, foreign keys to keys alone. PostgreSQL has no type for an expression of NULLs alone, so none is drawn.
+source around has the same name, foreign keys to keys alone. PostgreSQL has no type for an expression of NULLs
+alone, so none is drawn.
 """
 from __future__ import annotations
 
