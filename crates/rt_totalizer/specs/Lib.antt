@@ -1,3 +1,4 @@
 pub mod Cell
 pub mod Cells
+pub mod Merging
 pub mod Outputs
