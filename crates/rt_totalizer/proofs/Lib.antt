@@ -1,4 +1,7 @@
+pub mod Growing
 pub mod CellLaws
-pub mod Firsts
+pub mod Listing
+pub mod Merging
+pub mod Ranges
 pub mod Rows
 pub mod Totals

@@ -1,4 +1,5 @@
-pub mod Cell
 pub mod Cells
+pub mod Clauses
 pub mod Merging
 pub mod Outputs
+pub mod Sums

@@ -1,88 +1,60 @@
-//! The cells of the counter after one row more. How they are laid out is private: what they count is
-//! `AreCells`.
+//! The cells of a range of rows. What they count is `IsRange`.
 
-ghost use Rattle.std.specs.Prelude.{◌≡◌, ◌≤◌, ◌<◌, ◌^◌, IfOk, length};
-ghost use Rattle.rt_clause.specs.Lists.{IsBelow};
-ghost use Rattle.rt_totalizer.specs.Cells.{cell_at, Count, IsLeftOut, IsRowOf};
+ghost use Rattle.std.specs.Prelude.{◌≡◌, ◌<◌, ◌++◌, ◌∷◌, [], ◌-◌, IfOk, length, replicate};
+ghost use Rattle.rt_clause.specs.Literal.{Literal, negated};
+ghost use Rattle.rt_totalizer.specs.Cells.{cell_at, first_cells};
 
-use crate::cell::{cell, implies};
-use rt_clause::{Adds, Lit, LitList};
-use rt_value::{Keep, List, NoMemory};
+use rt_clause::{Lit, LitList};
+use rt_value::{List, NoMemory};
 use std::alloc::Global;
 
+/// The variables of a counter stay below.
 pub(crate) const MOST_VARIABLES: usize = 1 << 61;
 
-/// The cells after some rows, from the one of no rows on, and the first unused variable.
+/// For each number of rows up to a bound, from no row on, the literal that is true where at least so
+/// many rows of the range are kept. At most `most` of them can be.
 #[derive(Drop)]
 pub(crate) struct Cells {
     pub(crate) list: LitList,
-    pub(crate) next: usize,
+    pub(crate) most: usize,
 }
 
-fn at(cells: &LitList, k: usize) -> Lit
-    requires { k < length cells.now }
-    ensures { result ≡ cell_at cells.now k }
-{
-    cells.as_slice()[k]
-}
-
-// The cells with one more row. Those of more rows than there are so far stay as they were; each new
-// one but the first implies the one of fewer rows, which its meaning says already and which spares
-// the solver the way there row by row.
-fn with_row<A: Adds>(alloc: Global, row: usize, old: &Cells, to: &mut A) -> Result<Cells, NoMemory>
-    requires row { row < old.now.next }
-    requires some { 0 < length old.now.list }
-    requires low { IsBelow old.now.next old.now.list }
-    requires few { old.now.next ≤ 2 ^ 61 }
-    requires count { Count old.now.list row (A.lines to.old) }
-    ensures len { IfOk result (λ new. length new.list ≡ length old.now.list) }
-    ensures few { IfOk result (λ new. new.next ≤ 2 ^ 61) }
-    ensures row { IfOk result (λ new. IsRowOf row old.now.list old.now.next (A.lines to.old) new.list new.next (A.lines to.new)) }
-{
-    let mut list: LitList = List::new(alloc);
-    list.push(at(&old.list, 0))?;
-    let mut next = old.next;
-    for k in 1..old.list.len() {
-        let same = at(&old.list, k);
-        if k > row + 1 {
-            list.push(same)?;
-            continue;
-        }
-        if next >= MOST_VARIABLES {
-            return Err(NoMemory);
-        }
-        let out = Lit::of(next, true);
-        cell(out, same, Lit::of(row, true), at(&old.list, k - 1), to)?;
-        list.push(out)?;
-        next += 1;
-        if k > 1 {
-            implies(out, at(&list, k - 1), to)?;
-        }
+impl Cells {
+    /// The literal that at least k rows are kept.
+    pub(crate) fn at(&self, k: usize) -> Lit
+        requires { k < length self.now.list }
+        ensures { result ≡ cell_at self.now.list k }
+    {
+        self.list.as_slice()[k]
     }
-    Ok(Cells { list, next })
+
+    /// The cells where no row can be kept.
+    pub(crate) fn none(alloc: Global, upto: usize, never: Lit) -> Result<Cells, NoMemory>
+        ensures list { IfOk result (λ cells. cells.list ≡ first_cells (negated never) upto) }
+        ensures most { IfOk result (λ cells. cells.most ≡ 0) }
+    {
+        let list = followed(alloc, &[never.negated()], upto, never)?;
+        Ok(Cells { list, most: 0 })
+    }
+
+    /// The cells of one row.
+    pub(crate) fn one(alloc: Global, upto: usize, never: Lit, row: Lit) -> Result<Cells, NoMemory>
+        requires { 0 < upto }
+        ensures list { IfOk result (λ cells. cells.list ≡ negated never ∷ row ∷ replicate (upto - 1) never) }
+        ensures most { IfOk result (λ cells. cells.most ≡ 1) }
+    {
+        let list = followed(alloc, &[never.negated(), row], upto - 1, never)?;
+        Ok(Cells { list, most: 1 })
+    }
 }
 
-/// The cells after one more row. Where it is left out they stay as they were.
-pub(crate) fn after_row<A: Adds>(
-    alloc: Global,
-    among: &Keep,
-    row: usize,
-    old: Cells,
-    to: &mut A,
-) -> Result<Cells, NoMemory>
-    requires among { row < length among.now }
-    requires out { IsLeftOut among.now row (A.lines to.old) }
-    requires row { row < old.next }
-    requires some { 0 < length old.list }
-    requires low { IsBelow old.next old.list }
-    requires few { old.next ≤ 2 ^ 61 }
-    requires count { Count old.list row (A.lines to.old) }
-    ensures len { IfOk result (λ new. length new.list ≡ length old.list) }
-    ensures few { IfOk result (λ new. new.next ≤ 2 ^ 61) }
-    ensures row { IfOk result (λ new. IsRowOf row old.list old.next (A.lines to.old) new.list new.next (A.lines to.new)) }
+// Some literals, and then `never` so many times.
+fn followed(alloc: Global, front: &[Lit], count: usize, never: Lit) -> Result<LitList, NoMemory>
+    ensures { IfOk result (λ list. list ≡ front.now ++ replicate count never) }
 {
-    if !among.is(row) {
-        return Ok(old);
+    let mut list = List::from_slice(alloc, front)?;
+    for _ in 0..count {
+        list.push(never)?;
     }
-    with_row(alloc, row, &old, to)
+    Ok(list)
 }

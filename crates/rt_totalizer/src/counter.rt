@@ -1,48 +1,23 @@
-//! The counter of the kept rows, and the literals by which it is asked.
+//! The counter of the kept rows.
 
 ghost use Rattle.std.specs.Prelude.{◌≡◌, ℕ, ◌≤◌, ◌<◌, ◌∷◌, IfOk, OnErr, length};
 ghost use Rattle.rt_clause.specs.Literal.{Literal};
-ghost use Rattle.rt_clause.specs.Lists.{AreBelow, IsBelow, line_at};
+ghost use Rattle.rt_clause.specs.Lists.{AreBelow, IsBelow};
 ghost use Rattle.rt_clause.specs.Gates.{Extends};
-ghost use Rattle.rt_totalizer.specs.Cells.{first_cells, IsLeftOut};
-ghost use Rattle.rt_totalizer.specs.Outputs.{CountsFirst, CountsRows, first_at};
+ghost use Rattle.rt_totalizer.specs.Cells.{IsLeftOut};
+ghost use Rattle.rt_totalizer.specs.Outputs.{CountsRows};
 
-use crate::cells::{Cells, MOST_VARIABLES, after_row};
+use crate::blocks::all_rows;
+use crate::cells::MOST_VARIABLES;
 use rt_clause::{Adds, Lit, LitList, Named, gate};
 use rt_value::{Keep, List, NoMemory};
 use std::alloc::Global;
 
 /// The literals of a counter: the j-th output, counted from 1, is true exactly where at least j rows
-/// are kept. For each number of first rows there are literals that say the same of those rows alone,
-/// from no row on.
+/// are kept.
 #[derive(Drop)]
 pub struct Outputs {
     pub outs: LitList,
-    pub firsts: List<LitList>,
-}
-
-impl Outputs {
-    /// The literal that is true exactly where at least `kept` of the first `rows` rows are kept.
-    pub fn at_least(&self, kept: usize, rows: usize) -> Lit
-        requires rows { rows < length self.now.firsts }
-        requires kept { kept < length (line_at self.now.firsts rows) }
-        ensures { result ≡ first_at self.now.firsts rows kept }
-    {
-        let cells = &self.firsts.as_slice()[rows];
-        cells.as_slice()[kept]
-    }
-}
-
-// The cells before any row: at least no row is always kept, and no more than that.
-fn first_cells(alloc: Global, upto: usize, always: Lit) -> Result<LitList, NoMemory>
-    ensures { IfOk result (λ cells. cells ≡ first_cells always upto) }
-{
-    let mut cells: LitList = List::new(alloc);
-    cells.push(always)?;
-    for _ in 0..upto {
-        cells.push(always.negated())?;
-    }
-    Ok(cells)
 }
 
 // All but the first.
@@ -73,7 +48,6 @@ pub fn count<A: Adds>(
     ensures low { IfOk result (λ o. IsBelow named.new.next o.outs) }
     ensures extends { IfOk result (λ _. Extends (A.lines to.old) named.old.next (A.lines to.new) named.new.next) }
     ensures counts { IfOk result (λ o. CountsRows named.old.rows (A.lines to.new) o.outs) }
-    ensures firsts { IfOk result (λ o. CountsFirst named.old.rows upto named.new.next (A.lines to.new) o.firsts) }
     ensures err { OnErr result (named.new ≡ named.old) }
 {
     let all = Keep::all(alloc, named.rows(), true)?;
@@ -99,26 +73,22 @@ pub fn count_among<A: Adds>(
     ensures low { IfOk result (λ o. IsBelow named.new.next o.outs) }
     ensures extends { IfOk result (λ _. Extends (A.lines to.old) named.old.next (A.lines to.new) named.new.next) }
     ensures counts { IfOk result (λ o. CountsRows named.old.rows (A.lines to.new) o.outs) }
-    ensures firsts { IfOk result (λ o. CountsFirst named.old.rows upto named.new.next (A.lines to.new) o.firsts) }
     ensures err { OnErr result (named.new ≡ named.old) }
 {
+    if upto == 0 {
+        return Ok(Outputs {
+            outs: List::new(alloc),
+        });
+    }
     let start = named.next();
     if start >= MOST_VARIABLES {
         return Err(NoMemory);
     }
-    let always = Lit::of(start, true);
-    gate(alloc, always, &[], to)?;
-    let mut cells = Cells {
-        list: first_cells(alloc, upto, always)?,
-        next: start + 1,
-    };
-    let mut firsts: List<LitList> = List::new(alloc);
-    firsts.push(List::from_slice(alloc, cells.list.as_slice())?)?;
-    for row in 0..named.rows() {
-        cells = after_row(alloc, among, row, cells, to)?;
-        firsts.push(List::from_slice(alloc, cells.list.as_slice())?)?;
-    }
-    let outs = rest(alloc, &cells.list)?;
-    *named = Named::of(named.rows(), cells.next, named.goal());
-    Ok(Outputs { outs, firsts })
+    let never = Lit::of(start, false);
+    gate(alloc, never.negated(), &[], to)?;
+    let mut next = start + 1;
+    let total = all_rows(alloc, among, upto, never, &mut next, to)?;
+    let outs = rest(alloc, &total.list)?;
+    *named = Named::of(named.rows(), next, named.goal());
+    Ok(Outputs { outs })
 }

@@ -1,13 +1,17 @@
-//! Counting rows by clauses (a sequential counter; Sinz, "Towards an optimal CNF encoding of Boolean
-//! cardinality constraints", 2005).
+//! Counting rows by clauses (a totalizer; Bailleux and Boufkhad, "Efficient CNF encoding of Boolean
+//! cardinality constraints", 2003).
 //!
-//! After each row there is a cell for each number of rows up to a bound: a literal that is true
-//! exactly where at least so many of the rows so far are kept. A cell has one variable and five
-//! clauses, and the cells after the last row are the outputs.
+//! Over a range of rows there is a cell for each number of rows up to a bound: a literal that is true
+//! exactly where at least so many of these rows are kept. The cells of two neighbouring ranges are
+//! merged to those of both, with one variable a cell. The rows are cut into blocks. Each block is
+//! merged as a balanced tree, and then to the cells of all rows before it. The cells of all rows are
+//! the outputs.
 #![tactic(auto)]
 
-mod cell;
+mod blocks;
 mod cells;
+mod clauses;
 mod counter;
+mod merge;
 
 pub use counter::{Outputs, count, count_among};
