@@ -1,7 +1,10 @@
-pub mod Growing
 pub mod CellLaws
+pub mod Growing
 pub mod Listing
 pub mod Merging
+pub mod Outcomes
 pub mod Ranges
+pub mod ReadRows
 pub mod Rows
 pub mod Totals
+pub mod TrueClauses

@@ -1,5 +1,5 @@
 -- Laws of cells that count a range of rows.
-use Rattle.std.proofs.Common.{◌≡◌, ℕ, zero, suc, ◌+◌, ◌<◌, ◌≤◌, nat_le, Bool, true, false, cond, not, ◌⊎◌, inl, inr, List, [], ◌∷◌, ◌++◌, replicate, length, length-append, slice_index_or, refl, sym, ap, subst, ◌∙◌, arith}
+use Rattle.std.proofs.Common.{◌≡◌, ℕ, zero, suc, ◌+◌, ◌<◌, ◌≤◌, nat_le, Bool, true, false, cond, not, inl, inr, List, [], ◌∷◌, ◌++◌, replicate, length, length-append, slice_index_or, refl, sym, ap, subst, ◌∙◌, arith}
 use Rattle.std.specs.Bool.{beq}
 use Rattle.rt_clause.specs.Literal.{Literal, negated}
 use Rattle.rt_clause.specs.Lists.{has, Closed, IsBelow}
@@ -12,6 +12,7 @@ use Rattle.rt_totalizer.specs.Cells.{cell_at, first_cells, kept_below, kept_from
 use Rattle.rt_totalizer.specs.Merging.{IsOutput}
 use Rattle.rt_totalizer.proofs.Rows.{each-cell, below-more, le-true, le-false}
 
+-- two ranges side by side, and all rows below n
 pub kept-sum : (low a b : ℕ) (bools : List Bool) → kept_from low (a + b) bools ≡ kept_from low a bools + kept_from (low + a) b bools
 kept-sum low a zero bools = ap (λ (n : ℕ). kept_from low n bools) (let e : a + 0 ≡ a = omega arith in e) ∙ omega arith
 kept-sum low a (suc b) bools =
@@ -31,6 +32,7 @@ kept-all (suc n) bools =
     ap (λ (v : ℕ). cond (slice_index_or bools v false) (kept_from 0 n bools + 1) (kept_from 0 n bools)) e
     ∙ ap (λ (c : ℕ). cond (slice_index_or bools n false) (c + 1) c) (kept-all n bools)
 
+-- what holds of lines holds of those that go on from them
 pub never-on : (never : Literal) (lines more : List (List Literal)) → IsNever never lines → IsNever never (lines ++ more)
 never-on never lines more h = record {
   in_model = λ bools m. h.in_model bools (model-older lines more bools m);
@@ -48,6 +50,7 @@ range-on among rows never low n most cells next m lines more w r = record {
   told = λ set c bools a. r.told set (closed-front lines more set c) bools a;
 }
 
+-- one more cell: a new output, or, beyond the rows that there are, never
 pub range-output : (among : List Bool) (rows : ℕ) (never : Literal) (low n most k : ℕ) (cells : List Literal) (next : ℕ) (lines more : List (List Literal)) (out : Literal)
     → IsRange among rows never low n most cells next lines → length cells ≡ k → k ≤ most → out ≡ record { var = next; on = true } → IsOutput among rows low n k out next lines (lines ++ more)
     → IsRange among rows never low n most (cells ++ out ∷ []) (next + 1) (lines ++ more)
@@ -62,11 +65,11 @@ range-output among rows never low n most k cells next lines more out r s f e o =
       each-cell (λ j l. IsToldAs set l (nat_le j (kept_from low n bools))) cells out (r.told set (closed-front lines more set c) bools a) (subst P (sym s) (o.told set c bools a)));
 }
 
--- a literal that is told to be false
-told-false : (set : List Literal) (l : Literal) (b : Bool) → b ≡ false → has set (negated l) ≡ true → IsToldAs set l b
+-- a literal that is told to be false, or true
+pub told-false : (set : List Literal) (l : Literal) (b : Bool) → b ≡ false → has set (negated l) ≡ true → IsToldAs set l b
 told-false set l b e h = let P : Bool → Type 0 = IsToldAs set l in subst P (sym e) h
 
-told-true : (set : List Literal) (l : Literal) (b : Bool) → b ≡ true → has set l ≡ true → IsToldAs set l b
+pub told-true : (set : List Literal) (l : Literal) (b : Bool) → b ≡ true → has set l ≡ true → IsToldAs set l b
 told-true set l b e h = let P : Bool → Type 0 = IsToldAs set l in subst P (sym e) h
 
 pub range-never : (among : List Bool) (rows : ℕ) (never : Literal) (low n most k : ℕ) (cells : List Literal) (next : ℕ) (lines : List (List Literal)) → IsNever never lines → never.var < next
@@ -126,6 +129,7 @@ first-told never upto low n bools set f c (suc k) b =
     subst P (sym (first-beyond never upto (suc k) (omega arith) b))
     (told-false set never (nat_le (suc k) (kept_from low n bools)) (le-false (suc k) (kept_from low n bools) (omega (arith, c))) f)
 
+-- the cells of no rows
 pub range-none : (among : List Bool) (rows : ℕ) (never : Literal) (low upto next : ℕ) (lines : List (List Literal)) → IsNever never lines → never.var < next
     → IsRange among rows never low 0 0 (first_cells (negated never) upto) next lines
 range-none among rows never low upto next lines z v = record {
@@ -144,6 +148,7 @@ kept-one low bools = let e : low + 0 ≡ low = omega arith in ap (λ (v : ℕ). 
 kept-none : (low : ℕ) (bools : List Bool) → slice_index_or bools low false ≡ false → kept_from low 1 bools ≡ 0
 kept-none low bools h = kept-one low bools ∙ ap (λ b. cond b 1 0) h
 
+-- the cells of a row that is not among these
 pub range-out : (among : List Bool) (rows low upto next : ℕ) (never : Literal) (lines : List (List Literal)) → IsNever never lines → never.var < next → low < rows
     → slice_index_or among low false ≡ false → IsLeftOut among low lines → IsRange among rows never low 1 0 (first_cells (negated never) upto) next lines
 range-out among rows low upto next never lines z v b f out =
@@ -210,6 +215,7 @@ row-told never low upto bools set f t (suc (suc k)) b =
     subst P (sym (row-beyond never low upto (suc (suc k)) (omega arith) b))
     (told-false set never (nat_le (suc (suc k)) (kept_from low 1 bools)) (le-false (suc (suc k)) (kept_from low 1 bools) (omega (arith, few, e))) f)
 
+-- and of one that is
 pub range-row : (among : List Bool) (rows low upto next : ℕ) (never : Literal) (lines : List (List Literal)) (cells : List Literal) → IsNever never lines → never.var < next → low < rows → low < next
     → slice_index_or among low false ≡ true → cells ≡ negated never ∷ record { var = low; on = true } ∷ replicate upto never → IsRange among rows never low 1 1 cells next lines
 range-row among rows low upto next never lines cells z v b w f e =

@@ -1,5 +1,5 @@
 -- The cells of all rows are the outputs.
-use Rattle.std.proofs.Common.{◌≡◌, ℕ, zero, suc, ◌+◌, ◌-◌, ◌<◌, ◌≤◌, nat_le, Bool, true, false, cond, List, [], ◌∷◌, length, slice_index_or, fold, refl, sym, ap, subst, ◌∙◌, arith}
+use Rattle.std.proofs.Common.{◌≡◌, ℕ, zero, suc, ◌+◌, ◌-◌, nat_le, Bool, true, false, cond, List, [], ◌∷◌, length, slice_index_or, fold, refl, sym, ap, subst, ◌∙◌, arith}
 use Rattle.rt_value.specs.Keep.{size}
 use Rattle.rt_clause.specs.Literal.{Literal}
 use Rattle.rt_clause.specs.Gates.{AgreeBelow}

@@ -80,6 +80,7 @@ pub fn count_among<A: Adds>(
             outs: List::new(alloc),
         });
     }
+    let rows = named.rows();
     let start = named.next();
     if start >= MOST_VARIABLES {
         return Err(NoMemory);
@@ -89,6 +90,6 @@ pub fn count_among<A: Adds>(
     let mut next = start + 1;
     let total = all_rows(alloc, among, upto, never, &mut next, to)?;
     let outs = rest(alloc, &total.list)?;
-    *named = Named::of(named.rows(), next, named.goal());
+    *named = Named::of(rows, next, named.goal());
     Ok(Outputs { outs })
 }
