@@ -7,4 +7,4 @@ pub mod Ranges
 pub mod ReadRows
 pub mod Rows
 pub mod Totals
-pub mod TrueClauses
+pub mod Without

@@ -6,7 +6,7 @@ use Rattle.rt_clause.proofs.Bools.{bool-cases}
 use Rattle.rt_clause.proofs.EachLine.{EachLine, each-none, each-cons, each-append}
 use Rattle.rt_totalizer.specs.Clauses.{up_there, down_there}
 use Rattle.rt_totalizer.specs.Merging.{up, down, HasLine, IsMerging}
-use Rattle.rt_totalizer.proofs.Rows.{le-true}
+use Rattle.rt_totalizer.proofs.Rows.{le-true, le-false}
 
 -- those for fewer than i rows on the left
 abbrev pub listed : Literal → List Literal → List Literal → ℕ → ℕ → ℕ → Literal → ℕ → List (List Literal)
@@ -139,3 +139,42 @@ module _ (never : Literal) (left right : List Literal) (most_left most_right k :
 
 pub there-is : (a b c d : ℕ) (clause : List Literal) → a ≤ b → c ≤ d → clause ∷ [] ≡ cond (nat_le a b && nat_le c d) (clause ∷ []) []
 there-is a b c d clause h g = let p = le-true a b h in let q = le-true c d g in λ t. cond (sym p t && sym q t) (clause ∷ []) []
+
+there-none : (a b c d : ℕ) (clause : List Literal) → (b < a) ⊎ (d < c) → cond (nat_le a b && nat_le c d) (clause ∷ []) [] ≡ []
+there-none a b c d clause h = elim h [
+  | inl x ↦ ap (λ p. cond (p && nat_le c d) (clause ∷ []) []) (le-false a b x)
+  | inr y ↦ ap (λ p. cond (nat_le a b && p) (clause ∷ []) []) (le-false c d y) ∙ by (nat_le a b)
+] where
+  by : (p : Bool) → cond (p && false) (clause ∷ []) [] ≡ []
+  by true = refl
+  by false = refl
+
+module _ (never : Literal) (left right : List Literal) (most_left most_right k : ℕ) (out : Literal) where
+  -- where the right cannot have the others of k, there are none yet
+  pub listed-early : (i : ℕ) → i ≤ k - 1 - most_right → listed never left right most_left most_right k out i ≡ []
+  listed-early zero b = refl
+  listed-early (suc i) b =
+      let u : up_there never left right most_left most_right out i (k - i) ≡ [] = there-none i most_left (k - i) most_right (up never left right out i (k - i)) (inr (omega (arith, b))) in
+      let d : down_there never left right most_left most_right out i (k - i - 1) ≡ [] = there-none i most_left (k - i - 1) most_right (down never left right out i (k - i - 1)) (inr (omega (arith, b))) in
+      let o = listed-early i (omega (arith, b)) in
+      λ t. o t ++ u t ++ d t
+
+  later : (i n : ℕ) → most_left < i → listed never left right most_left most_right k out (i + n) ≡ listed never left right most_left most_right k out i
+  later i zero b = ap (λ (j : ℕ). listed never left right most_left most_right k out j) (let e : i + 0 ≡ i = omega arith in e)
+  later i (suc n) b =
+      let j = i + n in
+      let L = listed never left right most_left most_right k out in
+      let e : i + suc n ≡ suc (i + n) = omega arith in
+      let u : up_there never left right most_left most_right out j (k - j) ≡ [] = there-none j most_left (k - j) most_right (up never left right out j (k - j)) (inl (omega (arith, b))) in
+      let d : down_there never left right most_left most_right out j (k - j - 1) ≡ [] = there-none j most_left (k - j - 1) most_right (down never left right out j (k - j - 1)) (inl (omega (arith, b))) in
+      ap L e ∙ (λ t. L j ++ u t ++ d t) ∙ nil (L j ++ []) ∙ nil (L j) ∙ later i n b where
+        nil : (xs : List (List Literal)) → xs ++ [] ≡ xs
+        nil [] = refl
+        nil (x ∷ xs) = ap (λ ys. x ∷ ys) (nil xs)
+
+  -- and where the left cannot have so many, no more
+  pub listed-late : (i : ℕ) → i ≤ k → (most_left < i) ⊎ (i ≡ k) → listed never left right most_left most_right k out i ≡ listed never left right most_left most_right k out k
+  listed-late i b h = elim h [
+    | inl x ↦ (let e : i + (k - i) ≡ k = omega (arith, b) in sym (later i (k - i) x) ∙ ap (λ (j : ℕ). listed never left right most_left most_right k out j) e)
+    | inr y ↦ ap (λ (j : ℕ). listed never left right most_left most_right k out j) y
+  ]

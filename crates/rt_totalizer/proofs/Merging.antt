@@ -15,7 +15,7 @@ use Rattle.rt_totalizer.specs.Merging.{without, IsMerging, IsOutput}
 use Rattle.rt_totalizer.proofs.CellLaws.{each-of_three, unit-has, decides-more}
 use Rattle.rt_totalizer.proofs.Rows.{cell-has, le-true, le-false, le-cases}
 use Rattle.rt_totalizer.proofs.Ranges.{kept-sum, told-true, told-false}
-use Rattle.rt_totalizer.proofs.TrueClauses.{without-has, without-true, last-true, up-split, down-split}
+use Rattle.rt_totalizer.proofs.Without.{without-has, without-true, last-true, up-split, down-split}
 use Rattle.rt_totalizer.proofs.ReadRows.{rows-in, rows-of, told-decides}
 
 -- a and b rows are kept on the two sides, and there are cells and clauses for them

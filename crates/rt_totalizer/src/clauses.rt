@@ -86,7 +86,10 @@ pub(crate) fn merging<A: Adds>(
     requires right { k < length right.now.list }
     ensures { OnOk result ((clauses : List (List Literal)) × (A.lines to.new ≡ A.lines to.old ++ clauses) × IsMerging never left.now.list right.now.list left.now.most right.now.most k out clauses) }
 {
-    for i in 0..k {
+    // Lower, and from `end` on, there are no clauses, since there cannot be so many rows on one side.
+    let low = (k - 1).saturating_sub(right.most);
+    let end = left.most.min(k - 1) + 1;
+    for i in low..end {
         add_up(never, left, right, k, i, out, to)?;
         add_down(never, left, right, k, i, out, to)?;
     }
