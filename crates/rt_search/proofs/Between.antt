@@ -13,6 +13,7 @@ use Rattle.rt_formula.specs.Shared.{bool_at}
 use Rattle.rt_totalizer.proofs.Rows.{le-true}
 use Rattle.rt_search.specs.Order.{IsBare, keeps_some}
 use Rattle.rt_search.specs.Sought.{IsWithin, not_kept, not_kept_between}
+use Rattle.rt_search.proofs.Aiming.{lt-not-le}
 use Rattle.rt_search.proofs.Keeps.{HasFirst}
 
 le-of : (a b : ℕ) → nat_le a b ≡ true → a ≤ b
@@ -49,17 +50,21 @@ some-first p (suc q) xs h = elim (bool-cases (keeps_some p q xs)) [
       record { place = q; from = le-of p q b.0; before = omega arith; kept = b.1; bare = none-bare p q xs y })
 ]
 
+-- there is no literal where there is no row
+pub between-none : (cone : List Bool) (p q : ℕ) → q ≤ p → not_kept_between cone p q ≡ []
+between-none cone p zero h = refl
+between-none cone p (suc q) h =
+    let n : nat_le p q ≡ false = lt-not-le p q (omega (arith, h)) in
+    ap (λ b. cond (b && bool_at cone q) (not_kept_between cone p q ++ not_kept q ∷ []) (not_kept_between cone p q)) n ∙ between-none cone p q (omega (arith, h))
+
 -- the literals are over rows before the end
 pub between-below : (cone : List Bool) (p q : ℕ) → IsBelow q (not_kept_between cone p q)
 between-below cone p zero l h = absurd (cc)
-between-below cone p (suc q) l h = by (nat_le p q && bool_at cone q) h where
-  older : has (not_kept_between cone p q) l ≡ true → l.var < suc q
-  older g = let b = between-below cone p q l g in omega (arith, b)
-
-  by : (c : Bool) → has (cond c (not_kept_between cone p q ++ not_kept q ∷ []) (not_kept_between cone p q)) l ≡ true → l.var < suc q
-  by false g = older g
-  by true g = elim (has-append_cases (not_kept_between cone p q) (not_kept q ∷ []) l g) [
-    | inl y ↦ older y
+between-below cone p (suc q) l h = by (nat_le p q && bool_at cone q) h (λ g. let b = between-below cone p q l g in omega (arith, b)) where
+  by : (c : Bool) → has (cond c (not_kept_between cone p q ++ not_kept q ∷ []) (not_kept_between cone p q)) l ≡ true → (has (not_kept_between cone p q) l ≡ true → l.var < suc q) → l.var < suc q
+  by false g f = f g
+  by true g f = elim (has-append_cases (not_kept_between cone p q) (not_kept q ∷ []) l g) [
+    | inl y ↦ f y
     | inr y ↦ elim (has-cases (not_kept q) l [] y) [ inl e ↦ (let v = ap (λ (j : Literal). j.var) e in omega (arith, v)) | inr n ↦ absurd (cc) ]
   ]
 
@@ -76,21 +81,20 @@ neither false false = refl
 -- left out
 pub all-none : (p q : ℕ) (cone keep bools : List Bool) → AgreeBelow q keep bools → IsWithin q cone keep → list_all (lit_true bools) (not_kept_between cone p q) ≡ not (keeps_some p q keep)
 all-none p zero cone keep bools a w = refl
-all-none p (suc q) cone keep bools a w = by (nat_le p q) (bool_at cone q) refl where
-  before : list_all (lit_true bools) (not_kept_between cone p q) ≡ not (keeps_some p q keep)
-  before = all-none p q cone keep bools (λ v h. a v (omega (arith, h))) (λ v h. w v (omega (arith, h)))
+all-none p (suc q) cone keep bools a w =
+    by (nat_le p q) (bool_at cone q) refl (all-none p q cone keep bools (λ v h. a v (omega (arith, h))) (λ v h. w v (omega (arith, h)))) where
+      here : lit_true bools (not_kept q) ≡ not (slice_index_or keep q false)
+      here = off (slice_index_or bools q false) ∙ ap not (sym (a q (omega arith))) where
+        off : (b : Bool) → beq b false ≡ not b
+        off true = refl
+        off false = refl
 
-  here : lit_true bools (not_kept q) ≡ not (slice_index_or keep q false)
-  here = off (slice_index_or bools q false) ∙ ap not (sym (a q (omega arith))) where
-    off : (b : Bool) → beq b false ≡ not b
-    off true = refl
-    off false = refl
-
-  by : (b c : Bool) → bool_at cone q ≡ c → list_all (lit_true bools) (cond (b && c) (not_kept_between cone p q ++ not_kept q ∷ []) (not_kept_between cone p q)) ≡ not (keeps_some p q keep || (b && slice_index_or keep q false))
-  by false c e = before ∙ ap not (sym (or-no (keeps_some p q keep) false refl))
-  by true false e = before ∙ ap not (sym (or-no (keeps_some p q keep) (slice_index_or keep q false) (w q (omega arith) e)))
-  by true true e =
-      list_all-append (lit_true bools) (not_kept_between cone p q) (not_kept q ∷ [])
-      ∙ ap (λ b. b && (lit_true bools (not_kept q) && true)) before
-      ∙ ap (λ b. not (keeps_some p q keep) && (b && true)) here
-      ∙ neither (keeps_some p q keep) (slice_index_or keep q false)
+      by : (b c : Bool) → bool_at cone q ≡ c → list_all (lit_true bools) (not_kept_between cone p q) ≡ not (keeps_some p q keep)
+          → list_all (lit_true bools) (cond (b && c) (not_kept_between cone p q ++ not_kept q ∷ []) (not_kept_between cone p q)) ≡ not (keeps_some p q keep || (b && slice_index_or keep q false))
+      by false c e before = before ∙ ap not (sym (or-no (keeps_some p q keep) false refl))
+      by true false e before = before ∙ ap not (sym (or-no (keeps_some p q keep) (slice_index_or keep q false) (w q (omega arith) e)))
+      by true true e before =
+          list_all-append (lit_true bools) (not_kept_between cone p q) (not_kept q ∷ [])
+          ∙ ap (λ b. b && (lit_true bools (not_kept q) && true)) before
+          ∙ ap (λ b. not (keeps_some p q keep) && (b && true)) here
+          ∙ neither (keeps_some p q keep) (slice_index_or keep q false)
