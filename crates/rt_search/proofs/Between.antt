@@ -1,5 +1,5 @@
 -- Whether one of some rows is kept, and the literals that ask for it.
-use Rattle.std.proofs.Common.{◌≡◌, ℕ, zero, suc, ◌+◌, ◌<◌, ◌≤◌, nat_lt, nat_le, Bool, true, false, cond, not, ◌||◌, ◌&&◌, inl, inr, List, [], ◌∷◌, ◌++◌, slice_index_or, refl, sym, ap, ◌∙◌, arith, rules}
+use Rattle.std.proofs.Common.{◌≡◌, ℕ, zero, suc, ◌<◌, ◌≤◌, nat_lt, nat_le, Bool, true, false, cond, not, ◌||◌, ◌&&◌, inl, inr, List, [], ◌∷◌, ◌++◌, slice_index_or, refl, sym, ap, ◌∙◌, arith, rules}
 use Rattle.std.specs.Bool.{beq}
 use Rattle.std.specs.List.{list_all}
 use Rattle.std.proofs.lemmas.List.Folds.{list_all-append}
@@ -7,7 +7,7 @@ use Rattle.rt_clause.specs.Literal.{Literal}
 use Rattle.rt_clause.specs.Lists.{has, IsBelow}
 use Rattle.rt_clause.specs.Models.{lit_true}
 use Rattle.rt_clause.specs.Gates.{AgreeBelow}
-use Rattle.rt_clause.proofs.Bools.{bool-cases, and-both, or-cases, or-left, or-right, or-false}
+use Rattle.rt_clause.proofs.Bools.{bool-cases, and-both, or-left, or-right}
 use Rattle.rt_clause.proofs.Literals.{has-append_cases, has-cases}
 use Rattle.rt_formula.specs.Shared.{bool_at}
 use Rattle.rt_totalizer.proofs.Rows.{le-true}

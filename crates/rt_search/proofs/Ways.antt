@@ -1,5 +1,5 @@
 -- A search with one assumption for all questions of a size: what is known before a question, and after.
-use Rattle.std.proofs.Common.{◌≡◌, ℕ, ◌+◌, ◌<◌, ◌≤◌, nat_lt, Bool, true, not, List, ◌++◌, length, ap, ◌∙◌, inl, inr, Some, arith, rules}
+use Rattle.std.proofs.Common.{◌≡◌, ℕ, ◌+◌, ◌<◌, ◌≤◌, nat_lt, Bool, not, List, ◌++◌, length, ap, ◌∙◌, inl, inr, Some, arith, rules}
 use Rattle.rt_value.specs.Keep.{size}
 use Rattle.rt_clause.specs.Literal.{Literal}
 use Rattle.rt_clause.specs.Models.{lit_true}

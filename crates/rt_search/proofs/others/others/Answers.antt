@@ -1,7 +1,4 @@
-use Rattle.std.proofs.Common.{◌≡◌, ◌+◌, ◌<◌, ◌≤◌, ◌∙◌, ◌++◌, append_assoc, ap, List, Bool, Option, Some, None, length, refl, subst, arith}
-use Rattle.rt_value.specs.Keep.{size}
-use Rattle.rt_clause.specs.Literal.{Literal}
-use Rattle.rt_search.specs.Aimed.{IsAimed}
+use Rattle.std.proofs.Common.{◌≡◌, ◌+◌, ◌∙◌, ◌++◌, append_assoc, ap, List, Bool, Option, Some, length, subst, arith}
 use Rattle.rt_search.specs.Alone.{IsOther}
 use Rattle.rt_search.specs.Attempts.{IsAnswered}
 use Rattle.rt_search.specs.Sought.{IsSought}
