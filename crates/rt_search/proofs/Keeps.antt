@@ -87,31 +87,6 @@ pub record HasFirst (p q : ℕ) (xs : List Bool) : Type 0 where
   pub kept : slice_index_or xs place false ≡ true
   pub bare : IsBare p place xs
 
-pub first-some : (p q : ℕ) (xs : List Bool) → p ≤ q → kept_below p xs < kept_below q xs → HasFirst p q xs
-first-some p zero xs h k = absurd (let e : p ≡ 0 = omega (arith, h) in let P : ℕ → Type 0 = λ n. kept_below n xs < kept_below 0 xs in let c = subst P e k in omega (arith, c))
-first-some p (suc q) xs h k = elim (bool-cases (nat_lt q p)) [
-  | inl y ↦ absurd (let c : q < p = search rules in let e : p ≡ suc q = omega (arith, h, c) in let P : ℕ → Type 0 = λ n. kept_below n xs < kept_below (suc q) xs in let c = subst P e k in omega (arith, c))
-  | inr y ↦ (let c : p ≤ q = search rules in elim (bool-cases (nat_lt (kept_below p xs) (kept_below q xs))) [
-    | inl z ↦ (let b : kept_below p xs < kept_below q xs = search rules in
-        let f = first-some p q xs c b in
-        let w = f.before in
-        record { place = f.place; from = f.from; before = omega (arith, w); kept = f.kept; bare = f.bare })
-    | inr z ↦ (let b : kept_below q xs ≤ kept_below p xs = search rules in
-        record {
-          place = q;
-          from = c;
-          before = omega arith;
-          kept = last q xs (omega (arith, b, k));
-          bare = bare-of p q xs xs (λ v l. refl) (omega (arith, b));
-        })
-  ])
-] where
-  last : (q : ℕ) (xs : List Bool) → kept_below q xs < kept_below (suc q) xs → slice_index_or xs q false ≡ true
-  last q xs h = elim (bool-cases (slice_index_or xs q false)) [
-    | inl y ↦ y
-    | inr y ↦ absurd (let e = kept-off q xs y in omega (arith, e, h))
-  ]
-
 -- the place at which a choice comes before another is one of its places
 pub before-place : (keep other : List Bool) → (b : ComesBefore keep other) → b.place < length keep
 before-place keep other b = index-within keep b.place b.keeps
@@ -180,10 +155,9 @@ before-all keep other s e b =
 
 -- a choice that comes before one that keeps an earlier row comes before the one of the later row
 -- too
-pub before-later : (p q : ℕ) (keep mid other : List Bool) → p ≤ q → AgreeBelow p mid other → IsBare p q other → kept_below p mid < kept_below q mid → ComesBefore keep mid
+pub before-later : (p q : ℕ) (keep mid other : List Bool) → p ≤ q → AgreeBelow p mid other → IsBare p q other → HasFirst p q mid → ComesBefore keep mid
     → (b : ComesBefore keep other) × (b.place < q)
-before-later p q keep mid other h a bare k b =
-    let f = first-some p q mid h k in
+before-later p q keep mid other h a bare f b =
     let from = f.from in
     let before = f.before in
     let same : (x : ℕ) → x ≤ b.place → x ≤ f.place → AgreeBelow x keep other = λ x l r v g. b.same v (omega (arith, l, g)) ∙ below v (omega (arith, r, g)) in
@@ -194,17 +168,17 @@ before-later p q keep mid other h a bare k b =
           (record { place = b.place; same = same b.place (omega arith) g; keeps = b.keeps; leaves = leaves g }, omega (arith, g, before)))
     ]
   where
-    below : (v : ℕ) → v < (first-some p q mid h k).place → slice_index_or mid v false ≡ slice_index_or other v false
+    below : (v : ℕ) → v < f.place → slice_index_or mid v false ≡ slice_index_or other v false
     below v l = elim (bool-cases (nat_lt v p)) [
       | inl y ↦ a v (search rules)
-      | inr y ↦ (let g : p ≤ v = search rules in let z = (first-some p q mid h k).before in
-          (first-some p q mid h k).bare v g l ∙ sym (bare v g (omega (arith, l, z))))
+      | inr y ↦ (let g : p ≤ v = search rules in let z = f.before in
+          f.bare v g l ∙ sym (bare v g (omega (arith, l, z))))
     ]
 
-    leaves : b.place ≤ (first-some p q mid h k).place → slice_index_or other b.place false ≡ false
+    leaves : b.place ≤ f.place → slice_index_or other b.place false ≡ false
     leaves l = elim (bool-cases (nat_lt b.place p)) [
       | inl y ↦ sym (a b.place (search rules)) ∙ b.leaves
-      | inr y ↦ (let g : p ≤ b.place = search rules in let z = (first-some p q mid h k).before in bare b.place g (omega (arith, l, z)))
+      | inr y ↦ (let g : p ≤ b.place = search rules in let z = f.before in bare b.place g (omega (arith, l, z)))
     ]
 
 -- a place more in front changes nothing

@@ -1,25 +1,24 @@
 -- How far a choice of the fewest rows is known to be the first of them.
-use Rattle.std.proofs.Common.{◌≡◌, ℕ, suc, ◌+◌, ◌<◌, ◌≤◌, nat_lt, nat_le, Bool, true, false, not, ◌&&◌, inl, inr, List, [], ◌∷◌, ◌++◌, take, length, slice_index_or, refl, sym, ap, subst, ◌∙◌, Some, arith, rules}
+use Rattle.std.proofs.Common.{◌≡◌, ℕ, ◌+◌, ◌<◌, ◌≤◌, nat_lt, nat_le, Bool, true, false, not, ◌&&◌, inl, inr, List, [], ◌∷◌, ◌++◌, take, length, slice_index_or, refl, sym, ap, subst, ◌∙◌, Some, arith, rules}
 use Rattle.std.specs.Bool.{beq}
 use Rattle.rt_value.specs.Keep.{size}
-use Rattle.rt_clause.specs.Literal.{Literal}
+use Rattle.rt_clause.specs.Literal.{Literal, negated}
 use Rattle.rt_clause.specs.Models.{lit_true, IsModel}
 use Rattle.rt_clause.specs.Gates.{gate, AgreeBelow}
-use Rattle.rt_clause.proofs.Bools.{bool-cases, and-both}
+use Rattle.rt_clause.proofs.Bools.{bool-cases, and-both, not-twice}
 use Rattle.rt_clause.proofs.Extending.{gate-means, model-older}
+use Rattle.rt_clause.proofs.Following.{lit_true-negated}
 use Rattle.rt_formula.specs.Shared.{Shared}
 use Rattle.rt_solver.specs.Answers.{HasNone}
-use Rattle.rt_totalizer.specs.Cells.{kept_below}
-use Rattle.rt_totalizer.specs.Outputs.{CountsFirst, first_at}
-use Rattle.rt_totalizer.proofs.Totals.{kept-agrees, kept-size}
-use Rattle.rt_totalizer.proofs.Rows.{le-true}
+use Rattle.rt_totalizer.proofs.Totals.{kept-size}
 use Rattle.rt_search.specs.Least.{HasFewest, IsLeast}
-use Rattle.rt_search.specs.Sought.{IsSought}
-use Rattle.rt_search.specs.Order.{ComesBefore, IsBare, IsNext}
+use Rattle.rt_search.specs.Sought.{IsSought, not_kept_between}
+use Rattle.rt_search.specs.Order.{ComesBefore, IsBare, IsNext, keeps_some}
 use Rattle.rt_search.specs.Leading.{AllFew, HasValue, IsLeading}
 use Rattle.rt_search.specs.Aimed.{IsAimed, IsCounted, fewer_than}
 use Rattle.rt_search.proofs.Aiming.{fewer-means, lt-not-le}
-use Rattle.rt_search.proofs.Keeps.{kept-none, kept-on, kept-some, agree-bare, bare-of, before-place, before-from, before-keeps, before-more, before-all, before-later}
+use Rattle.rt_search.proofs.Between.{all-none, none-bare, some-first, some-of}
+use Rattle.rt_search.proofs.Keeps.{HasFirst, kept-some, agree-bare, before-place, before-from, before-keeps, before-more, before-all, before-later}
 use Rattle.rt_search.proofs.Taking.{take-index, take-length}
 
 pub clash : {b : Bool} → b ≡ true → b ≡ false → ⊥
@@ -33,8 +32,8 @@ one-more p xs ys a e i h = elim (bool-cases (nat_lt i p)) [
 ]
 
 -- where no row from the place on is kept, none comes before it
-pub leading-first : (d : Shared) (goal : ℕ) (cone : List Bool) (lines : List (List Literal)) (best : List Bool) (place kept row : ℕ) (held : Literal) → IsLeading d goal cone lines best place kept held → IsNext best place row → d.rows ≤ row → IsLeast (IsSought d goal cone) best
-leading-first d goal cone lines best place kept row held l n h = record {
+pub leading-first : (d : Shared) (goal : ℕ) (cone : List Bool) (lines : List (List Literal)) (best : List Bool) (place row : ℕ) (held : Literal) → IsLeading d goal cone lines best place held → IsNext best place row → d.rows ≤ row → IsLeast (IsSought d goal cone) best
+leading-first d goal cone lines best place row held l n h = record {
   is_target = l.best_is;
   least = l.fewest;
   first = λ s g e b. (
@@ -68,13 +67,12 @@ least-none d goal cone best g z = record {
 
 -- to begin with it is held that no more rows are kept
 pub leading-begun : (d : Shared) (goal : ℕ) (cone : List Bool) (lines : List (List Literal)) (next : ℕ) (outs : List Literal) (best : List Bool) (most : ℕ) (held : Literal) → IsSought d goal cone best → HasFewest (IsSought d goal cone) best → IsCounted d lines next outs
-    → most ≡ size best + 1 → most ≤ length outs → held ≡ fewer_than outs most → IsLeading d goal cone lines best 0 0 held
+    → most ≡ size best + 1 → most ≤ length outs → held ≡ fewer_than outs most → IsLeading d goal cone lines best 0 held
 leading-begun d goal cone lines next outs best most held g f c m w h = record {
   best_is = g;
   fewest = f;
   value = λ s. not (nat_le most (size s));
   held_is = λ keep bools k a q. ap (lit_true bools) h ∙ fewer-means d lines next outs most c (omega (arith, m)) w keep bools k a q;
-  kept_is = refl;
   few = λ s t v. (elim (bool-cases (nat_le most (size s))) [
     | inl y ↦ absurd (clash v (ap not y))
     | inr y ↦ (let b : size s < most = search rules in omega (arith, b, m))
@@ -94,13 +92,12 @@ all-few d goal cone lines next outs best most held g f c m w h =
 pub value-on : (d : Shared) (lines new more : List (List Literal)) (l : Literal) (value : List Bool → Bool) → new ≡ lines ++ more → HasValue d lines l value → HasValue d new l value
 value-on d lines new more l value e h keep bools k a m = (let M : List (List Literal) → Type 0 = λ ls. IsModel ls bools in h keep bools k a (model-older lines more bools (subst M e m)))
 
-unfoldable pub leading-on : (d : Shared) (goal : ℕ) (cone : List Bool) (lines new more : List (List Literal)) (best : List Bool) (place kept : ℕ) (held : Literal) → new ≡ lines ++ more → IsLeading d goal cone lines best place kept held → IsLeading d goal cone new best place kept held
-leading-on d goal cone lines new more best place kept held e l = record {
+unfoldable pub leading-on : (d : Shared) (goal : ℕ) (cone : List Bool) (lines new more : List (List Literal)) (best : List Bool) (place : ℕ) (held : Literal) → new ≡ lines ++ more → IsLeading d goal cone lines best place held → IsLeading d goal cone new best place held
+leading-on d goal cone lines new more best place held e l = record {
   best_is = l.best_is;
   fewest = l.fewest;
   value = l.value;
   held_is = value-on d lines new more held l.value e l.held_is;
-  kept_is = l.kept_is;
   few = l.few;
   alike = l.alike;
   rivals = l.rivals;
@@ -118,12 +115,15 @@ both-value d lines new a b out u v e f g keep bools k ag m =
       by true false p q h i = cc
       by false y p q h i = ap (λ z. z && q) h
 
--- that at least so many of the first rows are kept
-earlier-value : (d : Shared) (lines firsts : List (List Literal)) (upto next row kept : ℕ) (l : Literal) → CountsFirst d.rows upto next lines firsts → row ≤ d.rows → kept ≤ upto → l ≡ first_at firsts row kept
-    → HasValue d lines l (λ s. nat_le kept (kept_below row s))
-earlier-value d lines firsts upto next row kept l c r w e keep bools k a m =
-    let long = c.each row r in
-    ap (lit_true bools) e ∙ c.means row r bools m kept (omega (arith, long, w)) ∙ ap (nat_le kept) (sym (kept-agrees row keep bools (λ v h. a v (omega (arith, h, r)))))
+-- a literal of which the other says that none of some rows is kept
+some-value : (d : Shared) (goal : ℕ) (cone : List Bool) (lines new : List (List Literal)) (next place end : ℕ) (none some : Literal) → IsAimed d goal cone lines next → end ≤ d.rows → new ≡ lines ++ gate none (not_kept_between cone place end) → some ≡ negated none
+    → HasValue d new some (keeps_some place end)
+some-value d goal cone lines new next place end none some h w e x keep bools k a m =
+    let M : List (List Literal) → Type 0 = λ ls. IsModel ls bools in
+    let n = subst M e m in
+    let within = (h.sound keep bools a (model-older lines (gate none (not_kept_between cone place end)) bools n)).1 in
+    let off = all-none place end cone keep bools (λ v b. a v (omega (arith, b, w))) (λ v b. within v (omega (arith, b, w))) in
+    ap (lit_true bools) x ∙ lit_true-negated bools none ∙ ap not (gate-means lines none (not_kept_between cone place end) bools n ∙ off) ∙ not-twice (keeps_some place end keep)
 
 pub row-value : (d : Shared) (lines : List (List Literal)) (row : ℕ) (l : Literal) → row < d.rows → l.var ≡ row → l.on ≡ true → HasValue d lines l (λ s. slice_index_or s row false)
 row-value d lines row l r v o keep bools k a m =
@@ -132,143 +132,132 @@ row-value d lines row l r v o keep bools k a m =
       beq-true true = refl
       beq-true false = refl
 
--- the question whether one more of the rows before an end is kept: the literal that is assumed
-pub record IsAsked (d : Shared) (goal : ℕ) (cone : List Bool) (lines : List (List Literal)) (best : List Bool) (place kept end : ℕ) (held asked : Literal) : Type 0 where
-  pub leading : IsLeading d goal cone lines best place kept held
+-- the question whether a row from the place to before an end is kept: the literal that is assumed
+pub record IsAsked (d : Shared) (goal : ℕ) (cone : List Bool) (lines : List (List Literal)) (best : List Bool) (place end : ℕ) (held asked : Literal) : Type 0 where
+  pub leading : IsLeading d goal cone lines best place held
   pub from : place ≤ end
   pub bare : IsBare place end best
-  pub asked_is : HasValue d lines asked (λ s. leading.value s && nat_le (kept + 1) (kept_below end s))
+  pub asked_is : HasValue d lines asked (λ s. leading.value s && keeps_some place end s)
 
-pub asked-begun : (d : Shared) (goal : ℕ) (cone : List Bool) (lines new firsts : List (List Literal)) (upto next : ℕ) (best : List Bool) (place kept end : ℕ) (held earlier asked : Literal) → IsLeading d goal cone lines best place kept held → place ≤ end → IsBare place end best → end ≤ d.rows
-    → CountsFirst d.rows upto next lines firsts → kept + 1 ≤ upto → earlier ≡ first_at firsts end (kept + 1) → new ≡ lines ++ gate asked (held ∷ earlier ∷ []) → IsAsked d goal cone new best place kept end held asked
+pub asked-begun : (d : Shared) (goal : ℕ) (cone : List Bool) (lines mid new : List (List Literal)) (next : ℕ) (best : List Bool) (place end : ℕ) (held none some asked : Literal) → IsAimed d goal cone lines next → IsLeading d goal cone lines best place held → place ≤ end → IsBare place end best → end ≤ d.rows
+    → mid ≡ lines ++ gate none (not_kept_between cone place end) → some ≡ negated none → new ≡ mid ++ gate asked (held ∷ some ∷ []) → IsAsked d goal cone new best place end held asked
 unfolding leading-on
-asked-begun d goal cone lines new firsts upto next best place kept end held earlier asked l f b r c w e g = record {
-  leading = leading-on d goal cone lines new (gate asked (held ∷ earlier ∷ [])) best place kept held g l;
-  from = f;
-  bare = b;
-  asked_is = both-value d lines new held earlier asked l.value (λ s. nat_le (kept + 1) (kept_below end s)) g l.held_is (earlier-value d lines firsts upto next end (kept + 1) earlier c r w e);
-}
+asked-begun d goal cone lines mid new next best place end held none some asked h l f b r e x g =
+    let l' = leading-on d goal cone lines mid (gate none (not_kept_between cone place end)) best place held e l in
+    record {
+      leading = leading-on d goal cone mid new (gate asked (held ∷ some ∷ [])) best place held g l';
+      from = f;
+      bare = b;
+      asked_is = both-value d mid new held some asked l'.value (keeps_some place end) g l'.held_is (some-value d goal cone lines mid next place end none some h r e x);
+    }
 
-pub asked-on : (d : Shared) (goal : ℕ) (cone : List Bool) (lines new more : List (List Literal)) (best : List Bool) (place kept end : ℕ) (held asked : Literal) → new ≡ lines ++ more → IsAsked d goal cone lines best place kept end held asked → IsAsked d goal cone new best place kept end held asked
+pub asked-on : (d : Shared) (goal : ℕ) (cone : List Bool) (lines new more : List (List Literal)) (best : List Bool) (place end : ℕ) (held asked : Literal) → new ≡ lines ++ more → IsAsked d goal cone lines best place end held asked → IsAsked d goal cone new best place end held asked
 unfolding leading-on
-asked-on d goal cone lines new more best place kept end held asked e q = record {
-  leading = leading-on d goal cone lines new more best place kept held e q.leading;
+asked-on d goal cone lines new more best place end held asked e q = record {
+  leading = leading-on d goal cone lines new more best place held e q.leading;
   from = q.from;
   bare = q.bare;
-  asked_is = value-on d lines new more asked (λ s. q.leading.value s && nat_le (kept + 1) (kept_below end s)) e q.asked_is;
+  asked_is = value-on d lines new more asked (λ s. q.leading.value s && keeps_some place end s) e q.asked_is;
 }
 
--- a choice with at least so many of the first rows
-le-of : (a b : ℕ) → nat_le a b ≡ true → a ≤ b
-le-of a b h = search rules
-
 -- a model keeps an earlier row: it is the best from now on
-pub asked-model : (d : Shared) (goal : ℕ) (cone : List Bool) (lines : List (List Literal)) (best : List Bool) (place kept end row : ℕ) (held asked : Literal) (mid : List Bool) → IsSought d goal cone mid
-    → (q : IsAsked d goal cone lines best place kept end held asked) → (q.leading.value mid && nat_le (kept + 1) (kept_below end mid)) ≡ true → IsNext mid place row → IsLeading d goal cone lines mid place kept asked × (row < end)
-asked-model d goal cone lines best place kept end row held asked mid g q t n = (
+pub asked-model : (d : Shared) (goal : ℕ) (cone : List Bool) (lines : List (List Literal)) (best : List Bool) (place end row : ℕ) (held asked : Literal) (mid : List Bool) → IsSought d goal cone mid
+    → (q : IsAsked d goal cone lines best place end held asked) → (q.leading.value mid && keeps_some place end mid) ≡ true → IsNext mid place row → IsLeading d goal cone lines mid place asked × (row < end)
+asked-model d goal cone lines best place end row held asked mid g q t n = (
   record {
     best_is = g;
     fewest = λ other o. (let a = l.fewest other o in let b = l.few mid g both.0 in omega (arith, a, b));
-    value = λ s. l.value s && nat_le (kept + 1) (kept_below end s);
+    value = λ s. l.value s && keeps_some place end s;
     held_is = q.asked_is;
-    kept_is = l.kept_is ∙ sym (kept-agrees place mid best like);
-    few = λ s o v. (let a = l.few s o (and-both (l.value s) (nat_le (kept + 1) (kept_below end s)) v).0 in let b = l.fewest mid g in omega (arith, a, b));
-    alike = λ s o v i b. l.alike s o (and-both (l.value s) (nat_le (kept + 1) (kept_below end s)) v).0 i b ∙ sym (like i b);
-    rivals = λ s o e b. rival s o e (before-later place end s mid best q.from like q.bare more b);
+    few = λ s o v. (let a = l.few s o (and-both (l.value s) (keeps_some place end s) v).0 in let b = l.fewest mid g in omega (arith, a, b));
+    alike = λ s o v i b. l.alike s o (and-both (l.value s) (keeps_some place end s) v).0 i b ∙ sym (like i b);
+    rivals = λ s o e b. rival s o e (before-later place end s mid best q.from like q.bare found b);
   },
   sooner,
 ) where
-  l : IsLeading d goal cone lines best place kept held
+  l : IsLeading d goal cone lines best place held
   l = q.leading
 
-  both : (l.value mid ≡ true) × (nat_le (kept + 1) (kept_below end mid) ≡ true)
-  both = and-both (l.value mid) (nat_le (kept + 1) (kept_below end mid)) t
+  both : (l.value mid ≡ true) × (keeps_some place end mid ≡ true)
+  both = and-both (l.value mid) (keeps_some place end mid) t
 
   like : AgreeBelow place mid best
   like = l.alike mid g both.0
 
-  more : kept_below place mid < kept_below end mid
-  more = let a = le-of (kept + 1) (kept_below end mid) both.1 in let k = l.kept_is in let s = kept-agrees place mid best like in omega (arith, a, k, s)
+  found : HasFirst place end mid
+  found = some-first place end mid both.1
 
   sooner : row < end
   sooner = elim (bool-cases (nat_lt row end)) [
     | inl y ↦ search rules
-    | inr y ↦ absurd (let h : end ≤ row = search rules in let e = kept-none place end mid q.from (λ v a b. n.bare v a (omega (arith, b, h))) in omega (arith, e, more))
+    | inr y ↦ absurd (let h : end ≤ row = search rules in let b = found.before in clash found.kept (n.bare found.place found.from (omega (arith, b, h))))
   ]
 
   true-both : (x y : Bool) → x ≡ true → y ≡ true → (x && y) ≡ true
   true-both x y h i = ap (λ b. b && y) h ∙ i
 
-  rival : (s : List Bool) → IsSought d goal cone s → size s ≡ size mid → (b : ComesBefore s best) × (b.place < end) → (l.value s && nat_le (kept + 1) (kept_below end s)) ≡ true
+  rival : (s : List Bool) → IsSought d goal cone s → size s ≡ size mid → (b : ComesBefore s best) × (b.place < end) → (l.value s && keeps_some place end s) ≡ true
   rival s o e b =
       let x = l.fewest mid g in
       let y = l.few mid g both.0 in
       let v = l.rivals s o (omega (arith, e, x, y)) b.0 in
       let a = l.alike s o v in
-      let k = l.kept_is in
-      let m = kept-some place b.0.place end s best a (before-from place s best a b.0) b.1 b.0.keeps in
-      true-both (l.value s) (nat_le (kept + 1) (kept_below end s)) v (le-true (kept + 1) (kept_below end s) (omega (arith, m, k)))
+      true-both (l.value s) (keeps_some place end s) v (some-of place b.0.place end s (before-from place s best a b.0) b.1 b.0.keeps)
 
 -- where no row from the place to an end is kept, by the best or by a choice that makes the held
 -- literal true, these rows are settled too
-unfoldable pub leading-moved : (d : Shared) (goal : ℕ) (cone : List Bool) (lines : List (List Literal)) (best : List Bool) (place kept end : ℕ) (held : Literal) → (l : IsLeading d goal cone lines best place kept held) → place ≤ end → IsBare place end best
-    → ((s : List Bool) → IsSought d goal cone s → l.value s ≡ true → IsBare place end s) → IsLeading d goal cone lines best end kept held
-leading-moved d goal cone lines best place kept end held l f b none = record {
+unfoldable pub leading-moved : (d : Shared) (goal : ℕ) (cone : List Bool) (lines : List (List Literal)) (best : List Bool) (place end : ℕ) (held : Literal) → (l : IsLeading d goal cone lines best place held) → place ≤ end → IsBare place end best
+    → ((s : List Bool) → IsSought d goal cone s → l.value s ≡ true → IsBare place end s) → IsLeading d goal cone lines best end held
+leading-moved d goal cone lines best place end held l f b none = record {
   best_is = l.best_is;
   fewest = l.fewest;
   value = l.value;
   held_is = l.held_is;
-  kept_is = l.kept_is ∙ sym (kept-none place end best f b);
   few = l.few;
   alike = λ s g v. agree-bare place end s best (l.alike s g v) (none s g v) b;
   rivals = l.rivals;
 }
 
 -- where the best keeps the row at the place, so does the first
-unfoldable pub leading-kept : (d : Shared) (goal : ℕ) (cone : List Bool) (lines : List (List Literal)) (best : List Bool) (row kept : ℕ) (held both : Literal) → (l : IsLeading d goal cone lines best row kept held) → slice_index_or best row false ≡ true
-    → HasValue d lines both (λ s. l.value s && slice_index_or s row false) → IsLeading d goal cone lines best (row + 1) (kept + 1) both
-leading-kept d goal cone lines best row kept held both l here h = record {
+unfoldable pub leading-kept : (d : Shared) (goal : ℕ) (cone : List Bool) (lines : List (List Literal)) (best : List Bool) (row : ℕ) (held both : Literal) → (l : IsLeading d goal cone lines best row held) → slice_index_or best row false ≡ true
+    → HasValue d lines both (λ s. l.value s && slice_index_or s row false) → IsLeading d goal cone lines best (row + 1) both
+leading-kept d goal cone lines best row held both l here h = record {
   best_is = l.best_is;
   fewest = l.fewest;
   value = λ s. l.value s && slice_index_or s row false;
   held_is = h;
-  kept_is = (let k = l.kept_is in let o = kept-on row best here in let c = ap (λ i. kept_below i best) (let s : suc row ≡ row + 1 = omega arith in s) in omega (arith, k, o, c));
   few = λ s g v. l.few s g (and-both (l.value s) (slice_index_or s row false) v).0;
   alike = λ s g v. (let w = and-both (l.value s) (slice_index_or s row false) v in one-more row s best (l.alike s g w.0) (w.1 ∙ sym here));
   rivals = λ s g q b. (let v = l.rivals s g q b in ap (λ y. y && slice_index_or s row false) v ∙ before-keeps row s best (l.alike s g v) here b);
 }
 
-pub leading-next : (d : Shared) (goal : ℕ) (cone : List Bool) (lines new : List (List Literal)) (best : List Bool) (row kept : ℕ) (held x both : Literal) → IsLeading d goal cone lines best row kept held → slice_index_or best row false ≡ true → row < d.rows
-    → x.var ≡ row → x.on ≡ true → new ≡ lines ++ gate both (held ∷ x ∷ []) → IsLeading d goal cone new best (row + 1) (kept + 1) both
+pub leading-next : (d : Shared) (goal : ℕ) (cone : List Bool) (lines new : List (List Literal)) (best : List Bool) (row : ℕ) (held x both : Literal) → IsLeading d goal cone lines best row held → slice_index_or best row false ≡ true → row < d.rows
+    → x.var ≡ row → x.on ≡ true → new ≡ lines ++ gate both (held ∷ x ∷ []) → IsLeading d goal cone new best (row + 1) both
 unfolding leading-on
-leading-next d goal cone lines new best row kept held x both l here r xv xo e =
-    leading-kept d goal cone new best row kept held both (leading-on d goal cone lines new (gate both (held ∷ x ∷ [])) best row kept held e l) here
+leading-next d goal cone lines new best row held x both l here r xv xo e =
+    leading-kept d goal cone new best row held both (leading-on d goal cone lines new (gate both (held ∷ x ∷ [])) best row held e l) here
     (both-value d lines new held x both l.value (λ s. slice_index_or s row false) e l.held_is (row-value d lines row x r xv xo))
 
 -- where a choice that makes the held literal true keeps a place that the best leaves out
-unfoldable pub leading-found : (d : Shared) (goal : ℕ) (cone : List Bool) (lines : List (List Literal)) (best : List Bool) (place kept : ℕ) (held asked : Literal) (mid : List Bool) → (l : IsLeading d goal cone lines best place kept held) → slice_index_or best place false ≡ false
-    → HasValue d lines asked (λ s. l.value s && slice_index_or s place false) → IsSought d goal cone mid → (l.value mid && slice_index_or mid place false) ≡ true → IsLeading d goal cone lines mid (place + 1) (kept + 1) asked
-leading-found d goal cone lines best place kept held asked mid l b h g t = record {
+unfoldable pub leading-found : (d : Shared) (goal : ℕ) (cone : List Bool) (lines : List (List Literal)) (best : List Bool) (place : ℕ) (held asked : Literal) (mid : List Bool) → (l : IsLeading d goal cone lines best place held) → slice_index_or best place false ≡ false
+    → HasValue d lines asked (λ s. l.value s && slice_index_or s place false) → IsSought d goal cone mid → (l.value mid && slice_index_or mid place false) ≡ true → IsLeading d goal cone lines mid (place + 1) asked
+leading-found d goal cone lines best place held asked mid l b h g t = record {
   best_is = g;
   fewest = λ other o. (let a = l.fewest other o in let c = l.few mid g both.0 in omega (arith, a, c));
   value = λ s. l.value s && slice_index_or s place false;
   held_is = h;
-  kept_is = (let k = l.kept_is in let s = kept-agrees place mid best like in let o = kept-on place mid both.1 in let c = ap (λ i. kept_below i mid) next in omega (arith, k, s, o, c));
   few = λ s o v. (let a = l.few s o (and-both (l.value s) (slice_index_or s place false) v).0 in let c = l.fewest mid g in omega (arith, a, c));
   alike = λ s o v. (let w = and-both (l.value s) (slice_index_or s place false) v in one-more place s mid (λ i z. l.alike s o w.0 i z ∙ sym (like i z)) (w.1 ∙ sym both.1));
-  rivals = λ s o e r. rival s o e r (before-later place (place + 1) s mid best (omega arith) like (λ v x y. let q : v ≡ place = omega (arith, x, y) in ap (λ i. slice_index_or best i false) q ∙ b) more r);
+  rivals = λ s o e r. rival s o e r (before-later place (place + 1) s mid best (omega arith) like (λ v x y. let q : v ≡ place = omega (arith, x, y) in ap (λ i. slice_index_or best i false) q ∙ b) found r);
 } where
-  next : suc place ≡ place + 1
-  next = omega arith
-
   both : (l.value mid ≡ true) × (slice_index_or mid place false ≡ true)
   both = and-both (l.value mid) (slice_index_or mid place false) t
 
   like : AgreeBelow place mid best
   like = l.alike mid g both.0
 
-  more : kept_below place mid < kept_below (place + 1) mid
-  more = let o = kept-on place mid both.1 in let c = ap (λ i. kept_below i mid) next in omega (arith, o, c)
+  found : HasFirst place (place + 1) mid
+  found = record { place = place; from = omega arith; before = omega arith; kept = both.1; bare = λ v x y. absurd (omega (arith, x, y)) }
 
   rival : (s : List Bool) → IsSought d goal cone s → size s ≡ size mid → ComesBefore s mid → (f : ComesBefore s best) × (f.place < place + 1) → (l.value s && slice_index_or s place false) ≡ true
   rival s o e r f =
@@ -281,29 +270,26 @@ leading-found d goal cone lines best place kept held asked mid l b h g t = recor
       ap (λ c. c && slice_index_or s place false) v ∙ ap (λ i. slice_index_or s i false) (sym q) ∙ f.0.keeps
 
 -- where no model makes the question true, the rows before its end are settled
-pub leading-refuted : (d : Shared) (goal : ℕ) (cone : List Bool) (lines : List (List Literal)) (next : ℕ) (best : List Bool) (place kept end : ℕ) (held asked : Literal) → IsAimed d goal cone lines next → IsAsked d goal cone lines best place kept end held asked → HasNone lines (Some held) asked
-    → IsLeading d goal cone lines best end kept held
-leading-refuted d goal cone lines next best place kept end held asked h q r = leading-moved d goal cone lines best place kept end held l q.from q.bare bare where
-  l : IsLeading d goal cone lines best place kept held
+pub leading-refuted : (d : Shared) (goal : ℕ) (cone : List Bool) (lines : List (List Literal)) (next : ℕ) (best : List Bool) (place end : ℕ) (held asked : Literal) → IsAimed d goal cone lines next → IsAsked d goal cone lines best place end held asked → HasNone lines (Some held) asked
+    → IsLeading d goal cone lines best end held
+leading-refuted d goal cone lines next best place end held asked h q r = leading-moved d goal cone lines best place end held l q.from q.bare bare where
+  l : IsLeading d goal cone lines best place held
   l = q.leading
 
-  none : (s : List Bool) → IsSought d goal cone s → l.value s ≡ true → kept_below end s < kept + 1
-  none s g v = elim (bool-cases (nat_lt (kept_below end s) (kept + 1))) [
-    | inl y ↦ search rules
-    | inr y ↦ absurd (
-        let b : kept + 1 ≤ kept_below end s = search rules in
-        let x = h.complete s g in
-        r x.0 x.3 (l.held_is s x.0 g.0 x.2 x.3 ∙ v) (q.asked_is s x.0 g.0 x.2 x.3 ∙ ap (λ z. z && nat_le (kept + 1) (kept_below end s)) v ∙ le-true (kept + 1) (kept_below end s) b))
+  none : (s : List Bool) → IsSought d goal cone s → l.value s ≡ true → keeps_some place end s ≡ false
+  none s g v = elim (bool-cases (keeps_some place end s)) [
+    | inl y ↦ absurd (let x = h.complete s g in r x.0 x.3 (l.held_is s x.0 g.0 x.2 x.3 ∙ v) (q.asked_is s x.0 g.0 x.2 x.3 ∙ ap (λ z. z && keeps_some place end s) v ∙ y))
+    | inr y ↦ y
   ]
 
   bare : (s : List Bool) → IsSought d goal cone s → l.value s ≡ true → IsBare place end s
-  bare s g v = let a = none s g v in let k = l.kept_is in bare-of place end s best (l.alike s g v) (omega (arith, a, k))
+  bare s g v = none-bare place end s (none s g v)
 
 -- the rows of a model of the question
-pub model-asked : (d : Shared) (goal : ℕ) (cone : List Bool) (lines : List (List Literal)) (best : List Bool) (place kept end rows : ℕ) (held asked : Literal) (bools mid : List Bool) → rows ≡ d.rows → rows ≤ length bools → mid ≡ take rows bools
-    → (q : IsAsked d goal cone lines best place kept end held asked) → IsModel lines bools → lit_true bools asked ≡ true → (q.leading.value mid && nat_le (kept + 1) (kept_below end mid)) ≡ true
-model-asked d goal cone lines best place kept end rows held asked bools mid e w k q h t =
-    let V : List Bool → Type 0 = λ s. (q.leading.value s && nat_le (kept + 1) (kept_below end s)) ≡ true in
+pub model-asked : (d : Shared) (goal : ℕ) (cone : List Bool) (lines : List (List Literal)) (best : List Bool) (place end rows : ℕ) (held asked : Literal) (bools mid : List Bool) → rows ≡ d.rows → rows ≤ length bools → mid ≡ take rows bools
+    → (q : IsAsked d goal cone lines best place end held asked) → IsModel lines bools → lit_true bools asked ≡ true → (q.leading.value mid && keeps_some place end mid) ≡ true
+model-asked d goal cone lines best place end rows held asked bools mid e w k q h t =
+    let V : List Bool → Type 0 = λ s. (q.leading.value s && keeps_some place end s) ≡ true in
     let L : ℕ → Type 0 = λ n. n ≤ length bools in
     let at : take rows bools ≡ take d.rows bools = ap (λ n. take n bools) e in
     subst V (sym (k ∙ at)) (sym (q.asked_is (take d.rows bools) bools (take-length d.rows bools (subst L e w)) (take-index d.rows bools) h) ∙ t)

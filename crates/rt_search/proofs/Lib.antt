@@ -2,6 +2,7 @@ pub mod Aiming
 pub mod Apart
 pub mod Asking
 pub mod Attempts
+pub mod Between
 pub mod Keeps
 pub mod Leading
 pub mod Leaving

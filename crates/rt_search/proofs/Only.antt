@@ -1,5 +1,5 @@
 -- Where no other choice of at most as many rows leaves out a row of the best, there is none.
-use Rattle.std.proofs.Common.{◌≡◌, ℕ, suc, ◌+◌, ◌<◌, ◌≤◌, nat_lt, Bool, true, false, cond, not, ◌&&◌, inl, inr, List, [], ◌∷◌, ◌++◌, append_assoc, length, slice_index_or, refl, sym, ap, subst, ◌∙◌, Option, Some, None, arith, rules}
+use Rattle.std.proofs.Common.{◌≡◌, ℕ, suc, ◌+◌, ◌<◌, ◌≤◌, nat_lt, Bool, true, false, cond, not, inl, inr, List, [], ◌∷◌, ◌++◌, append_assoc, length, slice_index_or, refl, sym, ap, subst, ◌∙◌, Option, Some, None, arith, rules}
 use Rattle.std.specs.List.{list_all}
 use Rattle.std.proofs.lemmas.List.Sums.{sum_by-cons}
 use Rattle.rt_value.specs.Keep.{size}

@@ -1,5 +1,5 @@
 -- The search for the first choice place by place, and the nogoods that it leaves.
-use Rattle.std.proofs.Common.{◌≡◌, ℕ, ◌+◌, ◌<◌, ◌≤◌, ◌^◌, Bool, true, false, not, cond, ◌||◌, ◌&&◌, ◌⊎◌, inl, inr, List, [], ◌∷◌, ◌++◌, append_assoc, filter, map, take, length, length-append, slice_index_or, refl, sym, ap, subst, ◌∙◌, Option, Some, None, IsSomeAnd, arith}
+use Rattle.std.proofs.Common.{◌≡◌, ℕ, suc, ◌+◌, ◌<◌, ◌≤◌, ◌^◌, Bool, true, false, not, cond, ◌||◌, ◌&&◌, ◌⊎◌, inl, inr, List, [], ◌∷◌, ◌++◌, append_assoc, filter, map, take, length, length-append, slice_index_or, refl, sym, ap, subst, ◌∙◌, Option, Some, None, IsSomeAnd, arith}
 use Rattle.std.specs.Bool.{beq}
 use Rattle.rt_value.specs.Keep.{size}
 use Rattle.rt_clause.specs.Literal.{Literal, negated}
@@ -16,7 +16,9 @@ use Rattle.rt_formula.specs.Shared.{Shared, bool_at}
 use Rattle.rt_solver.specs.Search.{KeepsModels, line_of, AreFresh}
 use Rattle.rt_solver.specs.Solving.{variables, IsSpent}
 use Rattle.rt_solver.specs.Answers.{IsModelled}
+use Rattle.rt_totalizer.specs.Cells.{kept_below}
 use Rattle.rt_totalizer.proofs.CellLaws.{each-of_two, unit-has}
+use Rattle.rt_totalizer.proofs.Totals.{kept-agrees}
 use Rattle.rt_search.specs.Aimed.{IsAimed}
 use Rattle.rt_search.specs.Attempts.{IsGivenUp, IsGrown}
 use Rattle.rt_search.specs.Leading.{AllFew, HasValue, IsLeading}
@@ -27,7 +29,7 @@ use Rattle.rt_search.specs.Widened.{widened}
 use Rattle.rt_search.proofs.Aiming.{determined-less, model-sought, refuted-false, variables-le}
 use Rattle.rt_search.proofs.Apart.{fresh-apart}
 use Rattle.rt_search.proofs.Asking.{both-aimed}
-use Rattle.rt_search.proofs.Keeps.{bare-one, before-from, before-place, rest-bare}
+use Rattle.rt_search.proofs.Keeps.{bare-one, before-from, before-place, kept-off, kept-on, rest-bare}
 use Rattle.rt_search.proofs.Leading.{both-value, leading-first, leading-found, leading-kept, leading-moved, leading-on, row-value, value-on}
 use Rattle.rt_search.proofs.Nogoods.{any-append, clause-agrees, each-line, fresh-some, inside-fresh, line-true, met-without}
 use Rattle.rt_search.proofs.Taking.{take-index, take-length}
@@ -55,19 +57,24 @@ LeavesOrHas d goal cone best left value = (s : List Bool) → IsSought d goal co
 -- what is known before a place is tried
 pub record IsPlaced (d : Shared) (goal : ℕ) (cone : List Bool) (lines : List (List Literal)) (next : ℕ) (best : List Bool) (place : ℕ) (held : Literal) (left : List Literal) : Type 0 where
   pub aimed : IsAimed d goal cone lines next
-  pub kept : ℕ
-  pub count : kept ≡ length left
-  pub leading : IsLeading d goal cone lines best place kept held
+  pub count : kept_below place best ≡ length left
+  pub leading : IsLeading d goal cone lines best place held
   pub low : held.var < next
   pub are_left : AreLeft place left
   pub kept_left : AreKept cone left
   pub holds : Holds lines held left
   pub leaves : LeavesOrHas d goal cone best left leading.value
 
+-- a place more is counted where it is kept, and only there
+next-kept : (place : ℕ) (xs : List Bool) → slice_index_or xs place false ≡ true → kept_below (place + 1) xs ≡ kept_below place xs + 1
+next-kept place xs h = ap (λ i. kept_below i xs) (let s : place + 1 ≡ suc place = omega arith in s) ∙ kept-on place xs h
+
+next-left : (place : ℕ) (xs : List Bool) → slice_index_or xs place false ≡ false → kept_below (place + 1) xs ≡ kept_below place xs
+next-left place xs h = ap (λ i. kept_below i xs) (let s : place + 1 ≡ suc place = omega arith in s) ∙ kept-off place xs h
+
 pub placed-begun : (d : Shared) (goal : ℕ) (cone : List Bool) (lines : List (List Literal)) (next : ℕ) (best : List Bool) (held : Literal) → IsAimed d goal cone lines next → AllFew d goal cone lines best held → held.var < next → IsPlaced d goal cone lines next best 0 held []
 placed-begun d goal cone lines next best held h a low = record {
   aimed = h;
-  kept = 0;
   count = refl;
   leading = a.0;
   low = low;
@@ -81,12 +88,11 @@ placed-begun d goal cone lines next best held h a low = record {
 pub placed-all : (d : Shared) (goal : ℕ) (cone : List Bool) (lines : List (List Literal)) (next : ℕ) (best : List Bool) (place : ℕ) (held : Literal) (left : List Literal) → IsPlaced d goal cone lines next best place held left → place ≤ d.rows → size best ≤ length left → IsLeast (IsSought d goal cone) best
 placed-all d goal cone lines next best place held left p w h =
     let t = p.leading.best_is.0 in
-    let k = p.leading.kept_is in
     let n = p.count in
-    leading-first d goal cone lines best place p.kept (length best) held p.leading (record {
+    leading-first d goal cone lines best place (length best) held p.leading (record {
       from = omega (arith, w, t);
       within = omega arith;
-      bare = rest-bare place best (omega (arith, h, k, n));
+      bare = rest-bare place best (omega (arith, h, n));
       kept = λ b. absurd (omega (arith, b));
     }) (omega (arith, t))
 
@@ -105,9 +111,8 @@ placed-end d goal cone lines next best place held left p w = record {
 -- the lines with the literal that is asked
 pub record IsTried (d : Shared) (goal : ℕ) (cone : List Bool) (lines : List (List Literal)) (next : ℕ) (best : List Bool) (place : ℕ) (held asked : Literal) (left left' : List Literal) : Type 0 where
   pub aimed : IsAimed d goal cone lines next
-  pub kept : ℕ
-  pub count : kept ≡ length left
-  pub leading : IsLeading d goal cone lines best place kept held
+  pub count : kept_below place best ≡ length left
+  pub leading : IsLeading d goal cone lines best place held
   pub low : held.var < next
   pub asked_low : asked.var < next
   pub within : place < d.rows
@@ -155,9 +160,8 @@ pub tried-given : (d : Shared) (goal : ℕ) (cone : List Bool) (lines given : Li
 unfolding leading-on
 tried-given d goal cone lines given next best place held x asked left p r inside xv xo av e = record {
   aimed = both-aimed d goal cone lines given next held x asked p.aimed av p.low (let w = p.aimed.wide in omega (arith, xv, r, w)) e;
-  kept = p.kept;
   count = p.count;
-  leading = leading-on d goal cone lines given (gate asked (held ∷ x ∷ [])) best place p.kept held e p.leading;
+  leading = leading-on d goal cone lines given (gate asked (held ∷ x ∷ [])) best place held e p.leading;
   low = (let l = p.low in omega (arith, l));
   asked_low = omega (arith, av);
   within = r;
@@ -208,9 +212,8 @@ tried-on d goal cone given new next best place held asked left left' t s =
     let more = s.more in
     record {
       aimed = s.aims d goal cone t.asked_low t.aimed;
-      kept = t.kept;
       count = t.count;
-      leading = leading-on d goal cone given new more best place t.kept held s.lines t.leading;
+      leading = leading-on d goal cone given new more best place held s.lines t.leading;
       low = t.low;
       asked_low = t.asked_low;
       within = t.within;
@@ -232,9 +235,8 @@ pub placed-kept : (d : Shared) (goal : ℕ) (cone : List Bool) (lines : List (Li
 unfolding leading-kept
 placed-kept d goal cone lines next best place held asked left left' t b = record {
   aimed = t.aimed;
-  kept = t.kept + 1;
-  count = (let n = t.count in let m = t.more_left in omega (arith, n, m));
-  leading = leading-kept d goal cone lines best place t.kept held asked t.leading b t.asked_is;
+  count = (let o = next-kept place best b in let n = t.count in let m = t.more_left in omega (arith, o, n, m));
+  leading = leading-kept d goal cone lines best place held asked t.leading b t.asked_is;
   low = t.asked_low;
   are_left = t.are_left;
   kept_left = t.kept_left;
@@ -248,9 +250,13 @@ pub placed-model : (d : Shared) (goal : ℕ) (cone : List Bool) (new : List (Lis
 unfolding leading-found
 placed-model d goal cone new next rows best place held asked left left' bools mid e t b q k = record {
   aimed = t.aimed;
-  kept = t.kept + 1;
-  count = (let n = t.count in let m = t.more_left in omega (arith, n, m));
-  leading = leading-found d goal cone new best place t.kept held asked mid t.leading b t.asked_is good value;
+  count = (let w = and-both (t.leading.value mid) (slice_index_or mid place false) value in
+      let o = next-kept place mid w.1 in
+      let k = kept-agrees place mid best (t.leading.alike mid good w.0) in
+      let n = t.count in
+      let m = t.more_left in
+      omega (arith, o, k, n, m));
+  leading = leading-found d goal cone new best place held asked mid t.leading b t.asked_is good value;
   low = t.asked_low;
   are_left = t.are_left;
   kept_left = t.kept_left;
@@ -273,9 +279,8 @@ pub placed-out : (d : Shared) (goal : ℕ) (cone : List Bool) (lines : List (Lis
 unfolding leading-moved
 placed-out d goal cone lines next best place held asked left left' t b r = record {
   aimed = t.aimed;
-  kept = t.kept;
-  count = t.count;
-  leading = leading-moved d goal cone lines best place t.kept (place + 1) held t.leading (omega arith) (bare-one place best b) (λ s g v. bare-one place s (out s g v));
+  count = next-left place best b ∙ t.count;
+  leading = leading-moved d goal cone lines best place (place + 1) held t.leading (omega arith) (bare-one place best b) (λ s g v. bare-one place s (out s g v));
   low = t.low;
   are_left = record { once = t.was_left.once; each = λ l g. (let w = t.was_left.each l g in omega (arith, w)) };
   kept_left = t.was_kept;
@@ -296,9 +301,8 @@ pub placed-outside : (d : Shared) (goal : ℕ) (cone : List Bool) (lines : List 
 unfolding leading-moved
 placed-outside d goal cone lines next best place held left p r o = record {
   aimed = p.aimed;
-  kept = p.kept;
-  count = p.count;
-  leading = leading-moved d goal cone lines best place p.kept (place + 1) held p.leading (omega arith) (bare-one place best (p.leading.best_is.2 place r o)) (λ s g v. bare-one place s (g.2 place r o));
+  count = next-left place best (p.leading.best_is.2 place r o) ∙ p.count;
+  leading = leading-moved d goal cone lines best place (place + 1) held p.leading (omega arith) (bare-one place best (p.leading.best_is.2 place r o)) (λ s g v. bare-one place s (g.2 place r o));
   low = p.low;
   are_left = record { once = p.are_left.once; each = λ l g. (let w = p.are_left.each l g in omega (arith, w)) };
   kept_left = p.kept_left;

@@ -1,5 +1,5 @@
 -- A search with one assumption for all questions of a size: what is known before a question, and after.
-use Rattle.std.proofs.Common.{◌≡◌, ℕ, ◌+◌, ◌<◌, ◌≤◌, nat_lt, Bool, true, not, List, ◌++◌, length, ap, ◌∙◌, inl, inr, Some, arith, rules}
+use Rattle.std.proofs.Common.{◌≡◌, ℕ, ◌+◌, ◌<◌, ◌≤◌, nat_lt, Bool, not, List, ◌++◌, length, ap, ◌∙◌, inl, inr, Some, arith, rules}
 use Rattle.rt_value.specs.Keep.{size}
 use Rattle.rt_clause.specs.Literal.{Literal}
 use Rattle.rt_clause.specs.Models.{lit_true}
@@ -13,7 +13,6 @@ use Rattle.rt_search.specs.Attempts.{IsAnswered}
 use Rattle.rt_search.specs.Least.{HasFewest}
 use Rattle.rt_search.specs.Sought.{IsSought}
 use Rattle.rt_search.proofs.Aiming.{counted-on, fewer-means, lt-not-le, model-fewer}
-use Rattle.rt_search.proofs.Asking.{firsts-on}
 
 -- more lines keep what is known, with a choice of no more rows
 pub way-on : (d : Shared) (goal : ℕ) (cone : List Bool) (lines new more : List (List Literal)) (next next' : ℕ) (counter : Outputs) (best keep : List Bool) → new ≡ lines ++ more → next ≤ next' → IsAimed d goal cone new next' → IsUnderWay d goal cone lines next counter best
@@ -25,7 +24,6 @@ way-on d goal cone lines new more next next' counter best keep e w a u s l r = r
     low = λ x h. (let b = u.counted.low x h in omega (arith, b, w));
     counts = (counted-on d lines new more next counter.outs e u.counted).counts;
   };
-  firsts = firsts-on d.rows (length counter.outs) next next' lines new more counter.firsts w e u.firsts;
   sought = s;
   within = (let b = u.within in omega (arith, b, l));
   room = λ h. (let b = u.room r in omega (arith, b, l));

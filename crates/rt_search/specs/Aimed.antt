@@ -6,7 +6,7 @@ use Rattle.rt_clause.specs.Models.{IsModel}
 use Rattle.rt_clause.specs.Gates.{AgreeBelow}
 use Rattle.rt_value.specs.Keep.{size}
 use Rattle.rt_formula.specs.Shared.{Shared, bool_at, val}
-use Rattle.rt_totalizer.specs.Outputs.{output_at, CountsFirst, CountsRows}
+use Rattle.rt_totalizer.specs.Outputs.{output_at, CountsRows}
 use Rattle.rt_totalizer.specs.declared.counter.Outputs.{Outputs}
 use Rattle.rt_search.specs.Sought.{IsSought, IsWithin, not_kept}
 
@@ -36,7 +36,6 @@ pub record IsUnderWay (d : Shared) (goal : ℕ) (cone : List Bool) (lines : List
   pub long : length cone ≡ d.rows
   pub aimed : IsAimed d goal cone lines next
   pub counted : IsCounted d lines next counter.outs
-  pub firsts : CountsFirst d.rows (length counter.outs) next lines counter.firsts
   pub sought : IsSought d goal cone best
   pub within : size best ≤ length counter.outs
   pub room : size best < d.rows → size best < length counter.outs

@@ -5,7 +5,6 @@ use Rattle.rt_clause.specs.Literal.{Literal}
 use Rattle.rt_clause.specs.Models.{lit_true, IsModel}
 use Rattle.rt_clause.specs.Gates.{AgreeBelow}
 use Rattle.rt_formula.specs.Shared.{Shared}
-use Rattle.rt_totalizer.specs.Cells.{kept_below}
 use Rattle.rt_search.specs.Least.{HasFewest}
 use Rattle.rt_search.specs.Sought.{IsSought}
 use Rattle.rt_search.specs.Order.{ComesBefore}
@@ -17,12 +16,11 @@ HasValue d lines l value = (keep bools : List Bool) → length keep ≡ d.rows �
 -- The best choice has the fewest rows. Where the goal and the held literal are true, a choice has
 -- no more rows and agrees with the best one up to a place. Each choice that would come before the
 -- best one makes the held literal true.
-pub record IsLeading (d : Shared) (goal : ℕ) (cone : List Bool) (lines : List (List Literal)) (best : List Bool) (place kept : ℕ) (held : Literal) : Type 0 where
+pub record IsLeading (d : Shared) (goal : ℕ) (cone : List Bool) (lines : List (List Literal)) (best : List Bool) (place : ℕ) (held : Literal) : Type 0 where
   pub best_is : IsSought d goal cone best
   pub fewest : HasFewest (IsSought d goal cone) best
   pub value : List Bool → Bool
   pub held_is : HasValue d lines held value
-  pub kept_is : kept ≡ kept_below place best
   pub few : (s : List Bool) → IsSought d goal cone s → value s ≡ true → size s ≤ size best
   pub alike : (s : List Bool) → IsSought d goal cone s → value s ≡ true → AgreeBelow place s best
   pub rivals : (s : List Bool) → IsSought d goal cone s → size s ≡ size best → ComesBefore s best → value s ≡ true
@@ -30,4 +28,4 @@ pub record IsLeading (d : Shared) (goal : ℕ) (cone : List Bool) (lines : List 
 -- the same before any row is settled; each choice of no more rows than the best makes the held
 -- literal true
 abbrev pub AllFew : Shared → ℕ → List Bool → List (List Literal) → List Bool → Literal → Type 0
-AllFew d goal cone lines best held = (l : IsLeading d goal cone lines best 0 0 held) × ((s : List Bool) → IsSought d goal cone s → size s ≤ size best → l.value s ≡ true)
+AllFew d goal cone lines best held = (l : IsLeading d goal cone lines best 0 held) × ((s : List Bool) → IsSought d goal cone s → size s ≤ size best → l.value s ≡ true)

@@ -1,5 +1,5 @@
 -- What is searched for: choices within the cone at which the goal is true.
-use Rattle.std.specs.Prelude.{◌≡◌, ℕ, ◌+◌, ◌<◌, Bool, true, false, List, [], ◌∷◌, length, Option, IsSomeAnd}
+use Rattle.std.specs.Prelude.{◌≡◌, ℕ, zero, suc, ◌+◌, ◌<◌, nat_le, Bool, true, false, cond, ◌&&◌, List, [], ◌∷◌, ◌++◌, length, Option, IsSomeAnd}
 use Rattle.rt_clause.specs.Literal.{Literal}
 use Rattle.rt_clause.specs.Lists.{has, line_at}
 use Rattle.rt_formula.specs.Shared.{Shared, bool_at, val}
@@ -23,6 +23,11 @@ abbrev pub left_out : ℕ → List Bool → List (List Literal)
 left_out place [] = []
 left_out place (true ∷ cone) = left_out (place + 1) cone
 left_out place (false ∷ cone) = (not_kept place ∷ []) ∷ left_out (place + 1) cone
+
+-- for each row of the cone from one place to before another, the literal that it is not kept
+abbrev pub not_kept_between : List Bool → ℕ → ℕ → List Literal
+not_kept_between cone place zero = []
+not_kept_between cone place (suc end) = cond (nat_le place end && bool_at cone end) (not_kept_between cone place end ++ not_kept end ∷ []) (not_kept_between cone place end)
 
 -- no clause has the literal that a row outside of the cone is not kept
 abbrev pub AreInside : ℕ → List Bool → List (List Literal) → Type 0

@@ -6,8 +6,8 @@
 //!
 //! Each further round assumes that no more rows are kept than in the best choice so far. It asks
 //! whether there is any other such choice; if so, whether there is one of fewer rows. When there
-//! is none of fewer, each further question asks for one that keeps an earlier row, by the
-//! counter's own literals. What is learned for one question serves those after it.
+//! is none of fewer, each further question asks for one that keeps an earlier row: one of some
+//! rows that the best leaves out. What is learned for one question serves those after it.
 //!
 //! Within a budget each round assumes that fewer rows are kept, and the order is asked about row
 //! by row, so that what was learned holds at every choice of as few rows. There a refutation
@@ -19,13 +19,14 @@ mod ask;
 mod attempt;
 mod best;
 mod both;
-mod by_cells;
 mod by_rows;
 mod choice;
 mod counted;
 mod encode;
 mod first;
+mod in_order;
 mod lower;
+mod none_kept;
 mod others;
 mod search;
 mod smaller;

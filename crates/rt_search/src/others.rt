@@ -8,8 +8,8 @@ ghost use Rattle.rt_search.specs.Sought.{IsSought};
 
 use crate::alone::other;
 use crate::ask::ask;
-use crate::by_cells::by_cells;
 use crate::counted::Counted;
+use crate::in_order::in_order;
 use crate::lower::fewer;
 use crate::smaller::smaller;
 use rt_clause::Named;
@@ -62,7 +62,7 @@ pub(crate) fn others(
         let bound = fewer(&counter.outs, most);
         match ask(alloc, solver, held, bound, rows, named.next())? {
             None => {
-                return by_cells(alloc, solver, dag, goal, cone, named, counter, best, held);
+                return in_order(alloc, solver, dag, goal, cone, named, best, held);
             }
             Some(keep) => best = keep,
         }

@@ -1,4 +1,4 @@
-use Rattle.std.proofs.Common.{◌+◌, ◌∙◌, ℕ, List, Bool, Option, Some, None, sym, ap, subst, arith}
+use Rattle.std.proofs.Common.{◌∙◌, ℕ, sym, ap, subst, arith}
 use Rattle.rt_clause.specs.Literal.{Literal}
 use Rattle.rt_search.specs.Aimed.{IsAimed}
 use Rattle.rt_search.proofs.Only.{other-begun, other-aimed, other-answer, other-longer}

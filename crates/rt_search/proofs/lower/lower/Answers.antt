@@ -3,7 +3,6 @@ use Rattle.rt_clause.specs.Refuting.{IsRefuted}
 use Rattle.rt_solver.specs.declared.solver.Found.{Found}
 use Rattle.rt_derive.specs.declared.checker.Checker.{Checker}
 use Rattle.rt_search.specs.Attempts.{IsTold}
-use Rattle.rt_search.proofs.Asking.{firsts-on}
 use Rattle.rt_search.proofs.Leading.{least-none}
 use Rattle.rt_search.proofs.Rounds.{round-begun, round-on, round-model, round-least, round-spent}
 use Rattle.rt_search.proofs.lower.lower.Goals as goal
@@ -35,7 +34,6 @@ lower-preserved c =
         long = v.way.long;
         aimed = on.aimed;
         counted = on.counted;
-        firsts = firsts-on _ _ _ _ _ _ _ _ (omega arith) c.in_ok-model.ensures.grown.lines v.way.firsts;
         sought = m.0;
         within = omega (arith, s, e, w);
         room = λ h. omega (arith, s, e, w);
@@ -58,7 +56,6 @@ first-requires-clause-way c =
       long = v.way.long;
       aimed = on.aimed;
       counted = on.counted;
-      firsts = firsts-on _ _ _ _ _ _ _ _ (omega arith) c.in_ok-model.ensures.grown.lines v.way.firsts;
       sought = v.way.sought;
       within = v.way.within;
       room = v.way.room;

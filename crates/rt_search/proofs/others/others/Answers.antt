@@ -1,7 +1,4 @@
-use Rattle.std.proofs.Common.{◌≡◌, ◌+◌, ◌<◌, ◌≤◌, ◌∙◌, ◌++◌, append_assoc, ap, List, Bool, Option, Some, None, length, refl, subst, arith}
-use Rattle.rt_value.specs.Keep.{size}
-use Rattle.rt_clause.specs.Literal.{Literal}
-use Rattle.rt_search.specs.Aimed.{IsAimed}
+use Rattle.std.proofs.Common.{◌≡◌, ◌+◌, ◌∙◌, ◌++◌, append_assoc, ap, List, Bool, Option, Some, length, subst, arith}
 use Rattle.rt_search.specs.Alone.{IsOther}
 use Rattle.rt_search.specs.Attempts.{IsAnswered}
 use Rattle.rt_search.specs.Sought.{IsSought}
@@ -94,8 +91,8 @@ ask-requires-clause-asked c =
     let w = c.in_ok-other.ensures.wider in
     omega (arith, low, w)
 
-pub by_cells-requires-clause-aimed : goal.by_cells-requires-clause-aimed
-by_cells-requires-clause-aimed c =
+pub in_order-requires-clause-aimed : goal.in_order-requires-clause-aimed
+in_order-requires-clause-aimed c =
     let v = c.others.invariant in
     let e = c.size-most.ensures in
     let room = v.way.room v.room in
@@ -105,26 +102,8 @@ by_cells-requires-clause-aimed c =
     let way = way-on c.args.dag.now c.args.goal c.args.cone.now c.others.solver.0.lines c.ask.new.solver.0.lines _ c.others.named.next c.other.new.named.next c.args.counter.now c.others.best c.others.best lines c.in_ok-other.ensures.wider aim v.way v.way.sought (omega arith) v.room in
     way.aimed
 
-pub by_cells-requires-clause-firsts : goal.by_cells-requires-clause-firsts
-by_cells-requires-clause-firsts c =
-    let v = c.others.invariant in
-    let e = c.size-most.ensures in
-    let room = v.way.room v.room in
-    let aim = aimed-grown c.args.dag.now c.args.goal c.args.cone.now c.other.new.solver.0.lines c.ask.new.solver.0.lines (Some c.fewer-held.result) c.other.new.named.next _ c.next.ensures (let h = fewer-low c.args.dag.now c.others.solver.0.lines c.others.named.next c.args.counter.now.outs (c.size-most.result + 1) c.fewer-held.result v.way.counted c.fewer-held.ensures (omega arith) (omega (arith, e, room)) in let w = c.in_ok-other.ensures.wider in omega (arith, h, w)) c.in_ok-other.ensures.aimed c.in_ok-ask.ensures.grown in
-    let lines : c.ask.new.solver.0.lines ≡ c.others.solver.0.lines ++ (c.in_ok-other.ensures.longer.more ++ c.in_ok-ask.ensures.grown.more) =
-    c.in_ok-ask.ensures.grown.lines ∙ ap (λ ls. ls ++ c.in_ok-ask.ensures.grown.more) c.in_ok-other.ensures.longer.lines ∙ append_assoc c.others.solver.0.lines c.in_ok-other.ensures.longer.more c.in_ok-ask.ensures.grown.more in
-    let way = way-on c.args.dag.now c.args.goal c.args.cone.now c.others.solver.0.lines c.ask.new.solver.0.lines _ c.others.named.next c.other.new.named.next c.args.counter.now c.others.best c.others.best lines c.in_ok-other.ensures.wider aim v.way v.way.sought (omega arith) v.room in
-    way.firsts
-
-pub by_cells-requires-clause-room : goal.by_cells-requires-clause-room
-by_cells-requires-clause-room c =
-    let v = c.others.invariant in
-    let e = c.size-most.ensures in
-    let room = v.way.room v.room in
-    room
-
-pub by_cells-requires-clause-low : goal.by_cells-requires-clause-low
-by_cells-requires-clause-low c =
+pub in_order-requires-clause-low : goal.in_order-requires-clause-low
+in_order-requires-clause-low c =
     let v = c.others.invariant in
     let e = c.size-most.ensures in
     let room = v.way.room v.room in
@@ -132,8 +111,8 @@ by_cells-requires-clause-low c =
     let w = c.in_ok-other.ensures.wider in
     omega (arith, h, w)
 
-pub by_cells-requires-clause-leading : goal.by_cells-requires-clause-leading
-by_cells-requires-clause-leading c =
+pub in_order-requires-clause-leading : goal.in_order-requires-clause-leading
+in_order-requires-clause-leading c =
     let v = c.others.invariant in
     let e = c.size-most.ensures in
     let room = v.way.room v.room in

@@ -1,8 +1,7 @@
-use Rattle.std.proofs.Common.{ℕ, ◌<◌, ◌∙◌, None, length, refl, sym, subst, arith}
+use Rattle.std.proofs.Common.{◌<◌, ◌∙◌, None, refl, sym, subst, arith}
 use Rattle.rt_clause.specs.Refuting.{IsRefuted}
 use Rattle.rt_solver.specs.declared.solver.Found.{Found}
 use Rattle.rt_derive.specs.declared.checker.Checker.{Checker}
-use Rattle.rt_totalizer.specs.Outputs.{CountsFirst}
 use Rattle.rt_search.specs.Attempts.{IsTold}
 use Rattle.rt_search.proofs.Aiming.{aimed-extends, model-sought, refuted-never}
 use Rattle.rt_search.proofs.Attempts.{aimed-grown}
@@ -26,9 +25,6 @@ lower-requires-clause-way c =
     let a = c.requires.aimed in
     let k = c.in_ok-counter-in-Model.ensures in
     let r = c.requires.rows in
-    let outs = c.in_ok-counter-in-Model.counter.outs in
-    let firsts = c.in_ok-counter-in-Model.counter.firsts in
-    let lines = c.count_among.new.to.0.lines in
     let z = c.size.ensures in
     let t = c.rows-rows.ensures in
     let l = c.in_ok-best-in-Model.ensures.0 in
@@ -42,7 +38,6 @@ lower-requires-clause-way c =
         low = k.low;
         counts = λ keep bools l ag m j z b. k.counts keep bools (l ∙ sym r) (λ v h. ag v (let e : v < c.args.dag.now.rows = omega (arith, h, r) in e)) m j z b;
       };
-      firsts = subst (λ (n : ℕ). CountsFirst n (length outs) c.count_among.new.named.next lines firsts) r (subst (λ (n : ℕ). CountsFirst c.args.named.rows n c.count_among.new.named.next lines firsts) (sym k.len) k.firsts);
       sought = c.in_ok-best-in-Model.ensures;
       within = (let u = c.one_above-upto.ensures.reach (omega (arith, z, t, l, m)) in omega (arith, z, u, n));
       room = λ h. (let u = c.one_above-upto.ensures.above (omega (arith, z, t, h)) in omega (arith, z, u, n));

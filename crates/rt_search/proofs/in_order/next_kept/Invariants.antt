@@ -1,5 +1,5 @@
 use Rattle.rt_search.specs.Order.{IsBare}
-use Rattle.rt_search.proofs.by_cells.next_kept.Given as goal
+use Rattle.rt_search.proofs.in_order.next_kept.Given as goal
 
 abbrev pub invariant-loop-row : goal.invariant-loop-row
 invariant-loop-row l = IsBare l.place l.row l.keep

@@ -1,19 +1,17 @@
-use Rattle.std.proofs.Common.{◌≡◌, ◌≤◌, ◌<◌, ◌+◌, ◌-◌, ◌*◌, ◌^◌, length}
-use Rattle.rt_value.specs.Keep.{size}
+use Rattle.std.proofs.Common.{◌≡◌, ◌≤◌, ◌<◌, ◌+◌, ◌-◌, ◌*◌, ◌^◌}
 use Rattle.rt_search.specs.Order.{IsNext}
 use Rattle.rt_search.proofs.Asking.{IsSettled}
-use Rattle.rt_search.proofs.by_cells.by_cells.Given as goal
+use Rattle.rt_search.proofs.in_order.in_order.Given as goal
 
 abbrev pub invariant-first : goal.invariant-first
 invariant-first l = record {
   rows : l.rows ≡ l.fn.dag.rows;
   small : l.rows < 2 ^ 61;
-  settled : IsSettled l.fn.dag l.fn.goal l.fn.cone l.solver.0.lines l.counter.firsts (length l.counter.outs) l.next l.best l.place l.kept l.held;
+  settled : IsSettled l.fn.dag l.fn.goal l.fn.cone l.solver.0.lines l.next l.best l.place l.held;
   next_is : IsNext l.best l.place l.row;
   from : l.place ≤ l.end;
   within : l.end ≤ l.row;
   ahead : l.place < l.row → l.place < l.end;
-  room : size l.best < length l.counter.outs;
 }
 
 abbrev pub decreases-first : goal.decreases-first

@@ -1,9 +1,7 @@
-//! The first of the smallest choices without a budget: few questions, by the counter's literals
-//! that count the rows kept up to a place.
+//! The first of the smallest choices without a budget: few questions, each whether one of some
+//! rows is kept.
 
 ghost use Rattle.std.specs.Prelude.{◌≡◌, ◌≤◌, ◌<◌, ◌^◌, IfOk, length};
-ghost use Rattle.rt_value.specs.Keep.{size};
-ghost use Rattle.rt_totalizer.specs.Outputs.{CountsFirst};
 ghost use Rattle.rt_search.specs.Aimed.{IsAimed};
 ghost use Rattle.rt_search.specs.Leading.{IsLeading};
 ghost use Rattle.rt_search.specs.Least.{IsLeast};
@@ -13,10 +11,10 @@ ghost use Rattle.rt_search.specs.Sought.{IsSought};
 use crate::ask::ask;
 use crate::both::both;
 use crate::counted::Counted;
+use crate::none_kept::none_kept;
 use rt_clause::{Lit, Named};
 use rt_formula::{Dag, Node};
 use rt_solver::Solver;
-use rt_totalizer::Outputs;
 use rt_value::{Keep, NoMemory};
 use std::alloc::Global;
 
@@ -34,36 +32,34 @@ fn next_kept(keep: &Keep, place: usize) -> usize
 }
 
 /// Goes on from a choice of the fewest rows to the first of them in the order of rows. Every row
-/// below `place` is settled, and `kept` of them are kept. `held` says so, and that no more rows
-/// are kept than in the best choice.
+/// below `place` is settled. `held` says which of them are kept, and that no more rows are kept
+/// than in the best choice.
 ///
-/// Each round asks for a choice that keeps one more of the rows before `end`, which is at most
-/// `row`, the next one that the best keeps. A model is the best from then on, and half of the
-/// rows before its next one are asked about. A refutation settles the rows before `end`. Then all
-/// up to `row` are asked about, since mostly there is no other choice.
+/// Each round asks for a choice that keeps one of the rows from `place` to before `end`, which is
+/// at most `row`, the next one that the best keeps. A model is the best from then on, and half of
+/// the rows before its next one are asked about. A refutation settles the rows before `end`. Then
+/// all up to `row` are asked about, since mostly there is no other choice.
 ///
 /// Of six rows with the best {2, 5}, where the first of the smallest is {1, 4}:
 ///     is row 0 or 1 kept?              yes, by {1, 4}, which is the best now
 ///     is row 0 kept?                   no: row 0 is left out, and row 1 is kept
 ///     row 1, and is row 2 or 3 kept?   no: both are left out, and row 4 is kept
-pub(crate) fn by_cells(
+pub(crate) fn in_order(
     alloc: Global,
     solver: &mut Solver<Counted>,
     dag: &Dag,
     goal: Node,
     cone: &Keep,
     named: Named,
-    counter: &Outputs,
     best: Keep,
     held: Lit,
 ) -> Result<Keep, NoMemory>
     requires rows { named.rows ≡ dag.now.rows }
     requires small { named.next < 2 ^ 61 }
+    requires long { length cone.now ≡ dag.now.rows }
     requires aimed { IsAimed dag.now goal cone.now solver.old.0.lines named.next }
-    requires firsts { CountsFirst dag.now.rows (length counter.now.outs) named.next solver.old.0.lines counter.now.firsts }
-    requires leading { IsLeading dag.now goal cone.now solver.old.0.lines best 0 0 held }
+    requires leading { IsLeading dag.now goal cone.now solver.old.0.lines best 0 held }
     requires low { held.var < named.next }
-    requires room { size best < length counter.now.outs }
     ensures { IfOk result (IsLeast (IsSought dag.now goal cone.now)) }
 {
     let rows = named.rows();
@@ -71,7 +67,6 @@ pub(crate) fn by_cells(
     let mut held = held;
     let mut next = named.next();
     let mut place = 0;
-    let mut kept = 0;
     let mut row = next_kept(&best, place);
     let mut end = row;
     'first: loop {
@@ -82,14 +77,13 @@ pub(crate) fn by_cells(
             held = both(alloc, held, Lit::of(row, true), next, solver)?;
             next += 1;
             place += 1;
-            kept += 1;
             row = next_kept(&best, place);
             end = row;
             continue;
         }
-        let earlier = counter.at_least(kept + 1, end);
-        let asked = both(alloc, held, earlier, next, solver)?;
-        next += 1;
+        let none = none_kept(alloc, cone, place, end, next, solver)?;
+        let asked = both(alloc, held, none.negated(), next + 1, solver)?;
+        next += 2;
         if let Some(keep) = ask(alloc, solver, held, asked, rows, next)? {
             best = keep;
             held = asked;
