@@ -1,4 +1,5 @@
 pub mod Trail
+pub mod Storing
 pub mod Table
 pub mod Analysis
 pub mod Looking

@@ -8,23 +8,33 @@ use rt_value::NoMemory;
 use std::alloc::Global;
 use std::marker::Model;
 
-/// A clause of the solver's own, whose literals may change places, with the place where the last
-/// search for a literal to watch ended.
+// The literals of a clause: three, as most clauses have, stand in the clause itself, and any other
+// number in a block, with the place where the last search for a literal to watch ended.
+#[derive(Drop)]
+enum Literals {
+    Three([Lit; 3]),
+    Block { lits: ThinClause, ended: usize },
+}
+
+const _: () = prove!(size_of::<Clause>() == 32);
+
+/// A clause of the solver's own, whose literals may change places. Propagation waits for memory, so
+/// three literals are read with the clause, and not from a block.
 #[derive(Drop)]
 pub(crate) struct Clause {
-    lits: ThinClause,
-    ended: usize,
+    literals: Literals,
 }
 
 impl Model for Clause {
-    ghost use Rattle.std.specs.Prelude.{List, ◌≤◌, length};
+    ghost use Rattle.std.specs.Prelude.{List};
     ghost use Rattle.rt_clause.specs.Literal.{Literal};
+    ghost use Rattle.rt_solver.specs.Storing.{stored, IsStored};
 
     ghost Value = { List Literal };
 
-    ghost view = { λ c. c.lits };
+    ghost view = { λ c. stored c.literals };
 
-    ghost invariant = { λ c. c.ended ≤ length c.lits };
+    ghost invariant = { λ c. IsStored c.literals };
 }
 
 // The place of a literal that differs from the first.
@@ -54,11 +64,14 @@ impl Clause {
     pub(crate) fn new(alloc: Global, lits: &[Lit]) -> Result<Clause, NoMemory>
         ensures { IfOk result (λ c. c ≡ lits.now) }
     {
-        let own = ThinClause::of(alloc, lits)?;
-        Ok(Clause {
-            lits: own,
-            ended: 0,
-        })
+        let literals = match lits {
+            [a, b, c] => Literals::Three([*a, *b, *c]),
+            _ => {
+                let lits = ThinClause::of(alloc, lits)?;
+                Literals::Block { lits, ended: 0 }
+            }
+        };
+        Ok(Clause { literals })
     }
 
     /// A copy of the literals in which the first two differ.
@@ -79,7 +92,10 @@ impl Clause {
     pub(crate) fn lits(&self) -> &[Lit]
         ensures { result.now ≡ self.now }
     {
-        self.lits.lits()
+        match &self.literals {
+            Literals::Three(lits) => lits,
+            Literals::Block { lits, .. } => lits.lits(),
+        }
     }
 
     /// Where a search for a literal to watch begins: where the last one ended, but after the
@@ -88,7 +104,11 @@ impl Clause {
         ensures low { 2 ≤ result }
         ensures within { 2 ≤ length self.now → result ≤ length self.now }
     {
-        self.ended.max(2)
+        match &self.literals {
+            // only this one isn't watched
+            Literals::Three(_) => 2,
+            Literals::Block { ended, .. } => (*ended).max(2),
+        }
     }
 
     /// Puts the literal at which a search ended into a watched place.
@@ -97,7 +117,12 @@ impl Clause {
         requires ended { ended < length self.old }
         ensures { self.new ≡ swap self.old watched ended }
     {
-        self.lits.swap(watched, ended);
-        self.ended = ended;
+        match &mut self.literals {
+            Literals::Three(lits) => lits.swap(watched, ended),
+            Literals::Block { lits, ended: last } => {
+                lits.swap(watched, ended);
+                *last = ended;
+            }
+        }
     }
 }
