@@ -31,6 +31,31 @@ const DEPTH: usize = 6;
 const FUEL: usize = 128;
 
 // Resolves with the line that a marked step rests on.
+fn resolve<L: Lines + Drop>(base: &Base<L>, step: Step, walk: &mut Walk) -> Result<(), NoMemory>
+    requires below { AreBelow (length walk.old.marks.marks) (L.lines base.now.0) }
+    requires line { IsLineWithin (L.lines base.now.0) step.why }
+    requires marked { marked_by walk.old.marks step.lit.var ≡ true }
+    ensures found { OnOk result (walk.new.found.items ≡ walk.old.found.items) }
+    ensures marks { length walk.new.marks.marks ≡ length walk.old.marks.marks }
+    ensures walked { OnOk result ((assume : Option Literal) (vars : ℕ) (rest : List Step) → IsApart vars (step ∷ rest) → RestsOn (L.lines base.now.0) assume rest step.lit step.why
+        → (step.why ≡ Decided → ⊥)
+        → IsWalked (L.lines base.now.0) assume vars (step ∷ rest) walk.old → IsWalked (L.lines base.now.0) assume vars rest walk.new) }
+{
+    walk.marks.visit();
+    match step.why {
+        Why::Line(r) => {
+            walk.hints.push(r)?;
+            walk.marks.mark(base.at(r))?;
+        }
+        Why::Decided => {}
+        Why::Assumed => {}
+    }
+    Ok(())
+}
+
+// Visits a step, which matters only where it is marked. Most are not, so the test stands in the
+// callers.
+#[inline]
 fn visit<L: Lines + Drop>(base: &Base<L>, step: Step, walk: &mut Walk) -> Result<(), NoMemory>
     requires below { AreBelow (length walk.old.marks.marks) (L.lines base.now.0) }
     requires var { step.lit.var < length walk.old.marks.marks }
@@ -45,16 +70,7 @@ fn visit<L: Lines + Drop>(base: &Base<L>, step: Step, walk: &mut Walk) -> Result
     if !walk.marks.is(lit.var()) {
         return Ok(());
     }
-    walk.marks.visit();
-    match step.why {
-        Why::Line(r) => {
-            walk.hints.push(r)?;
-            walk.marks.mark(base.at(r))?;
-        }
-        Why::Decided => {}
-        Why::Assumed => {}
-    }
-    Ok(())
+    resolve(base, step, walk)
 }
 
 // Whether steps are left that may be marked.
