@@ -28,7 +28,7 @@ use rt_value::NoMemory;
 const DEPTH: usize = 6;
 
 // How many literals it looks at.
-const FUEL: usize = 128;
+const FUEL: usize = 100;
 
 // Resolves with the line that a marked step rests on.
 fn resolve<L: Lines + Drop>(base: &Base<L>, step: Step, walk: &mut Walk) -> Result<(), NoMemory>

@@ -10,7 +10,7 @@ use rt_value::NoMemory;
 use std::alloc::Global;
 use std::marker::Model;
 
-// Large enough that a sixty-fourth part of it counts.
+// What the first conflicts raise a counter by; each next step is greater by one at least.
 const FIRST_STEP: u64 = 64;
 
 // No counter and no step grows past this number.
@@ -132,14 +132,14 @@ impl Heap {
         }
     }
 
-    /// Lets the step grow by a sixty-fourth part, so that later raises count for more.
+    /// Lets the step grow by an eightieth part, so that later raises count for more.
     pub fn age(&mut self)
         ensures { self.new ≡ self.old }
     {
         if self.step > LIMIT / 2 {
             self.halve();
         }
-        self.step = self.step.saturating_add(self.step / 64 + 1);
+        self.step = self.step.saturating_add(self.step / 80 + 1);
     }
 
     // Halves the step and all counters. Where two counters become equal, the greater variable may
