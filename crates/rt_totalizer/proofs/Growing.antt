@@ -1,14 +1,14 @@
 -- How the counts of ranges grow.
-use Rattle.std.proofs.Common.{◌≡◌, ℕ, zero, suc, ◌+◌, ◌-◌, ◌<◌, ◌≤◌, nat_le, Bool, true, false, cond, not, ◌⊎◌, inl, inr, List, [], ◌∷◌, ◌++◌, replicate, length, slice_index_or, refl, sym, ap, subst, ◌∙◌, arith}
+use Rattle.std.proofs.Common.{◌≡◌, ℕ, zero, suc, ◌+◌, ◌<◌, ◌≤◌, Bool, true, false, not, inl, inr, List, [], ◌∷◌, ◌++◌, replicate, length, slice_index_or, sym, ap, subst, ◌∙◌, arith}
 use Rattle.rt_clause.specs.Literal.{Literal, negated}
-use Rattle.rt_clause.specs.Lists.{has, Closed, IsMet, IsBelow}
+use Rattle.rt_clause.specs.Lists.{has, IsMet}
 use Rattle.rt_clause.specs.Models.{lit_true, IsModel}
 use Rattle.rt_clause.specs.Gates.{gate, Extends}
 use Rattle.rt_clause.proofs.Literals.{has-cases, negated-twice}
 use Rattle.rt_clause.proofs.Following.{lit_true-negated}
 use Rattle.rt_clause.proofs.EachLine.{each-back, each-head}
 use Rattle.rt_clause.proofs.Extending.{extends-none, extends-on, extends-gate, gate-means, model-older}
-use Rattle.rt_totalizer.specs.Cells.{cell_at, first_cells, kept_from, AreRowsOf, IsLeftOut, IsRange, IsNever, IsToldAs, AreCells, AreTold}
+use Rattle.rt_totalizer.specs.Cells.{first_cells, kept_from, IsLeftOut, IsRange, IsNever, IsToldAs, AreCells, AreTold}
 use Rattle.rt_totalizer.specs.Merging.{IsMerging}
 use Rattle.rt_totalizer.specs.Sums.{IsReady, IsCounted, IsSum}
 use Rattle.rt_totalizer.proofs.Rows.{le-true}

@@ -1,5 +1,5 @@
 -- The clauses of one output, for one number of rows on the left after the other.
-use Rattle.std.proofs.Common.{◌≡◌, ℕ, zero, suc, ◌+◌, ◌-◌, ◌<◌, ◌≤◌, nat_le, nat_lt, Bool, true, false, cond, ◌&&◌, ◌⊎◌, inl, inr, List, [], ◌∷◌, ◌++◌, length, append_assoc, refl, sym, ap, subst, ◌∙◌, arith, rules}
+use Rattle.std.proofs.Common.{◌≡◌, ℕ, zero, suc, ◌+◌, ◌-◌, ◌<◌, ◌≤◌, nat_le, nat_lt, Bool, true, false, cond, ◌&&◌, ◌⊎◌, inl, inr, List, [], ◌∷◌, ◌++◌, length, append_assoc, append-nil, refl, sym, ap, subst, ◌∙◌, arith, rules}
 use Rattle.rt_clause.specs.Literal.{Literal}
 use Rattle.rt_clause.specs.Lists.{line_at}
 use Rattle.rt_clause.proofs.Bools.{bool-cases}
@@ -167,10 +167,7 @@ module _ (never : Literal) (left right : List Literal) (most_left most_right k :
       let e : i + suc n ≡ suc (i + n) = omega arith in
       let u : up_there never left right most_left most_right out j (k - j) ≡ [] = there-none j most_left (k - j) most_right (up never left right out j (k - j)) (inl (omega (arith, b))) in
       let d : down_there never left right most_left most_right out j (k - j - 1) ≡ [] = there-none j most_left (k - j - 1) most_right (down never left right out j (k - j - 1)) (inl (omega (arith, b))) in
-      ap L e ∙ (λ t. L j ++ u t ++ d t) ∙ nil (L j ++ []) ∙ nil (L j) ∙ later i n b where
-        nil : (xs : List (List Literal)) → xs ++ [] ≡ xs
-        nil [] = refl
-        nil (x ∷ xs) = ap (λ ys. x ∷ ys) (nil xs)
+      ap L e ∙ (λ t. L j ++ u t ++ d t) ∙ append-nil (L j ++ []) ∙ append-nil (L j) ∙ later i n b
 
   -- and where the left cannot have so many, no more
   pub listed-late : (i : ℕ) → i ≤ k → (most_left < i) ⊎ (i ≡ k) → listed never left right most_left most_right k out i ≡ listed never left right most_left most_right k out k

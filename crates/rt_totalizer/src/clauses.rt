@@ -45,7 +45,11 @@ fn add_up<A: Adds>(
     if i > left.most || j > right.most {
         return Ok(());
     }
-    add_without(never, [left.at(i).negated(), right.at(j).negated(), out], to)
+    add_without(
+        never,
+        [left.at(i).negated(), right.at(j).negated(), out],
+        to,
+    )
 }
 
 // Adds the clause by which the output is false where at most i rows on the left and one fewer than

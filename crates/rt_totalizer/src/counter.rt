@@ -31,9 +31,9 @@ fn rest(alloc: Global, cells: &LitList) -> Result<LitList, NoMemory>
     }
 }
 
-/// Adds clauses that count the kept rows up to a bound: about one variable and five clauses for each
-/// row and number of rows. Moves the first unused variable past them. After an error some clauses
-/// may have been added.
+/// Adds clauses that count the kept rows up to a bound: about two clauses for each row and number of
+/// rows, and a variable for twelve of them. Moves the first unused variable past them. After an error
+/// some clauses may have been added.
 pub fn count<A: Adds>(
     alloc: Global,
     upto: usize,

@@ -1,7 +1,7 @@
-use Rattle.std.proofs.Common.{◌≡◌, ◌+◌, ◌-◌, ◌/◌, ◌∷◌, replicate, true, false, ℕ, sym, ◌∙◌, arith, rules}
-use Rattle.rt_clause.specs.Literal.{Literal, negated}
+use Rattle.std.proofs.Common.{◌≡◌, ◌+◌, ◌-◌, ◌/◌, ◌∷◌, replicate, true, ℕ, sym, ◌∙◌, arith, rules}
+use Rattle.rt_clause.specs.Literal.{negated}
 use Rattle.rt_totalizer.specs.Cells.{first_cells}
-use Rattle.rt_totalizer.specs.Sums.{IsCounted, IsSum, IsReady}
+use Rattle.rt_totalizer.specs.Sums.{IsCounted, IsSum}
 use Rattle.rt_totalizer.specs.declared.cells.Cells.{Cells}
 use Rattle.rt_totalizer.proofs.Growing.{never-over, ready-over, counted-row, counted-out, counted-sum}
 use Rattle.rt_totalizer.proofs.Outcomes.{if-ok, if-ok-both}

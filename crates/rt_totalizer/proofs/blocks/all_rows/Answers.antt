@@ -1,4 +1,4 @@
-use Rattle.std.proofs.Common.{◌≡◌, ◌+◌, ◌-◌, ◌∙◌, length, ap, arith}
+use Rattle.std.proofs.Common.{◌-◌, ◌∙◌, length, ap, arith}
 use Rattle.rt_clause.specs.Literal.{negated}
 use Rattle.rt_totalizer.proofs.Ranges.{first-length}
 use Rattle.rt_totalizer.proofs.Growing.{never-over, ready-over, counted-none, counted-sum}

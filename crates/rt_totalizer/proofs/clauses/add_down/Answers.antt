@@ -1,5 +1,5 @@
-use Rattle.std.proofs.Common.{◌≡◌, ◌+◌, ◌-◌, ◌++◌, ◌∷◌, [], OnOk, ℕ, suc, List, subst, ap, ◌∙◌, arith}
-use Rattle.rt_clause.specs.Literal.{Literal, negated}
+use Rattle.std.proofs.Common.{◌≡◌, ◌+◌, ◌-◌, ◌++◌, ◌∷◌, [], OnOk, suc, List, subst, ap, ◌∙◌, arith}
+use Rattle.rt_clause.specs.Literal.{Literal}
 use Rattle.rt_totalizer.specs.Cells.{cell_at}
 use Rattle.rt_totalizer.specs.Clauses.{down_there}
 use Rattle.rt_totalizer.specs.Merging.{without, down}

@@ -1,4 +1,4 @@
-use Rattle.std.proofs.Common.{◌≡◌, ◌<◌, ◌+◌, ◌-◌, ◌++◌, [], ◌⊎◌, inl, inr, List, append_assoc, append-nil, sym, ap, ◌∙◌, ℕ, arith}
+use Rattle.std.proofs.Common.{◌≡◌, ◌<◌, ◌-◌, ◌++◌, [], ◌⊎◌, inl, inr, List, append_assoc, append-nil, sym, ap, ◌∙◌, ℕ, arith}
 use Rattle.std.proofs.lemmas.Result.{on_ok_weaker}
 use Rattle.rt_clause.specs.Literal.{Literal}
 use Rattle.rt_totalizer.specs.Clauses.{up_there, down_there}
@@ -15,10 +15,8 @@ loop-i-init g c =
     listed-early a.never a.left.now.list a.right.now.list a.left.now.most a.right.now.most a.k a.out c.saturating_sub-low.result (omega (arith, e)) in
     record {
       within = omega (arith, e);
-      lines = sym (ap (λ (ls : List (List Literal)). lines ++ ls) none ∙ nil lines);
-    } where
-      nil : (xs : List (List Literal)) → xs ++ [] ≡ xs
-      nil xs = append-nil xs
+      lines = sym (ap (λ (ls : List (List Literal)). lines ++ ls) none ∙ append-nil lines);
+    }
 
 pub loop-i-preserved : goal.loop-i-preserved
 loop-i-preserved g c =
@@ -46,7 +44,7 @@ returns g c =
     let end : (a.left.now.most < i) ⊎ (i ≡ a.k) = elim (le-cases a.left.now.most (a.k - 1)) [ inl x ↦ inl (omega (arith, t, m, x)) | inr x ↦ inr (omega (arith, t, m, w, s, x)) ] in
     let all : L i ≡ L a.k = listed-late a.never a.left.now.list a.right.now.list a.left.now.most a.right.now.most a.k a.out i w end in
     on_ok_weaker c.add_up-2.result (λ e. (
-        L a.k ++ U,
-        e ∙ ap (λ (ls : List (List Literal)). ls ++ U) (c.loop-i.invariant.lines ∙ ap (λ (ls : List (List Literal)). lines ++ ls) all) ∙ append_assoc lines (L a.k) U,
-        is-merging a.never a.left.now.list a.right.now.list a.left.now.most a.right.now.most a.k a.out c.requires.some,
-      )) c.add_up-2.ensures
+      L a.k ++ U,
+      e ∙ ap (λ (ls : List (List Literal)). ls ++ U) (c.loop-i.invariant.lines ∙ ap (λ (ls : List (List Literal)). lines ++ ls) all) ∙ append_assoc lines (L a.k) U,
+      is-merging a.never a.left.now.list a.right.now.list a.left.now.most a.right.now.most a.k a.out c.requires.some,
+    )) c.add_up-2.ensures

@@ -1,5 +1,5 @@
 use Rattle.std.proofs.Common.{◌≡◌, ◌<◌, ◌≤◌, ◌+◌, ◌++◌, [], ◌∙◌, ℕ, true, List, sym, ap, subst, length, arith}
-use Rattle.rt_clause.specs.Literal.{Literal, negated}
+use Rattle.rt_clause.specs.Literal.{Literal}
 use Rattle.rt_clause.specs.Lists.{has}
 use Rattle.rt_clause.specs.Gates.{gate, Extends}
 use Rattle.rt_clause.proofs.Literals.{has-tail}
