@@ -19,13 +19,13 @@ use Rattle.rt_totalizer.proofs.Merging.{merged}
 pub never-over : (never : Literal) (lines : List (List Literal)) (n : ℕ) (new : List (List Literal)) (m : ℕ) → Extends lines n new m → IsNever never lines → IsNever never new
 never-over never lines n new m e h = let P : List (List Literal) → Type 0 = IsNever never in subst P (sym e.lines) (never-on never lines e.more h)
 
-pub range-over : (among : List Bool) (rows : ℕ) (never : Literal) (low a most : ℕ) (cells : List Literal) (n m : ℕ) (lines new : List (List Literal)) → Extends lines n new m
+range-over : (among : List Bool) (rows : ℕ) (never : Literal) (low a most : ℕ) (cells : List Literal) (n m : ℕ) (lines new : List (List Literal)) → Extends lines n new m
     → IsRange among rows never low a most cells n lines → IsRange among rows never low a most cells m new
 range-over among rows never low a most cells n m lines new e r =
     let P : List (List Literal) → Type 0 = IsRange among rows never low a most cells m in
     subst P (sym e.lines) (range-on among rows never low a most cells n m lines e.more e.wider r)
 
-pub out-over : (among : List Bool) (row : ℕ) (lines : List (List Literal)) (n : ℕ) (new : List (List Literal)) (m : ℕ) → Extends lines n new m → IsLeftOut among row lines → IsLeftOut among row new
+out-over : (among : List Bool) (row : ℕ) (lines : List (List Literal)) (n : ℕ) (new : List (List Literal)) (m : ℕ) → Extends lines n new m → IsLeftOut among row lines → IsLeftOut among row new
 out-over among row lines n new m e out off bools h = let M : List (List Literal) → Type 0 = λ ls. IsModel ls bools in out off bools (model-older lines e.more bools (subst M e.lines h))
 
 pub ready-over : (among : List Bool) (never : Literal) (n m : ℕ) (lines new : List (List Literal)) → Extends lines n new m → IsReady among never n lines → IsReady among never m new
