@@ -58,7 +58,7 @@ kept-some p d q xs ys a l h k =
     omega (arith, same, low, here, high)
 
 -- and one that keeps no row more has none there
-pub bare-of : (p q : ℕ) (xs ys : List Bool) → AgreeBelow p xs ys → kept_below q xs < kept_below p ys + 1 → IsBare p q xs
+bare-of : (p q : ℕ) (xs ys : List Bool) → AgreeBelow p xs ys → kept_below q xs < kept_below p ys + 1 → IsBare p q xs
 bare-of p q xs ys a h v l r = elim (bool-cases (slice_index_or xs v false)) [
   | inl y ↦ absurd (let k = kept-some p v q xs ys a l r y in omega (arith, k, h))
   | inr y ↦ y

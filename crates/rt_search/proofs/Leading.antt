@@ -115,7 +115,7 @@ both-value d lines new a b out u v e f g keep bools k ag m =
       by true false p q h i = cc
       by false y p q h i = ap (λ z. z && q) h
 
--- a literal of which the other says that none of some rows is kept
+-- the negation of the literal that says that none of some rows is kept
 some-value : (d : Shared) (goal : ℕ) (cone : List Bool) (lines new : List (List Literal)) (next place end : ℕ) (none some : Literal) → IsAimed d goal cone lines next → end ≤ d.rows → new ≡ lines ++ gate none (not_kept_between cone place end) → some ≡ negated none
     → HasValue d new some (keeps_some place end)
 some-value d goal cone lines new next place end none some h w e x keep bools k a m =
