@@ -225,7 +225,7 @@ fn twenty_groups_of_five(rt: HostRuntime) {
     assert!(rt; conflicts(&rt, &drawing, goal) < 2_000);
 }
 
-// The counter goes up to 400, and has 720,200 cells.
+// The counter goes up to 401.
 #[test]
 fn every_fifth_of_two_thousand_rows(rt: HostRuntime) {
     let mut drawing = Drawing::new(&rt, rt.alloc(), 2_000);
