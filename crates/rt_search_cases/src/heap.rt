@@ -72,12 +72,12 @@ fn the_greatest_counter_comes_first(rt: HostRuntime) {
     assert!(rt; came);
 }
 
-// After forty agings of a thirty-second part each, one raise counts for more than two before.
+// After sixty agings of an eightieth part each, one raise counts for more than two before.
 #[test]
 fn later_raises_count_for_more(rt: HostRuntime) {
     let mut heap = full(&rt, rt.alloc(), 5);
     raise(&mut heap, 2, 2);
-    for _ in 0..40 {
+    for _ in 0..60 {
         heap.age();
     }
     heap.raise(4);
