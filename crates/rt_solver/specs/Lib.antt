@@ -1,6 +1,7 @@
 pub mod Trail
 pub mod Storing
 pub mod Table
+pub mod Packing
 pub mod Analysis
 pub mod Looking
 pub mod Marking

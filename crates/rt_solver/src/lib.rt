@@ -23,6 +23,7 @@ mod learn;
 mod marks;
 mod next;
 mod order;
+mod packed;
 mod pick;
 mod places;
 mod propagate;

@@ -3,6 +3,7 @@
 ghost use Rattle.std.specs.Prelude.{◌≡◌, ◌<◌, ◌≤◌, [], ◌∷◌, length, None, IfOk, IsTrue, MatchOption, ◌↔◌};
 ghost use Rattle.rt_solver.specs.declared.trail.Why.TheVariants.{Decided};
 
+use crate::packed::Packed;
 use rt_clause::Lit;
 use rt_value::NoMemory;
 use std::alloc::Global;
@@ -38,7 +39,7 @@ impl Why {
 /// The literals that are true, in the order in which they became so.
 #[derive(Drop)]
 pub struct Trail {
-    steps: Vec<Step>,
+    steps: Vec<Packed>,
     values: Vec<Option<bool>>,
     places: Vec<usize>,
     root: usize,
@@ -145,8 +146,7 @@ impl Trail {
     {
         let place = self.places[v];
         if place < self.steps.len() {
-            let step = self.steps[place];
-            Some(step.why)
+            Some(self.steps[place].why())
         } else {
             None
         }
@@ -158,7 +158,7 @@ impl Trail {
         ensures step { oldest (i + 1) self.now.steps ≡ result ∷ oldest i self.now.steps }
         ensures apart { IsApart self.now.vars self.now.steps }
     {
-        self.steps[i]
+        self.steps[i].step()
     }
 
     /// The number of steps before the first decision.
@@ -180,7 +180,7 @@ impl Trail {
         let v = lit.var();
         let on = lit.on();
         let is_root = self.root == self.steps.len() && !step.why.is_decided();
-        self.steps.push_reserved(step);
+        self.steps.push_reserved(Packed::of(step));
         self.values[v] = Some(on);
         self.places[v] = self.steps.len() - 1;
         if is_root {
@@ -192,7 +192,8 @@ impl Trail {
         ensures step { MatchOption result ((self.old.steps ≡ []) × (self.new ≡ self.old)) (λ s. self.old.steps ≡ s ∷ self.new.steps) }
         ensures vars { self.new.vars ≡ self.old.vars }
     {
-        let step = self.steps.pop()?;
+        let packed = self.steps.pop()?;
+        let step = packed.step();
         let lit = step.lit;
         let v = lit.var();
         self.values[v] = None;
