@@ -33,13 +33,17 @@ based-push lines new copies after w mid n vars short more ls c h en ea s listed 
 }
 
 -- room for more lists and entries leaves each list as it is
-pub grown_listed : (clauses : List (List Literal)) (lists mid : List (List Listed)) → AreListed clauses lists → ((k : ℕ) → list_at mid k ≡ list_at lists k) → length lists ≤ length mid → AreListed clauses mid
-grown_listed clauses lists mid h same longer = record {
-  entries = λ k. (let P : List Listed → Type 0 = Each (IsEntry clauses k) in subst P (sym (same k)) (h.entries k));
-  once = λ k w i. ap (times w) (same k) ∙ h.once k w i;
-  spread = h.spread;
-  wide = λ i b l t. (let q = h.wide i b l t in omega (arith, q, longer));
-}
+pub grown-listed : (clauses after : List (List Literal)) (lists mid new : List (List Listed)) → AreListed clauses lists → after ≡ clauses → ((k : ℕ) → list_at mid k ≡ list_at lists k) → length lists ≤ length mid → (length lists ≤ 2 ^ 32 → length mid ≤ 2 ^ 32) → new ≡ mid → AreListed after new
+grown-listed clauses after lists mid new h e same longer few n =
+    let C : List (List Literal) → Type 0 = λ x. AreListed x mid in
+    let N : List (List Listed) → Type 0 = AreListed after in
+    subst N (sym n) (subst C (sym e) (record {
+      entries = λ k. (let P : List Listed → Type 0 = Each (IsEntry clauses k) in subst P (sym (same k)) (h.entries k));
+      once = λ k w i. ap (times w) (same k) ∙ h.once k w i;
+      spread = h.spread;
+      wide = λ i b l t. (let q = h.wide i b l t in omega (arith, q, longer));
+      few = few h.few;
+    }))
 
 -- so the lines and their copies stay the same
 pub based-room : (lines copies after : List (List Literal)) (w mid : List (List Listed)) (n : ℕ) (short kept : List ℕ) → IsBased lines copies w n short → after ≡ copies → kept ≡ short → AreListed after mid → IsBased lines after mid n kept

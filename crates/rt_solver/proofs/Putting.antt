@@ -99,6 +99,7 @@ put-two old c w mid new e f x y a b h he hf spread wide xa yb j1 d1 j2 d2 = reco
   ];
   spread = lines-of old c IsSpread h.spread spread;
   wide = lines-of old c (λ d. (l : Literal) → has d l ≡ true → packed l < length new.lists) (λ i s l g. room l (h.wide i s l g)) (λ l g. room l (wide l g));
+  few = (let q1 = d1.len in let q2 = d2.len in let f = h.few in omega (arith, f, q1, q2));
 } where
   some-same : {i j : Literal} → Some i ≡ Some j → i ≡ j
   some-same q = cc
@@ -151,6 +152,7 @@ put-short old c lists h wide short = record {
   ];
   spread = lines-of old c IsSpread h.spread (alone c short);
   wide = lines-of old c (λ d. (l : Literal) → has d l ≡ true → packed l < length lists) h.wide wide;
+  few = h.few;
 } where
   none : (d : List Literal) (p : ℕ) (l : Literal) → length d < 2 → literal_in d p ≡ Some l → ⊥
   none [] p l b e = cc

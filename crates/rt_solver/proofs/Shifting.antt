@@ -87,6 +87,7 @@ shifted now w0 w1 w2 home i to e c l o h b r left dl joined dj q mv among = reco
   spread = λ n g. by-line now (e.watch / 2) c n IsSpread within (h.spread n (inside n g)) (λ s. mv.spread);
   wide = λ n g. by-line now (e.watch / 2) c n (λ d. (k : Literal) → has d k ≡ true → packed k < length w2.lists) within (λ k s. room k (h.wide n (inside n g) k s))
       (λ s k t. room k (h.wide (e.watch / 2) within k (mv.same.from k t)));
+  few = (let x = dl.len in let y = dj.len in let f = h.few in omega (arith, f, x, y));
 } where
   later : List (List Literal)
   later = slice_set now (e.watch / 2) c
@@ -144,7 +145,8 @@ noted-listed now w new home i e o h b r s d among = record {
     | inr n ↦ ap (times v) (d.others k (differ k home n)) ∙ h.once k v g
   ];
   spread = h.spread;
-  wide = λ n g k t. let x = h.wide n g k t in let y = d.len in omega (arith, x, y);
+  wide = λ n g k t. (let x = h.wide n g k t in let y = d.len in omega (arith, x, y));
+  few = (let y = d.len in let f = h.few in omega (arith, f, y));
 } where
   entry : IsEntry now home e
   entry = let P : Listed → Type 0 = IsEntry now home in subst P (sym r) (h.entries home i e b)

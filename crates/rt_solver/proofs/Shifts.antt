@@ -1,5 +1,5 @@
 -- A watch goes to another list, as the code does it.
-use Rattle.std.proofs.Common.{◌≡◌, ◌≢◌, ℕ, ◌+◌, ◌-◌, ◌/◌, ◌%◌, ◌<◌, ◌≤◌, List, [], ◌∷◌, ◌++◌, length, get_or, swap, sym, ap, subst, ◌∙◌, Some, arith, slice_set}
+use Rattle.std.proofs.Common.{◌≡◌, ◌≢◌, ℕ, ◌+◌, ◌-◌, ◌/◌, ◌%◌, ◌<◌, ◌≤◌, ◌^◌, List, [], ◌∷◌, ◌++◌, length, get_or, swap, sym, ap, subst, ◌∙◌, Some, arith, slice_set}
 use Rattle.std.specs.List.{swap_remove}
 use Rattle.rt_clause.specs.Literal.{Literal}
 use Rattle.rt_clause.specs.Packed.{packed}
@@ -31,6 +31,14 @@ pub to-within : (now : List (List Literal)) (lists : List (List Listed)) (home j
 to-within now lists home j to e c l h x q r t =
     let P : List Literal → Type 0 = λ d. l ≡ get_or d j l in
     let g = h.wide (e.watch / 2) x.within l (has-at (line_at now (e.watch / 2)) j l x.unwatched.within (subst P q r)) in omega (arith, g, t)
+
+-- the literal of another place of the clause is a small number
+pub other-small : (now : List (List Literal)) (lists : List (List Listed)) (home j p : ℕ) (e : Listed) (c : List Literal) (o : Literal) → AreListed now lists → IsAt now home e j → p < 2 → c ≡ line_at now (e.watch / 2) → o ≡ get_or c p o → packed o < 2 ^ 32
+other-small now lists home j p e c o h x b q r =
+    let P : List Literal → Type 0 = λ d. o ≡ get_or d p o in
+    let long = x.long in
+    let g = h.wide (e.watch / 2) x.within o (has-at (line_at now (e.watch / 2)) p o (omega (arith, b, long)) (subst P q r)) in
+    let f = h.few in omega (arith, g, f)
 
 pub to-other : (now : List (List Literal)) (home j to : ℕ) (e : Listed) (c : List Literal) (l : Literal) → IsAt now home e j → c ≡ line_at now (e.watch / 2) → l ≡ get_or c j l → to ≡ packed l → to ≢ home
 to-other now home j to e c l x q r t s =

@@ -1,5 +1,5 @@
 -- The steps of a visit, as the code takes them.
-use Rattle.std.proofs.Common.{◌≡◌, ℕ, zero, suc, ◌+◌, ◌-◌, ◌/◌, ◌%◌, ◌<◌, ◌≤◌, true, false, cond, nat_eq, List, [], ◌∷◌, length, get_or, refl, sym, ap, subst, ◌∙◌, ◌⊎◌, inl, inr, Some, arith, rules, get_or-set_other, get_or-set_same, length-set, slice_set}
+use Rattle.std.proofs.Common.{◌≡◌, ℕ, zero, suc, ◌+◌, ◌-◌, ◌/◌, ◌%◌, ◌<◌, ◌≤◌, ◌^◌, true, false, cond, nat_eq, List, [], ◌∷◌, length, get_or, refl, sym, ap, subst, ◌∙◌, ◌⊎◌, inl, inr, Some, arith, rules, get_or-set_other, get_or-set_same, length-set, slice_set}
 use Rattle.std.proofs.lemmas.List.{get_or_default}
 use Rattle.rt_clause.specs.Literal.{Literal, negated}
 use Rattle.rt_clause.specs.Packed.{packed}
@@ -12,7 +12,7 @@ use Rattle.rt_solver.specs.Watching.{Listed, Lists, list_at, noted, literal_in, 
 use Rattle.rt_solver.specs.Turning.{IsHeld, IsFree, IsTurned, IsUnwatched, IsShifted}
 use Rattle.rt_solver.specs.Propagating.{IsQueued, AreListed}
 use Rattle.rt_solver.proofs.Listing.{differ}
-use Rattle.rt_solver.proofs.Shifting.{noted-listed}
+use Rattle.rt_solver.proofs.Shifting.{watch-within, noted-listed}
 use Rattle.rt_solver.proofs.Queues.{oldest-grown, part-drop}
 use Rattle.rt_solver.proofs.Visits.{IsVisit, entry-at, visit-held, visit-shift, visit-begin, visit-end, visit-none}
 
@@ -50,6 +50,14 @@ stays-at first now w new home left i early t0 t t' e l h a r held s d =
           ap (λ (x : Listed). x.watch) (sym (q ∙ ap (λ es. get_or es k f) s ∙ ap (λ j. get_or (slice_set (list_at w.lists home) i (noted e l)) j f) z ∙ get_or-set_same (list_at w.lists home) i (noted e l) f b)),
         ))
       ]
+
+-- the literal that is noted is a small number
+pub small-at : (first now : List (List Literal)) (lists : List (List Listed)) (home left i : ℕ) (early : List Literal) (t0 t t' : List Step) (e : Listed) (l : Literal) → IsVisit first now lists home left early t0 t → left ≡ i + 1 → e ≡ get_or (list_at lists home) i e
+    → IsHeld (line_at now (e.watch / 2)) t t' (e.watch / 2) l → packed l < 2 ^ 32
+small-at first now lists home left i early t0 t t' e l h a r held =
+    let x = entry-at first now lists home left i early t0 t e h (let b = h.low in omega (arith, a, b)) r in
+    let g = h.listed.wide (e.watch / 2) (watch-within now e.watch home x.watch) l held.among in
+    let f = h.listed.few in omega (arith, g, f)
 
 -- the literal at the place is not watched
 pub unwatched-at : (now : List (List Literal)) (t : List Step) (e : Listed) (j : ℕ) → IsTurned now t e → IsFree t (line_at now (e.watch / 2)) (e.watch % 2) j → IsUnwatched (line_at now (e.watch / 2)) j

@@ -1,5 +1,5 @@
 -- What propagation keeps of the first two literals of each clause, and what it does.
-use Rattle.std.specs.Prelude.{◌≡◌, ℕ, ◌/◌, ◌%◌, ◌<◌, Bool, true, false, List, [], ◌∷◌, ◌++◌, length, Some, ◌⊎◌}
+use Rattle.std.specs.Prelude.{◌≡◌, ℕ, ◌/◌, ◌%◌, ◌<◌, ◌≤◌, ◌^◌, Bool, true, false, List, [], ◌∷◌, ◌++◌, length, Some, ◌⊎◌}
 use Rattle.std.specs.List.{All as Each, Contains}
 use Rattle.rt_clause.specs.Literal.{Literal}
 use Rattle.rt_clause.specs.Packed.{packed}
@@ -91,12 +91,13 @@ pub record IsEntry (clauses : List (List Literal)) (k : ℕ) (e : Listed) : Type
   pub pair : e.two ≡ true → (l : Literal) → has (line_at clauses (e.watch / 2)) l ≡ true → (l ≡ watch.lit) ⊎ (l ≡ e.other)
 
 -- each list has entries of its watches alone, and each watch one, the first two literals of a clause differ, and
--- there are lists for all literals
+-- there are lists for all literals, and few of them
 pub record AreListed (clauses : List (List Literal)) (lists : List (List Listed)) : Type 0 where
   pub entries : (k : ℕ) → Each (IsEntry clauses k) (list_at lists k)
   pub once : (k w : ℕ) → IsWatchOf clauses w k → times w (list_at lists k) ≡ 1
   pub spread : (i : ℕ) → i < length clauses → IsSpread (line_at clauses i)
   pub wide : (i : ℕ) → i < length clauses → (l : Literal) → has (line_at clauses i) l ≡ true → packed l < length lists
+  pub few : length lists ≤ 2 ^ 32
 
 -- there is a list for each of these literals
 abbrev pub HasLists : List (List Listed) → List Literal → Type 0

@@ -22,6 +22,10 @@ use rt_value::NoMemory;
 use std::alloc::Global;
 use std::marker::Model;
 
+// Clauses are no more than this, so that each watch fits an entry; beyond it, past 32 gigabytes, the
+// answer is out of memory.
+const MOST_CLAUSES: usize = 1 << 30;
+
 /// One more than the greatest variable, or `least` where that is more.
 pub(crate) fn reach(least: usize, lits: &[Lit]) -> usize
     ensures is { result ≡ reach least lits.now }
@@ -86,7 +90,7 @@ fn accept<L: Lines>(lines: &mut L, lits: &[Lit], hints: &[usize]) -> Result<(), 
 fn put(clauses: &mut Vec<Clause>, short: &mut Vec<usize>, watches: &mut Watches, clause: Clause)
     requires room { vec_len clauses.old < vec_capacity clauses.old }
     requires short_room { vec_len short.old < vec_capacity short.old }
-    requires few { vec_len clauses.old < 2 ^ 62 }
+    requires few { vec_len clauses.old < 2 ^ 30 }
     requires listed { AreListed clauses.old.items watches.old.lists }
     requires short { AreShort clauses.old.items short.old.items }
     requires spread { IsSpread clause }
@@ -118,7 +122,6 @@ fn put(clauses: &mut Vec<Clause>, short: &mut Vec<usize>, watches: &mut Watches,
 }
 
 // Makes room for one clause more, over variables below a bound.
-#[tactic(auto, using(crate::proofs::Basing::grown_listed))]
 fn make_room(
     clauses: &mut Vec<Clause>,
     short: &mut Vec<usize>,
@@ -132,11 +135,15 @@ fn make_room(
     ensures items { clauses.new.items ≡ clauses.old.items }
     ensures listed { AreListed clauses.new.items watches.new.lists }
     ensures short { short.new.items ≡ short.old.items }
+    ensures few { OnOk result (vec_len clauses.new < 2 ^ 30) }
     ensures room { OnOk result (vec_len clauses.new < vec_capacity clauses.new) }
     ensures short_room { OnOk result (vec_len short.new < vec_capacity short.new) }
     ensures wide { OnOk result (HasLists watches.new.lists clause.now) }
     ensures list_room { OnOk result (HasRoom watches.new clause.now) }
 {
+    if clauses.len() >= MOST_CLAUSES {
+        return Err(NoMemory);
+    }
     clauses.reserve(1)?;
     short.reserve(1)?;
     watches.grow(2 * vars)?;

@@ -1,49 +1,57 @@
 //! An entry of a list of watches.
 
 ghost use Rattle.std.specs.Prelude.{◌≡◌, ◌<◌, ◌^◌, false};
+ghost use Rattle.rt_clause.specs.Packed.{packed};
 ghost use Rattle.rt_solver.specs.Watching.{noted};
 
 use crate::watch::Watch;
 use rt_clause::Lit;
 use std::marker::Model;
 
+const _: () = prove!(size_of::<Entry>() == 8);
+
 /// A watch, whether its clause has two literals only, and another literal of the clause: where that
-/// is true, the clause is met. All in two machine words.
+/// is true, the clause is met. Propagation waits for memory, so all is in one machine word: twice
+/// the watch, and one more where there are two literals, and the place of the other literal.
 #[derive(Clone, Copy)]
 pub(crate) struct Entry {
-    mark: usize,
-    other: Lit,
+    mark: u32,
+    other: u32,
 }
 
 impl Model for Entry {
     ghost use Rattle.rt_clause.specs.Packed.{packed, unpacked, packed-unpacked};
     ghost use Rattle.rt_solver.specs.Watching.{Listed};
-    ghost use Rattle.std.proofs.Common.{ap};
+    ghost use Rattle.std.proofs.Common.{ap, ◌∙◌};
 
     ghost Value = { Listed };
 
-    ghost view = { λ e. record { watch = (unpacked e.mark).var; two = (unpacked e.mark).on; other = e.other } };
+    ghost view = { λ e. record { watch = (unpacked e.mark).var; two = (unpacked e.mark).on; other = unpacked e.other } };
 
-    ghost inverse = { λ e. record { mark = packed (record { var = e.watch; on = e.two }); other = e.other } };
+    ghost inverse = { λ e. record { mark = packed (record { var = e.watch; on = e.two }); other = packed e.other } };
 
-    ghost inverse_ok = { λ e h. ap (λ w. record { mark = w; other = e.other }) (packed-unpacked e.mark) };
+    ghost inverse_ok = { λ e h. ap (λ w. record { mark = w; other = packed (unpacked e.other) }) (packed-unpacked e.mark) ∙ ap (λ w. record { mark = e.mark; other = w }) (packed-unpacked e.other) };
 }
 
 impl Entry {
     pub(crate) fn new(watch: Watch, two: bool, other: Lit) -> Entry
-        requires { watch < 2 ^ 63 }
+        requires watch { watch < 2 ^ 31 }
+        requires other { packed other < 2 ^ 32 }
         ensures { result ≡ record { watch = watch; two = two; other = other } }
     {
         let twice = 2 * watch.number();
         let mark = if two { twice + 1 } else { twice };
-        Entry { mark, other }
+        Entry {
+            mark: mark as u32,
+            other: other.index() as u32,
+        }
     }
 
     pub(crate) fn watch(self) -> Watch
         ensures is { result ≡ self.watch }
-        ensures small { result < 2 ^ 63 }
+        ensures small { result < 2 ^ 31 }
     {
-        Watch::of(self.mark / 2)
+        Watch::of(self.mark as usize / 2)
     }
 
     pub(crate) fn is_two(self) -> bool
@@ -55,11 +63,13 @@ impl Entry {
     pub(crate) fn other(self) -> Lit
         ensures { result ≡ self.other }
     {
-        self.other
+        let place = self.other as usize;
+        Lit::of(place / 2, place % 2 == 1)
     }
 
     /// An entry of the same watch with another literal.
     pub(crate) fn noting(self, other: Lit) -> Entry
+        requires { packed other < 2 ^ 32 }
         ensures { result ≡ noted self other }
     {
         Entry::new(self.watch(), false, other)

@@ -1,7 +1,8 @@
 //! The lists of watches.
 
-ghost use Rattle.std.specs.Prelude.{◌≡◌, ◌≢◌, ℕ, ◌+◌, ◌<◌, ◌≤◌, [], ◌∷◌, ◌++◌, length, slice_index_or, slice_set, OnOk, OnErr};
+ghost use Rattle.std.specs.Prelude.{◌≡◌, ◌≢◌, ℕ, ◌+◌, ◌<◌, ◌≤◌, ◌^◌, [], ◌∷◌, ◌++◌, length, slice_index_or, slice_set, OnOk, OnErr};
 ghost use Rattle.std.specs.List.{swap_remove};
+ghost use Rattle.rt_clause.specs.Packed.{packed};
 ghost use Rattle.rt_solver.specs.Watching.{Listed, list_at, room_at, noted, IsEdited};
 
 use crate::entry::Entry;
@@ -9,6 +10,10 @@ use rt_clause::Lit;
 use rt_value::NoMemory;
 use std::alloc::Global;
 use std::marker::Model;
+
+// Lists are no more than this, so that each literal fits an entry; beyond it, past 100 gigabytes, the
+// answer is out of memory.
+const MOST_LISTS: usize = 1 << 32;
 
 /// A list of entries for each literal.
 #[derive(Drop)]
@@ -64,8 +69,12 @@ impl Watches {
     pub(crate) fn grow(&mut self, lists: usize) -> Result<(), NoMemory>
         ensures kept { (k : ℕ) → list_at self.new.lists k ≡ list_at self.old.lists k }
         ensures longer { length self.old.lists ≤ length self.new.lists }
+        ensures few { length self.old.lists ≤ 2 ^ 32 → length self.new.lists ≤ 2 ^ 32 }
         ensures ok { OnOk result (lists ≤ length self.new.lists) }
     {
+        if lists > MOST_LISTS {
+            return Err(NoMemory);
+        }
         'lists: while self.lists.len() < lists {
             self.lists.push(Vec::new(self.alloc))?;
         }
@@ -97,6 +106,7 @@ impl Watches {
     pub(crate) fn note(&mut self, list: usize, i: usize, other: Lit)
         requires list { list < length self.old.lists }
         requires within { i < length (list_at self.old.lists list) }
+        requires other { packed other < 2 ^ 32 }
         ensures list { (e : Listed) → e ≡ slice_index_or (list_at self.old.lists list) i e → list_at self.new.lists list ≡ slice_set (list_at self.old.lists list) i (noted e other) }
         ensures edited { IsEdited self.old self.new list }
     {

@@ -2,6 +2,7 @@ use Rattle.std.proofs.Common.{◌≡◌, sym, ap, subst, arith, rules, List, len
 use Rattle.rt_clause.specs.Literal.{Literal}
 use Rattle.rt_solver.specs.Watching.{Listed}
 use Rattle.rt_solver.specs.Propagating.{AreListed, AreShort}
+use Rattle.rt_solver.proofs.Looks.{has-at}
 use Rattle.rt_solver.proofs.Shorts.{short-push}
 use Rattle.rt_solver.proofs.Putting.{IsNew, new-first, new-second, put-two, put-short}
 use Rattle.rt_solver.proofs.base.put.Goals as goal
@@ -19,6 +20,22 @@ returns-in_default-clause-listed c =
     let Q : List Literal → Type 0 = λ ls. length ls ≤ 1 in
     let n = subst Q c.lits.ensures (let b = c.in_default.len_below in omega (arith, b)) in
     subst P (sym c.push_reserved-in_default.ensures.items) (put-short c.args.clauses.now.items c.args.clause c.args.watches.now.lists c.requires.listed c.requires.wide (omega (arith, n)))
+
+pub new-requires-clause-other : goal.new-requires-clause-other
+new-requires-clause-other c =
+    let B : List Literal → Type 0 = λ ls. c.second-item.result ≡ get_or ls 1 c.second-item.result in
+    let n = c.in-len2-up.len_at_least in
+    let l = ap length c.lits.ensures in
+    let w = c.requires.wide c.second-item.result (has-at c.args.clause 1 c.second-item.result (omega (arith, n, l)) (subst B c.lits.ensures c.second-item.is)) in
+    let f = c.requires.listed.few in omega (arith, w, f)
+
+pub new-requires-in-len2-up-clause-other : goal.new-requires-in-len2-up-clause-other
+new-requires-in-len2-up-clause-other c =
+    let A : List Literal → Type 0 = λ ls. c.first-item.result ≡ get_or ls 0 c.first-item.result in
+    let n = c.in-len2-up.len_at_least in
+    let l = ap length c.lits.ensures in
+    let w = c.requires.wide c.first-item.result (has-at c.args.clause 0 c.first-item.result (omega (arith, n, l)) (subst A c.lits.ensures c.first-item.is)) in
+    let f = c.requires.listed.few in omega (arith, w, f)
 
 pub returns-in-len2-up-clause-listed : goal.returns-in-len2-up-clause-listed
 returns-in-len2-up-clause-listed c =

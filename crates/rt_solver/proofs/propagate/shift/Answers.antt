@@ -3,7 +3,7 @@ use Rattle.rt_clause.specs.Literal.{Literal}
 use Rattle.rt_clause.specs.Lists.{line_at}
 use Rattle.rt_solver.specs.Watching.{list_at}
 use Rattle.rt_solver.proofs.Visiting.{line-read}
-use Rattle.rt_solver.proofs.Shifts.{at-entry, to-within, to-other, shift-at}
+use Rattle.rt_solver.proofs.Shifts.{at-entry, to-within, to-other, other-small, shift-at}
 use Rattle.rt_solver.proofs.propagate.shift.Goals as goal
 
 pub reserve-requires : goal.reserve-requires
@@ -16,6 +16,16 @@ reserve-requires c =
     let L : List Literal → Type 0 = λ d. c.index-lits-ended.result ≡ get_or d c.args.ended c.index-lits-ended.result in
     let r = subst L c.lits.ensures c.index-lits-ended.is in
     to-within now c.args.watches.now.lists c.args.home c.args.ended c.index-to.result e c.index_mut-clause.result.now c.index-lits-ended.result c.requires.listed x q r c.index-to.ensures.is
+
+pub noting-requires : goal.noting-requires
+noting-requires c =
+    let now = c.args.clauses.now.items in
+    let e = c.at-entry.result in
+    let x = at-entry now c.args.watches.now.lists c.args.home c.args.i c.args.ended e c.requires.listed c.requires.within c.at-entry.ensures (c.requires.unwatched e c.at-entry.ensures) in
+    let n : c.clause.result ≡ e.watch / 2 = c.clause.ensures ∙ ap (λ v. v / 2) c.watch-2.ensures.is in
+    let q : c.index_mut-clause.result.now ≡ line_at now (e.watch / 2) = line-read now c.clause.result c.index_mut-clause.result.now (let b = x.within in omega (arith, b, n)) c.index_mut-clause.ensures.value ∙ ap (line_at now) n in
+    let O : List Literal → Type 0 = λ d. c.index-lits-place.result ≡ get_or d (1 - c.place-place.result) c.index-lits-place.result in
+    other-small now c.args.watches.now.lists c.args.home c.args.ended (1 - c.place-place.result) e c.index_mut-clause.result.now c.index-lits-place.result c.requires.listed x (omega arith) q (subst O c.lits-2.ensures c.index-lits-place.is)
 
 pub join-requires-clause-list : goal.join-requires-clause-list
 join-requires-clause-list c =

@@ -7,7 +7,7 @@ use Rattle.rt_solver.specs.declared.turn.Turn.TheVariants.{Met, Stays, Moves, Br
 use Rattle.rt_solver.specs.Watching.{Listed}
 use Rattle.rt_solver.specs.Turning.{IsTurned, IsTurn, IsUnwatched}
 use Rattle.rt_solver.specs.Propagating.{AreWatchedBefore}
-use Rattle.rt_solver.proofs.Visiting.{turned, met-at, stays-at, unwatched-at, moves-at, begin-at, end-at, none-at}
+use Rattle.rt_solver.proofs.Visiting.{turned, met-at, stays-at, small-at, unwatched-at, moves-at, begin-at, end-at, none-at}
 use Rattle.rt_solver.proofs.propagate.visit.Goals as goal
 
 pub returns-then-len-home-clause-visited : goal.returns-then-len-home-clause-visited
@@ -42,6 +42,13 @@ watches-preserved-in-Met c =
       vars = c.in-Met.ensures.vars ∙ c.watches.invariant.vars;
       home = c.watches.invariant.home;
     }
+
+pub note-requires-clause-other : goal.note-requires-clause-other
+note-requires-clause-other c =
+    let a : c.watches.left ≡ (c.watches.left - 1) + 1 = (let t = c.watches-test.true in omega (arith, t)) in
+    let e = c.at-entry.result in
+    let T : List (List Literal) → Type 0 = λ ls. IsTurn (line_at ls (e.watch / 2)) c.watches.trail.steps c.examine.new.trail.steps (e.watch % 2) (e.watch / 2) (Stays c.in-Stays.other) in
+    small-at _ _ _ _ c.watches.left (c.watches.left - 1) _ _ _ c.examine.new.trail.steps e c.in-Stays.other c.watches.invariant.visit a c.at-entry.ensures (subst T c.as_slice.ensures.value c.in-Stays.ensures.turn)
 
 pub watches-preserved-in-Stays : goal.watches-preserved-in-Stays
 watches-preserved-in-Stays c =
