@@ -1,13 +1,10 @@
 -- Marks, and how many steps have one.
 use Rattle.std.proofs.Common.{◌≡◌, ◌≢◌, ℕ, zero, suc, ◌+◌, ◌<◌, ◌≤◌, Bool, true, false, cond, nat_eq, eqb, List, [], ◌∷◌, ◌++◌, length, drop, refl, sym, ap, subst, ◌∙◌, ◌⊎◌, inl, inr, None, arith, rules, length-set, get_or-set_other, get_or-set_same, slice_set}
 use Rattle.std.proofs.lemmas.List.Folds.{list_any-append}
-use Rattle.rt_clause.specs.Literal.{Literal}
 use Rattle.rt_clause.proofs.Bools.{bool-cases, or-cases, or-right, or-left}
-use Rattle.rt_clause.proofs.Literals.{has-cases}
 use Rattle.rt_solver.specs.declared.trail.Step.{Step}
-use Rattle.rt_solver.specs.Trail.{lits, value_in, IsApart}
-use Rattle.rt_solver.specs.Marking.{stands, Marked, mark_at, marked_by, marked_steps, steps_marked, IsMarking, IsUnmarked}
-use Rattle.rt_solver.specs.Analysis.{HasMarked}
+use Rattle.rt_solver.specs.Trail.{value_in, IsApart}
+use Rattle.rt_solver.specs.Marking.{stands, mark_at, steps_marked, IsMarking, IsUnmarked}
 use Rattle.rt_solver.proofs.Number.{none-apart}
 
 pub count-older : (marks : List Bool) (s : Step) (t : List Step) → steps_marked marks t ≤ steps_marked marks (s ∷ t)
@@ -28,14 +25,6 @@ count-drop marks (suc n) (suc k) (s ∷ t) b = count-drop marks n k t (omega ari
 pub count-none : (marks : List Bool) (t : List Step) → ((v : ℕ) → mark_at marks v ≡ false) → steps_marked marks t ≡ 0
 count-none marks [] h = refl
 count-none marks (s ∷ t) h = ap (λ b. cond b (steps_marked marks t + 1) (steps_marked marks t)) (h s.lit.var) ∙ count-none marks t h
-
--- no step is marked
-pub none-due : (marked : Marked) (t kept : List Step) → marked_steps marked t ≡ 0 → HasMarked (marked_by marked) t kept
-none-due marked [] kept e l m h = absurd (cc)
-none-due marked (s ∷ t) kept e l m h = elim (has-cases s.lit l (lits t) h) [
-  | inl a ↦ absurd (let q : mark_at marked.marks s.lit.var ≡ true = ap (λ (k : Literal). mark_at marked.marks k.var) (sym a) ∙ m in let c = count-marked marked.marks s t q in omega (arith, c, e))
-  | inr b ↦ none-due marked t kept (let o = count-older marked.marks s t in omega (arith, o, e)) l m b
-]
 
 mark-other : (marks : List Bool) (v w : ℕ) → nat_eq w v ≡ false → mark_at (slice_set marks v true) w ≡ mark_at marks w
 mark-other marks v w n = let q : w ≢ v = (λ z. let k : nat_eq w v ≡ true = search rules in cc) in get_or-set_other marks v w true false q

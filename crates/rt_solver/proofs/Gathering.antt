@@ -1,19 +1,19 @@
 -- The literals that a conflict rests on, and the part of the trail to go back to.
-use Rattle.std.proofs.Common.{◌≡◌, ℕ, zero, suc, ◌+◌, ◌-◌, ◌<◌, ◌≤◌, Bool, true, false, List, [], ◌∷◌, ◌++◌, length, take, drop, refl, sym, ap, subst, ◌∙◌, ◌⊎◌, inl, inr, Option, Some, None, arith, append_assoc, take-append-drop}
+use Rattle.std.proofs.Common.{◌≡◌, ℕ, zero, suc, ◌+◌, ◌-◌, ◌<◌, ◌≤◌, Bool, true, false, nat_eq, List, [], ◌∷◌, ◌++◌, length, take, drop, refl, sym, ap, subst, ◌∙◌, inl, inr, Option, Some, None, arith, rules, append_assoc, take-append-drop}
 use Rattle.std.proofs.lemmas.List.{append-nil}
 use Rattle.rt_clause.specs.Literal.{Literal}
 use Rattle.rt_clause.specs.Lists.{has}
-use Rattle.rt_clause.proofs.Literals.{has-cases}
 use Rattle.rt_solver.specs.declared.trail.Step.{Step}
 use Rattle.rt_solver.specs.declared.trail.Why.{Why}
 use Rattle.rt_solver.specs.declared.trail.Why.TheVariants.{Line, Decided, Assumed}
 use Rattle.rt_solver.specs.Trail.{lits, value_in, IsApart, oldest, BeforeDecisions, IfDecided}
 use Rattle.rt_solver.specs.declared.walk.Walk.{Walk}
-use Rattle.rt_solver.specs.Analysis.{IsGathered, IsSought, IsWalked, IsChoice, AreChosen, Lacks, IsBeforeDecision, ArePlaced, IsOldest, IsGatheredBy, HasMarked, IsLead, IsWalkedBy}
-use Rattle.std.specs.Prelude.{MatchOption}
+use Rattle.rt_solver.specs.Analysis.{IsGathered, IsSought, IsWalked, IsChoice, AreChosen, Lacks, IsBeforeDecision, ArePlaced, IsOldest, IsGatheredBy, EachStep, IsPlain, IsStop, IsStopUnder, IsDecisionUnder, IsLead, IsWalkedBy}
+use Rattle.std.specs.Prelude.{MatchOption, IsTrue}
 use Rattle.rt_solver.specs.Table.{Tracked}
-use Rattle.rt_solver.specs.Marking.{Marked, mark_at, marked_by, steps_marked}
-use Rattle.rt_solver.proofs.Walks.{apart-drop, visit-found, visit-none, walk-over, oldest-none}
+use Rattle.rt_solver.specs.Marking.{Marked, mark_at, marked_by}
+use Rattle.rt_solver.proofs.Walks.{apart-drop, visit-unmarked, visit-found, oldest-none}
+use Rattle.rt_solver.proofs.Stops.{pass-each, walk-passed, each-more}
 use Rattle.rt_solver.proofs.Number.{none-apart}
 use Rattle.rt_solver.proofs.FreshLaws.{absent-lit, nowhere-before}
 use Rattle.rt_solver.proofs.Queues.{before-map, before-decided, oldest-above}
@@ -21,10 +21,6 @@ use Rattle.rt_solver.proofs.Queues.{before-map, before-decided, oldest-above}
 pub chosen-weaken : (first : ℕ) (ds : List Literal) (s : Step) (t : List Step) → AreChosen first ds t → AreChosen first ds (s ∷ t)
 chosen-weaken first [] s t h = tt
 chosen-weaken first (d ∷ ds) s t h = inr h
-
-chosen-none : (first : ℕ) (ds : List Literal) (t : List Step) → AreChosen first ds [] → AreChosen first ds t
-chosen-none first [] t h = tt
-chosen-none first (d ∷ ds) t h = absurd h
 
 -- of a longer part
 chosen-drop : (first : ℕ) (ds : List Literal) (n k : ℕ) (t : List Step) → n ≤ k → AreChosen first ds (drop k t) → AreChosen first ds (drop n t)
@@ -66,7 +62,7 @@ oldest-found m [] s rest kept a o =
 oldest-found m (d ∷ ds) s rest kept a o = before-map (Lacks (d ∷ ds)) (Lacks (d ∷ (ds ++ s.lit ∷ []))) kept (λ set h. h) o
 
 -- a step is passed
-pub gathered-skip : (first : ℕ) (trail rest kept : List Step) (s : Step) (found : List Literal) → (length found < 2 → s.why ≡ Decided → ⊥) → IsGatheredBy first trail (s ∷ rest) kept found → IsGatheredBy first trail rest kept found
+pub gathered-skip : (first : ℕ) (trail rest kept : List Step) (s : Step) (found : List Literal) → (length found ≡ 1 → s.why ≡ Decided → ⊥) → IsGatheredBy first trail (s ∷ rest) kept found → IsGatheredBy first trail rest kept found
 gathered-skip first trail rest kept s found n g = record {
   late = g.late;
   ds = g.ds;
@@ -76,7 +72,7 @@ gathered-skip first trail rest kept s found n g = record {
   gone = (none-apart s rest g.late.var g.gone).1;
   lead = g.lead;
   chosen = λ more h. g.chosen more (chosen-weaken first more s rest h);
-  oldest = oldest-skip g.ds s rest kept (λ e. n (let q : length found ≡ 1 = ap length g.found_is ∙ ap (λ (x : List Literal). length (g.late ∷ x)) e in omega (arith, q))) g.oldest;
+  oldest = oldest-skip g.ds s rest kept (λ e. n (ap length g.found_is ∙ ap (λ (x : List Literal). length (g.late ∷ x)) e)) g.oldest;
 }
 
 -- its literal is found
@@ -95,12 +91,12 @@ gathered-found first m trail rest kept s found new a c e g = record {
   oldest = oldest-found m g.ds s rest kept a g.oldest;
 }
 
-none-more : (found : List Literal) (late : Literal) (ds : List Literal) → found ≡ late ∷ ds → length found < 2 → ds ≡ []
+none-more : (found : List Literal) (late : Literal) (ds : List Literal) → found ≡ late ∷ ds → length found ≡ 1 → ds ≡ []
 none-more found late [] e b = refl
 none-more found late (d ∷ ds) e b = absurd (let q = ap length e in omega (arith, q, b))
 
 -- it is a decision, before which the part to go back to may end
-pub gathered-cut : (first : ℕ) (trail rest kept : List Step) (s : Step) (found : List Literal) → length found < 2 → IsBeforeDecision trail rest → IsGatheredBy first trail (s ∷ rest) kept found → IsGatheredBy first trail rest rest found
+pub gathered-cut : (first : ℕ) (trail rest kept : List Step) (s : Step) (found : List Literal) → length found ≡ 1 → IsBeforeDecision trail rest → IsGatheredBy first trail (s ∷ rest) kept found → IsGatheredBy first trail rest rest found
 gathered-cut first trail rest kept s found b d g =
     let n = none-more found g.late g.ds g.found_is b in
     let gone = (none-apart s rest g.late.var g.gone).1 in
@@ -157,13 +153,6 @@ gathered-all first trail rest kept found e g =
 pub placed-none : (first : ℕ) (trail kept : List Step) (found : List Literal) → found ≡ [] → AreChosen first found trail × ArePlaced first found trail kept
 placed-none first trail kept found e = let P : List Literal → Type 0 = λ ls. AreChosen first ls trail × ArePlaced first ls trail kept in subst P (sym e) (tt, tt)
 
--- a step that is not marked
-pub marked-skip : (marked : ℕ → Bool) (part rest : List Step) (s : Step) → marked s.lit.var ≡ false → HasMarked marked part (s ∷ rest) → HasMarked marked part rest
-marked-skip marked part rest s n h l m g = elim (has-cases s.lit l (lits rest) (h l m g)) [
-  | inl e ↦ absurd (let q = ap (λ (k : Literal). marked k.var) e in cc)
-  | inr r ↦ r
-]
-
 -- the newest step is left off
 pub popped : (place : ℕ) (old new : Tracked) (o : Option Step) → place < length old.steps → MatchOption o ((old.steps ≡ []) × (new ≡ old)) (λ s. old.steps ≡ s ∷ new.steps) → (place ≤ length new.steps) × (oldest place new.steps ≡ oldest place old.steps)
 popped place old new None b h = absurd (let e = ap length h.0 in omega (arith, e, b))
@@ -175,67 +164,67 @@ popped place old new (Some s) b h =
 pub apart-at : (m : ℕ) (t : List Step) (i : ℕ) (s : Step) → IsApart m t → oldest (i + 1) t ≡ s ∷ oldest i t → IsApart m (s ∷ oldest i t)
 apart-at m t i s a e = let P : List Step → Type 0 = IsApart m in subst P e (apart-drop m (length t - (i + 1)) t a)
 
-same-step : (a b : Step) (t x y : List Step) → t ≡ a ∷ x → t ≡ b ∷ y → a ≡ b
-same-step a b t x y e f = let q = sym e ∙ f in cc
-
 -- a decision leads
-pub lead-decided : (first : ℕ) (trail : List Step) (marked : ℕ → Bool) (place : ℕ) (a s : Step) → oldest (place + 1) trail ≡ a ∷ oldest place trail → oldest (place + 1) trail ≡ s ∷ oldest place trail → marked a.lit.var ≡ true → a.why ≡ Decided → IsLead first trail marked place place s
-lead-decided first trail marked place a s e f m d =
-    let q : s ≡ a = same-step s a (oldest (place + 1) trail) (oldest place trail) (oldest place trail) f e in
-    let w : s.why ≡ Decided = ap (λ (x : Step). x.why) q ∙ d in
-    record {
-      is_marked = ap (λ (x : Step). marked x.lit.var) q ∙ m;
-      choice = inr w;
-      under = record { order = omega arith; decision = before-decision trail place s f w; alone = λ l m h. h };
-    }
+pub lead-decided : (first : ℕ) (trail : List Step) (marked : ℕ → Bool) (place : ℕ) (s : Step) → oldest (place + 1) trail ≡ s ∷ oldest place trail → s.why ≡ Decided → IsLead first trail marked place place s
+lead-decided first trail marked place s e d = record {
+  choice = inr d;
+  under = record { order = omega arith; decision = before-decision trail place s e d; alone = λ k r a b h. absurd (omega (arith, a, b)) };
+}
+
+-- a decision that is not marked, where the walk stops below the place
+pub decision-under : (trail : List Step) (marked : ℕ → Bool) (place stop : ℕ) (s : Step) → oldest (stop + 1) trail ≡ s ∷ oldest stop trail → marked s.lit.var ≡ false → IsStopUnder trail marked true place stop → IsDecisionUnder trail marked place stop
+decision-under trail marked place stop s e n h = record {
+  order = (let o = h.order in omega (arith, o));
+  decision = before-decision trail stop s e (elim (h.here s e) [ inl m ↦ absurd (cc) | inr d ↦ d.1 ]);
+  alone = each-more (λ r. marked r.lit.var ≡ false) trail stop place s e n (λ k r a b g. (h.passed k r a b g).0);
+}
 
 -- the walk after a literal is found
-pub lead-walked : (lines : List (List Literal)) (assume : Option Literal) (vars : ℕ) (rest kept : List Step) (s : Step) (marks marks' : Marked) (found new : List Literal) (hints hints' : List ℕ)
-    → marked_by marks s.lit.var ≡ true → marks'.marks ≡ marks.marks → marks'.due ≡ marks.due - 1 → new ≡ found ++ s.lit ∷ [] → hints' ≡ hints → ((ms : List Bool) → steps_marked ms kept ≤ steps_marked ms rest) → HasMarked (marked_by marks) rest kept
-    → IsWalkedBy lines assume vars (s ∷ rest) marks found hints → IsWalkedBy lines assume vars kept marks' new hints'
-lead-walked lines assume vars rest kept s marks marks' found new hints hints' m em ed ef eh c h w =
-    let F : List Literal → Type 0 = λ x. IsWalkedBy lines assume vars kept marks' x hints' in
-    let H : List ℕ → Type 0 = λ x. IsWalkedBy lines assume vars kept marks' (found ++ s.lit ∷ []) x in
-    let M : List Bool → Type 0 = λ ms. HasMarked (mark_at ms) rest kept in
-    subst F (sym ef) (subst H (sym eh) (visit-none lines assume vars rest kept marks' (found ++ s.lit ∷ []) hints (c marks'.marks) (subst M (sym em) h) (visit-found lines assume vars rest s marks marks' found hints m em ed w)))
+pub lead-walked : (lines : List (List Literal)) (assume : Option Literal) (vars : ℕ) (rest : List Step) (s : Step) (marks marks' : Marked) (found new : List Literal) (hints hints' : List ℕ)
+    → marked_by marks s.lit.var ≡ true → marks'.marks ≡ marks.marks → marks'.due ≡ marks.due - 1 → new ≡ found ++ s.lit ∷ [] → hints' ≡ hints
+    → IsWalkedBy lines assume vars (s ∷ rest) marks found hints → IsWalkedBy lines assume vars rest marks' new hints'
+lead-walked lines assume vars rest s marks marks' found new hints hints' m em ed ef eh w =
+    let F : List Literal → Type 0 = λ x. IsWalkedBy lines assume vars rest marks' x hints' in
+    let H : List ℕ → Type 0 = λ x. IsWalkedBy lines assume vars rest marks' (found ++ s.lit ∷ []) x in
+    subst F (sym ef) (subst H (sym eh) (visit-found lines assume vars rest s marks marks' found hints m em ed w))
 
--- no mark is due
-pub gathered-over : (first : ℕ) (trail rest kept : List Step) (found : List Literal) → 2 ≤ length found → IsGatheredBy first trail rest kept found → IsGatheredBy first trail [] kept found
-gathered-over first trail rest kept found n g = record {
-  late = g.late;
-  ds = g.ds;
-  found_is = g.found_is;
-  cut = g.cut;
-  out = g.out;
-  gone = refl;
-  lead = g.lead;
-  chosen = λ more h. g.chosen more (chosen-none first more rest h);
-  oldest = over g.ds (let l = ap length g.found_is in omega (arith, l, n)) g.oldest;
-} where
-  over : (ds : List Literal) → 1 ≤ length ds → IsOldest ds rest kept → IsOldest ds [] kept
-  over [] b o = absurd (omega arith)
-  over (d ∷ ds) b o = o
+-- and after the steps below it down to the cut, none of which is marked
+pub lead-under : (lines : List (List Literal)) (assume : Option Literal) (vars : ℕ) (trail : List Step) (place cut : ℕ) (marks marks' : Marked) (found : List Literal) (hints : List ℕ)
+    → marks'.marks ≡ marks.marks → place ≤ length trail → IsDecisionUnder trail (marked_by marks) place cut
+    → IsWalkedBy lines assume vars (oldest place trail) marks' found hints → IsWalkedBy lines assume vars (oldest cut trail) marks' found hints
+lead-under lines assume vars trail place cut marks marks' found hints e b u w =
+    let M : List Bool → Type 0 = λ ms. EachStep (λ s. mark_at ms s.lit.var ≡ false) trail cut place in
+    walk-passed lines assume vars trail cut place marks' found hints u.order b (subst M (sym e) u.alone) w
 
-pub gathered-end : (lines : List (List Literal)) (assume : Option Literal) (first : ℕ) (trail : Tracked) (place cut : ℕ) (walk : Walk) → (place ≡ 0) ⊎ ((walk.marks.due ≡ 0) × (2 ≤ length walk.found.items))
-    → IsGathered lines assume first trail place cut walk → IsGathered lines assume first trail 0 cut walk
-gathered-end lines assume first trail place cut walk (inl z) h = let P : ℕ → Type 0 = λ n. IsGathered lines assume first trail n cut walk in subst P z h
-gathered-end lines assume first trail place cut walk (inr o) h =
-    let e = oldest-none trail.steps in
+-- plain steps are passed
+pub gathered-passed : (lines : List (List Literal)) (assume : Option Literal) (first : ℕ) (trail : Tracked) (low high cut : ℕ) (walk : Walk) → low ≤ high → high ≤ length trail.steps → EachStep (IsPlain (marked_by walk.marks) (nat_eq (length walk.found.items) 1)) trail.steps low high
+    → IsGathered lines assume first trail high cut walk → IsGathered lines assume first trail low cut walk
+gathered-passed lines assume first trail low high cut walk b l h g = record {
+  within = g.within;
+  walked = walk-passed lines assume trail.vars trail.steps low high walk.marks walk.found.items walk.hints.items b l (λ k s x y e. (h k s x y e).0) g.walked;
+  gathered = pass-each (λ t. IsGatheredBy first trail.steps t (oldest cut trail.steps) walk.found.items) (IsPlain (marked_by walk.marks) (nat_eq (length walk.found.items) 1)) trail.steps low high b l
+      (λ s rest p x. gathered-skip first trail.steps rest (oldest cut trail.steps) s walk.found.items (λ o. p.1 (let q : nat_eq (length walk.found.items) 1 ≡ true = rw o refl in q)) x) h g.gathered;
+}
+
+-- a decision that is not marked is passed, and the part to go back to ends before it
+pub gathered-decided : (lines : List (List Literal)) (assume : Option Literal) (first : ℕ) (trail : Tracked) (place cut : ℕ) (walk : Walk) (s : Step) → place < length trail.steps → oldest (place + 1) trail.steps ≡ s ∷ oldest place trail.steps
+    → marked_by walk.marks s.lit.var ≡ false → IsStop (marked_by walk.marks) (nat_eq (length walk.found.items) 1) s → IsGathered lines assume first trail (place + 1) cut walk → IsGathered lines assume first trail place place walk
+gathered-decided lines assume first trail place cut walk s b e n h g =
+    let rest = oldest place trail.steps in
     let P : List Step → Type 0 = λ t. IsWalkedBy lines assume trail.vars t walk.marks walk.found.items walk.hints.items in
     let G : List Step → Type 0 = λ t. IsGatheredBy first trail.steps t (oldest cut trail.steps) walk.found.items in
+    let d : (IsTrue (nat_eq (length walk.found.items) 1)) × (s.why ≡ Decided) = elim h [ inl m ↦ absurd (cc) | inr d ↦ d ] in
     record {
-      within = h.within;
-      walked = subst P (sym e) (walk-over lines assume trail.vars (oldest place trail.steps) walk.marks walk.found.items walk.hints.items o.0 h.walked);
-      gathered = subst G (sym e) (gathered-over first trail.steps (oldest place trail.steps) (oldest cut trail.steps) walk.found.items o.1 h.gathered);
+      within = omega (arith, b);
+      walked = visit-unmarked lines assume trail.vars rest s walk.marks walk.found.items walk.hints.items n (subst P e g.walked);
+      gathered = gathered-cut first trail.steps rest (oldest cut trail.steps) s walk.found.items (let t = d.0 in search rules) (before-decision trail.steps place s e d.1) (subst G e g.gathered);
     }
 
-pub sought-end : (lines : List (List Literal)) (assume : Option Literal) (trail : Tracked) (place : ℕ) (walk : Walk) → (place ≡ 0) ⊎ (walk.marks.due ≡ 0) → walk.found.items ≡ []
+pub sought-end : (lines : List (List Literal)) (assume : Option Literal) (trail : Tracked) (decisions : Bool) (place : ℕ) (walk : Walk) → place ≤ length trail.steps → EachStep (IsPlain (marked_by walk.marks) decisions) trail.steps 0 place → walk.found.items ≡ []
     → IsWalked lines assume trail.vars (oldest place trail.steps) walk → IsSought lines assume trail walk
-sought-end lines assume trail place walk (inl z) n w =
+sought-end lines assume trail decisions place walk b h n w =
     let P : List Step → Type 0 = λ t. IsWalkedBy lines assume trail.vars t walk.marks walk.found.items walk.hints.items in
-    record { none = n; walked = subst P (ap (λ p. oldest p trail.steps) z ∙ oldest-none trail.steps) w }
-sought-end lines assume trail place walk (inr d) n w =
-    record { none = n; walked = walk-over lines assume trail.vars (oldest place trail.steps) walk.marks walk.found.items walk.hints.items d w }
+    record { none = n; walked = subst P (oldest-none trail.steps) (walk-passed lines assume trail.vars trail.steps 0 place walk.marks walk.found.items walk.hints.items (omega arith) b (λ k s x y e. (h k s x y e).0) w) }
 
 pub found-same : (first : ℕ) (trail rest kept : List Step) (found new : List Literal) → new ≡ found → IsGatheredBy first trail rest kept found → IsGatheredBy first trail rest kept new
 found-same first trail rest kept found new e g = let P : List Literal → Type 0 = λ x. IsGatheredBy first trail rest kept x in subst P (sym e) g

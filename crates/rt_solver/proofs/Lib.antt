@@ -5,6 +5,7 @@ pub mod Tables
 pub mod Looks
 pub mod Counts
 pub mod Walks
+pub mod Stops
 pub mod Gathering
 pub mod Returning
 pub mod Finish

@@ -6,18 +6,18 @@
 //! false since x4. As x6 rests on -5 6, the two lines give -3 -5, in which only x5 is so late (the
 //! first unique implication point). -3 -5 is learned, and after x1, x2 and x3 it gives -5.
 
-ghost use Rattle.std.specs.Prelude.{◌≡◌, ℕ, ◌<◌, ◌≤◌, ◌+◌, List, ◌∷◌, [], length, true, false, IfOk, IfSome, OnOk, Option, MatchOption, IsTrue, ◌↔◌, ◌⊎◌};
+ghost use Rattle.std.specs.Prelude.{◌≡◌, ℕ, ◌<◌, ◌≤◌, ◌+◌, List, ◌∷◌, [], length, true, false, IfOk, IfSome, OnOk, Option, MatchOption, IsTrue, nat_eq};
 ghost use Rattle.rt_clause.specs.Lists.{line_at};
 ghost use Rattle.rt_clause.specs.Literal.{Literal};
 ghost use Rattle.rt_solver.specs.declared.trail.Step.{Step};
 ghost use Rattle.rt_solver.specs.declared.trail.Why.TheVariants.{Decided};
-ghost use Rattle.rt_solver.specs.Marking.{marked_by};
+ghost use Rattle.rt_solver.specs.Marking.{marked_by, marked_steps};
 ghost use Rattle.rt_solver.specs.Trail.{lits, oldest, IsApart, IsFounded, RestsOn, IsLineWithin};
 ghost use Rattle.rt_solver.specs.Looking.{IsBelow, AreBelow, IsBroken};
-ghost use Rattle.rt_solver.specs.Analysis.{IsLearned, IsRested, IsWalked, IsChoiceAt, IsMarkedAt, IsUnled, IsGathered, IsSought, IsTraced};
+ghost use Rattle.rt_solver.specs.Analysis.{IsLearned, IsRested, IsWalked, IsChoice, IsFirstStop, IsStopAt, IsGathered, IsSought, IsTraced};
 
 use crate::base::Base;
-use crate::lead::lead;
+use crate::lead::{lead, look};
 use crate::marks::Marks;
 use crate::trail::{Step, Trail, Why};
 use crate::walk::Walk;
@@ -53,32 +53,19 @@ fn resolve<L: Lines + Drop>(base: &Base<L>, step: Step, walk: &mut Walk) -> Resu
     Ok(())
 }
 
-// Visits a step, which matters only where it is marked. Most are not, so the test stands in the
-// callers.
-#[inline]
-fn visit<L: Lines + Drop>(base: &Base<L>, step: Step, walk: &mut Walk) -> Result<(), NoMemory>
-    requires below { AreBelow (length walk.old.marks.marks) (L.lines base.now.0) }
-    requires var { step.lit.var < length walk.old.marks.marks }
-    requires line { IsLineWithin (L.lines base.now.0) step.why }
-    ensures found { OnOk result (walk.new.found.items ≡ walk.old.found.items) }
-    ensures marks { length walk.new.marks.marks ≡ length walk.old.marks.marks }
-    ensures walked { OnOk result ((assume : Option Literal) (vars : ℕ) (rest : List Step) → IsApart vars (step ∷ rest) → RestsOn (L.lines base.now.0) assume rest step.lit step.why
-        → (marked_by walk.old.marks step.lit.var ≡ true → step.why ≡ Decided → ⊥)
-        → IsWalked (L.lines base.now.0) assume vars (step ∷ rest) walk.old → IsWalked (L.lines base.now.0) assume vars rest walk.new) }
+// The next step to visit below a place: a marked one while marks are due, or a decision while one
+// literal is found.
+fn next_stop(trail: &Trail, walk: &Walk, place: usize) -> Option<usize>
+    requires place { place ≤ length trail.now.steps }
+    requires marks { length walk.now.marks.marks ≡ trail.now.vars }
+    requires counted { marked_steps walk.now.marks (oldest place trail.now.steps) ≤ walk.now.marks.due }
+    ensures { IsFirstStop trail.now.steps (marked_by walk.now.marks) (nat_eq (length walk.now.found.items) 1) place result }
 {
-    let lit = step.lit;
-    if !walk.marks.is(lit.var()) {
-        return Ok(());
+    let one = walk.found.len() == 1;
+    if walk.marks.due() == 0 && !one {
+        return None;
     }
-    resolve(base, step, walk)
-}
-
-// Whether steps are left that may be marked.
-fn is_due(walk: &Walk, place: usize) -> bool
-    ensures due { IsTrue result → 0 < place }
-    ensures over { result ≡ false → (place ≡ 0) ⊎ (walk.now.marks.due ≡ 0) }
-{
-    place > 0 && walk.marks.due() > 0
+    look(trail, &walk.marks, place, one)
 }
 
 // Walks back to the latest literal of the clause, and says how many steps are left before the newest
@@ -98,15 +85,15 @@ fn seek<L: Lines + Drop>(
 {
     let mut seen = trail.len();
     let mut i = trail.len();
-    'seek: while is_due(walk, i) {
-        i -= 1;
-        let step = trail.at(i);
-        let found = lead(trail, &walk.marks, i, first, &mut seen);
+    'seek: while let Some(place) = next_stop(trail, walk, i) {
+        let step = trail.at(place);
+        let found = lead(trail, &walk.marks, &step, place, first, &mut seen);
         if let Some(cut) = found {
             walk.keep(step.lit)?;
             return Ok(Some(cut));
         }
-        visit(base, step, walk)?;
+        resolve(base, step, walk)?;
+        i = place;
     }
     Ok(None)
 }
@@ -179,47 +166,36 @@ fn is_implied<L: Lines + Drop>(
     is_known(base, trail, marks, base.at(line), own, DEPTH, &mut fuel)
 }
 
-// Whether the literal of the step at a place is found: the step is marked, and a decision or one of
-// the first ones. What is true before the first decision is resolved away, and what the other
-// marked ones imply.
+// Whether the literal of a marked step is found: it is a decision or one of the first ones. What is
+// true before the first decision is resolved away, and what the other marked ones imply.
 fn stays<L: Lines + Drop>(
     base: &Base<L>,
     trail: &Trail,
-    walk: &Walk,
+    marks: &Marks,
+    step: &Step,
     place: usize,
     first: usize,
 ) -> bool
-    requires line { (s : Step) → oldest (place + 1) trail.now.steps ≡ s ∷ oldest place trail.now.steps → IsLineWithin (L.lines base.now.0) s.why }
+    requires line { IsLineWithin (L.lines base.now.0) step.now.why }
     requires below { AreBelow trail.now.vars (L.lines base.now.0) }
-    requires place { place < length trail.now.steps }
-    requires marks { length walk.now.marks.marks ≡ trail.now.vars }
-    ensures marked { IsTrue result → IsMarkedAt trail.now.steps (marked_by walk.now.marks) place }
-    ensures choice { IsTrue result → IsChoiceAt first trail.now.steps place }
-    ensures other { result ≡ false → IsUnled trail.now.steps (marked_by walk.now.marks) place }
+    requires marks { length marks.now.marks ≡ trail.now.vars }
+    ensures choice { IsTrue result → IsChoice first step.now }
+    ensures other { result ≡ false → step.now.why ≡ Decided → ⊥ }
 {
-    let step = trail.at(place);
     let lit = step.lit;
-    let marked = walk.marks.is(lit.var());
     match step.why {
-        Why::Decided => marked,
+        Why::Decided => true,
         Why::Line(r) => {
-            marked
-                && lit.var() < first
+            lit.var() < first
                 && trail.root() < place
-                && !is_implied(base, trail, &walk.marks, r, lit.var())
+                && !is_implied(base, trail, marks, r, lit.var())
         }
         Why::Assumed => false,
     }
 }
 
-// Whether a decision is passed while one literal is found.
-fn ends(walk: &Walk, why: Why) -> bool
-    ensures { IsTrue result ↔ (length walk.now.found.items < 2 × why ≡ Decided) }
-{
-    walk.found.len() < 2 && why.is_decided()
-}
-
-// Visits the step at a place, and says how many steps are to be left then.
+// Visits the step at a place, which is marked or a decision while one literal is found. Says how
+// many steps are to be left then.
 fn pass<L: Lines + Drop>(
     base: &Base<L>,
     assume: &Option<Lit>,
@@ -230,27 +206,23 @@ fn pass<L: Lines + Drop>(
     walk: &mut Walk,
 ) -> Result<usize, NoMemory>
     requires place { place < length trail.now.steps }
+    requires stop { IsStopAt trail.now.steps (marked_by walk.old.marks) (nat_eq (length walk.old.found.items) 1) place }
     requires founded { IsFounded (L.lines base.now.0) assume.now trail.now.steps }
     requires below { AreBelow trail.now.vars (L.lines base.now.0) }
     requires gathered { IsGathered (L.lines base.now.0) assume.now first trail.now (place + 1) cut walk.old }
     ensures { IfOk result (λ new. IsGathered (L.lines base.now.0) assume.now first trail.now place new walk.new) }
 {
     let step = trail.at(place);
-    let why = step.why;
-    if stays(base, trail, walk, place, first) {
+    let lit = step.lit;
+    if !walk.marks.is(lit.var()) {
+        return Ok(place);
+    }
+    if stays(base, trail, &walk.marks, &step, place, first) {
         walk.keep(step.lit)?;
         return Ok(cut);
     }
-    visit(base, step, walk)?;
-    if ends(walk, why) { Ok(place) } else { Ok(cut) }
-}
-
-// Whether steps are left that may be marked, or decisions to go back to while one literal is found.
-fn is_left(walk: &Walk, place: usize) -> bool
-    ensures left { IsTrue result → 0 < place }
-    ensures over { result ≡ false → (place ≡ 0) ⊎ ((walk.now.marks.due ≡ 0) × (2 ≤ length walk.now.found.items)) }
-{
-    place > 0 && (walk.marks.due() > 0 || walk.found.len() < 2)
+    resolve(base, step, walk)?;
+    Ok(cut)
 }
 
 // Walks back from there over the rest of the trail, as far as marks are due.
@@ -269,9 +241,9 @@ fn gather<L: Lines + Drop>(
 {
     let mut cut = cut;
     let mut i = cut;
-    'gather: while is_left(walk, i) {
-        i -= 1;
-        cut = pass(base, assume, first, trail, i, cut, walk)?;
+    'gather: while let Some(place) = next_stop(trail, walk, i) {
+        cut = pass(base, assume, first, trail, place, cut, walk)?;
+        i = place;
     }
     Ok(cut)
 }

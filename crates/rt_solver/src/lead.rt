@@ -1,62 +1,82 @@
-//! Where the analysis of a conflict may end: at a marked literal that is the latest of its clause.
+//! Where the analysis of a conflict stops on its way back over the trail, and where it may end: at a
+//! marked literal that is the latest of its clause.
 //!
 //! An example, with the oldest step first: x1 decided, x2, x3 decided, x4, x5, and x2 and x5 are marked. At
 //! x5 the walk looks down over x4 to x3, a decision that is not marked. So x5 is the only marked literal
 //! since the newest decision, and two steps are below that decision: the answer is 2.
 
-ghost use Rattle.std.specs.Prelude.{◌≡◌, ◌<◌, ◌≤◌, length, MatchOption};
+ghost use Rattle.std.specs.Prelude.{◌≡◌, ◌+◌, ◌<◌, ◌≤◌, ◌∷◌, length, false, IsTrue, MatchOption, IfSome};
 ghost use Rattle.rt_solver.specs.declared.trail.Why.TheVariants.{Decided};
 ghost use Rattle.rt_solver.specs.Marking.{marked_by};
-ghost use Rattle.rt_solver.specs.Analysis.{IsLeadAt, IsUnder, IsUnled};
+ghost use Rattle.rt_solver.specs.Trail.{oldest};
+ghost use Rattle.rt_solver.specs.Analysis.{IsDecisionUnder, IsFirstStop, IsLead, IsPlain, IsStop};
 
 use crate::marks::Marks;
-use crate::trail::{Trail, Why};
+use crate::trail::{Step, Trail, Why};
 
-// What comes first below a place: a decision that is not marked, or a marked step.
-enum Below {
-    Decision(usize),
-    Mark(usize),
+// Whether a step is marked or, where decisions count, a decision.
+#[inline]
+fn is_stop(marks: &Marks, step: Step, decisions: bool) -> bool
+    requires { step.lit.var < length marks.now.marks }
+    ensures stop { IsTrue result → IsStop (marked_by marks.now) decisions step }
+    ensures plain { result ≡ false → IsPlain (marked_by marks.now) decisions step }
+{
+    let lit = step.lit;
+    marks.is(lit.var()) || decisions && step.why.is_decided()
 }
 
-fn look(trail: &Trail, marks: &Marks, place: usize) -> Below
+/// The first step below a place that is marked or, where decisions count, a decision. Most steps
+/// are neither, and this loop is all that they cost.
+pub(crate) fn look(trail: &Trail, marks: &Marks, place: usize, decisions: bool) -> Option<usize>
     requires place { place ≤ length trail.now.steps }
     requires marks { length marks.now.marks ≡ trail.now.vars }
-    ensures { IsUnder trail.now.steps (marked_by marks.now) place result }
+    ensures { IsFirstStop trail.now.steps (marked_by marks.now) decisions place result }
 {
     let mut i = place;
     'look: while i > 0 {
         i -= 1;
-        let step = trail.at(i);
-        let lit = step.lit;
-        if marks.is(lit.var()) {
-            return Below::Mark(i);
-        }
-        if let Why::Decided = step.why {
-            return Below::Decision(i);
+        if is_stop(marks, trail.at(i), decisions) {
+            return Some(i);
         }
     }
-    Below::Mark(0)
+    None
 }
 
-/// Where the literal of the step at a place is marked and may be the latest of a clause: how many
-/// steps are below the newest decision there. At `seen`, where that is below the place, is a
-/// marked step or the oldest one.
+// The newest decision below a place, where no step from there on is marked. Else `seen` is the
+// marked step that comes first, or 0 where there is none.
+fn decision_under(trail: &Trail, marks: &Marks, place: usize, seen: &mut usize) -> Option<usize>
+    requires place { place ≤ length trail.now.steps }
+    requires marks { length marks.now.marks ≡ trail.now.vars }
+    ensures { IfSome result (λ cut. IsDecisionUnder trail.now.steps (marked_by marks.now) place cut) }
+{
+    *seen = 0;
+    let stop = look(trail, marks, place, true)?;
+    let step = trail.at(stop);
+    let lit = step.lit;
+    if marks.is(lit.var()) {
+        *seen = stop;
+        return None;
+    }
+    Some(stop)
+}
+
+/// Where the literal of the marked step at a place may be the latest of a clause: how many steps
+/// are below the newest decision there. At `seen`, where that is below the place, is a marked step
+/// or the oldest one.
 pub(crate) fn lead(
     trail: &Trail,
     marks: &Marks,
+    step: &Step,
     place: usize,
     first: usize,
     seen: &mut usize,
 ) -> Option<usize>
+    requires step { oldest (place + 1) trail.now.steps ≡ step.now ∷ oldest place trail.now.steps }
     requires place { place < length trail.now.steps }
     requires marks { length marks.now.marks ≡ trail.now.vars }
-    ensures { MatchOption result (IsUnled trail.now.steps (marked_by marks.now) place) (λ cut. IsLeadAt first trail.now.steps (marked_by marks.now) place cut) }
+    ensures { MatchOption result (step.now.why ≡ Decided → ⊥) (λ cut. IsLead first trail.now.steps (marked_by marks.now) place cut step.now) }
 {
-    let step = trail.at(place);
     let lit = step.lit;
-    if !marks.is(lit.var()) {
-        return None;
-    }
     match step.why {
         Why::Decided => Some(place),
         Why::Assumed => None,
@@ -64,13 +84,7 @@ pub(crate) fn lead(
             if lit.var() >= first || *seen < place {
                 return None;
             }
-            match look(trail, marks, place) {
-                Below::Decision(cut) => Some(cut),
-                Below::Mark(other) => {
-                    *seen = other;
-                    None
-                }
-            }
+            decision_under(trail, marks, place, seen)
         }
     }
 }

@@ -1,13 +1,12 @@
 use Rattle.std.proofs.Common.{◌≤◌}
-use Rattle.rt_solver.specs.Trail.{oldest}
 use Rattle.rt_solver.specs.Marking.{marked_by}
-use Rattle.rt_solver.specs.Analysis.{HasMarked}
+use Rattle.rt_solver.specs.Analysis.{EachStep, IsPlain}
 use Rattle.rt_solver.proofs.lead.look.Given as goal
 
 abbrev pub invariant-look : goal.invariant-look
 invariant-look l = record {
   order : l.i ≤ l.place;
-  alone : HasMarked (marked_by l.marks) (oldest l.place l.trail.steps) (oldest l.i l.trail.steps);
+  passed : EachStep (IsPlain (marked_by l.marks) l.decisions) l.trail.steps l.i l.place;
 }
 
 abbrev pub decreases-look : goal.decreases-look
