@@ -182,9 +182,8 @@ take-first [] = refl
 take-first (a ∷ c) = let e : min (length (a ∷ c)) 1 ≡ 1 = omega arith in ap (λ n. take n (a ∷ c)) e
 
 -- the other watched literal, as it is read
-pub other-read : (c ls : List Literal) (p : ℕ) (k l : Literal) → p < 2 → literal_in c p ≡ Some k → ls ≡ c → l ≡ get_or ls (1 - p) l → literal_in c (1 - p) ≡ Some l
-other-read c ls p k l b w e o = let P : List Literal → Type 0 = λ xs. l ≡ get_or xs (1 - p) l in
-    literal-at c (1 - p) l (omega arith) (literal-long c p k w) (subst P e o)
+pub other-read : (c : List Literal) (p : ℕ) (k l : Literal) → p < 2 → literal_in c p ≡ Some k → l ≡ get_or c (1 - p) l → literal_in c (1 - p) ≡ Some l
+other-read c p k l b w o = literal-at c (1 - p) l (omega arith) (literal-long c p k w) o
 
 -- the last literal that is left became true
 pub held : (t after : List Step) (c : List Literal) (n : ℕ) (l : Literal) → after ≡ record { lit = l; why = Line n } ∷ t → IsUnit c (lits t) l → IsHeld c t after n l

@@ -1,5 +1,5 @@
 -- Where the literals of a clause stand.
-use Rattle.std.specs.Prelude.{◌≤◌, List, length}
+use Rattle.std.specs.Prelude.{◌≡◌, ◌≤◌, List, length}
 use Rattle.rt_clause.specs.Literal.{Literal}
 use Rattle.rt_solver.specs.declared.clause.Literals.{Literals}
 use Rattle.rt_solver.specs.declared.clause.Literals.TheVariants.{Three, Block}
@@ -7,9 +7,9 @@ use Rattle.rt_solver.specs.declared.clause.Literals.TheVariants.{Three, Block}
 -- the literals, wherever they stand
 abbrev pub stored : Literals → List Literal
 stored (Three lits) = lits
-stored (Block lits ended) = lits
+stored (Block ended lits) = lits
 
--- the last search ended within the clause
+-- three stand in the clause itself, and in a block the last search ended within it
 abbrev pub IsStored : Literals → Type 0
-IsStored (Three lits) = Unit {0}
-IsStored (Block lits ended) = ended ≤ length lits
+IsStored (Three lits) = length lits ≡ 3
+IsStored (Block ended lits) = ended ≤ length lits

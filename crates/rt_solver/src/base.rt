@@ -101,24 +101,20 @@ fn put(clauses: &mut Vec<Clause>, short: &mut Vec<usize>, watches: &mut Watches,
     ensures short { AreShort clauses.new.items short.new.items }
 {
     let number = clauses.len();
-    match clause.lits() {
-        [first, second, ..] => {
-            let two = clause.lits().len() == 2;
-            watches.join(
-                first.index(),
-                Entry::new(Watch::first(number), two, *second),
-            );
-            watches.join(
-                second.index(),
-                Entry::new(Watch::second(number), two, *first),
-            );
-            clauses.push_reserved(clause);
-        }
-        _ => {
-            short.push_reserved(number);
-            clauses.push_reserved(clause);
-        }
+    if clause.len() < 2 {
+        short.push_reserved(number);
+        clauses.push_reserved(clause);
+        return;
     }
+    let two = clause.len() == 2;
+    let first = clause.at(0);
+    let second = clause.at(1);
+    watches.join(first.index(), Entry::new(Watch::first(number), two, second));
+    watches.join(
+        second.index(),
+        Entry::new(Watch::second(number), two, first),
+    );
+    clauses.push_reserved(clause);
 }
 
 // Makes room for one clause more, over variables below a bound.
@@ -147,13 +143,11 @@ fn make_room(
     clauses.reserve(1)?;
     short.reserve(1)?;
     watches.grow(2 * vars)?;
-    match clause.lits() {
-        [first, second, ..] => {
-            watches.reserve(first.index())?;
-            watches.reserve(second.index())
-        }
-        _ => Ok(()),
+    if clause.len() < 2 {
+        return Ok(());
     }
+    watches.reserve(clause.at(0).index())?;
+    watches.reserve(clause.at(1).index())
 }
 
 impl<L: Lines + Drop> Base<L> {
@@ -183,12 +177,12 @@ impl<L: Lines + Drop> Base<L> {
         self.clauses.len()
     }
 
-    /// The literals of a line.
-    pub(crate) fn at(&self, i: usize) -> &[Lit]
+    /// The copy of a line.
+    pub(crate) fn at(&self, i: usize) -> &Clause
         requires { i < length (L.lines self.now.0) }
         ensures { IsSame (line_at (L.lines self.now.0) i) result.now }
     {
-        self.clauses[i].lits()
+        &self.clauses[i]
     }
 
     /// One more than the greatest variable.

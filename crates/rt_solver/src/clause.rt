@@ -1,22 +1,24 @@
 //! The solver's own copy of a clause, of which the first two literals are watched.
 
-ghost use Rattle.std.specs.Prelude.{◌≡◌, ◌<◌, ◌≤◌, length, take, swap, MatchOption, IfOk};
+ghost use Rattle.std.specs.Prelude.{◌≡◌, ◌<◌, ◌≤◌, length, take, swap, slice_index_or, MatchOption, IfSome, IfOk};
 ghost use Rattle.rt_solver.specs.Same.{IsSame, IsSpread, AreFirst, HasOther};
 
+use crate::short::Short;
 use rt_clause::{Lit, ThinClause};
 use rt_value::NoMemory;
 use std::alloc::Global;
 use std::marker::Model;
 
-// The literals of a clause: three, as most clauses have, stand in the clause itself, and any other
-// number in a block, with the place where the last search for a literal to watch ended.
+// The literals of a clause: three short ones, as most clauses have, stand in the clause itself, and
+// any others in a block, with the place where the last search for a literal to watch ended, or 0
+// where that is too great.
 #[derive(Drop)]
 enum Literals {
-    Three([Lit; 3]),
-    Block { lits: ThinClause, ended: usize },
+    Three([Short; 3]),
+    Block { ended: u32, lits: ThinClause },
 }
 
-const _: () = prove!(size_of::<Clause>() == 32);
+const _: () = prove!(size_of::<Clause>() == 16);
 
 /// A clause of the solver's own, whose literals may change places. Propagation waits for memory, so
 /// three literals are read with the clause, and not from a block.
@@ -60,15 +62,25 @@ fn first(lits: &[Lit]) -> &[Lit]
     lits.split_at(lits.len().min(1)).0
 }
 
+// The literals as short ones, where there are three and each fits.
+fn three(lits: &[Lit]) -> Option<[Short; 3]>
+    ensures { IfSome result (λ own. own ≡ lits.now) }
+{
+    match lits {
+        [a, b, c] => Some([Short::of(*a)?, Short::of(*b)?, Short::of(*c)?]),
+        _ => None,
+    }
+}
+
 impl Clause {
     pub(crate) fn new(alloc: Global, lits: &[Lit]) -> Result<Clause, NoMemory>
         ensures { IfOk result (λ c. c ≡ lits.now) }
     {
-        let literals = match lits {
-            [a, b, c] => Literals::Three([*a, *b, *c]),
-            _ => {
+        let literals = match three(lits) {
+            Some(lits) => Literals::Three(lits),
+            None => {
                 let lits = ThinClause::of(alloc, lits)?;
-                Literals::Block { lits, ended: 0 }
+                Literals::Block { ended: 0, lits }
             }
         };
         Ok(Clause { literals })
@@ -89,12 +101,37 @@ impl Clause {
         }
     }
 
-    pub(crate) fn lits(&self) -> &[Lit]
-        ensures { result.now ≡ self.now }
+    /// The number of literals.
+    #[inline]
+    pub(crate) fn len(&self) -> usize
+        ensures { result ≡ length self.now }
     {
         match &self.literals {
-            Literals::Three(lits) => lits,
-            Literals::Block { lits, .. } => lits.lits(),
+            Literals::Three(_) => 3,
+            Literals::Block { lits, .. } => lits.len(),
+        }
+    }
+
+    /// The literal at a place.
+    #[inline]
+    pub(crate) fn at(&self, i: usize) -> Lit
+        requires { i < length self.now }
+        ensures { result ≡ slice_index_or self.now i result }
+    {
+        match &self.literals {
+            Literals::Three(lits) => lits[i].lit(),
+            Literals::Block { lits, .. } => lits.lits()[i],
+        }
+    }
+
+    /// The literals in order, unless three stand in the clause itself.
+    #[inline]
+    pub(crate) fn block(&self) -> Option<&[Lit]>
+        ensures { MatchOption result (length self.now ≡ 3) (λ lits. lits.now ≡ self.now) }
+    {
+        match &self.literals {
+            Literals::Three(_) => None,
+            Literals::Block { lits, .. } => Some(lits.lits()),
         }
     }
 
@@ -107,7 +144,7 @@ impl Clause {
         match &self.literals {
             // only this one isn't watched
             Literals::Three(_) => 2,
-            Literals::Block { ended, .. } => (*ended).max(2),
+            Literals::Block { ended, .. } => (*ended as usize).max(2),
         }
     }
 
@@ -119,9 +156,9 @@ impl Clause {
     {
         match &mut self.literals {
             Literals::Three(lits) => lits.swap(watched, ended),
-            Literals::Block { lits, ended: last } => {
+            Literals::Block { ended: last, lits } => {
                 lits.swap(watched, ended);
-                *last = ended;
+                *last = u32::try_from(ended).unwrap_or(0);
             }
         }
     }

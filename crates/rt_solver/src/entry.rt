@@ -4,6 +4,7 @@ ghost use Rattle.std.specs.Prelude.{◌≡◌, ◌<◌, ◌^◌, false};
 ghost use Rattle.rt_clause.specs.Packed.{packed};
 ghost use Rattle.rt_solver.specs.Watching.{noted};
 
+use crate::short::Short;
 use crate::watch::Watch;
 use rt_clause::Lit;
 use std::marker::Model;
@@ -11,26 +12,26 @@ use std::marker::Model;
 const _: () = prove!(size_of::<Entry>() == 8);
 
 /// A watch, whether its clause has two literals only, and another literal of the clause: where that
-/// is true, the clause is met. Propagation waits for memory, so all is in one machine word: twice
-/// the watch, and one more where there are two literals, and the place of the other literal.
+/// is true, the clause is met. Propagation waits for memory, so all is in one machine word.
 #[derive(Clone, Copy)]
 pub(crate) struct Entry {
+    // twice the watch, and one more where there are two literals
     mark: u32,
-    other: u32,
+    other: Short,
 }
 
 impl Model for Entry {
     ghost use Rattle.rt_clause.specs.Packed.{packed, unpacked, packed-unpacked};
     ghost use Rattle.rt_solver.specs.Watching.{Listed};
-    ghost use Rattle.std.proofs.Common.{ap, ◌∙◌};
+    ghost use Rattle.std.proofs.Common.{ap};
 
     ghost Value = { Listed };
 
-    ghost view = { λ e. record { watch = (unpacked e.mark).var; two = (unpacked e.mark).on; other = unpacked e.other } };
+    ghost view = { λ e. record { watch = (unpacked e.mark).var; two = (unpacked e.mark).on; other = e.other } };
 
-    ghost inverse = { λ e. record { mark = packed (record { var = e.watch; on = e.two }); other = packed e.other } };
+    ghost inverse = { λ e. record { mark = packed (record { var = e.watch; on = e.two }); other = e.other } };
 
-    ghost inverse_ok = { λ e h. ap (λ w. record { mark = w; other = packed (unpacked e.other) }) (packed-unpacked e.mark) ∙ ap (λ w. record { mark = e.mark; other = w }) (packed-unpacked e.other) };
+    ghost inverse_ok = { λ e h. ap (λ w. record { mark = w; other = e.other }) (packed-unpacked e.mark) };
 }
 
 impl Entry {
@@ -43,7 +44,7 @@ impl Entry {
         let mark = if two { twice + 1 } else { twice };
         Entry {
             mark: mark as u32,
-            other: other.index() as u32,
+            other: Short::new(other),
         }
     }
 
@@ -63,8 +64,7 @@ impl Entry {
     pub(crate) fn other(self) -> Lit
         ensures { result ≡ self.other }
     {
-        let place = self.other as usize;
-        Lit::of(place / 2, place % 2 == 1)
+        self.other.lit()
     }
 
     /// An entry of the same watch with another literal.

@@ -17,6 +17,7 @@ ghost use Rattle.rt_solver.specs.Looking.{IsBelow, AreBelow, IsBroken};
 ghost use Rattle.rt_solver.specs.Analysis.{IsLearned, IsRested, IsWalked, IsChoice, IsFirstStop, IsStopAt, IsGathered, IsSought, IsTraced};
 
 use crate::base::Base;
+use crate::clause::Clause;
 use crate::lead::{lead, look};
 use crate::marks::Marks;
 use crate::trail::{Step, Trail, Why};
@@ -116,7 +117,7 @@ fn is_known<L: Lines + Drop>(
     base: &Base<L>,
     trail: &Trail,
     marks: &Marks,
-    line: &[Lit],
+    line: &Clause,
     own: usize,
     depth: usize,
     fuel: &mut usize,
@@ -125,12 +126,12 @@ fn is_known<L: Lines + Drop>(
     requires below { AreBelow trail.now.vars (L.lines base.now.0) }
     requires marks { length marks.now.marks ≡ trail.now.vars }
 {
-    for l in line {
+    for i in 0..line.len() {
         if *fuel == 0 {
             return false;
         }
         *fuel -= 1;
-        let lit = *l;
+        let lit = line.at(i);
         let v = lit.var();
         if v == own || marks.is(v) || trail.is_early(v) {
             continue;

@@ -28,6 +28,7 @@ mod pick;
 mod places;
 mod propagate;
 mod search;
+mod short;
 mod sift;
 mod solver;
 mod trail;

@@ -8,7 +8,7 @@ ghost use Rattle.rt_solver.specs.Looking.{IsBelow};
 ghost use Rattle.rt_solver.specs.Marking.{marked_by, marked_steps, IsUnmarked};
 ghost use Rattle.rt_solver.specs.Trail.{IsApart};
 
-use rt_clause::Lit;
+use crate::clause::Clause;
 use rt_value::NoMemory;
 use std::alloc::Global;
 use std::marker::Model;
@@ -76,15 +76,15 @@ impl Marks {
     }
 
     /// Marks the variables of a line.
-    pub(crate) fn mark(&mut self, line: &[Lit]) -> Result<(), NoMemory>
+    pub(crate) fn mark(&mut self, line: &Clause) -> Result<(), NoMemory>
         requires { IsBelow (length self.old.marks) line.now }
         ensures len { length self.new.marks ≡ length self.old.marks }
         ensures kept { (v : ℕ) → marked_by self.old v ≡ true → marked_by self.new v ≡ true }
         ensures set { OnOk result ((k : Literal) → has line.now k ≡ true → marked_by self.new k.var ≡ true) }
         ensures counted { (n : ℕ) (t : List Step) → IsApart n t → marked_steps self.new t + self.old.due ≤ marked_steps self.old t + self.new.due }
     {
-        for l in line {
-            let lit = *l;
+        for i in 0..line.len() {
+            let lit = line.at(i);
             self.set(lit.var())?;
         }
         Ok(())

@@ -36,8 +36,8 @@ fn shift(
     let entry = watches.at(home, i);
     let place = entry.watch().place();
     let clause = &mut clauses[entry.watch().clause()];
-    let to = clause.lits()[ended].index();
-    let other = clause.lits()[1 - place];
+    let to = clause.at(ended).index();
+    let other = clause.at(1 - place);
     watches.reserve(to)?;
     clause.exchange(place, ended);
     watches.leave(home, i);
@@ -117,7 +117,7 @@ pub(crate) fn propagate(
 
 // Takes the literal of a clause of one literal as a step, unless it has a value, and answers whether
 // the clause is empty, or of one literal that is false.
-fn is_broken(clause: &[Lit], trail: &mut Trail, number: usize) -> bool
+fn is_broken(clause: &Clause, trail: &mut Trail, number: usize) -> bool
     requires below { IsBelow trail.old.vars clause.now }
     requires apart { IsApart trail.old.vars trail.old.steps }
     ensures vars { trail.new.vars ≡ trail.old.vars }
@@ -125,10 +125,10 @@ fn is_broken(clause: &[Lit], trail: &mut Trail, number: usize) -> bool
     ensures taken { IsTakenStep clause.now number trail.old.steps trail.new.steps }
     ensures short { IsShortAs result clause.now trail.new.steps }
 {
-    match clause {
-        [] => true,
-        [lit] => {
-            let lit = *lit;
+    match clause.len() {
+        0 => true,
+        1 => {
+            let lit = clause.at(0);
             match trail.is(lit) {
                 Some(on) => !on,
                 None => {
@@ -156,7 +156,7 @@ pub(crate) fn settle(clauses: &[Clause], short: &[usize], trail: &mut Trail) -> 
     for n in short {
         let number = *n;
         let clause = &clauses[number];
-        if is_broken(clause.lits(), trail, number) {
+        if is_broken(clause, trail, number) {
             return Some(number);
         }
     }

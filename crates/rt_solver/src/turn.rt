@@ -45,11 +45,22 @@ fn search(clause: &Clause, trail: &Trail, other: Lit) -> Option<usize>
     requires long { 2 ≤ length clause.now }
     ensures { MatchOption result (AreFalseFrom trail.now.steps clause.now other) (λ j. IsFreeAt trail.now.steps clause.now other j) }
 {
-    let lits = clause.lits();
-    let start = clause.start();
-    match free(lits, trail, other, start, lits.len()) {
-        Some(j) => Some(j),
-        None => free(lits, trail, other, 2, start),
+    match clause.block() {
+        Some(lits) => {
+            let start = clause.start();
+            match free(lits, trail, other, start, lits.len()) {
+                Some(j) => Some(j),
+                None => free(lits, trail, other, 2, start),
+            }
+        }
+        None => {
+            let third = clause.at(2);
+            if third != other && !trail.is_false(third) {
+                Some(2)
+            } else {
+                None
+            }
+        }
     }
 }
 
@@ -80,7 +91,7 @@ fn rewatch(clause: &Clause, trail: &mut Trail, place: usize, number: usize) -> T
     ensures apart { IsApart trail.new.vars trail.new.steps }
     ensures turn { IsTurn clause.now trail.old.steps trail.new.steps place number result }
 {
-    let other = clause.lits()[1 - place];
+    let other = clause.at(1 - place);
     if trail.is_true(other) {
         return Turn::Stays(other);
     }
