@@ -13,7 +13,6 @@ use crate::clause::Clause;
 use crate::trail::{Step, Trail, Why};
 use crate::turn::{Turn, examine};
 use crate::watches::Watches;
-use rt_clause::Lit;
 use rt_value::NoMemory;
 
 // Moves an entry to the list of the literal at a place of its clause, which is watched from then on.

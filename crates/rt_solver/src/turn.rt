@@ -39,7 +39,8 @@ fn free(clause: &[Lit], trail: &Trail, other: Lit, from: usize, to: usize) -> Op
     None
 }
 
-// Searches on from where the last search in the clause ended, and then up to there.
+// Searches on from where the last search in the clause ended, and then up to there. Of three literals
+// that stand in the clause itself only the last is not watched.
 fn search(clause: &Clause, trail: &Trail, other: Lit) -> Option<usize>
     requires below { IsBelow trail.now.vars clause.now }
     requires long { 2 ≤ length clause.now }

@@ -25,5 +25,5 @@ returns-in_err-reserve-3-clause-listed c = grown-listed c.args.clauses.now.items
 pub returns-then-len-lt2-clause-listed : goal.returns-then-len-lt2-clause-listed
 returns-then-len-lt2-clause-listed c = grown-listed c.args.clauses.now.items c.reserve.new.self.items c.args.watches.now.lists c.grow.new.self.lists _ c.requires.listed c.in_ok-reserve.ensures.items c.in_ok-grow.ensures.kept c.in_ok-grow.ensures.longer c.in_ok-grow.ensures.few refl
 
-pub returns-in_ok-reserve-3-clause-listed : goal.returns-in_ok-reserve-3-clause-listed
-returns-in_ok-reserve-3-clause-listed c = grown-listed c.args.clauses.now.items c.reserve.new.self.items c.args.watches.now.lists c.grow.new.self.lists _ c.requires.listed c.in_ok-reserve.ensures.items c.in_ok-grow.ensures.kept c.in_ok-grow.ensures.longer c.in_ok-grow.ensures.few (c.reserve-4.ensures.lists ∙ c.in_ok-reserve-3.ensures.lists)
+pub returns-clause-listed : goal.returns-clause-listed
+returns-clause-listed c = grown-listed c.args.clauses.now.items c.reserve.new.self.items c.args.watches.now.lists c.grow.new.self.lists _ c.requires.listed c.in_ok-reserve.ensures.items c.in_ok-grow.ensures.kept c.in_ok-grow.ensures.longer c.in_ok-grow.ensures.few (c.reserve-4.ensures.lists ∙ c.in_ok-reserve-3.ensures.lists)

@@ -1,4 +1,4 @@
-use Rattle.std.proofs.Common.{◌≡◌, ◌/◌, ◌%◌, ◌∷◌, [], ◌++◌, get_or, length, ap, sym, ◌∙◌, arith}
+use Rattle.std.proofs.Common.{◌≡◌, ◌-◌, ◌/◌, ◌%◌, ◌∷◌, [], ◌++◌, get_or, length, ap, sym, ◌∙◌, arith}
 use Rattle.rt_clause.specs.Lists.{line_at}
 use Rattle.rt_solver.specs.Watching.{list_at}
 use Rattle.rt_solver.proofs.Visiting.{line-read}
@@ -21,8 +21,7 @@ noting-requires c =
     let x = at-entry now c.args.watches.now.lists c.args.home c.args.i c.args.ended e c.requires.listed c.requires.within c.at-entry.ensures (c.requires.unwatched e c.at-entry.ensures) in
     let n : c.clause.result ≡ e.watch / 2 = c.clause.ensures ∙ ap (λ v. v / 2) c.watch-2.ensures.is in
     let q : c.index_mut-clause.result.now ≡ line_at now (e.watch / 2) = line-read now c.clause.result c.index_mut-clause.result.now (let b = x.within in omega (arith, b, n)) c.index_mut-clause.ensures.value ∙ ap (line_at now) n in
-    let O : List Literal → Type 0 = λ d. c.index-lits-place.result ≡ get_or d (1 - c.place-place.result) c.index-lits-place.result in
-    other-small now c.args.watches.now.lists c.args.home c.args.ended (1 - c.place-place.result) e c.index_mut-clause.result.now c.index-lits-place.result c.requires.listed x (omega arith) q (subst O c.lits-2.ensures c.index-lits-place.is)
+    other-small now c.args.watches.now.lists c.args.home c.args.ended (1 - c.place-place.result) e c.index_mut-clause.result.now c.at-other.result c.requires.listed x (omega arith) q c.at-other.ensures
 
 pub join-requires-clause-list : goal.join-requires-clause-list
 join-requires-clause-list c =
