@@ -6,7 +6,10 @@ use crate::trail::{Step, Why};
 use rt_clause::Lit;
 use std::marker::Model;
 
-/// A step in two machine words. The mark is twice the index of its literal, and one more if a line
+// The top bit. The index of a literal is below it.
+const TOP: usize = 1 << 63;
+
+/// A step in two machine words. The mark is the index of its literal, with the top bit set if a line
 /// is the reason. The number is that of the line, or 0 for a decision and 1 for the assumption.
 #[derive(Clone, Copy)]
 pub(crate) struct Packed {
@@ -17,37 +20,36 @@ pub(crate) struct Packed {
 const _: () = prove!(size_of::<Packed>() == 16);
 
 impl Model for Packed {
-    ghost use Rattle.rt_clause.specs.Packed.{unpacked};
     ghost use Rattle.rt_solver.specs.declared.trail.Step.{Step};
-    ghost use Rattle.rt_solver.specs.Packing.{mark_of, code, step_of, IsCode, mark-step, code-why};
+    ghost use Rattle.rt_solver.specs.Packing.{mark_of, code, step_of, IsPacked, mark-step, code-why};
 
     ghost Value = { Step };
 
     ghost view = { λ p. step_of p.mark p.number };
 
-    ghost invariant = { λ p. IsCode (unpacked p.mark).on p.number };
+    ghost invariant = { λ p. IsPacked p.mark p.number };
 
     ghost inverse = { λ s. record { mark = mark_of s; number = code s.why } };
 
-    ghost inverse_ok = { λ p h. λ i. record { mark = mark-step p.mark p.number i; number = code-why (unpacked p.mark).on p.number h i } };
+    ghost inverse_ok = { λ p h. λ i. record { mark = mark-step p.mark p.number h.mark i; number = code-why _ p.number h.code i } };
 }
 
 impl Packed {
     pub(crate) fn of(step: Step) -> Packed
         ensures { result ≡ step }
     {
-        let twice = 2 * step.lit.index();
+        let index = step.lit.index();
         match step.why {
             Why::Line(number) => Packed {
-                mark: twice + 1,
+                mark: TOP + index,
                 number,
             },
             Why::Decided => Packed {
-                mark: twice,
+                mark: index,
                 number: 0,
             },
             Why::Assumed => Packed {
-                mark: twice,
+                mark: index,
                 number: 1,
             },
         }
@@ -56,14 +58,14 @@ impl Packed {
     fn lit(self) -> Lit
         ensures { result ≡ self.lit }
     {
-        let index = self.mark / 2;
+        let index = self.mark % TOP;
         Lit::of(index / 2, index % 2 == 1)
     }
 
     pub(crate) fn why(self) -> Why
         ensures { result ≡ self.why }
     {
-        if self.mark % 2 == 1 {
+        if self.mark / TOP == 1 {
             Why::Line(self.number)
         } else if self.number == 0 {
             Why::Decided
