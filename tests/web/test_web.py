@@ -81,7 +81,7 @@ def test_large_texts(opened: Any, page: Path, ratest: Path) -> None:
 def test_little_memory(opened: Any, ratest: Path) -> None:
     host = Browser(opened)
     assert host.ask([LARGE]) == [native(ratest, LARGE)]
-    small, = host.ask([LARGE], 16 * MEBIBYTE)
+    small, = host.ask([LARGE], 8 * MEBIBYTE)
     assert (small.status, small.out) == (OUT_OF_MEMORY, b"")
     # Less than the module begins with.
     assert host.ask([LARGE], MEBIBYTE) == [Reply(OUT_OF_MEMORY, b"", b"")]
