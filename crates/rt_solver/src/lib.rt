@@ -31,6 +31,7 @@ mod search;
 mod short;
 mod sift;
 mod solver;
+mod status;
 mod trail;
 mod turn;
 mod walk;

@@ -4,6 +4,7 @@ ghost use Rattle.std.specs.Prelude.{◌≡◌, ◌<◌, ◌≤◌, [], ◌∷◌
 ghost use Rattle.rt_solver.specs.declared.trail.Why.TheVariants.{Decided};
 
 use crate::packed::Packed;
+use crate::status::Status;
 use rt_clause::Lit;
 use rt_value::NoMemory;
 use std::alloc::Global;
@@ -40,7 +41,9 @@ impl Why {
 #[derive(Drop)]
 pub struct Trail {
     steps: Vec<Packed>,
-    values: Vec<Option<bool>>,
+    // by the index of a literal
+    statuses: Vec<Status>,
+    // by variable
     places: Vec<usize>,
     root: usize,
 }
@@ -51,9 +54,9 @@ impl Model for Trail {
 
     ghost Value = { Tracked };
 
-    ghost view = { λ t. record { steps = reverse t.steps.items; vars = length t.values.items } };
+    ghost view = { λ t. record { steps = reverse t.steps.items; vars = length t.places.items } };
 
-    ghost invariant = { λ t. IsTable t.values.items (reverse t.steps.items) (vec_capacity t.steps) × (t.root ≤ length t.steps.items) × (length t.places.items ≡ length t.values.items) };
+    ghost invariant = { λ t. IsTable t.statuses.items (length t.places.items) (reverse t.steps.items) (vec_capacity t.steps) × (t.root ≤ length t.steps.items) };
 }
 
 impl Trail {
@@ -61,19 +64,22 @@ impl Trail {
     ghost use Rattle.std.specs.Prelude.{◌+◌};
     ghost use Rattle.rt_clause.specs.Lists.{has, is_false};
     ghost use Rattle.rt_solver.specs.Trail.{value_in, IsApart, lits, oldest};
-    ghost use Rattle.rt_solver.specs.Table.{IsStatus};
+    ghost use Rattle.rt_solver.specs.Table.{IsStatus, status_at};
 
     /// No steps over so many variables, with room for a step of each.
     pub fn new(alloc: Global, vars: usize) -> Result<Trail, NoMemory>
         ensures steps { IfOk result (λ t. t.steps ≡ []) }
         ensures vars { IfOk result (λ t. t.vars ≡ vars) }
     {
+        let Some(literals) = vars.checked_mul(2) else {
+            return Err(NoMemory);
+        };
         let steps = Vec::with_capacity(alloc, vars)?;
-        let values = vec![in alloc; None; vars]?;
+        let statuses = vec![in alloc; Status::Unassigned; literals]?;
         let places = vec![in alloc; 0; vars]?;
         Ok(Trail {
             steps,
-            values,
+            statuses,
             places,
             root: 0,
         })
@@ -83,14 +89,28 @@ impl Trail {
         ensures vars { result ≡ self.now.vars }
         ensures apart { IsApart self.now.vars self.now.steps }
     {
-        self.values.len()
+        self.places.len()
+    }
+
+    // Whether a literal is true, false or unassigned.
+    fn status(&self, lit: Lit) -> Status
+        requires { lit.var < self.now.vars }
+        ensures is { result ≡ status_at (value_in self.now.steps lit.var) lit.on }
+        ensures apart { IsApart self.now.vars self.now.steps }
+    {
+        self.statuses[lit.index()]
     }
 
     pub fn value(&self, v: usize) -> Option<bool>
         requires { v < self.now.vars }
         ensures { result ≡ value_in self.now.steps v }
     {
-        self.values[v]
+        // the literal that is true at true
+        match self.statuses[2 * v + 1] {
+            Status::True => Some(true),
+            Status::False => Some(false),
+            Status::Unassigned => None,
+        }
     }
 
     /// Whether a literal is true or false, or its variable has no value.
@@ -99,9 +119,10 @@ impl Trail {
         ensures status { IsStatus (lits self.now.steps) (value_in self.now.steps lit.var) lit result }
         ensures apart { IsApart self.now.vars self.now.steps }
     {
-        match self.values[lit.var()] {
-            None => None,
-            Some(on) => Some(on == lit.on()),
+        match self.status(lit) {
+            Status::True => Some(true),
+            Status::False => Some(false),
+            Status::Unassigned => None,
         }
     }
 
@@ -110,9 +131,10 @@ impl Trail {
         ensures is { result ≡ has (lits self.now.steps) lit }
         ensures apart { IsApart self.now.vars self.now.steps }
     {
-        match self.is(lit) {
-            None => false,
-            Some(on) => on,
+        match self.status(lit) {
+            Status::True => true,
+            Status::False => false,
+            Status::Unassigned => false,
         }
     }
 
@@ -120,9 +142,10 @@ impl Trail {
         requires { lit.var < self.now.vars }
         ensures { result ≡ is_false (lits self.now.steps) lit }
     {
-        match self.is(lit) {
-            None => false,
-            Some(on) => !on,
+        match self.status(lit) {
+            Status::True => false,
+            Status::False => true,
+            Status::Unassigned => false,
         }
     }
 
@@ -178,10 +201,10 @@ impl Trail {
     {
         let lit = step.lit;
         let v = lit.var();
-        let on = lit.on();
         let is_root = self.root == self.steps.len() && !step.why.is_decided();
         self.steps.push_reserved(Packed::of(step));
-        self.values[v] = Some(on);
+        self.statuses[lit.index()] = Status::True;
+        self.statuses[lit.negated().index()] = Status::False;
         self.places[v] = self.steps.len() - 1;
         if is_root {
             self.root = self.steps.len();
@@ -195,8 +218,8 @@ impl Trail {
         let packed = self.steps.pop()?;
         let step = packed.step();
         let lit = step.lit;
-        let v = lit.var();
-        self.values[v] = None;
+        self.statuses[lit.index()] = Status::Unassigned;
+        self.statuses[lit.negated().index()] = Status::Unassigned;
         self.root = self.root.min(self.steps.len());
         Some(step)
     }

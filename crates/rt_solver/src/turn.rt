@@ -32,7 +32,7 @@ fn free(clause: &[Lit], trail: &Trail, other: Lit, from: usize, to: usize) -> Op
 {
     for j in from..to {
         let lit = clause[j];
-        if lit != other && !trail.is_false(lit) {
+        if !trail.is_false(lit) && lit != other {
             return Some(j);
         }
     }
@@ -56,7 +56,7 @@ fn search(clause: &Clause, trail: &Trail, other: Lit) -> Option<usize>
         }
         None => {
             let third = clause.at(2);
-            if third != other && !trail.is_false(third) {
+            if !trail.is_false(third) && third != other {
                 Some(2)
             } else {
                 None

@@ -1,8 +1,13 @@
+use Rattle.std.proofs.Common.{true, false}
+use Rattle.rt_solver.proofs.Tables.{true-has, false-has, status-unassigned}
 use Rattle.rt_solver.proofs.Turns.{true-none, true-some}
 use Rattle.rt_solver.proofs.trail.Trail.is_true.Goals as goal
 
-pub returns-in-None-clause-is : goal.returns-in-None-clause-is
-returns-in-None-clause-is c = true-none c.args.self.now.steps c.args.lit c.in-None.ensures.status
+pub returns-in-True-clause-is : goal.returns-in-True-clause-is
+returns-in-True-clause-is c = true-some c.args.self.now.vars c.args.self.now.steps c.args.lit true c.in-True.ensures.apart (true-has c.args.self.now.steps c.args.lit c.in-True.ensures.is)
 
-pub returns-in-Some-clause-is : goal.returns-in-Some-clause-is
-returns-in-Some-clause-is c = true-some c.args.self.now.vars c.args.self.now.steps c.args.lit c.in-Some.on c.in-Some.ensures.apart c.in-Some.ensures.status
+pub returns-in-False-clause-is : goal.returns-in-False-clause-is
+returns-in-False-clause-is c = true-some c.args.self.now.vars c.args.self.now.steps c.args.lit false c.in-False.ensures.apart (false-has c.args.self.now.steps c.args.lit c.in-False.ensures.is)
+
+pub returns-in-Unassigned-clause-is : goal.returns-in-Unassigned-clause-is
+returns-in-Unassigned-clause-is c = true-none c.args.self.now.steps c.args.lit (status-unassigned _ c.args.lit.on c.in-Unassigned.ensures.is)

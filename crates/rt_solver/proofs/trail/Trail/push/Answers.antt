@@ -1,11 +1,11 @@
-use Rattle.std.proofs.Common.{arith}
+use Rattle.std.proofs.Common.{arith, length}
 use Rattle.std.proofs.lemmas.Grind.{common_steps}
 use Rattle.rt_solver.proofs.Tables.{step-fits-at}
 use Rattle.rt_solver.proofs.trail.Trail.push.Goals as goal
 
 pub push_reserved-requires : goal.push_reserved-requires
 push_reserved-requires c =
-    let f = step-fits-at c.args.self.now c.self.inside.values.items c.self.inside.steps.items _ c.args.step.lit.var c.self.view_is c.self.invariant.0 c.requires.below c.requires.unset in
+    let f = step-fits-at c.args.self.now c.self.inside.statuses.items (length c.self.inside.places.items) c.self.inside.steps.items _ c.args.step.lit.var c.self.view_is c.self.invariant.0 c.requires.below c.requires.unset in
     let o = c.self.inside.steps.ok in omega (arith, f, o)
 
 pub invariant_of-self : goal.invariant_of-self
