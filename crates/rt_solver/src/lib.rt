@@ -27,6 +27,7 @@ mod packed;
 mod pick;
 mod places;
 mod propagate;
+mod rank;
 mod search;
 mod short;
 mod sift;
