@@ -5,3 +5,4 @@ pub mod Joins
 pub mod Places
 pub mod Steps
 pub mod Refusing
+pub mod Probing

@@ -114,7 +114,7 @@ module _ (fit : ℤ → ℤ) (db : Tables) (env : Env) where
   of_place row (Sum ts) at h = absurd (cc)
   of_place row (Mul es) at h = absurd (cc)
 
-  place_is : (row : List Value) (x : Expr) (at : ℕ) → place x ≡ Some at → value_by fit x (row ∷ env) ≡ slice_index_or row at v.Null
+  pub place_is : (row : List Value) (x : Expr) (at : ℕ) → place x ≡ Some at → value_by fit x (row ∷ env) ≡ slice_index_or row at v.Null
   place_is row x at h = ap (λ f. f (row ∷ env)) (fold_out-Expr (Env → Value) (Env → Value) (expr_step fit) (term_step fit) x) ∙ of_place row (out-Expr x) at h
 
   -- a member between the rows before it and those after it

@@ -1,4 +1,5 @@
 pub mod Index
 pub mod Join
+pub mod Probe
 pub mod Refused
 pub mod Split

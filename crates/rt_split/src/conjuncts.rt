@@ -140,7 +140,8 @@ fn key_of(pred: &Pred, base: usize, width: usize) -> Option<KeyPair>
     }
 }
 
-fn place(expr: &Expr) -> Option<usize>
+/// The place of an expression that is a column of the innermost row.
+pub fn place(expr: &Expr) -> Option<usize>
     ensures { result ≡ place expr.now }
 {
     match expr {

@@ -9,6 +9,7 @@ mod index;
 mod matching;
 mod moved;
 mod parts;
+mod probe;
 mod refused;
 mod simple;
 
@@ -16,5 +17,6 @@ pub use comparison::compared;
 pub use conjuncts::split;
 pub use matching::matches;
 pub use parts::{KeyPair, Split};
+pub use probe::Probe;
 pub use refused::is_refused;
 pub use simple::all_true;
