@@ -23,7 +23,7 @@ use crate::subquery::Subquery;
 use rt_algebra::{Pred, Query, scope};
 use rt_formula::{Dag, Node, Noted};
 use rt_schema::rows_at;
-use rt_split::is_refused;
+use rt_split::{Probe, is_refused};
 use rt_value::{List, NoMemory, Row};
 use std::alloc::Global;
 
@@ -58,7 +58,8 @@ fn chosen<'q>(
 }
 
 // The rows of a table whose condition may be true. They are tested where they stand: in the one list
-// of the rows in scope, each takes the innermost place of the one before.
+// of the rows in scope, each takes the innermost place of the one before. The condition is taken
+// apart for a first test once, before all of them.
 #[cycle(annotate)]
 fn table_selection<'q, 'a>(
     alloc: Global,
@@ -81,7 +82,11 @@ fn table_selection<'q, 'a>(
     let mut out = List::new(alloc);
     let no_row = Row::new(alloc);
     let mut inner = List::from_vec(scope(alloc, &no_row, env)?);
+    let probe = Probe::of(alloc, p, inner.as_slice())?;
     for (at, row) in rows.iter().enumerate() {
+        if probe.refuses(row) {
+            continue;
+        }
         inner.set(0, row);
         let node = row_where(alloc, dag, tables, known, p, base + at, inner.as_slice())?;
         if !is_never(dag, node) {

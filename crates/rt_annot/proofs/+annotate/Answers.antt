@@ -1,4 +1,4 @@
-use Rattle.std.proofs.Common.{◌∙◌, ◌+◌, ap, ap₂, sym, None, Some, List, Bool, map, Bor, ◌∷◌, ◌&&◌, refl, [], subst, IfOk, get_or, arith, length, rules, slice_set, add-zero, ◌≡◌}
+use Rattle.std.proofs.Common.{◌∙◌, ◌+◌, ap, ap₂, sym, None, Some, List, Bool, map, Bor, ◌∷◌, ◌&&◌, refl, [], subst, IfOk, get_or, arith, length, rules, slice_set, add-zero, drop, ◌≡◌}
 use Rattle.std.proofs.lemmas.List.{take_all}
 use Rattle.std.proofs.lemmas.Result.{IfOk-weaker}
 use Rattle.std.specs.List.{filter, list_all}
@@ -11,6 +11,8 @@ use Rattle.rt_algebra.specs.declared.query.Query.{Query}
 use Rattle.rt_algebra.specs.declared.query.Pred.TheVariants as w
 use Rattle.rt_algebra.specs.declared.query.Query.TheVariants as v
 use Rattle.rt_schema.specs.Given.{base_of}
+use Rattle.rt_rules.proofs.BoolLemmas.{and-false}
+use Rattle.rt_split.specs.Probe.{IsProbeOf}
 use Rattle.rt_schema.specs.Kept.{kept}
 use Rattle.rt_annot.specs.Entries.{rows_at, selected}
 use Rattle.rt_annot.specs.Annotated.{IsGate, IsNode, entries_of, placed, set_rows, test_under, yes_when, no_when, yes_of, no_of}
@@ -19,7 +21,7 @@ use Rattle.rt_annot.proofs.Exact.{table_exact}
 use Rattle.rt_annot.specs.declared.sets.Side.TheVariants.{Standing, Missing}
 use Rattle.rt_annot.specs.Known.{AreKnown}
 use Rattle.rt_annot.proofs.Knowing.{known_last, known_more, last_within, known_place, known_places, known_stay, tells_same, tells_under}
-use Rattle.rt_annot.proofs.Growing.{grown_trans, all_stays, mean_stays, node_as, node_never, nodes_are, nodes_stay, noted_stay}
+use Rattle.rt_annot.proofs.Growing.{grown_refl, grown_trans, all_stays, mean_stays, node_as, node_never, nodes_are, nodes_stay, noted_stay}
 use Rattle.rt_annot.proofs.Distinct.{noted_at}
 use Rattle.rt_annot.proofs.Walking.{base_within, next_is, next_placed, scope_again, scope_room, scope_with, table_entries}
 use Rattle.rt_algebra.proofs.Equations.{at_table, at_cmp, at_is_null, at_one_of, at_select, at_project, at_union, at_except, at_intersect}
@@ -282,7 +284,7 @@ evaluate::table_selection-loop-at-preserved t c =
     let v = c.loop-at.invariant.choosing in
     let f = λ (s : List Bool). bool_at s (base + i) && (u r).0 s in
     let node : IsNode c.row_where.new.dag c.in_ok-node.node f =
-    node_as f (λ s. ap (λ x. bool_at s (base + i) && yes_when p g x s) (ap scope_of (c.as_slice.ensures ∙ c.set.ensures) ∙ c.loop-at.invariant.scope _)) c.in_ok-node.ensures.node in
+    node_as f (λ s. ap (λ x. bool_at s (base + i) && yes_when p g x s) (ap scope_of (c.as_slice-in-loop-at.ensures ∙ c.set.ensures) ∙ c.loop-at.invariant.scope _)) c.in_ok-node.ensures.node in
     let next = ap (λ es. selected es u) (next_placed base c.rows_at-rows.result.now i r c.loop-at-test.true c.index-rows-at.is) in
     let P : List (Bor (List Value)) → Type 0 = λ inner. (row : Bor (List Value)) → map (λ r. r.now) (slice_set inner 0 row) ≡ row.now ∷ e in
     let scope = subst P (sym c.set.ensures) (scope_again c.loop-at.inner _ e c.loop-at.invariant.scope) in
@@ -290,6 +292,28 @@ evaluate::table_selection-loop-at-preserved t c =
       | evaluate::table_selection-then-not-is_never+in_ok-note w ↦ record { choosing = choosing_at refl w.out-is (choose r f v next c.row_where.ensures.grown (record { row = r; node = c.in_ok-node.node }) refl node w.in_ok-note.ensures); scope = scope; known = c.row_where.ensures.known }
       | evaluate::table_selection-else-not-is_never w ↦ record { choosing = choosing_at refl w.out-is (leave_out r f v next c.row_where.ensures.grown (λ s. sym (node.same s) ∙ c.is_never.ensures w.if-not-is_never.false s)); scope = scope; known = c.row_where.ensures.known }
     ]
+
+-- a row that the probe refuses never comes
+pub evaluate::table_selection-loop-at-preserved-then-refuses : goal.evaluate::table_selection-loop-at-preserved-then-refuses
+evaluate::table_selection-loop-at-preserved-then-refuses t c =
+    let g = c.args.tables.now in
+    let e = scope_of c.args.env.now in
+    let p = c.args.p.now in
+    let i = c.loop-at.at in
+    let r = c.index-rows-at.result in
+    let base = c.first_place-base.result in
+    let u = test_under p g e in
+    let v = c.loop-at.invariant in
+    let f = λ (s : List Bool). bool_at s (base + i) && (u r).0 s in
+    let next = ap (λ es. selected es u) (next_placed base c.rows_at-rows.result.now i r c.loop-at-test.true c.index-rows-at.is) in
+    let around : drop 1 (scope_of c.as_slice.result.now) ≡ e = ap (drop 1) (ap scope_of (c.as_slice.ensures ∙ c.from_vec-inner.ensures) ∙ c.in_ok-scope.ensures) in
+    let P : Env → Type 0 = λ outer. IsProbeOf p outer c.in_ok-probe.probe in
+    let refused = subst P around c.in_ok-probe.ensures r (sym c.refuses.ensures ∙ c.if-refuses.true) in
+    record {
+      choosing = leave_out r f v.choosing next (grown_refl c.loop-at.dag) (λ s. ap (λ b. bool_at s (base + i) && b) (refused (kept g s)) ∙ and-false (bool_at s (base + i)));
+      scope = v.scope;
+      known = v.known;
+    }
 
 pub evaluate::table_selection-returns-in_err-node-clause-grown : goal.evaluate::table_selection-returns-in_err-node-clause-grown
 evaluate::table_selection-returns-in_err-node-clause-grown t c = grown_trans c.loop-at.invariant.choosing.grown c.row_where.ensures.grown

@@ -1,4 +1,4 @@
-use Rattle.std.proofs.Common.{◌∙◌, ◌∷◌, List, Bor, drop, map}
+use Rattle.std.proofs.Common.{◌∙◌, ◌∷◌, drop, map}
 use Rattle.std.proofs.lemmas.Result.{IfOk-weaker}
 use Rattle.rt_algebra.specs.Expression.{value_by, wrapped}
 use Rattle.rt_split.proofs.Probing.{equal_either}
