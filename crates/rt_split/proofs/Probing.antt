@@ -1,5 +1,5 @@
--- What the innermost row does not change, and equalities read from either side.
-use Rattle.std.proofs.Common.{◌≡◌, ℕ, zero, suc, ◌<◌, Bool, true, false, not, IsTrue, List, [], ◌∷◌, map, drop, length, get_or, Option, Some, refl, sym, subst, ap, ap₂, arith, ◌∙◌, slice_index_or}
+-- Equalities of a column of the innermost row, whichever side of them it stands on.
+use Rattle.std.proofs.Common.{◌≡◌, ℕ, ◌<◌, Bool, true, false, not, IsTrue, List, [], ◌∷◌, map, drop, length, get_or, Option, Some, refl, sym, subst, ap, ap₂, ◌∙◌, slice_index_or}
 use Rattle.std.specs.declared.cmp.Ordering.{Ordering}
 use Rattle.std.specs.declared.cmp.Ordering.TheVariants.{Less, Equal, Greater}
 use Rattle.std.specs.Ordering.{ordering_reverse}
@@ -10,44 +10,14 @@ use Rattle.rt_value.specs.Value.{value_cmp, value_truth, op_truth}
 use Rattle.rt_value.specs.Order.{value_cmp_total}
 use Rattle.rt_schema.specs.Given.{Tables}
 use Rattle.rt_algebra.specs.Answer.{all_of, is_yes, pred_by}
-use Rattle.rt_algebra.specs.Expression.{Env, wrapped, value_by, term_by, expr_step, term_step, cell_of}
+use Rattle.rt_algebra.specs.Expression.{Env, wrapped, value_by}
 use Rattle.rt_algebra.specs.declared.expr.Expr.{Expr}
-use Rattle.rt_algebra.specs.declared.expr.Term.{Term}
-use Rattle.rt_algebra.specs.declared.expr.Expr.TheVariants as e
-use Rattle.rt_algebra.specs.declared.expr.Expr.TheOpen as o
-use Rattle.rt_algebra.specs.declared.expr.Expr.TheViews.{roll-Expr}
-use Rattle.rt_algebra.specs.declared.expr.Expr.TheFolds.{fold-roll-Expr, map-Expr}
 use Rattle.rt_algebra.specs.declared.query.Pred.{Pred}
 use Rattle.rt_split.specs.declared.probe.Equality.{Equality}
 use Rattle.rt_split.specs.Probe.{IsMet, IsSteady, fails}
 use Rattle.rt_split.specs.Split.{place}
 use Rattle.rt_split.proofs.Refusing.{one_untrue}
 use Rattle.rt_split.proofs.Splitting.{place_is}
-
-of_layer : (y : o.Expr-F Expr Term) (env : Env) → value_by wrapped (roll-Expr y) env ≡ expr_step wrapped (map-Expr Expr Term (Env → Value) (Env → Value) (value_by wrapped) (term_by wrapped) y) env
-of_layer y env = ap (λ f. f env) (fold-roll-Expr (Env → Value) (Env → Value) (expr_step wrapped) (term_step wrapped) y)
-
-column_is : {x : Expr} (up at : ℕ) (env : Env) → x ≡ e.Col up at → value_by wrapped x env ≡ cell_of env up at
-column_is up at env h = ap (λ y. value_by wrapped y env) (h ∙ sym (e.rolls-Col up at)) ∙ of_layer (o.Col up at) env
-
-outer_cell : (row : List Value) (env : Env) (up at : ℕ) → 0 < up → cell_of env up at ≡ cell_of (row ∷ drop 1 env) up at
-outer_cell row env zero at l = absurd (omega (arith, l))
-outer_cell row [] (suc up) at l = refl
-outer_cell row (q ∷ env) (suc up) at l = refl
-
-pub steady_column : {x : Expr} (up at : ℕ) → x ≡ e.Col up at → 0 < up → IsSteady x
-steady_column up at h l row env = column_is up at env h ∙ outer_cell row env up at l ∙ sym (column_is up at (row ∷ drop 1 env) h)
-
--- an expression of one layer that is the same under all rows
-steady_layer : {x : Expr} (y : o.Expr-F Expr Term) → x ≡ roll-Expr y
-    → ((row : List Value) (env : Env) → value_by wrapped (roll-Expr y) env ≡ value_by wrapped (roll-Expr y) (row ∷ drop 1 env)) → IsSteady x
-steady_layer y h s row env = ap (λ x. value_by wrapped x env) h ∙ s row env ∙ sym (ap (λ x. value_by wrapped x (row ∷ drop 1 env)) h)
-
-pub steady_int : {x : Expr} (n : _) → x ≡ e.Int n → IsSteady x
-steady_int n h = steady_layer (o.Int n) (h ∙ sym (e.rolls-Int n)) (λ row env. of_layer (o.Int n) env ∙ sym (of_layer (o.Int n) (row ∷ drop 1 env)))
-
-pub steady_text : {x : Expr} (t : _) → x ≡ e.Text t → IsSteady x
-steady_text t h = steady_layer (o.Text t) (h ∙ sym (e.rolls-Text t)) (λ row env. of_layer (o.Text t) env ∙ sym (of_layer (o.Text t) (row ∷ drop 1 env)))
 
 equal_back : (o : Ordering) → is_yes (op_truth Eq o) ≡ is_yes (op_truth Eq (ordering_reverse o))
 equal_back Less = refl
