@@ -13,8 +13,11 @@ use Rattle.rt_algebra.specs.declared.query.Query.{Query}
 use Rattle.rt_formula.specs.Shared.{Shared, val}
 use Rattle.rt_formula.specs.Groups.{group_at}
 use Rattle.rt_annot.specs.Entries.{Test, is_no}
-use Rattle.rt_annot.specs.Annotated.{AreNodes, IsNode, IsGate}
+use Rattle.rt_formula.specs.declared.noted.Noted.{Noted}
+use Rattle.rt_annot.specs.Annotated.{AreNodes, Gives, IsNode, IsGate}
 use Rattle.rt_annot.specs.declared.known.Found.{Found}
+use Rattle.rt_annot.specs.declared.subquery.Memo.{Memo}
+use Rattle.rt_annot.specs.declared.subquery.Memo.TheVariants.{Tested, Listed}
 use Rattle.rt_annot.specs.declared.subquery.Subquery.{Subquery}
 
 -- where there is a row, and where a value is among the rows, as conditions
@@ -53,6 +56,15 @@ pub record Tells (d : Shared) (f : Found) (answer : List Bool → Rows) : Type 0
 abbrev pub TellsOf : Shared → Tables → Query → Found → Type 0
 TellsOf d given q f = (env : Env) → Tells d f (λ s. answer_by wrapped q (kept given s) env)
 
--- what is known of subqueries
+-- the noted rows give it
+abbrev pub GivesOf : Shared → Tables → Query → List Noted → Type 0
+GivesOf d given q ns = (env : Env) → Gives d ns (λ s. answer_by wrapped q (kept given s) env)
+
+-- what is kept of a query holds
+abbrev pub Holds : Shared → Tables → Query → Memo → Type 0
+Holds d given q (Tested f) = TellsOf d given q f
+Holds d given q (Listed ns) = GivesOf d given q ns
+
+-- what is known of queries
 pub record AreKnown (d : Shared) (given : Tables) (ks : List Subquery) : Type 0 where
-  pub each : Each (λ k. TellsOf d given k.query.now k.found) ks
+  pub each : Each (λ k. Holds d given k.query.now k.memo) ks

@@ -2,23 +2,23 @@
 //! and IN get theirs from the nodes of their query's rows. A query that names no row outside of
 //! it is evaluated once.
 
-ghost use Rattle.std.specs.Prelude.{◌≡◌, ◌<◌, [], length, map, slice_index_or, IfOk, IfSome};
+ghost use Rattle.std.specs.Prelude.{◌≡◌, [], map, IfOk};
 ghost use Rattle.rt_value.specs.Value.{null_truth, value_truth};
 ghost use Rattle.rt_algebra.specs.Answer.{answer_by, one_of_truth};
-ghost use Rattle.rt_algebra.specs.Expression.{value_by, wrapped};
+ghost use Rattle.rt_algebra.specs.Expression.{Env, value_by, wrapped};
+ghost use Rattle.rt_algebra.specs.Stays.{StaysQuery};
 ghost use Rattle.rt_schema.specs.Given.{places};
 ghost use Rattle.rt_schema.specs.Kept.{kept};
 ghost use Rattle.rt_formula.specs.Shared.{IsGrown};
 ghost use Rattle.rt_annot.specs.Entries.{constant};
 ghost use Rattle.rt_annot.specs.Annotated.{IsGate, yes_when, no_when, test_under, test_joined};
-ghost use Rattle.rt_annot.specs.Known.{AreKnown, Tells, TellsOf, exists_test, sought_test};
-ghost use Rattle.rt_annot.specs.declared.subquery.Subquery.{Subquery};
+ghost use Rattle.rt_annot.specs.Known.{AreKnown, Tells, exists_test, sought_test};
 
 use crate::evaluate::annotated;
 use crate::gate::{Junction, TruthLists, TruthNodes, constant, is_always};
 use crate::known::Found;
 use crate::member::among;
-use crate::subquery::{Subquery, place_of};
+use crate::subquery::{Memo, Subquery, found_of};
 use rt_algebra::{Expr, Pred, Query, one_of_truth, query_is_closed, scope, value};
 use rt_formula::Dag;
 use rt_split::compared;
@@ -123,15 +123,18 @@ fn asked<'q>(
     ensures known { AreKnown dag.new tables.now known.new }
     ensures gate { IfOk result (λ g. IsGate dag.new g (sought_test sought.entry (λ s. answer_by wrapped q.now (kept tables.now s) (map (λ r. r.now) env.now)))) }
 {
-    match looked_up(alloc, dag, tables, known, q)? {
-        Some(at) => known.as_slice()[at].found.gate(alloc, dag, sought),
-        None => match sought {
-            None => some_row(alloc, dag, tables, known, q, env),
-            Some(_) => {
-                let rows = annotated(alloc, dag, tables, known, q, env)?;
-                among(alloc, dag, sought, rows.as_slice())
-            }
-        },
+    if let Some(found) = found_of(known.as_slice(), q) {
+        return found.gate(alloc, dag, sought);
+    }
+    if query_is_closed(q, 0) {
+        return newly_asked(alloc, dag, tables, known, sought, q);
+    }
+    match sought {
+        None => some_row(alloc, dag, tables, known, q, env),
+        Some(_) => {
+            let rows = annotated(alloc, dag, tables, known, q, env)?;
+            among(alloc, dag, sought, rows.as_slice())
+        }
     }
 }
 
@@ -160,31 +163,28 @@ fn some_row<'q>(
     }
 }
 
-// The place among the known subqueries of a query that names no row outside of it. A new one is
-// evaluated, and known from then on. There is no place for a query that names such a row.
+// The same of a query that names no row outside of it. It is known from then on.
 #[cycle(annotate)]
-fn looked_up<'q>(
+fn newly_asked<'q>(
     alloc: Global,
     dag: &mut Dag,
     tables: &[List<Row>],
     known: &mut List<Subquery<'q>>,
+    sought: Option<&Value>,
     q: &'q Query,
-) -> Result<Option<usize>, NoMemory>
+) -> Result<TruthNodes, NoMemory>
     requires places { dag.old.rows ≡ places tables.now }
     requires known { AreKnown dag.old tables.now known.old }
+    requires closed { StaysQuery 0 q.now }
     ensures grown { IsGrown dag.old dag.new }
     ensures known { AreKnown dag.new tables.now known.new }
-    ensures within { IfOk result (λ place. IfSome place (λ at. at < length known.new)) }
-    ensures tells { IfOk result (λ place. IfSome place (λ at. (k : Subquery) → TellsOf dag.new tables.now q.now (slice_index_or known.new at k).found)) }
+    ensures gate { IfOk result (λ g. (env : Env) → IsGate dag.new g (sought_test sought.entry (λ s. answer_by wrapped q.now (kept tables.now s) env))) }
 {
-    let place = place_of(known.as_slice(), q);
-    if place.is_some() || !query_is_closed(q, 0) {
-        return Ok(place);
-    }
     let found = newly(alloc, dag, tables, known, q)?;
-    let at = known.len();
-    known.push(Subquery { query: q, found })?;
-    Ok(Some(at))
+    let gate = found.gate(alloc, dag, sought)?;
+    let memo = Memo::Tested(found);
+    known.push(Subquery { query: q, memo })?;
+    Ok(gate)
 }
 
 // What the rows of a query come to with no rows in scope.

@@ -17,6 +17,7 @@ use crate::conditions::{test, test_row};
 use crate::gate::is_never;
 use crate::join::narrowed;
 use crate::joint::{Joint, meeting, noted_product, row_meeting};
+use crate::operand::operand;
 use crate::rows::{alone, first_place, note, projection, table};
 use crate::sets::{Side, set_rows};
 use crate::subquery::Subquery;
@@ -205,16 +206,16 @@ pub fn annotated<'q>(
             noted_product(alloc, dag, parts.as_slice())
         }
         Query::Union(a, b) => {
-            let first = annotated(alloc, dag, tables, known, a.get(), env)?;
+            let first = operand(alloc, dag, tables, known, a.get(), env)?;
             combined(alloc, dag, tables, known, first, None, b.get(), env)
         }
         Query::Except(a, b) => {
-            let first = annotated(alloc, dag, tables, known, a.get(), env)?;
+            let first = operand(alloc, dag, tables, known, a.get(), env)?;
             let side = Some(Side::Missing);
             combined(alloc, dag, tables, known, first, side, b.get(), env)
         }
         Query::Intersect(a, b) => {
-            let first = annotated(alloc, dag, tables, known, a.get(), env)?;
+            let first = operand(alloc, dag, tables, known, a.get(), env)?;
             let side = Some(Side::Standing);
             combined(alloc, dag, tables, known, first, side, b.get(), env)
         }
@@ -262,6 +263,6 @@ fn combined<'q>(
     ensures known { AreKnown dag.new tables.now known.new }
     ensures gives { IfOk result (λ out. (rows : List Bool → Rows) → Gives dag.old first rows → Gives dag.new out (λ s. set_rows side (rows s) (answer_by wrapped q.now (kept tables.now s) (map (λ r. r.now) env.now)))) }
 {
-    let second = annotated(alloc, dag, tables, known, q, env)?;
+    let second = operand(alloc, dag, tables, known, q, env)?;
     set_rows(alloc, dag, first, second.as_slice(), side)
 }

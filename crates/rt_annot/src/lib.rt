@@ -15,6 +15,7 @@ mod joint;
 mod known;
 pub mod laws;
 mod member;
+mod operand;
 mod reference;
 mod rows;
 mod sets;

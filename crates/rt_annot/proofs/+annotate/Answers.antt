@@ -1,4 +1,4 @@
-use Rattle.std.proofs.Common.{◌∙◌, ◌+◌, ap, ap₂, sym, None, Some, List, Bool, map, Bor, ◌∷◌, ◌&&◌, refl, [], subst, IfOk, get_or, arith, length, rules, slice_set, add-zero, drop, ◌≡◌}
+use Rattle.std.proofs.Common.{◌∙◌, ◌+◌, ◌++◌, ap, ap₂, sym, None, Some, List, Bool, map, Bor, ◌∷◌, ◌&&◌, refl, [], subst, IfOk, get_or, arith, length, rules, slice_set, add-zero, drop, ◌≡◌}
 use Rattle.std.proofs.lemmas.List.{take_all}
 use Rattle.std.proofs.lemmas.Result.{IfOk-weaker}
 use Rattle.std.specs.List.{filter, list_all}
@@ -19,8 +19,9 @@ use Rattle.rt_annot.specs.Annotated.{IsGate, IsNode, entries_of, placed, set_row
 use Rattle.rt_annot.specs.Joints.{GiveEach, joint_entries}
 use Rattle.rt_annot.proofs.Exact.{table_exact}
 use Rattle.rt_annot.specs.declared.sets.Side.TheVariants.{Standing, Missing}
+use Rattle.rt_annot.specs.declared.subquery.Memo.TheVariants.{Tested, Listed}
 use Rattle.rt_annot.specs.Known.{AreKnown}
-use Rattle.rt_annot.proofs.Knowing.{known_last, known_more, last_within, known_place, known_places, known_stay, tells_same, tells_under}
+use Rattle.rt_annot.proofs.Knowing.{gives_under, known_more, known_stay, same_known, some_holds, tells_same, tells_stay, tells_under}
 use Rattle.rt_annot.proofs.Growing.{grown_refl, grown_trans, all_stays, mean_stays, node_as, node_never, nodes_are, nodes_stay, noted_stay}
 use Rattle.rt_annot.proofs.Distinct.{noted_at}
 use Rattle.rt_annot.proofs.Walking.{base_within, next_is, next_placed, scope_again, scope_room, scope_with, table_entries}
@@ -269,9 +270,6 @@ conditions::test_row-returns-clause-gate t c =
     let G : Env → Type 0 = λ e. IfOk c.test.result (λ x. IsGate c.test.new.dag x (yes_when p g e, no_when p g e)) in
     subst G (ap scope_of c.as_slice.ensures.value ∙ c.in_ok-inner.ensures) c.test.ensures.gate
 
-pub conditions::asked-returns-in-Some-clause-known : goal.conditions::asked-returns-in-Some-clause-known
-conditions::asked-returns-in-Some-clause-known t c = known_stay c.gate.ensures.grown c.looked_up.ensures.known
-
 pub evaluate::table_selection-loop-at-preserved : goal.evaluate::table_selection-loop-at-preserved
 evaluate::table_selection-loop-at-preserved t c =
     let g = c.args.tables.now in
@@ -369,7 +367,7 @@ evaluate::row_where-returns-clause-node t c =
     (λ n h. node_as (λ s. bool_at s c.args.place && yes_when c.args.p.now c.args.tables.now (scope_of c.args.env.now) s) (λ s. ap (λ b. bool_at s c.args.place && b) (gate.yes.same s)) h) c.row_meeting.ensures.node
 
 pub evaluate::annotated-returns-in_ok-first-in-Union-clause-grown : goal.evaluate::annotated-returns-in_ok-first-in-Union-clause-grown
-evaluate::annotated-returns-in_ok-first-in-Union-clause-grown t c = grown_trans c.annotated-in-Union.ensures.grown c.combined.ensures.grown
+evaluate::annotated-returns-in_ok-first-in-Union-clause-grown t c = grown_trans c.operand.ensures.grown c.combined.ensures.grown
 
 pub evaluate::annotated-returns-in_ok-first-in-Union-clause-gives : goal.evaluate::annotated-returns-in_ok-first-in-Union-clause-gives
 evaluate::annotated-returns-in_ok-first-in-Union-clause-gives t c =
@@ -382,7 +380,7 @@ evaluate::annotated-returns-in_ok-first-in-Union-clause-gives t c =
     (h (rows c.get-in-Union.result.now) c.in_ok-first-in-Union.ensures.gives)) c.combined.ensures.gives
 
 pub evaluate::annotated-returns-in_ok-first-in-Except-clause-grown : goal.evaluate::annotated-returns-in_ok-first-in-Except-clause-grown
-evaluate::annotated-returns-in_ok-first-in-Except-clause-grown t c = grown_trans c.annotated-in-Except.ensures.grown c.combined-in-Except.ensures.grown
+evaluate::annotated-returns-in_ok-first-in-Except-clause-grown t c = grown_trans c.operand-in-Except.ensures.grown c.combined-in-Except.ensures.grown
 
 pub evaluate::annotated-returns-in_ok-first-in-Except-clause-gives : goal.evaluate::annotated-returns-in_ok-first-in-Except-clause-gives
 evaluate::annotated-returns-in_ok-first-in-Except-clause-gives t c =
@@ -395,7 +393,7 @@ evaluate::annotated-returns-in_ok-first-in-Except-clause-gives t c =
     (h (rows c.get-in-Except.result.now) c.in_ok-first-in-Except.ensures.gives)) c.combined-in-Except.ensures.gives
 
 pub evaluate::annotated-returns-in_ok-first-in-Intersect-clause-grown : goal.evaluate::annotated-returns-in_ok-first-in-Intersect-clause-grown
-evaluate::annotated-returns-in_ok-first-in-Intersect-clause-grown t c = grown_trans c.annotated-in-Intersect.ensures.grown c.combined-in-Intersect.ensures.grown
+evaluate::annotated-returns-in_ok-first-in-Intersect-clause-grown t c = grown_trans c.operand-in-Intersect.ensures.grown c.combined-in-Intersect.ensures.grown
 
 pub evaluate::annotated-returns-in_ok-first-in-Intersect-clause-gives : goal.evaluate::annotated-returns-in_ok-first-in-Intersect-clause-gives
 evaluate::annotated-returns-in_ok-first-in-Intersect-clause-gives t c =
@@ -416,47 +414,78 @@ evaluate::joints-returns-clause-selected t c =
     IfOk-weaker c.narrowed.result _ _ (λ out n. narrowed_rows c.args.p.now (scope_of c.args.env.now) n (members_same c.as_slice.ensures c.in_ok-parts.ensures.makes)) c.narrowed.ensures
 
 pub evaluate::combined-set_rows-requires-clause-first : goal.evaluate::combined-set_rows-requires-clause-first
-evaluate::combined-set_rows-requires-clause-first t c = noted_stay c.annotated.ensures.grown _ c.requires.first
+evaluate::combined-set_rows-requires-clause-first t c = noted_stay c.operand.ensures.grown _ c.requires.first
 
 pub evaluate::combined-set_rows-requires-clause-second : goal.evaluate::combined-set_rows-requires-clause-second
-evaluate::combined-set_rows-requires-clause-second t c = noted_at c.annotated.new.dag c.as_slice.ensures c.in_ok-second.ensures.gives.below
+evaluate::combined-set_rows-requires-clause-second t c = noted_at c.operand.new.dag c.as_slice.ensures c.in_ok-second.ensures.gives.below
 
 pub evaluate::combined-returns-clause-grown : goal.evaluate::combined-returns-clause-grown
-evaluate::combined-returns-clause-grown t c = grown_trans c.annotated.ensures.grown c.set_rows.ensures.grown
+evaluate::combined-returns-clause-grown t c = grown_trans c.operand.ensures.grown c.set_rows.ensures.grown
 
 pub evaluate::combined-returns-clause-known : goal.evaluate::combined-returns-clause-known
-evaluate::combined-returns-clause-known t c = known_stay c.set_rows.ensures.grown c.annotated.ensures.known
+evaluate::combined-returns-clause-known t c = known_stay c.set_rows.ensures.grown c.operand.ensures.known
 
 pub evaluate::combined-returns-clause-gives : goal.evaluate::combined-returns-clause-gives
 evaluate::combined-returns-clause-gives t c =
-    IfOk-weaker c.set_rows.result _ _ (λ out h rows i. h rows _ (gives_stay c.annotated.ensures.grown i) (gives_same c.as_slice.ensures c.in_ok-second.ensures.gives)) c.set_rows.ensures.gives
+    IfOk-weaker c.set_rows.result _ _ (λ out h rows i. h rows _ (gives_stay c.operand.ensures.grown i) (gives_same c.as_slice.ensures c.in_ok-second.ensures.gives)) c.set_rows.ensures.gives
 
 pub conditions::asked-gate-requires : goal.conditions::asked-gate-requires
-conditions::asked-gate-requires t c = (known_place c.args.tables.now c.args.q.now c.in_ok-at.field-0 c.in-Some.at c.index-as_slice-at.result c.in-Some.is c.in_ok-at.ensures.tells c.as_slice.ensures []).over
+conditions::asked-gate-requires t c = (some_holds _ c.in-Some.is c.found_of.ensures c.args.dag.now c.args.tables.now (same_known c.as_slice.ensures c.requires.known) []).over
+
+pub conditions::asked-returns-in-Some-clause-known : goal.conditions::asked-returns-in-Some-clause-known
+conditions::asked-returns-in-Some-clause-known t c = known_stay c.gate.ensures.grown c.requires.known
 
 pub conditions::asked-returns-in-Some-clause-gate : goal.conditions::asked-returns-in-Some-clause-gate
 conditions::asked-returns-in-Some-clause-gate t c =
-    let tells = known_place c.args.tables.now c.args.q.now c.in_ok-at.field-0 c.in-Some.at c.index-as_slice-at.result c.in-Some.is c.in_ok-at.ensures.tells c.as_slice.ensures in
+    let tells = some_holds _ c.in-Some.is c.found_of.ensures c.args.dag.now c.args.tables.now (same_known c.as_slice.ensures c.requires.known) in
     IfOk-weaker c.gate.result _ _ (λ g h. h _ (tells (scope_of c.args.env.now))) c.gate.ensures.gate
 
-pub conditions::looked_up-returns-then-is_some-clause-tells : goal.conditions::looked_up-returns-then-is_some-clause-tells
-conditions::looked_up-returns-then-is_some-clause-tells t c = known_places c.args.q.now c.place_of-place.result c.requires.known c.as_slice.ensures c.place_of-place.ensures.within c.place_of-place.ensures.same
+pub conditions::asked-returns-then-query_is_closed-clause-gate : goal.conditions::asked-returns-then-query_is_closed-clause-gate
+conditions::asked-returns-then-query_is_closed-clause-gate t c = IfOk-weaker c.newly_asked.result _ _ (λ g h. h (scope_of c.args.env.now)) c.newly_asked.ensures.gate
 
-pub conditions::looked_up-returns-clause-known : goal.conditions::looked_up-returns-clause-known
-conditions::looked_up-returns-clause-known t c =
-    known_more (record { query = c.args.q; found = c.in_ok-found.found }) c.newly.ensures.known
-    (tells_under c.args.tables.now c.args.q.now (c.query_is_closed.ensures c.if-not-query_is_closed.false) c.in_ok-found.ensures.tells) c.in_ok-push.ensures.ok
+pub conditions::newly_asked-gate-requires : goal.conditions::newly_asked-gate-requires
+conditions::newly_asked-gate-requires t c = c.in_ok-found.ensures.tells.over
 
-pub conditions::looked_up-returns-clause-tells : goal.conditions::looked_up-returns-clause-tells
-conditions::looked_up-returns-clause-tells t c k =
-    known_last c.args.tables.now c.args.q.now c.newly.new.known (record { query = c.args.q; found = c.in_ok-found.found }) k c.len-at.result
-    (tells_under c.args.tables.now c.args.q.now (c.query_is_closed.ensures c.if-not-query_is_closed.false) c.in_ok-found.ensures.tells) c.in_ok-push.ensures.ok c.len-at.ensures
+pub conditions::newly_asked-returns-in_err-gate-clause-grown : goal.conditions::newly_asked-returns-in_err-gate-clause-grown
+conditions::newly_asked-returns-in_err-gate-clause-grown t c = grown_trans c.newly.ensures.grown c.gate.ensures.grown
 
-pub conditions::looked_up-returns-clause-within : goal.conditions::looked_up-returns-clause-within
-conditions::looked_up-returns-clause-within t c = last_within c.newly.new.known (record { query = c.args.q; found = c.in_ok-found.found }) c.len-at.result c.in_ok-push.ensures.ok c.len-at.ensures
+pub conditions::newly_asked-returns-in_err-gate-clause-known : goal.conditions::newly_asked-returns-in_err-gate-clause-known
+conditions::newly_asked-returns-in_err-gate-clause-known t c = known_stay c.gate.ensures.grown c.newly.ensures.known
 
-pub conditions::asked-returns-in-Some-clause-grown : goal.conditions::asked-returns-in-Some-clause-grown
-conditions::asked-returns-in-Some-clause-grown t c = grown_trans c.looked_up.ensures.grown c.gate.ensures.grown
+pub conditions::newly_asked-returns-in_err-push-clause-grown : goal.conditions::newly_asked-returns-in_err-push-clause-grown
+conditions::newly_asked-returns-in_err-push-clause-grown t c = grown_trans c.newly.ensures.grown c.gate.ensures.grown
+
+pub conditions::newly_asked-returns-in_err-push-clause-known : goal.conditions::newly_asked-returns-in_err-push-clause-known
+conditions::newly_asked-returns-in_err-push-clause-known t c = same_known c.in_err-push.ensures.err (known_stay c.gate.ensures.grown c.newly.ensures.known)
+
+pub conditions::newly_asked-returns-clause-grown : goal.conditions::newly_asked-returns-clause-grown
+conditions::newly_asked-returns-clause-grown t c = grown_trans c.newly.ensures.grown c.gate.ensures.grown
+
+pub conditions::newly_asked-returns-clause-known : goal.conditions::newly_asked-returns-clause-known
+conditions::newly_asked-returns-clause-known t c =
+    let tells = tells_under c.args.tables.now c.args.q.now c.requires.closed c.in_ok-found.ensures.tells in
+    known_more (record { query = c.args.q; memo = Tested c.in_ok-found.found }) (known_stay c.gate.ensures.grown c.newly.ensures.known) (λ env. tells_stay c.gate.ensures.grown (tells env)) c.in_ok-push.ensures.ok
+
+pub conditions::newly_asked-returns-clause-gate : goal.conditions::newly_asked-returns-clause-gate
+conditions::newly_asked-returns-clause-gate t c env =
+    c.in_ok-gate.ensures.gate (λ s. answer_by wrapped c.args.q.now (kept c.args.tables.now s) env) (tells_under c.args.tables.now c.args.q.now c.requires.closed c.in_ok-found.ensures.tells env)
+
+pub operand::operand-returns-in-Some-clause-gives : goal.operand::operand-returns-in-Some-clause-gives
+operand::operand-returns-in-Some-clause-gives t c =
+    let gives = some_holds _ c.in-Some.is c.rows_of.ensures c.args.dag.now c.args.tables.now (same_known c.as_slice.ensures c.requires.known) in
+    IfOk-weaker c.appended.result _ _ (λ out e. gives_same (e ∙ ap (λ ns. ns ++ c.in-Some.rows.now) c.new.ensures) (gives (scope_of c.args.env.now))) c.appended.ensures
+
+pub operand::operand-returns-clause-gives : goal.operand::operand-returns-clause-gives
+operand::operand-returns-clause-gives t c = IfOk-weaker c.newly_listed.result _ _ (λ out h. h (scope_of c.args.env.now)) c.newly_listed.ensures.gives
+
+pub operand::newly_listed-returns-clause-known : goal.operand::newly_listed-returns-clause-known
+operand::newly_listed-returns-clause-known t c =
+    let same = c.in_ok-copy.ensures ∙ ap₂ (λ xs ys. xs ++ ys) c.new.ensures c.as_slice.ensures in
+    known_more (record { query = c.args.q; memo = Listed c.in_ok-copy.copy }) c.annotated.ensures.known
+    (gives_under c.args.tables.now c.args.q.now c.requires.closed (gives_same same c.in_ok-rows.ensures.gives)) c.in_ok-push.ensures.ok
+
+pub operand::newly_listed-returns-clause-gives : goal.operand::newly_listed-returns-clause-gives
+operand::newly_listed-returns-clause-gives t c = gives_under c.args.tables.now c.args.q.now c.requires.closed c.in_ok-rows.ensures.gives
 
 pub conditions::asked-among-requires : goal.conditions::asked-among-requires
 conditions::asked-among-requires t c = noted_at c.annotated.new.dag c.as_slice-in-Some-sought.ensures c.in_ok-rows-in-Some-sought.ensures.gives.below
