@@ -35,15 +35,14 @@ fn next_kept(keep: &Keep, place: usize) -> usize
 /// below `place` is settled. `held` says which of them are kept, and that no more rows are kept
 /// than in the best choice.
 ///
-/// Each round asks for a choice that keeps one of the rows from `place` to before `end`, which is
-/// at most `row`, the next one that the best keeps. A model is the best from then on, and half of
-/// the rows before its next one are asked about. A refutation settles the rows before `end`. Then
-/// all up to `row` are asked about, since mostly there is no other choice.
+/// Each round asks for a choice that keeps one of the rows from `place` to before `row`, the next one
+/// that the best keeps. A model is the best from then on. A refutation settles these rows, and then
+/// `row`, which is kept.
 ///
 /// Of six rows with the best {2, 5}, where the first of the smallest is {1, 4}:
 ///     is row 0 or 1 kept?              yes, by {1, 4}, which is the best now
 ///     is row 0 kept?                   no: row 0 is left out, and row 1 is kept
-///     row 1, and is row 2 or 3 kept?   no: both are left out, and row 4 is kept
+///     is row 2 or 3 kept?              no: both are left out, and row 4 is kept
 pub(crate) fn in_order(
     alloc: Global,
     solver: &mut Solver<Counted>,
@@ -68,7 +67,6 @@ pub(crate) fn in_order(
     let mut next = named.next();
     let mut place = 0;
     let mut row = next_kept(&best, place);
-    let mut end = row;
     'first: loop {
         if row >= rows {
             return Ok(best);
@@ -78,20 +76,17 @@ pub(crate) fn in_order(
             next += 1;
             place += 1;
             row = next_kept(&best, place);
-            end = row;
             continue;
         }
-        let none = none_kept(alloc, cone, place, end, next, solver)?;
+        let none = none_kept(alloc, cone, place, row, next, solver)?;
         let asked = both(alloc, held, none.negated(), next + 1, solver)?;
         next += 2;
         if let Some(keep) = ask(alloc, solver, held, asked, rows, next)? {
             best = keep;
             held = asked;
             row = next_kept(&best, place);
-            end = row - (row - place) / 2;
             continue;
         }
-        place = end;
-        end = row;
+        place = row;
     }
 }
