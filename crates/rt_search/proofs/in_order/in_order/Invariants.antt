@@ -1,4 +1,4 @@
-use Rattle.std.proofs.Common.{◌≡◌, ◌<◌, ◌+◌, ◌-◌, ◌*◌, ◌^◌}
+use Rattle.std.proofs.Common.{◌≡◌, ◌≤◌, ◌<◌, ◌+◌, ◌-◌, ◌*◌, ◌^◌}
 use Rattle.rt_search.specs.Order.{IsNext}
 use Rattle.rt_search.proofs.Asking.{IsSettled}
 use Rattle.rt_search.proofs.in_order.in_order.Given as goal
@@ -9,6 +9,9 @@ invariant-first l = record {
   small : l.rows < 2 ^ 61;
   settled : IsSettled l.fn.dag l.fn.goal l.fn.cone l.solver.0.lines l.next l.best l.place l.held;
   next_is : IsNext l.best l.place l.row;
+  from : l.place ≤ l.end;
+  within : l.end ≤ l.row;
+  ahead : l.place < l.row → l.place < l.end;
 }
 
 abbrev pub decreases-first : goal.decreases-first
