@@ -236,3 +236,24 @@ fn every_fifth_of_two_thousand_rows(rt: HostRuntime) {
     let goal = drawing.draw(&rt, Step::All(&fifth));
     assert!(rt; least_size(&rt, &drawing, goal) == Some(400));
 }
+
+// Any of a thousand rows: each alone is a least choice. Few questions find the first one. A question
+// after each choice would take half a million clauses.
+#[test]
+fn first_of_a_thousand_rows(rt: HostRuntime) {
+    let mut drawing = Drawing::new(&rt, rt.alloc(), 1_000);
+    let mut rows = [0; 1_000];
+    for row in 0..1_000 {
+        rows[row] = drawing.draw(&rt, Step::Row(row));
+    }
+    let goal = drawing.draw(&rt, Step::Any(&rows));
+    let found = drawing.search(&rt, goal, None);
+    assert!(rt; found.clauses < 50_000);
+    match found.best {
+        Best::Least(keep) => {
+            assert!(rt; keep.size() == 1);
+            assert!(rt; keep.as_slice().first() == Some(&true));
+        }
+        _ => panic!(rt; "the goal is true with any row"),
+    }
+}
