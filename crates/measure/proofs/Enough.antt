@@ -5,7 +5,7 @@ use Rattle.std.specs.Option.{ForSome}
 use Rattle.rt_formula.specs.Cut.{cut}
 use Rattle.rt_formula.specs.Shared.{IsGrown, Shared, val}
 use Rattle.rt_formula.proofs.Cutting.{cut-length}
-use Rattle.rt_search.specs.Least.{IsEnough}
+use Rattle.rt_least.specs.Least.{IsEnough}
 use Rattle.rt_io.specs.Ranges.{IsWithin, most_conflicts}
 
 both : (a b x y : Bool) → (a && x) ≡ true → (a ≡ true → b ≡ true) → y ≡ x → (b && y) ≡ true

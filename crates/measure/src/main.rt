@@ -14,7 +14,7 @@ mod say;
 ghost use Rattle.std.specs.Prelude.{◌≡◌, ◌<◌, ◌≤◌, IfSome, length};
 ghost use Rattle.rt_algebra.specs.Typed.{IsTyped};
 ghost use Rattle.rt_schema.specs.Given.{places};
-ghost use Rattle.rt_search.specs.Least.{IsEnough};
+ghost use Rattle.rt_least.specs.Least.{IsEnough};
 
 use crate::encoding::measure_encoding;
 use crate::say::say;

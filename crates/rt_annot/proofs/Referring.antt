@@ -9,10 +9,10 @@ use Rattle.rt_algebra.specs.declared.typed.Typed.{Typed}
 use Rattle.rt_formula.specs.Shared.{Shared, IsGrown, val}
 use Rattle.rt_formula.proofs.Meaning.{val-grown}
 use Rattle.rt_rules.proofs.Meanings.{below-grown}
-use Rattle.rt_annot.specs.Ann.{rows_of}
+use Rattle.rt_noted.specs.Ann.{rows_of}
 use Rattle.rt_annot.specs.Reference.{IsReference, StandsOn}
 use Rattle.rt_annot.specs.declared.reference.Reference.{Reference}
-use Rattle.rt_annot.proofs.SameRows.{mapped_stay, rows_stay, same_rows_is}
+use Rattle.rt_noted.proofs.SameRows.{mapped_stay, rows_stay, same_rows_is}
 
 -- a reference stays one as the Dag grows
 pub stands_still : (r : Reference) (old new : Shared) → IsGrown old new → StandsOn old r → StandsOn new r

@@ -1,7 +1,1 @@
-pub mod Ann
-pub mod Annotated
-pub mod Entries
-pub mod Joints
-pub mod Known
-pub mod Narrowed
 pub mod Reference

@@ -7,8 +7,8 @@ use Rattle.rt_schema.specs.Law.{lawful}
 use Rattle.rt_algebra.specs.Answer.{plain}
 use Rattle.rt_algebra.specs.declared.typed.Typed.{Typed}
 use Rattle.rt_formula.specs.Shared.{Shared, IsGrown, val}
-use Rattle.rt_annot.specs.Ann.{AreOf, rows_of}
-use Rattle.rt_annot.specs.Annotated.{SameRows}
+use Rattle.rt_noted.specs.Ann.{AreOf, rows_of}
+use Rattle.rt_noted.specs.Annotated.{SameRows}
 use Rattle.rt_annot.specs.declared.reference.Reference.{Reference}
 
 -- its nodes are of this Dag

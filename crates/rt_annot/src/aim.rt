@@ -8,14 +8,14 @@ ghost use Rattle.rt_schema.specs.Law.{lawful};
 ghost use Rattle.rt_algebra.specs.Answer.{plain, same_rows};
 ghost use Rattle.rt_algebra.specs.Typed.{IsTyped};
 ghost use Rattle.rt_formula.specs.Shared.{val, IsGrown};
-ghost use Rattle.rt_annot.specs.Ann.{rows_of};
+ghost use Rattle.rt_noted.specs.Ann.{rows_of};
 ghost use Rattle.rt_annot.specs.Reference.{StandsOn};
 
 use crate::annotation::annotate;
-use crate::difference::differ;
 use crate::reference::Reference;
 use rt_algebra::Typed;
 use rt_formula::{Dag, Node};
+use rt_noted::differ;
 use rt_schema::{Given, Schema};
 use rt_value::NoMemory;
 use std::alloc::Global;

@@ -8,13 +8,13 @@ ghost use Rattle.rt_algebra.specs.Answer.{answer_by, plain, has_row};
 ghost use Rattle.rt_algebra.specs.Expression.{wrapped};
 ghost use Rattle.rt_algebra.specs.Typed.{IsTyped};
 ghost use Rattle.rt_formula.specs.Shared.{IsGrown};
-ghost use Rattle.rt_annot.specs.Annotated.{Gives};
-ghost use Rattle.rt_annot.specs.Ann.{AreOf, node_at, node_value, rows_of};
+ghost use Rattle.rt_noted.specs.Annotated.{Gives};
+ghost use Rattle.rt_noted.specs.Ann.{AreOf, node_at, node_value, rows_of};
 
-use crate::ann::Ann;
 use crate::evaluate::annotated;
 use rt_algebra::{Query, Typed};
 use rt_formula::{Dag, Noted};
+use rt_noted::Ann;
 use rt_schema::Given;
 use rt_value::{List, NoMemory, Row};
 use std::alloc::Global;

@@ -10,17 +10,16 @@ ghost use Rattle.rt_algebra.specs.Stays.{StaysQuery};
 ghost use Rattle.rt_schema.specs.Given.{places};
 ghost use Rattle.rt_schema.specs.Kept.{kept};
 ghost use Rattle.rt_formula.specs.Shared.{IsGrown};
-ghost use Rattle.rt_annot.specs.Entries.{constant};
-ghost use Rattle.rt_annot.specs.Annotated.{IsGate, yes_when, no_when, test_under, test_joined};
-ghost use Rattle.rt_annot.specs.Known.{AreKnown, Tells, exists_test, sought_test};
+ghost use Rattle.rt_noted.specs.Entries.{constant};
+ghost use Rattle.rt_noted.specs.Annotated.{IsGate, yes_when, no_when, test_under, test_joined};
+ghost use Rattle.rt_noted.specs.Known.{AreKnown, Tells, exists_test, sought_test};
 
 use crate::evaluate::annotated;
-use crate::gate::{Junction, TruthLists, TruthNodes, constant, is_always};
-use crate::known::Found;
-use crate::member::among;
-use crate::subquery::{Memo, Subquery, found_of};
 use rt_algebra::{Expr, Pred, Query, one_of_truth, query_is_closed, scope, value};
 use rt_formula::Dag;
+use rt_noted::{
+    Found, Junction, Memo, Subquery, TruthLists, TruthNodes, among, constant, found_of, is_always,
+};
 use rt_split::compared;
 use rt_value::{List, NoMemory, Op, Row, Value, null_truth};
 use std::alloc::Global;

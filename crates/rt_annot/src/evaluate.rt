@@ -7,22 +7,21 @@ ghost use Rattle.rt_algebra.specs.Expression.{wrapped};
 ghost use Rattle.rt_schema.specs.Given.{Rows, base_of, places, rows_at};
 ghost use Rattle.rt_schema.specs.Kept.{kept};
 ghost use Rattle.rt_formula.specs.Shared.{IsGrown, bool_at};
-ghost use Rattle.rt_annot.specs.Entries.{selected};
-ghost use Rattle.rt_annot.specs.Annotated.{AreNoted, Choosing, Gives, IsNode, placed, set_rows, test_under, yes_when};
-ghost use Rattle.rt_annot.specs.Known.{AreKnown};
-ghost use Rattle.rt_annot.specs.Joints.{AreJoints, GiveEach, Makes, joint_entries};
-ghost use Rattle.rt_annot.specs.Narrowed.{IsSelected};
+ghost use Rattle.rt_noted.specs.Entries.{selected};
+ghost use Rattle.rt_noted.specs.Annotated.{AreNoted, Choosing, Gives, IsNode, placed, set_rows, test_under, yes_when};
+ghost use Rattle.rt_noted.specs.Known.{AreKnown};
+ghost use Rattle.rt_noted.specs.Joints.{AreJoints, GiveEach, Makes, joint_entries};
+ghost use Rattle.rt_noted.specs.Narrowed.{IsSelected};
 
 use crate::conditions::{test, test_row};
-use crate::gate::is_never;
-use crate::join::narrowed;
-use crate::joint::{Joint, meeting, noted_product, row_meeting};
 use crate::operand::operand;
-use crate::rows::{alone, first_place, note, projection, table};
-use crate::sets::{Side, set_rows};
-use crate::subquery::Subquery;
+use crate::sets::set_rows;
 use rt_algebra::{Pred, Query, scope};
 use rt_formula::{Dag, Node, Noted};
+use rt_noted::{
+    Joint, Side, Subquery, alone, first_place, is_never, meeting, narrowed, note, noted_product,
+    projection, row_meeting, table,
+};
 use rt_schema::rows_at;
 use rt_split::{Probe, is_refused};
 use rt_value::{List, NoMemory, Row};

@@ -4,25 +4,15 @@
 #![tactic(auto)]
 
 mod aim;
-mod ann;
 mod annotation;
 mod conditions;
-mod difference;
 mod evaluate;
-mod gate;
-mod join;
-mod joint;
-mod known;
 pub mod laws;
-mod member;
 mod operand;
 mod reference;
-mod rows;
 mod sets;
-mod subquery;
 
 pub use aim::{Aim, goal, goal_beside};
-pub use ann::Ann;
 pub use annotation::annotate;
-pub use difference::differ;
 pub use reference::Reference;
+pub use rt_noted::{Ann, differ};

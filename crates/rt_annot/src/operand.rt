@@ -8,14 +8,13 @@ ghost use Rattle.rt_algebra.specs.Stays.{StaysQuery};
 ghost use Rattle.rt_schema.specs.Given.{places};
 ghost use Rattle.rt_schema.specs.Kept.{kept};
 ghost use Rattle.rt_formula.specs.Shared.{IsGrown};
-ghost use Rattle.rt_annot.specs.Annotated.{Gives};
-ghost use Rattle.rt_annot.specs.Known.{AreKnown, GivesOf};
+ghost use Rattle.rt_noted.specs.Annotated.{Gives};
+ghost use Rattle.rt_noted.specs.Known.{AreKnown, GivesOf};
 
 use crate::evaluate::annotated;
-use crate::rows::appended;
-use crate::subquery::{Memo, Subquery, rows_of};
 use rt_algebra::{Query, query_is_closed};
 use rt_formula::{Dag, Noted};
+use rt_noted::{Memo, Subquery, appended, rows_of};
 use rt_value::{List, NoMemory, Row};
 use std::alloc::Global;
 

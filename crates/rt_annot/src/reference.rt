@@ -6,10 +6,10 @@ ghost use Rattle.rt_algebra.specs.Typed.{IsTyped};
 ghost use Rattle.rt_formula.specs.Shared.{IsGrown};
 ghost use Rattle.rt_annot.specs.Reference.{IsReference};
 
-use crate::ann::Ann;
 use crate::annotation::annotate;
 use rt_algebra::Typed;
 use rt_formula::{Dag, Node};
+use rt_noted::Ann;
 use rt_rules::law;
 use rt_schema::{Given, Schema};
 use rt_value::NoMemory;

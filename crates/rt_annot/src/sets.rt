@@ -4,32 +4,13 @@
 ghost use Rattle.std.specs.Prelude.{◌≡◌, List, Bool, IfOk};
 ghost use Rattle.rt_schema.specs.Given.{Rows};
 ghost use Rattle.rt_formula.specs.Shared.{IsGrown};
-ghost use Rattle.rt_annot.specs.Entries.{selected};
-ghost use Rattle.rt_annot.specs.Annotated.{AreNoted, Gives, Reads, entries_of, set_rows, side_node, side_test};
+ghost use Rattle.rt_noted.specs.Entries.{selected};
+ghost use Rattle.rt_noted.specs.Annotated.{AreNoted, Gives, Reads, entries_of, set_rows, side_test};
 
-use crate::gate::{TruthNodes, both, either};
-use crate::rows::{appended, note};
-use rt_formula::{Dag, Groups, Node, Noted};
+use rt_formula::{Dag, Groups, Noted};
+use rt_noted::{Side, appended, both, either, note};
 use rt_value::{List, NoMemory};
 use std::alloc::Global;
-
-/// Which rows are taken: those that are among others (INTERSECT), or those that are not (EXCEPT).
-#[derive(Clone, Copy)]
-pub enum Side {
-    Standing,
-    Missing,
-}
-
-impl Side {
-    fn node(self, gate: TruthNodes) -> Node
-        ensures { result ≡ side_node self gate }
-    {
-        match self {
-            Side::Standing => gate.yes,
-            Side::Missing => gate.no,
-        }
-    }
-}
 
 /// The rows of a set operator: those of `first` on a side of `second`, or all of both if there is
 /// no side (UNION).

@@ -11,7 +11,7 @@ use Rattle.rt_algebra.specs.Answer.{plain, same_rows}
 use Rattle.rt_algebra.specs.declared.typed.Typed.{Typed}
 use Rattle.rt_clause.specs.Literal.{Literal}
 use Rattle.rt_formula.specs.Shared.{Shared, val}
-use Rattle.rt_search.proofs.Keeps.{size-most}
+use Rattle.rt_least.proofs.Keeps.{size-most}
 use Rattle.rt_input.specs.Accepted.{Accepted}
 use Rattle.rt_top.specs.Smallest.{counters}
 use Rattle.rt_cert.specs.Encodes.{Encodes}

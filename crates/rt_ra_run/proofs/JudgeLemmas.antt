@@ -5,8 +5,8 @@ use Rattle.rt_eval.specs.Distinct.{distinct}
 use Rattle.rt_print.specs.Texts.{witness_text}
 use Rattle.rt_schema.specs.Given.{places}
 use Rattle.rt_algebra.specs.Answer.{same_rows}
-use Rattle.rt_search.specs.Least.{HasFewest}
-use Rattle.rt_search.proofs.Targets.{spent-narrowed}
+use Rattle.rt_least.specs.Least.{HasFewest}
+use Rattle.rt_least.proofs.Targets.{spent-narrowed}
 use Rattle.rt_input.specs.declared.outcome.Limit.{Limit}
 use Rattle.rt_input.specs.declared.outcome.Outcome.{Outcome}
 use Rattle.rt_input.specs.declared.outcome.Outcome.TheVariants as outcome

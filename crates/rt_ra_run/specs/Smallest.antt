@@ -4,7 +4,7 @@ use Rattle.std.specs.Prelude.{◌≡◌, Bool, true, false, not, ◌&&◌, List}
 use Rattle.rt_schema.specs.Given.{Rows, places}
 use Rattle.rt_schema.specs.Kept.{kept}
 use Rattle.rt_algebra.specs.Answer.{same_rows}
-use Rattle.rt_search.specs.Least.{IsLeast, IsSpentBest}
+use Rattle.rt_least.specs.Least.{IsLeast, IsSpentBest}
 use Rattle.rt_ra_tree.specs.declared.tree.RaText.{RaText}
 use Rattle.rt_ra.specs.Answer.{ra_answer}
 use Rattle.rt_input.specs.declared.outcome.Spent.{Spent}

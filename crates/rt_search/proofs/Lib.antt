@@ -1,17 +1,1 @@
-pub mod Aiming
-pub mod Apart
-pub mod Asking
-pub mod Attempts
-pub mod Between
-pub mod Keeps
-pub mod Leading
-pub mod Leaving
-pub mod LeftOut
-pub mod Nogoods
-pub mod Only
-pub mod Places
-pub mod Rounds
-pub mod Taking
-pub mod Ways
-pub mod Targets
 pub mod Whole

@@ -12,11 +12,11 @@ use Rattle.rt_clause.proofs.Literals.{has-head, has-tail}
 use Rattle.rt_formula.specs.Cut.{cut}
 use Rattle.rt_formula.specs.Shared.{Shared, bool_at, val}
 use Rattle.rt_formula.proofs.Cutting.{cut-length, cut-in, cut-out, cut-size}
-use Rattle.rt_search.specs.Least.{HasFewest, IsBest, IsEnough, IsGoal, IsLeast, IsSpentBest}
-use Rattle.rt_search.specs.Nogoods.{IsBetter}
-use Rattle.rt_search.specs.Sought.{IsBestWithin, IsSought, IsSpentWithin, not_kept}
-use Rattle.rt_search.specs.declared.best.Best.{Best}
-use Rattle.rt_search.specs.declared.best.Best.TheVariants.{Least, Never, Spent}
+use Rattle.rt_least.specs.Least.{HasFewest, IsBest, IsEnough, IsGoal, IsLeast, IsSpentBest}
+use Rattle.rt_least.specs.Nogoods.{IsBetter}
+use Rattle.rt_least.specs.Sought.{IsBestWithin, IsSought, IsSpentWithin, not_kept}
+use Rattle.rt_least.specs.declared.best.Best.{Best}
+use Rattle.rt_least.specs.declared.best.Best.TheVariants.{Least, Never, Spent}
 
 clash : {b : Bool} → b ≡ true → b ≡ false → ⊥
 clash p q = cc

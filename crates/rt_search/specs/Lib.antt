@@ -1,9 +1,0 @@
-pub mod Aimed
-pub mod Alone
-pub mod Attempts
-pub mod Leading
-pub mod Least
-pub mod Nogoods
-pub mod Order
-pub mod Sought
-pub mod Widened

@@ -1,8 +1,8 @@
 //! The clauses of a search: those of the goal, and one for each row that cannot matter.
 
 ghost use Rattle.std.specs.Prelude.{◌≡◌, ◌<◌, ◌^◌, ◌++◌, [], ◌∷◌, IfOk, OnOk, length};
-ghost use Rattle.rt_search.specs.Aimed.{IsAimed};
-ghost use Rattle.rt_search.specs.Sought.{left_out};
+ghost use Rattle.rt_least.specs.Aimed.{IsAimed};
+ghost use Rattle.rt_least.specs.Sought.{left_out};
 
 use rt_clause::{Adds, Lit, Named};
 use rt_clausify::clausify;

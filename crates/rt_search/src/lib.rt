@@ -14,23 +14,8 @@
 //! counts only if the checker's own lines have it.
 #![tactic(auto)]
 
-mod alone;
-mod ask;
-mod attempt;
-mod best;
-mod both;
-mod by_rows;
-mod choice;
-mod counted;
 mod encode;
-mod first;
-mod in_order;
-mod lower;
-mod none_kept;
-mod others;
 mod search;
-mod smaller;
-mod widened;
 
-pub use best::{Best, SpentBest};
+pub use rt_least::{Best, SpentBest};
 pub use search::{Searched, smallest, smallest_counted};

@@ -2,19 +2,14 @@
 //! change: the contracts speak of the outcome alone.
 
 ghost use Rattle.std.specs.Prelude.{◌≡◌, ◌≤◌, ◌<◌, [], IfOk, IfSome, length};
-ghost use Rattle.rt_search.specs.Aimed.{IsAimed};
-ghost use Rattle.rt_search.specs.Least.{IsBest, IsEnough};
-ghost use Rattle.rt_search.specs.Sought.{IsBestWithin};
+ghost use Rattle.rt_least.specs.Aimed.{IsAimed};
+ghost use Rattle.rt_least.specs.Least.{IsBest, IsEnough};
+ghost use Rattle.rt_least.specs.Sought.{IsBestWithin};
 
-use crate::attempt::attempt;
-use crate::best::{Best, SpentBest};
-use crate::choice::rows_of;
-use crate::counted::Counted;
 use crate::encode::encode;
-use crate::lower::lower;
-use crate::smaller::smaller;
 use rt_clause::Named;
 use rt_formula::{Dag, Node};
+use rt_least::{Best, Counted, SpentBest, attempt, lower, rows_of, smaller};
 use rt_solver::{Found, Solver};
 use rt_totalizer::count_among;
 use rt_value::{Keep, NoMemory};
@@ -118,8 +113,8 @@ pub fn smallest_counted(
 {
     let mut solver = Solver::new(alloc, Counted::new(alloc));
     let best = search(alloc, &mut solver, dag, goal, cone, budget);
-    let clauses = solver.lines().given;
-    let conflicts = solver.lines().derived;
+    let clauses = solver.lines().given();
+    let conflicts = solver.lines().derived();
     drop(solver);
     Ok(Searched {
         best: best?,

@@ -2,9 +2,9 @@
 use Rattle.std.proofs.Common.{◌≡◌, ℕ, ◌+◌, ◌*◌, ◌<◌, ◌≤◌, ◌^◌, true, false, cond, Bool, List, [], ◌∷◌, ◌++◌, length, sym, ap, subst, ◌∙◌, arith}
 use Rattle.std.specs.List.{All as Each}
 use Rattle.rt_clause.specs.Literal.{Literal}
-use Rattle.rt_solver.specs.Same.{IsSame, AreSame}
+use Rattle.rt_store.specs.Same.{IsSame, AreSame}
 use Rattle.rt_solver.specs.Solving.{reach, width}
-use Rattle.rt_solver.specs.Watching.{Listed, list_at, times}
+use Rattle.rt_store.specs.Watching.{Listed, list_at, times}
 use Rattle.rt_solver.specs.Propagating.{IsEntry, AreListed, AreShort, HasLists}
 use Rattle.rt_solver.specs.Looking.{IsBelow}
 use Rattle.rt_solver.specs.Based.{IsBased}

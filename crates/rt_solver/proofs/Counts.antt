@@ -2,10 +2,10 @@
 use Rattle.std.proofs.Common.{◌≡◌, ◌≢◌, ℕ, zero, suc, ◌+◌, ◌<◌, ◌≤◌, Bool, true, false, cond, nat_eq, eqb, List, [], ◌∷◌, ◌++◌, length, drop, refl, sym, ap, subst, ◌∙◌, ◌⊎◌, inl, inr, None, arith, rules, length-set, get_or-set_other, get_or-set_same, slice_set}
 use Rattle.std.proofs.lemmas.List.Folds.{list_any-append}
 use Rattle.rt_clause.proofs.Bools.{bool-cases, or-cases, or-right, or-left}
-use Rattle.rt_solver.specs.declared.trail.Step.{Step}
-use Rattle.rt_solver.specs.Trail.{value_in, IsApart}
+use Rattle.rt_store.specs.declared.trail.Step.{Step}
+use Rattle.rt_store.specs.Trail.{value_in, IsApart}
 use Rattle.rt_solver.specs.Marking.{stands, mark_at, steps_marked, IsMarking, IsUnmarked}
-use Rattle.rt_solver.proofs.Number.{none-apart}
+use Rattle.rt_store.proofs.Number.{none-apart}
 
 pub count-older : (marks : List Bool) (s : Step) (t : List Step) → steps_marked marks t ≤ steps_marked marks (s ∷ t)
 count-older marks s t = elim (bool-cases (mark_at marks s.lit.var)) [ inl y ↦ rw y (omega arith) | inr n ↦ rw n (omega arith) ]

@@ -5,11 +5,11 @@ use Rattle.rt_clause.specs.Literal.{Literal}
 use Rattle.rt_clause.specs.Lists.{has, is_false, line_at, IsMet, Closed, Decides, Determined}
 use Rattle.rt_clause.specs.Models.{lit_true, IsModel}
 use Rattle.rt_clause.proofs.Following.{clause_true-has}
-use Rattle.rt_solver.specs.declared.trail.Step.{Step}
-use Rattle.rt_solver.specs.Trail.{lits, value_in}
+use Rattle.rt_store.specs.declared.trail.Step.{Step}
+use Rattle.rt_store.specs.Trail.{lits, value_in}
 use Rattle.rt_solver.specs.Answers.{Reads}
-use Rattle.rt_solver.proofs.Tables.{value-has}
-use Rattle.rt_solver.proofs.FreshLaws.{absent-lit}
+use Rattle.rt_store.proofs.Tables.{value-has}
+use Rattle.rt_store.proofs.FreshLaws.{absent-lit}
 
 beq-refl : (b : Bool) → beq b b ≡ true
 beq-refl true = refl

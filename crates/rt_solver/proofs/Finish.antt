@@ -3,15 +3,15 @@ use Rattle.std.proofs.Common.{◌≡◌, ℕ, ◌-◌, ◌<◌, ◌≤◌, true,
 use Rattle.rt_clause.specs.Literal.{Literal, negated}
 use Rattle.rt_clause.specs.Lists.{has, line_at, IsMet, Closed}
 use Rattle.rt_solver.specs.Looking.{AreBelow}
-use Rattle.rt_solver.proofs.Number.{distance-step}
-use Rattle.rt_solver.proofs.FreshLaws.{consistent}
+use Rattle.rt_store.proofs.Number.{distance-step}
+use Rattle.rt_store.proofs.FreshLaws.{consistent}
 use Rattle.rt_clause.specs.Refuting.{Refutes}
 use Rattle.rt_clause.proofs.Literals.{has-head, has-tail}
-use Rattle.rt_solver.specs.declared.trail.Step.{Step}
-use Rattle.rt_solver.specs.declared.trail.Why.{Why}
-use Rattle.rt_solver.specs.declared.trail.Why.TheVariants.{Line, Decided}
-use Rattle.rt_solver.specs.Trail.{lits, IsApart, RestsOn, IsFounded, distance}
-use Rattle.rt_solver.specs.Table.{Tracked}
+use Rattle.rt_store.specs.declared.trail.Step.{Step}
+use Rattle.rt_store.specs.declared.trail.Why.{Why}
+use Rattle.rt_store.specs.declared.trail.Why.TheVariants.{Line, Decided}
+use Rattle.rt_store.specs.Trail.{lits, IsApart, RestsOn, IsFounded, distance}
+use Rattle.rt_store.specs.Table.{Tracked}
 use Rattle.rt_solver.specs.Analysis.{clause_of, AreChosen, IsPlaced, ArePlaced}
 use Rattle.rt_solver.specs.Search.{IsReady, GoesOn, IsEnd}
 use Rattle.rt_solver.specs.Propagating.{AreForced, IsPropagated}

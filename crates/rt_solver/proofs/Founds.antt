@@ -6,14 +6,14 @@ use Rattle.rt_clause.specs.Literal.{Literal}
 use Rattle.rt_clause.specs.Lists.{has}
 use Rattle.rt_clause.specs.Models.{lit_true, IsModel}
 use Rattle.rt_clause.specs.Refuting.{Refutes, IsRefuted}
-use Rattle.rt_solver.specs.Trail.{lits, IsApart}
-use Rattle.rt_solver.specs.Table.{Tracked}
+use Rattle.rt_store.specs.Trail.{lits, IsApart}
+use Rattle.rt_store.specs.Table.{Tracked}
 use Rattle.rt_solver.specs.Search.{IsReady, IsWhole, IsEnd}
 use Rattle.rt_solver.specs.Solving.{reach, width, HasSearched, IsSpent}
 use Rattle.rt_solver.specs.Answers.{Reads, IsModelled, IsBegun}
-use Rattle.rt_solver.proofs.Number.{pow-pos}
+use Rattle.rt_store.proofs.Number.{pow-pos}
 use Rattle.rt_solver.proofs.Counting.{append-nil}
-use Rattle.rt_solver.proofs.FreshLaws.{line_at-end}
+use Rattle.rt_store.proofs.FreshLaws.{line_at-end}
 use Rattle.rt_solver.proofs.Finish.{closed-quiet}
 use Rattle.rt_solver.proofs.Ends.{whole-model, not-false-true}
 use Rattle.rt_solver.proofs.Returning.{has-var}

@@ -3,19 +3,19 @@ use Rattle.std.proofs.Common.{◌≡◌, ℕ, zero, suc, ◌+◌, ◌-◌, ◌<�
 use Rattle.std.proofs.lemmas.List.{append-nil}
 use Rattle.rt_clause.specs.Literal.{Literal}
 use Rattle.rt_clause.specs.Lists.{has}
-use Rattle.rt_solver.specs.declared.trail.Step.{Step}
-use Rattle.rt_solver.specs.declared.trail.Why.{Why}
-use Rattle.rt_solver.specs.declared.trail.Why.TheVariants.{Line, Decided, Assumed}
-use Rattle.rt_solver.specs.Trail.{lits, value_in, IsApart, oldest, BeforeDecisions, IfDecided}
+use Rattle.rt_store.specs.declared.trail.Step.{Step}
+use Rattle.rt_store.specs.declared.trail.Why.{Why}
+use Rattle.rt_store.specs.declared.trail.Why.TheVariants.{Line, Decided, Assumed}
+use Rattle.rt_store.specs.Trail.{lits, value_in, IsApart, oldest, BeforeDecisions, IfDecided}
 use Rattle.rt_solver.specs.declared.walk.Walk.{Walk}
 use Rattle.rt_solver.specs.Analysis.{IsGathered, IsSought, IsWalked, IsChoice, AreChosen, Lacks, IsBeforeDecision, ArePlaced, IsOldest, IsGatheredBy, EachStep, IsPlain, IsStop, IsStopUnder, IsDecisionUnder, IsLead, IsWalkedBy}
 use Rattle.std.specs.Prelude.{MatchOption, IsTrue}
-use Rattle.rt_solver.specs.Table.{Tracked}
+use Rattle.rt_store.specs.Table.{Tracked}
 use Rattle.rt_solver.specs.Marking.{Marked, mark_at, marked_by}
 use Rattle.rt_solver.proofs.Walks.{apart-drop, visit-unmarked, visit-found, oldest-none}
 use Rattle.rt_solver.proofs.Stops.{pass-each, walk-passed, each-more}
-use Rattle.rt_solver.proofs.Number.{none-apart}
-use Rattle.rt_solver.proofs.FreshLaws.{absent-lit, nowhere-before}
+use Rattle.rt_store.proofs.Number.{none-apart}
+use Rattle.rt_store.proofs.FreshLaws.{absent-lit, nowhere-before}
 use Rattle.rt_solver.proofs.Queues.{before-map, before-decided, oldest-above}
 
 pub chosen-weaken : (first : ℕ) (ds : List Literal) (s : Step) (t : List Step) → AreChosen first ds t → AreChosen first ds (s ∷ t)

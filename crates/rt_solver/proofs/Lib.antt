@@ -1,8 +1,4 @@
-pub mod Number
 pub mod Analysis
-pub mod FreshLaws
-pub mod Tables
-pub mod Looks
 pub mod Counts
 pub mod Walks
 pub mod Stops
@@ -21,7 +17,6 @@ pub mod Visits
 pub mod Visiting
 pub mod Settling
 pub mod Shorts
-pub mod Editing
 pub mod Listing
 pub mod Shifting
 pub mod Putting
@@ -32,5 +27,3 @@ pub mod Picks
 pub mod Ordered
 pub mod Seeks
 pub mod Reading
-mod Exchanging
-mod Membership

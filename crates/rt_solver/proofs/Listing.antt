@@ -5,7 +5,7 @@ use Rattle.std.proofs.lemmas.List.{get_or_default, get_or-take, length-take-le}
 use Rattle.std.proofs.lemmas.List.Elements.{All-head, All-tail, All-same, All-push, All-set, All-take}
 use Rattle.std.proofs.lemmas.List.Sums.{sum_by-cons, sum_by_push, sum_by-set, sum_by-swap_remove, get_or-le-sum_by}
 use Rattle.rt_clause.proofs.Bools.{bool-cases}
-use Rattle.rt_solver.specs.Watching.{Listed, Lists, list_at, tells, times, IsEdited}
+use Rattle.rt_store.specs.Watching.{Listed, Lists, list_at, tells, times, IsEdited}
 
 pub differ : (i n : ℕ) → nat_eq i n ≡ false → i ≢ n
 differ i n g w = let s : nat_eq i n ≡ true = search rules in cc

@@ -7,17 +7,17 @@ use Rattle.rt_clause.specs.Lists.{has, line_at}
 use Rattle.rt_clause.specs.Models.{lit_true, clause_true, IsModel}
 use Rattle.rt_clause.proofs.Bools.{bool-cases, or-cases}
 use Rattle.rt_clause.proofs.Literals.{has-head, has-tail, has-cases}
-use Rattle.rt_solver.specs.declared.trail.Step.{Step}
-use Rattle.rt_solver.specs.declared.trail.Why.{Why}
-use Rattle.rt_solver.specs.declared.trail.Why.TheVariants.{Line, Decided, Assumed}
+use Rattle.rt_store.specs.declared.trail.Step.{Step}
+use Rattle.rt_store.specs.declared.trail.Why.{Why}
+use Rattle.rt_store.specs.declared.trail.Why.TheVariants.{Line, Decided, Assumed}
 use Rattle.rt_solver.specs.declared.order.Order.{Order}
 use Rattle.rt_solver.specs.declared.order.Order.TheVariants.{Free, Fixed}
-use Rattle.rt_solver.specs.Trail.{lits, value_in, IsApart, RestsOn, IsFounded, IfDecided, decisions, decided_by}
+use Rattle.rt_store.specs.Trail.{lits, value_in, IsApart, RestsOn, IsFounded, IfDecided, decisions, decided_by}
 use Rattle.rt_solver.specs.Search.{HasValues, KeepsModels}
 use Rattle.rt_solver.specs.Answers.{Reads}
 use Rattle.rt_solver.specs.Fixed.{IfFixed, AreSmallest, IsGreatest}
 use Rattle.rt_solver.specs.Propagating.{AreForced, IsPropagated}
-use Rattle.rt_solver.proofs.Number.{none-apart}
+use Rattle.rt_store.proofs.Number.{none-apart}
 
 -- a true clause has a true literal
 pub true-among : (bools : List Bool) (c : List Literal) → clause_true bools c ≡ true → (k : Literal) × (has c k ≡ true) × (lit_true bools k ≡ true)

@@ -3,11 +3,11 @@ use Rattle.std.proofs.Common.{◌≡◌, ◌≢◌, ℕ, zero, suc, ◌+◌, ◌
 use Rattle.std.specs.Prelude.{IsSome, is_some, replicate}
 use Rattle.std.proofs.lemmas.List.{length-replicate, get_or-replicate}
 use Rattle.rt_clause.proofs.Bools.{bool-cases}
-use Rattle.rt_solver.specs.declared.trail.Step.{Step}
-use Rattle.rt_solver.specs.Trail.{value_in}
+use Rattle.rt_store.specs.declared.trail.Step.{Step}
+use Rattle.rt_store.specs.Trail.{value_in}
 use Rattle.rt_solver.specs.Search.{HasValues}
 use Rattle.rt_solver.specs.Picking.{Picking, holds, held_count, HasOpen, HasOpenBut, AreSet, IsOffered, IsPicked}
-use Rattle.rt_solver.proofs.Number.{none-apart}
+use Rattle.rt_store.proofs.Number.{none-apart}
 
 other-var : (v w : ℕ) → nat_eq v w ≡ false → w ≢ v
 other-var v w n e = let k : nat_eq v w ≡ true = search rules in cc

@@ -5,13 +5,13 @@ use Rattle.rt_clause.specs.Packed.{packed}
 use Rattle.rt_clause.specs.Lists.{has, line_at}
 use Rattle.rt_clause.proofs.Bools.{bool-cases}
 use Rattle.rt_clause.proofs.Literals.{has-cases}
-use Rattle.rt_solver.specs.Same.{IsSame, AreSame, IsSpread}
-use Rattle.rt_solver.specs.Watching.{Listed, Lists, list_at, times, literal_in, IsEdited}
+use Rattle.rt_store.specs.Same.{IsSame, AreSame, IsSpread}
+use Rattle.rt_store.specs.Watching.{Listed, Lists, list_at, times, literal_in, IsEdited}
 use Rattle.rt_solver.specs.Propagating.{IsWatchOf, IsEntry, AreListed, HasLists}
-use Rattle.rt_solver.proofs.FreshLaws.{line_at-append, line_at-end}
+use Rattle.rt_store.proofs.FreshLaws.{line_at-append, line_at-end}
 use Rattle.rt_solver.proofs.Listing.{differ, times-none, joined-each, joined-here, joined-other}
 use Rattle.rt_solver.proofs.Shifting.{watch-within, literal-has}
-use Rattle.rt_solver.proofs.Turns.{literal-at}
+use Rattle.rt_store.proofs.Copies.{literal-at}
 
 pub lines-of : (old : List (List Literal)) (c : List Literal) (P : List Literal → Type 0) → ((i : ℕ) → i < length old → P (line_at old i)) → P c → (i : ℕ) → i < length (old ++ c ∷ []) → P (line_at (old ++ c ∷ []) i)
 lines-of old c P f p i b = elim (bool-cases (nat_lt i (length old))) [

@@ -4,13 +4,13 @@ use Rattle.rt_clause.specs.Literal.{Literal, negated}
 use Rattle.rt_clause.specs.Lists.{has, is_false, line_at, IsMet}
 use Rattle.rt_clause.proofs.Bools.{bool-cases}
 use Rattle.rt_clause.proofs.Literals.{has-head, has-tail}
-use Rattle.rt_solver.specs.declared.trail.Step.{Step}
-use Rattle.rt_solver.specs.declared.trail.Why.{Why}
-use Rattle.rt_solver.specs.declared.trail.Why.TheVariants.{Line, Decided, Assumed}
-use Rattle.rt_solver.specs.Trail.{lits, IsUnit, BeforeDecisions, IfDecided, oldest, decisions, decided_by}
+use Rattle.rt_store.specs.declared.trail.Step.{Step}
+use Rattle.rt_store.specs.declared.trail.Why.{Why}
+use Rattle.rt_store.specs.declared.trail.Why.TheVariants.{Line, Decided, Assumed}
+use Rattle.rt_store.specs.Trail.{lits, IsUnit, BeforeDecisions, IfDecided, oldest, decisions, decided_by}
 use Rattle.rt_solver.specs.Looking.{IsBroken, HasTrue}
-use Rattle.rt_solver.specs.Same.{IsSame, AreSame, IsSpread}
-use Rattle.rt_solver.specs.Watching.{literal_in}
+use Rattle.rt_store.specs.Same.{IsSame, AreSame, IsSpread}
+use Rattle.rt_store.specs.Watching.{literal_in}
 use Rattle.rt_solver.specs.Turning.{IsMoved}
 use Rattle.rt_solver.specs.Propagating.{AreLeft, IsWatched, IsPart, IsForced, AreForced, IsPropagated}
 

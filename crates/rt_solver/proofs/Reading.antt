@@ -3,8 +3,8 @@ use Rattle.std.proofs.Common.{◌≡◌, ℕ, ◌+◌, ◌<◌, ◌≤◌, nat_l
 use Rattle.std.specs.Option.{unwrap_or}
 use Rattle.rt_clause.proofs.Bools.{bool-cases}
 use Rattle.rt_clause.proofs.Extending.{index-front, index-end}
-use Rattle.rt_solver.specs.declared.trail.Step.{Step}
-use Rattle.rt_solver.specs.Trail.{value_in}
+use Rattle.rt_store.specs.declared.trail.Step.{Step}
+use Rattle.rt_store.specs.Trail.{value_in}
 use Rattle.rt_solver.specs.Answers.{Reads}
 
 some-or : (o : Option Bool) → IsSome o → o ≡ Some (unwrap_or o false)

@@ -4,14 +4,14 @@ use Rattle.std.specs.Option.{option_to_list}
 use Rattle.rt_clause.specs.Literal.{Literal, negated}
 use Rattle.rt_clause.specs.Lists.{has, line_at}
 use Rattle.rt_clause.proofs.Literals.{has-head, has-tail, has-append_left, has-append_right, has-append_cases, negated-twice, negated-same}
-use Rattle.rt_solver.specs.declared.trail.Step.{Step}
-use Rattle.rt_solver.specs.declared.trail.Why.{Why}
-use Rattle.rt_solver.specs.declared.trail.Why.TheVariants.{Line}
-use Rattle.rt_solver.specs.Trail.{lits, IsApart, RestsOn, IsFounded, BeforeDecisions}
+use Rattle.rt_store.specs.declared.trail.Step.{Step}
+use Rattle.rt_store.specs.declared.trail.Why.{Why}
+use Rattle.rt_store.specs.declared.trail.Why.TheVariants.{Line}
+use Rattle.rt_store.specs.Trail.{lits, IsApart, RestsOn, IsFounded, BeforeDecisions}
 use Rattle.rt_solver.specs.Analysis.{causes, clause_of, AreChosen, Lacks, IsPlaced, ArePlaced}
-use Rattle.rt_solver.specs.Same.{IsSame, IsSpread}
+use Rattle.rt_store.specs.Same.{IsSame, IsSpread}
 use Rattle.rt_solver.specs.Propagating.{IsWatched, IsPart, AreWatchedBefore, IsQueued, IsQueuedNow}
-use Rattle.rt_solver.proofs.FreshLaws.{absent-lit, founded-above, nowhere-before}
+use Rattle.rt_store.proofs.FreshLaws.{absent-lit, founded-above, nowhere-before}
 use Rattle.rt_solver.proofs.Returning.{reverse-has, has-reverse, map-has, has-map, chosen-distinct}
 use Rattle.rt_solver.proofs.Putting.{lines-of}
 use Rattle.rt_solver.proofs.Queues.{before-map, before-both, before-within, before-line, before-decided, before-suffix, before-cut, watched-more}

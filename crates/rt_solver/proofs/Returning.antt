@@ -5,15 +5,15 @@ use Rattle.std.specs.Option.{option_to_list}
 use Rattle.rt_clause.specs.Literal.{Literal, negated}
 use Rattle.rt_clause.specs.Lists.{has, line_at, IsMet, Fresh, HasNoRepeat}
 use Rattle.rt_clause.proofs.Literals.{has-head, has-tail, has-cases, has-append_left, has-append_right, has-append_cases, negated-twice}
-use Rattle.rt_solver.specs.declared.trail.Step.{Step}
-use Rattle.rt_solver.specs.declared.trail.Why.{Why}
-use Rattle.rt_solver.specs.declared.trail.Why.TheVariants.{Line, Decided, Assumed}
-use Rattle.rt_solver.specs.Trail.{lits, value_in, IsApart, IsUnit, RestsOn, BeforeDecisions, decisions, decided_by, digit}
+use Rattle.rt_store.specs.declared.trail.Step.{Step}
+use Rattle.rt_store.specs.declared.trail.Why.{Why}
+use Rattle.rt_store.specs.declared.trail.Why.TheVariants.{Line, Decided, Assumed}
+use Rattle.rt_store.specs.Trail.{lits, value_in, IsApart, IsUnit, RestsOn, BeforeDecisions, decisions, decided_by, digit}
 use Rattle.rt_solver.specs.Analysis.{causes, clause_of, IsChoice, AreChosen, Lacks}
 use Rattle.rt_solver.specs.Looking.{IsBelow, AreBelow}
 use Rattle.rt_solver.specs.Search.{IsReady, GoesOn, DecidesBelow}
-use Rattle.rt_solver.proofs.Number.{distance-grows, number-grows, count-fits}
-use Rattle.rt_solver.proofs.FreshLaws.{first_law, absent-lit, founded-above, apart-above, founded-push, met-before}
+use Rattle.rt_store.proofs.Number.{distance-grows, number-grows, count-fits}
+use Rattle.rt_store.proofs.FreshLaws.{first_law, absent-lit, founded-above, apart-above, founded-push, met-before}
 use Rattle.rt_solver.proofs.Queues.{before-map}
 
 subst-has : (t : List Step) (a b : Literal) → a ≡ b → has (lits t) a ≡ true → has (lits t) b ≡ true

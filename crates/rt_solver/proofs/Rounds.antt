@@ -3,17 +3,17 @@ use Rattle.std.proofs.Common.{◌≡◌, ℕ, ◌-◌, ◌<◌, ◌≤◌, Bool,
 use Rattle.std.proofs.lemmas.List.{append_cancel_left}
 use Rattle.rt_clause.specs.Literal.{Literal}
 use Rattle.rt_clause.specs.Lists.{line_at, IsMet}
-use Rattle.rt_solver.specs.declared.trail.Step.{Step}
-use Rattle.rt_solver.specs.Trail.{lits, value_in, IsApart, decisions, oldest}
-use Rattle.rt_solver.specs.Same.{AreSame, IsSpread}
-use Rattle.rt_solver.specs.declared.trail.Why.TheVariants.{Decided}
+use Rattle.rt_store.specs.declared.trail.Step.{Step}
+use Rattle.rt_store.specs.Trail.{lits, value_in, IsApart, decisions, oldest}
+use Rattle.rt_store.specs.Same.{AreSame, IsSpread}
+use Rattle.rt_store.specs.declared.trail.Why.TheVariants.{Decided}
 use Rattle.rt_solver.specs.Search.{line_of, KeepsModels, HasValues, GoesOn, HasLearned}
 use Rattle.rt_solver.specs.Solving.{IsSpent}
 use Rattle.rt_solver.proofs.Counting.{learned-none, learned-goes, learned-decided, learned-propagated}
 use Rattle.rt_solver.proofs.Searching.{decision-low, decision-all, spent}
-use Rattle.rt_solver.specs.Table.{Tracked}
+use Rattle.rt_store.specs.Table.{Tracked}
 use Rattle.rt_solver.specs.Propagating.{IsQueued, IsQueuedNow, IsConflict, IsDone, IsPropagated, AreListed}
-use Rattle.rt_solver.specs.Watching.{Listed}
+use Rattle.rt_store.specs.Watching.{Listed}
 use Rattle.std.specs.Prelude.{MatchOption, IsSomeAnd}
 use Rattle.rt_solver.proofs.Queues.{met-same, watched-met, broken-same}
 

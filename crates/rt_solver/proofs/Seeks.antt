@@ -6,19 +6,19 @@ use Rattle.rt_clause.specs.Models.{lit_true, IsModel}
 use Rattle.rt_clause.specs.Refuting.{Refutes, IsRefuted}
 use Rattle.rt_clause.proofs.Bools.{bool-cases}
 use Rattle.rt_clause.proofs.Literals.{has-head, has-tail, has-cases, negated-twice}
-use Rattle.rt_solver.specs.declared.trail.Step.{Step}
-use Rattle.rt_solver.specs.declared.trail.Why.{Why}
-use Rattle.rt_solver.specs.declared.trail.Why.TheVariants.{Line, Decided, Assumed}
+use Rattle.rt_store.specs.declared.trail.Step.{Step}
+use Rattle.rt_store.specs.declared.trail.Why.{Why}
+use Rattle.rt_store.specs.declared.trail.Why.TheVariants.{Line, Decided, Assumed}
 use Rattle.rt_solver.specs.declared.order.Order.{Order}
 use Rattle.rt_solver.specs.declared.order.Order.TheVariants.{Free, Fixed}
 use Rattle.rt_solver.specs.declared.next.Next.{Next}
 use Rattle.rt_solver.specs.declared.next.Next.TheVariants.{Whole, Missed, Decide}
 use Rattle.rt_solver.specs.Picking.{Picking, IsOffered}
-use Rattle.rt_solver.specs.Trail.{lits, value_in, IsApart, IsFounded, IfDecided, decisions, decided_by}
+use Rattle.rt_store.specs.Trail.{lits, value_in, IsApart, IsFounded, IfDecided, decisions, decided_by}
 use Rattle.rt_solver.specs.Propagating.{AreForced, IsPropagated}
 use Rattle.rt_solver.specs.Seeking.{IsLed, IsDenied, IsChosen, IsNext}
 use Rattle.rt_solver.specs.Answers.{HasNone}
-use Rattle.rt_solver.proofs.FreshLaws.{consistent}
+use Rattle.rt_store.proofs.FreshLaws.{consistent}
 use Rattle.rt_solver.proofs.Picks.{offered-more}
 use Rattle.rt_solver.proofs.Ordered.{AllTrue, forced, all-more, not-both, true-among}
 

@@ -5,9 +5,9 @@ use Rattle.rt_clause.specs.Literal.{Literal}
 use Rattle.rt_clause.specs.Lists.{has, line_at}
 use Rattle.rt_clause.proofs.Bools.{bool-cases}
 use Rattle.rt_clause.proofs.Literals.{has-tail}
-use Rattle.rt_solver.specs.declared.trail.Step.{Step}
-use Rattle.rt_solver.specs.declared.trail.Why.TheVariants.{Line}
-use Rattle.rt_solver.specs.Trail.{lits, IsUnit, decisions, decided_by}
+use Rattle.rt_store.specs.declared.trail.Step.{Step}
+use Rattle.rt_store.specs.declared.trail.Why.TheVariants.{Line}
+use Rattle.rt_store.specs.Trail.{lits, IsUnit, decisions, decided_by}
 use Rattle.rt_solver.specs.Propagating.{IsWatched, IsPart, IsQueued, AreForced, IsPropagated, IsTakenStep, AreShort}
 use Rattle.rt_solver.proofs.Queues.{watched-more, propagated-step, before-none}
 

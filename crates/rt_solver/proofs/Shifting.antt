@@ -7,8 +7,8 @@ use Rattle.rt_clause.specs.Packed.{packed}
 use Rattle.rt_clause.specs.Lists.{has, line_at}
 use Rattle.rt_clause.proofs.Bools.{bool-cases}
 use Rattle.rt_clause.proofs.Literals.{has-head, has-tail}
-use Rattle.rt_solver.specs.Same.{IsSpread}
-use Rattle.rt_solver.specs.Watching.{Listed, Lists, list_at, times, noted, literal_in, IsEdited}
+use Rattle.rt_store.specs.Same.{IsSpread}
+use Rattle.rt_store.specs.Watching.{Listed, Lists, list_at, times, noted, literal_in, IsEdited}
 use Rattle.rt_solver.specs.Turning.{IsMoved}
 use Rattle.rt_solver.specs.Propagating.{IsWatchOf, IsEntry, AreListed}
 use Rattle.rt_solver.proofs.Listing.{differ, times-none, none-has, joined-each, joined-here, joined-other, left-each, left-here, left-other, noted-times}

@@ -5,13 +5,14 @@ use Rattle.rt_clause.specs.Literal.{Literal}
 use Rattle.rt_clause.specs.Packed.{packed}
 use Rattle.rt_clause.specs.Lists.{line_at}
 use Rattle.rt_clause.proofs.Packing.{packed-same}
-use Rattle.rt_solver.specs.Watching.{Listed, Lists, list_at, noted, literal_in, IsEdited}
+use Rattle.rt_store.specs.Watching.{Listed, Lists, list_at, noted, literal_in, IsEdited}
 use Rattle.rt_solver.specs.Turning.{IsMoved, IsUnwatched, IsShifted}
 use Rattle.rt_solver.specs.Propagating.{IsEntry, AreListed}
 use Rattle.rt_solver.proofs.Listing.{left-shorter, left-behind}
-use Rattle.rt_solver.proofs.Looks.{has-at}
+use Rattle.rt_store.proofs.Looks.{has-at}
 use Rattle.rt_solver.proofs.Shifting.{watch-within, literal-has, shifted}
-use Rattle.rt_solver.proofs.Turns.{moved, literal-at, literal-long}
+use Rattle.rt_solver.proofs.Turns.{moved}
+use Rattle.rt_store.proofs.Copies.{literal-at, literal-long}
 
 -- the entry at the place, and what is known of its clause
 pub record IsAt (now : List (List Literal)) (home : ℕ) (e : Listed) (j : ℕ) : Type 0 where

@@ -6,9 +6,9 @@ use Rattle.rt_clause.specs.Literal.{Literal}
 use Rattle.rt_clause.specs.Lists.{has, line_at}
 use Rattle.rt_clause.proofs.Bools.{bool-cases}
 use Rattle.rt_clause.proofs.Literals.{has-head, has-tail, has-cases}
-use Rattle.rt_solver.specs.Same.{IsSame, AreSame, IsSpread}
+use Rattle.rt_store.specs.Same.{IsSame, AreSame, IsSpread}
 use Rattle.rt_solver.specs.Propagating.{AreShort}
-use Rattle.rt_solver.proofs.FreshLaws.{line_at-append, line_at-end}
+use Rattle.rt_store.proofs.FreshLaws.{line_at-append, line_at-end}
 
 -- a clause of the longer list is an old one or the new one
 place-cases : (old : List (List Literal)) (c : List Literal) (i : ℕ) → i < length (old ++ c ∷ []) → ((i < length old) × (line_at (old ++ c ∷ []) i ≡ line_at old i)) ⊎ ((i ≡ length old) × (line_at (old ++ c ∷ []) i ≡ c))

@@ -2,9 +2,9 @@
 use Rattle.std.proofs.Common.{◌≡◌, ◌≢◌, ℕ, zero, suc, ◌+◌, ◌-◌, ◌<◌, ◌≤◌, Bool, true, false, nat_eq, List, [], ◌∷◌, length, drop, get_or, sym, ap, subst, ◌∙◌, inl, inr, Option, arith, rules, drop-cons}
 use Rattle.rt_clause.specs.Literal.{Literal}
 use Rattle.rt_clause.proofs.Bools.{bool-cases}
-use Rattle.rt_solver.specs.declared.trail.Step.{Step}
+use Rattle.rt_store.specs.declared.trail.Step.{Step}
 use Rattle.rt_solver.specs.Marking.{Marked, marked_by, marked_steps, steps_marked}
-use Rattle.rt_solver.specs.Trail.{oldest}
+use Rattle.rt_store.specs.Trail.{oldest}
 use Rattle.rt_solver.specs.Analysis.{EachStep, IsPlain, IsStop, IsStopAt, IsStopUnder, IsWalkedBy}
 use Rattle.rt_solver.proofs.Counts.{count-drop, count-marked}
 use Rattle.rt_solver.proofs.Walks.{visit-unmarked}

@@ -6,9 +6,9 @@ use Rattle.rt_clause.specs.Packed.{packed}
 use Rattle.rt_clause.specs.Lists.{has, is_false, line_at}
 use Rattle.rt_clause.proofs.Bools.{bool-cases}
 use Rattle.rt_clause.proofs.Packing.{packed-same}
-use Rattle.rt_solver.specs.declared.trail.Step.{Step}
-use Rattle.rt_solver.specs.Trail.{lits, oldest}
-use Rattle.rt_solver.specs.Watching.{Listed, Lists, list_at, noted, literal_in, IsEdited}
+use Rattle.rt_store.specs.declared.trail.Step.{Step}
+use Rattle.rt_store.specs.Trail.{lits, oldest}
+use Rattle.rt_store.specs.Watching.{Listed, Lists, list_at, noted, literal_in, IsEdited}
 use Rattle.rt_solver.specs.Turning.{IsHeld, IsFree, IsTurned, IsUnwatched, IsShifted}
 use Rattle.rt_solver.specs.Propagating.{IsQueued, AreListed}
 use Rattle.rt_solver.proofs.Listing.{differ}

@@ -5,12 +5,12 @@ use Rattle.rt_clause.specs.Packed.{packed}
 use Rattle.rt_clause.specs.Lists.{has, is_false, line_at}
 use Rattle.rt_clause.proofs.Bools.{bool-cases}
 use Rattle.rt_clause.proofs.Literals.{has-head, has-tail, has-cases, negated-twice}
-use Rattle.rt_solver.specs.declared.trail.Step.{Step}
-use Rattle.rt_solver.specs.declared.trail.Why.TheVariants.{Line}
-use Rattle.rt_solver.specs.Trail.{lits, BeforeDecisions}
+use Rattle.rt_store.specs.declared.trail.Step.{Step}
+use Rattle.rt_store.specs.declared.trail.Why.TheVariants.{Line}
+use Rattle.rt_store.specs.Trail.{lits, BeforeDecisions}
 use Rattle.rt_solver.specs.Looking.{HasTrue}
-use Rattle.rt_solver.specs.Same.{IsSame, AreSame}
-use Rattle.rt_solver.specs.Watching.{Listed, list_at, literal_in}
+use Rattle.rt_store.specs.Same.{IsSame, AreSame}
+use Rattle.rt_store.specs.Watching.{Listed, list_at, literal_in}
 use Rattle.rt_solver.specs.Turning.{IsHeld, IsShifted}
 use Rattle.rt_solver.specs.Propagating.{IsWatched, AreLeft, IsPart, AreWatchedBefore, IsQueued, IsPropagated, IsWatchOf, IsEntry, AreListed}
 use Rattle.rt_solver.proofs.Listing.{place-in}

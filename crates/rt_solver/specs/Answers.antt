@@ -6,9 +6,9 @@ use Rattle.rt_clause.specs.Models.{lit_true, IsModel}
 use Rattle.rt_clause.specs.Refuting.{IsRefuted}
 use Rattle.rt_solver.specs.declared.solver.Found.{Found}
 use Rattle.rt_solver.specs.declared.solver.Found.TheVariants.{Model, Refuted, Spent}
-use Rattle.rt_solver.specs.declared.trail.Step.{Step}
-use Rattle.rt_solver.specs.Trail.{lits, value_in, decisions, IsApart, IsFounded}
-use Rattle.rt_solver.specs.Table.{Tracked}
+use Rattle.rt_store.specs.declared.trail.Step.{Step}
+use Rattle.rt_store.specs.Trail.{lits, value_in, decisions, IsApart, IsFounded}
+use Rattle.rt_store.specs.Table.{Tracked}
 use Rattle.rt_solver.specs.Solving.{IsSpent}
 
 -- the list gives each variable below m the value that the trail does

@@ -2,8 +2,8 @@
 use Rattle.std.specs.Prelude.{◌≡◌, ℕ, ◌≤◌, ◌^◌, Bool, List, refl}
 use Rattle.std.specs.Coded.{Coded, code_by, coded×, coded_ℕ, coded_bool}
 use Rattle.rt_clause.specs.Literal.{Literal}
-use Rattle.rt_solver.specs.Same.{AreSame}
-use Rattle.rt_solver.specs.Watching.{Listed}
+use Rattle.rt_store.specs.Same.{AreSame}
+use Rattle.rt_store.specs.Watching.{Listed}
 use Rattle.rt_solver.specs.Solving.{width}
 use Rattle.rt_solver.specs.Propagating.{AreListed, AreShort}
 

@@ -2,12 +2,12 @@
 use Rattle.std.specs.Prelude.{◌≡◌, ℕ, ◌<◌, Bool, true, false, List, [], ◌∷◌, slice_index_or, Option, IfSome}
 use Rattle.rt_clause.specs.Literal.{Literal}
 use Rattle.rt_clause.specs.Models.{lit_true, IsModel}
-use Rattle.rt_solver.specs.declared.trail.Step.{Step}
+use Rattle.rt_store.specs.declared.trail.Step.{Step}
 use Rattle.rt_solver.specs.declared.order.Order.{Order}
 use Rattle.rt_solver.specs.declared.order.Order.TheVariants.{Free, Fixed}
 use Rattle.rt_solver.specs.declared.solver.Found.{Found}
 use Rattle.rt_solver.specs.declared.solver.Found.TheVariants.{Model, Refuted, Spent}
-use Rattle.rt_solver.specs.Trail.{IfDecided}
+use Rattle.rt_store.specs.Trail.{IfDecided}
 use Rattle.rt_solver.specs.Search.{HasValues}
 
 -- where the order is fixed

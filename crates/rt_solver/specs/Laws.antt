@@ -3,9 +3,9 @@
 use Rattle.std.specs.Prelude.{◌≡◌, ℕ, ◌<◌, ◌≤◌, ◌^◌, true, List, [], ◌∷◌, ◌++◌, Option, None}
 use Rattle.rt_clause.specs.Literal.{Literal, negated}
 use Rattle.rt_clause.specs.Lists.{has, HasNoRepeat, Fresh}
-use Rattle.rt_solver.specs.declared.trail.Step.{Step}
-use Rattle.rt_solver.specs.declared.trail.Why.TheVariants.{Decided}
-use Rattle.rt_solver.specs.Trail.{lits, value_in, IsFounded, digit, count_below, number}
+use Rattle.rt_store.specs.declared.trail.Step.{Step}
+use Rattle.rt_store.specs.declared.trail.Why.TheVariants.{Decided}
+use Rattle.rt_store.specs.Trail.{lits, value_in, IsFounded, digit, count_below, number}
 
 -- The first law. On a trail whose steps are founded, the part before a decision is closed under
 -- propagation. So a clause of literals that are false before it, and of a last one that has no value

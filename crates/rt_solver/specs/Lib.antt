@@ -1,7 +1,3 @@
-pub mod Trail
-pub mod Storing
-pub mod Table
-pub mod Packing
 pub mod Analysis
 pub mod Looking
 pub mod Marking
@@ -10,13 +6,9 @@ pub mod State
 pub mod Solving
 pub mod Answers
 pub mod Laws
-pub mod Same
-pub mod Watching
 pub mod Turning
 pub mod Propagating
 pub mod Based
 pub mod Picking
 pub mod Fixed
-pub mod Members
-pub mod Places
 pub mod Seeking

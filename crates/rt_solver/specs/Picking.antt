@@ -1,7 +1,7 @@
 -- Which variables may be decided next.
 use Rattle.std.specs.Prelude.{◌≡◌, ◌≢◌, ℕ, suc, ◌<◌, ◌≤◌, Bool, true, false, cond, List, [], ◌∷◌, slice_index_or, None, IsSome}
-use Rattle.rt_solver.specs.declared.trail.Step.{Step}
-use Rattle.rt_solver.specs.Trail.{value_in}
+use Rattle.rt_store.specs.declared.trail.Step.{Step}
+use Rattle.rt_store.specs.Trail.{value_in}
 use Rattle.rt_solver.specs.Search.{HasValues}
 
 -- which variables the heap holds, those below the bound come from it, and each smaller one than the next has a value or does

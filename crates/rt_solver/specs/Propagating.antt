@@ -4,12 +4,12 @@ use Rattle.std.specs.List.{All as Each, Contains}
 use Rattle.rt_clause.specs.Literal.{Literal}
 use Rattle.rt_clause.specs.Packed.{packed}
 use Rattle.rt_clause.specs.Lists.{has, is_false, line_at, IsMet}
-use Rattle.rt_solver.specs.declared.trail.Step.{Step}
-use Rattle.rt_solver.specs.declared.trail.Why.TheVariants.{Line}
-use Rattle.rt_solver.specs.Trail.{lits, IsUnit, BeforeDecisions}
+use Rattle.rt_store.specs.declared.trail.Step.{Step}
+use Rattle.rt_store.specs.declared.trail.Why.TheVariants.{Line}
+use Rattle.rt_store.specs.Trail.{lits, IsUnit, BeforeDecisions}
 use Rattle.rt_solver.specs.Looking.{IsBroken, HasTrue}
-use Rattle.rt_solver.specs.Same.{IsSpread}
-use Rattle.rt_solver.specs.Watching.{Listed, Lists, list_at, room_at, times, literal_in}
+use Rattle.rt_store.specs.Same.{IsSpread}
+use Rattle.rt_store.specs.Watching.{Listed, Lists, list_at, room_at, times, literal_in}
 
 -- there are two literals, and neither of the first two is false
 abbrev pub AreLeft : List Literal → List Literal → Type 0

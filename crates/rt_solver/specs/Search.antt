@@ -5,9 +5,9 @@ use Rattle.rt_clause.specs.Literal.{Literal, negated}
 use Rattle.rt_clause.specs.Lists.{has, line_at, IsMet, Fresh, Determined}
 use Rattle.rt_clause.specs.Models.{IsModel}
 use Rattle.rt_clause.specs.Refuting.{Refutes}
-use Rattle.rt_solver.specs.Trail.{lits, value_in, IsApart, IsFounded, distance, number, decisions}
-use Rattle.rt_solver.specs.declared.trail.Step.{Step}
-use Rattle.rt_solver.specs.Table.{Tracked}
+use Rattle.rt_store.specs.Trail.{lits, value_in, IsApart, IsFounded, distance, number, decisions}
+use Rattle.rt_store.specs.declared.trail.Step.{Step}
+use Rattle.rt_store.specs.Table.{Tracked}
 use Rattle.rt_solver.specs.Looking.{IsBelow, AreBelow}
 
 pub record IsReady (lines : List (List Literal)) (assume : Option Literal) (trail : Tracked) : Type 0 where

@@ -2,12 +2,12 @@
 use Rattle.std.specs.Prelude.{◌≡◌, ℕ, ◌<◌, ◌≤◌, true, List, [], ◌∷◌, Option, None, IfSome, IsSomeAnd, ◌⊎◌}
 use Rattle.rt_clause.specs.Literal.{Literal}
 use Rattle.rt_clause.specs.Lists.{has, is_false}
-use Rattle.rt_solver.specs.declared.trail.Step.{Step}
+use Rattle.rt_store.specs.declared.trail.Step.{Step}
 use Rattle.rt_solver.specs.declared.order.Order.{Order}
 use Rattle.rt_solver.specs.declared.order.Order.TheVariants.{Fixed}
 use Rattle.rt_solver.specs.declared.next.Next.{Next}
 use Rattle.rt_solver.specs.declared.next.Next.TheVariants.{Whole, Missed, Decide}
-use Rattle.rt_solver.specs.Trail.{lits, value_in, IfDecided, decisions}
+use Rattle.rt_store.specs.Trail.{lits, value_in, IfDecided, decisions}
 use Rattle.rt_solver.specs.Search.{HasValues}
 use Rattle.rt_solver.specs.Picking.{Picking, IsOffered}
 

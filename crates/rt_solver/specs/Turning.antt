@@ -2,13 +2,13 @@
 use Rattle.std.specs.Prelude.{◌≡◌, ◌≢◌, ℕ, ◌+◌, ◌-◌, ◌/◌, ◌%◌, ◌<◌, ◌≤◌, Bool, true, false, List, ◌∷◌, length, Some, ◌⊎◌, slice_index_or, slice_set}
 use Rattle.rt_clause.specs.Literal.{Literal}
 use Rattle.rt_clause.specs.Lists.{has, is_false, line_at}
-use Rattle.rt_solver.specs.declared.trail.Step.{Step}
-use Rattle.rt_solver.specs.declared.trail.Why.TheVariants.{Line}
+use Rattle.rt_store.specs.declared.trail.Step.{Step}
+use Rattle.rt_store.specs.declared.trail.Why.TheVariants.{Line}
 use Rattle.rt_solver.specs.declared.turn.Turn.{Turn}
 use Rattle.rt_solver.specs.declared.turn.Turn.TheVariants.{Met, Stays, Moves, Broken}
-use Rattle.rt_solver.specs.Trail.{lits, IsUnit}
-use Rattle.rt_solver.specs.Same.{IsSame, IsSpread}
-use Rattle.rt_solver.specs.Watching.{Listed, list_at, literal_in}
+use Rattle.rt_store.specs.Trail.{lits, IsUnit}
+use Rattle.rt_store.specs.Same.{IsSame, IsSpread}
+use Rattle.rt_store.specs.Watching.{Listed, list_at, literal_in}
 use Rattle.rt_solver.specs.Looking.{IsBroken}
 use Rattle.rt_solver.specs.Propagating.{IsEntry, AreListed}
 

@@ -4,20 +4,16 @@
 ghost use Rattle.std.specs.Prelude.{◌≡◌, [], ◌∷◌, ◌++◌, ◌+◌, ◌*◌, ◌<◌, ◌≤◌, ◌^◌, length, vec_len, vec_capacity, true, false, OnOk, OnErr, IfOk, MatchOption};
 ghost use Rattle.std.specs.List.{All as Each};
 ghost use Rattle.rt_clause.specs.Lists.{line_at, follows};
-ghost use Rattle.rt_solver.specs.Trail.{lits, IsApart, oldest, decisions};
+ghost use Rattle.rt_store.specs.Trail.{lits, IsApart, oldest, decisions};
 ghost use Rattle.rt_solver.specs.Looking.{IsBelow, AreBelow};
 ghost use Rattle.rt_solver.specs.Search.{KeepsModels};
-ghost use Rattle.rt_solver.specs.Same.{IsSame, AreSame, IsSpread};
+ghost use Rattle.rt_store.specs.Same.{IsSame, AreSame, IsSpread};
 ghost use Rattle.rt_solver.specs.Solving.{reach, width};
 ghost use Rattle.rt_solver.specs.Propagating.{AreWatchedBefore, IsQueued, IsPropagated, IsConflict, IsDone, AreListed, AreShort, HasLists, HasRoom};
 
-use crate::clause::Clause;
-use crate::entry::Entry;
 use crate::propagate::{propagate, settle};
-use crate::trail::Trail;
-use crate::watch::Watch;
-use crate::watches::Watches;
 use rt_clause::{Lines, Lit};
+use rt_store::{Clause, Entry, Trail, Watch, Watches};
 use rt_value::NoMemory;
 use std::alloc::Global;
 use std::marker::Model;

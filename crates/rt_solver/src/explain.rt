@@ -9,20 +9,19 @@
 ghost use Rattle.std.specs.Prelude.{◌≡◌, ℕ, ◌<◌, ◌≤◌, ◌+◌, List, ◌∷◌, [], length, true, false, IfOk, IfSome, OnOk, Option, MatchOption, IsTrue, nat_eq};
 ghost use Rattle.rt_clause.specs.Lists.{line_at};
 ghost use Rattle.rt_clause.specs.Literal.{Literal};
-ghost use Rattle.rt_solver.specs.declared.trail.Step.{Step};
-ghost use Rattle.rt_solver.specs.declared.trail.Why.TheVariants.{Decided};
+ghost use Rattle.rt_store.specs.declared.trail.Step.{Step};
+ghost use Rattle.rt_store.specs.declared.trail.Why.TheVariants.{Decided};
 ghost use Rattle.rt_solver.specs.Marking.{marked_by, marked_steps};
-ghost use Rattle.rt_solver.specs.Trail.{lits, oldest, IsApart, IsFounded, RestsOn, IsLineWithin};
+ghost use Rattle.rt_store.specs.Trail.{lits, oldest, IsApart, IsFounded, RestsOn, IsLineWithin};
 ghost use Rattle.rt_solver.specs.Looking.{IsBelow, AreBelow, IsBroken};
 ghost use Rattle.rt_solver.specs.Analysis.{IsLearned, IsRested, IsWalked, IsChoice, IsFirstStop, IsStopAt, IsGathered, IsSought, IsTraced};
 
 use crate::base::Base;
-use crate::clause::Clause;
 use crate::lead::{lead, look};
 use crate::marks::Marks;
-use crate::trail::{Step, Trail, Why};
 use crate::walk::Walk;
 use rt_clause::{Lines, Lit};
+use rt_store::{Clause, Step, Trail, Why};
 use rt_value::NoMemory;
 
 // How many lines deep the search for what is implied goes.

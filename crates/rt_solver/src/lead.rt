@@ -6,13 +6,13 @@
 //! since the newest decision, and two steps are below that decision: the answer is 2.
 
 ghost use Rattle.std.specs.Prelude.{◌≡◌, ◌+◌, ◌<◌, ◌≤◌, ◌∷◌, length, false, IsTrue, MatchOption, IfSome};
-ghost use Rattle.rt_solver.specs.declared.trail.Why.TheVariants.{Decided};
+ghost use Rattle.rt_store.specs.declared.trail.Why.TheVariants.{Decided};
 ghost use Rattle.rt_solver.specs.Marking.{marked_by};
-ghost use Rattle.rt_solver.specs.Trail.{oldest};
+ghost use Rattle.rt_store.specs.Trail.{oldest};
 ghost use Rattle.rt_solver.specs.Analysis.{IsDecisionUnder, IsFirstStop, IsLead, IsPlain, IsStop};
 
 use crate::marks::Marks;
-use crate::trail::{Step, Trail, Why};
+use rt_store::{Step, Trail, Why};
 
 // Whether a step is marked or, where decisions count, a decision.
 #[inline]

@@ -12,12 +12,11 @@ ghost use Rattle.rt_solver.specs.Search.{KeepsModels, IsReady, IsStep, IsFirst};
 
 use crate::back::back;
 use crate::base::Base;
-use crate::clause::Clause;
 use crate::explain::explain;
 use crate::pick::Pick;
-use crate::trail::{Step, Trail, Why};
 use crate::walk::Walk;
 use rt_clause::{Lines, Lit};
+use rt_store::{Clause, Step, Trail, Why};
 use rt_value::NoMemory;
 use std::alloc::Global;
 

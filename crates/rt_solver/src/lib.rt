@@ -13,32 +13,20 @@
 
 mod back;
 mod base;
-mod clause;
-mod entry;
 mod explain;
-mod heap;
 pub mod laws;
 mod lead;
 mod learn;
 mod marks;
 mod next;
 mod order;
-mod packed;
 mod pick;
-mod places;
 mod propagate;
-mod rank;
 mod search;
-mod short;
-mod sift;
 mod solver;
-mod status;
-mod trail;
 mod turn;
 mod walk;
-mod watch;
-mod watches;
 
-pub use heap::Heap;
 pub use order::Order;
+pub use rt_store::Heap;
 pub use solver::{Found, Solver};

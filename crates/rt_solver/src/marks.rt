@@ -3,12 +3,12 @@
 ghost use Rattle.std.specs.Prelude.{◌≡◌, ℕ, List, ◌+◌, ◌-◌, ◌<◌, ◌≤◌, length, true, false, IfOk, OnOk, MatchOption};
 ghost use Rattle.rt_clause.specs.Literal.{Literal};
 ghost use Rattle.rt_clause.specs.Lists.{has};
-ghost use Rattle.rt_solver.specs.declared.trail.Step.{Step};
+ghost use Rattle.rt_store.specs.declared.trail.Step.{Step};
 ghost use Rattle.rt_solver.specs.Looking.{IsBelow};
 ghost use Rattle.rt_solver.specs.Marking.{marked_by, marked_steps, IsUnmarked};
-ghost use Rattle.rt_solver.specs.Trail.{IsApart};
+ghost use Rattle.rt_store.specs.Trail.{IsApart};
 
-use crate::clause::Clause;
+use rt_store::Clause;
 use rt_value::NoMemory;
 use std::alloc::Global;
 use std::marker::Model;

@@ -7,8 +7,8 @@ ghost use Rattle.rt_solver.specs.Seeking.{IsNext};
 
 use crate::order::Order;
 use crate::pick::Pick;
-use crate::trail::Trail;
 use rt_clause::Lit;
+use rt_store::Trail;
 
 /// What comes after propagation: each variable has a value, the question is false, or a literal
 /// is decided.

@@ -2,13 +2,12 @@
 //! in the fixed order.
 
 ghost use Rattle.std.specs.Prelude.{◌≡◌, ℕ, List, ◌∷◌, ◌<◌, ◌≤◌, length, true, None, IsTrue, ◌↔◌, OnOk, MatchOption};
-ghost use Rattle.rt_solver.specs.declared.trail.Step.{Step};
-ghost use Rattle.rt_solver.specs.Trail.{value_in};
+ghost use Rattle.rt_store.specs.declared.trail.Step.{Step};
+ghost use Rattle.rt_store.specs.Trail.{value_in};
 ghost use Rattle.rt_solver.specs.Search.{HasValues};
 ghost use Rattle.rt_solver.specs.Picking.{holds, HasOpen, HasOpenBut, AreSet, IsOffered, IsPicked};
 
-use crate::heap::Heap;
-use crate::trail::Trail;
+use rt_store::{Heap, Trail};
 use rt_value::NoMemory;
 use std::alloc::Global;
 use std::marker::Model;

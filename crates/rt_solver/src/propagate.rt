@@ -2,17 +2,15 @@
 
 ghost use Rattle.std.specs.Prelude.{◌≡◌, ℕ, ◌+◌, ◌<◌, ◌≤◌, ◌/◌, [], length, slice_index_or, MatchOption, IfOk, OnOk, OnErr};
 ghost use Rattle.rt_clause.specs.Lists.{line_at};
-ghost use Rattle.rt_solver.specs.Trail.{lits, IsApart, oldest};
+ghost use Rattle.rt_store.specs.Trail.{lits, IsApart, oldest};
 ghost use Rattle.rt_solver.specs.Looking.{IsBelow, AreBelow};
-ghost use Rattle.rt_solver.specs.Same.{AreSame};
-ghost use Rattle.rt_solver.specs.Watching.{Listed, list_at};
+ghost use Rattle.rt_store.specs.Same.{AreSame};
+ghost use Rattle.rt_store.specs.Watching.{Listed, list_at};
 ghost use Rattle.rt_solver.specs.Turning.{IsUnwatched, IsShifted};
 ghost use Rattle.rt_solver.specs.Propagating.{IsWatched, AreWatchedBefore, IsQueued, IsPropagated, AreListed, AreShort, IsConflict, IsTakenStep, IsShortAs};
 
-use crate::clause::Clause;
-use crate::trail::{Step, Trail, Why};
 use crate::turn::{Turn, examine};
-use crate::watches::Watches;
+use rt_store::{Clause, Step, Trail, Watches, Why};
 use rt_value::NoMemory;
 
 // Moves an entry to the list of the literal at a place of its clause, which is watched from then on.

@@ -2,8 +2,9 @@
 
 ghost use Rattle.std.specs.Prelude.{◌≡◌, ℕ, ◌<◌, ◌≤◌, ◌^◌, List as Seq, [], ◌∷◌, ◌++◌, length, None, Some, IsSome, IfSome, IfOk, MatchOption, IsTrue, ◌↔◌};
 ghost use Rattle.rt_clause.specs.Literal.{Literal};
-ghost use Rattle.rt_solver.specs.Trail.{value_in, decisions};
+ghost use Rattle.rt_store.specs.Trail.{value_in, decisions};
 ghost use Rattle.rt_solver.specs.declared.order.Order.TheVariants.{Fixed};
+ghost use Rattle.rt_solver.specs.Analysis.{IsRested};
 ghost use Rattle.rt_solver.specs.Fixed.{IfFixed, AreSmallest};
 ghost use Rattle.rt_solver.specs.Picking.{IsOffered};
 ghost use Rattle.rt_solver.specs.Search.{line_of, IsReady};
@@ -14,9 +15,9 @@ use crate::learn::learn;
 use crate::next::{Next, choose};
 use crate::order::Order;
 use crate::pick::Pick;
-use crate::trail::{Step, Trail, Why};
 use crate::walk::Walk;
 use rt_clause::{Lines, Lit};
+use rt_store::{Step, Trail, Why};
 use rt_value::{List, NoMemory};
 use std::alloc::Global;
 
@@ -78,9 +79,11 @@ pub(crate) fn run<L: Lines + Drop>(
     order: Order,
     pick: &mut Pick,
     trail: &mut Trail,
+    walk: &mut Walk,
     question: &Option<Lit>,
 ) -> Result<Ending, NoMemory>
     requires ready { IsReady (L.lines base.old.0) assume.now trail.old }
+    requires rested { IsRested trail.old.vars walk.old }
     requires few { trail.old.vars ≤ 2 ^ 62 }
     requires first { first ≤ trail.old.vars }
     requires undecided { decisions trail.old.steps ≡ [] }
@@ -98,13 +101,10 @@ pub(crate) fn run<L: Lines + Drop>(
 {
     let start = base.len();
     let mut kept: List<List<Lit>> = List::new(alloc);
-    let mut walk = Walk::new(alloc, trail.vars())?;
     let mut conflict = base.begin(trail)?;
     'search: loop {
         match conflict {
-            Some(number) => match learn(
-                alloc, base, assume, first, trail, pick, &mut walk, number,
-            )? {
+            Some(number) => match learn(alloc, base, assume, first, trail, pick, walk, number)? {
                 None => return Ok(Ending::Refuted),
                 Some(line) => {
                     keep(alloc, &mut kept, budget, line.as_slice(), assume)?;

@@ -4,7 +4,7 @@ ghost use Rattle.std.specs.Prelude.{◌≡◌, ◌≤◌, ◌<◌, ◌^◌, ℕ,
 ghost use Rattle.std.specs.Option.{option_to_list};
 ghost use Rattle.rt_clause.specs.Literal.{Literal};
 ghost use Rattle.rt_clause.specs.Lists.{Determined};
-ghost use Rattle.rt_solver.specs.Trail.{value_in};
+ghost use Rattle.rt_store.specs.Trail.{value_in};
 ghost use Rattle.rt_solver.specs.Search.{line_of, HasValues};
 ghost use Rattle.rt_solver.specs.Solving.{reach, width, variables, HasSearched};
 ghost use Rattle.rt_solver.specs.State.{has_failed};
@@ -16,8 +16,9 @@ use crate::base::Base;
 use crate::order::Order;
 use crate::pick::Pick;
 use crate::search::{Ending, run};
-use crate::trail::{Step, Trail, Why};
+use crate::walk::Walk;
 use rt_clause::{Adds, Lines, Lit};
+use rt_store::{Step, Trail, Why};
 use rt_value::{Keep, List, NoMemory};
 use std::alloc::Global;
 use std::marker::Model;
@@ -123,8 +124,9 @@ fn find<L: Lines + Drop>(
     }
     let mut trail = begun(alloc, vars, assume)?;
     pick.begin(vars, order.bound(first))?;
+    let mut walk = Walk::new(alloc, vars)?;
     let found = match run(
-        alloc, base, assume, first, budget, order, pick, &mut trail, question,
+        alloc, base, assume, first, budget, order, pick, &mut trail, &mut walk, question,
     )? {
         Ending::Whole => Some(Found::Model(values(alloc, &trail)?)),
         Ending::Refuted => Some(Found::Refuted),

@@ -3,14 +3,12 @@
 ghost use Rattle.std.specs.Prelude.{◌≡◌, ℕ, ◌<◌, ◌≤◌, ◌-◌, ◌/◌, ◌%◌, true, List, length, Some, MatchOption};
 ghost use Rattle.rt_clause.specs.Literal.{Literal};
 ghost use Rattle.rt_clause.specs.Lists.{is_false, line_at, IsBelow, AreBelow};
-ghost use Rattle.rt_solver.specs.Trail.{lits, IsApart, IsUnit};
-ghost use Rattle.rt_solver.specs.Watching.{literal_in};
+ghost use Rattle.rt_store.specs.Trail.{lits, IsApart, IsUnit};
+ghost use Rattle.rt_store.specs.Watching.{literal_in};
 ghost use Rattle.rt_solver.specs.Turning.{AreFalseWithin, AreFalseFrom, IsFreeAt, IsLast, IsTurn, IsTurned};
 
-use crate::clause::Clause;
-use crate::entry::Entry;
-use crate::trail::{Step, Trail, Why};
 use rt_clause::Lit;
+use rt_store::{Clause, Entry, Step, Trail, Why};
 
 /// What becomes of a watch whose literal is false: it stays, since the literal of its entry is true,
 /// or another one; or the literal at a place is watched instead; or all literals are false.

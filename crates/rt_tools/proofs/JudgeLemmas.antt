@@ -5,9 +5,9 @@ use Rattle.std.proofs.lemmas.Bool.Decides.{nat_tests}
 use Rattle.rt_value.specs.declared.no_memory.NoMemory.{NoMemory}
 use Rattle.rt_algebra.specs.declared.typed.Typed.{Typed}
 use Rattle.rt_algebra.specs.Typed.{IsTypedOf}
-use Rattle.rt_search.specs.declared.best.Best.{Best}
-use Rattle.rt_search.specs.declared.best.Best.TheVariants as best
-use Rattle.rt_search.specs.declared.best.SpentBest.{SpentBest}
+use Rattle.rt_least.specs.declared.best.Best.{Best}
+use Rattle.rt_least.specs.declared.best.Best.TheVariants as best
+use Rattle.rt_least.specs.declared.best.SpentBest.{SpentBest}
 use Rattle.rt_io.specs.Ranges.{Command, IsInRange}
 use Rattle.rt_input.specs.declared.first.First.{First}
 use Rattle.rt_input.specs.declared.outcome.Limit.TheVariants as limit

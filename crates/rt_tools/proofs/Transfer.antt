@@ -5,9 +5,9 @@ use Rattle.rt_clause.specs.Literal.{Literal}
 use Rattle.rt_formula.specs.Cut.{cut}
 use Rattle.rt_formula.specs.Shared.{IsGrown, Shared, val}
 use Rattle.rt_formula.proofs.Cutting.{cut-length}
-use Rattle.rt_search.specs.Least.{HasFewest, IsEnough, IsGoal, IsLeast, IsSpentBest}
-use Rattle.rt_search.specs.Nogoods.{IsSpentBy}
-use Rattle.rt_search.proofs.Targets.{spent-narrowed}
+use Rattle.rt_least.specs.Least.{HasFewest, IsEnough, IsGoal, IsLeast, IsSpentBest}
+use Rattle.rt_least.specs.Nogoods.{IsSpentBy}
+use Rattle.rt_least.proofs.Targets.{spent-narrowed}
 
 -- a test of choices of so many rows
 abbrev pub IsAt : ℕ → (List Bool → Bool) → List Bool → Type 0

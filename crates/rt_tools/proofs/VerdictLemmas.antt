@@ -6,9 +6,9 @@ use Rattle.rt_schema.specs.declared.table.Table.{Table}
 use Rattle.rt_schema.specs.Given.{Instance, places}
 use Rattle.rt_algebra.specs.declared.typed.Typed.{Typed}
 use Rattle.rt_formula.specs.Shared.{Shared}
-use Rattle.rt_search.specs.Least.{IsBest}
-use Rattle.rt_search.specs.declared.best.Best.{Best}
-use Rattle.rt_search.specs.declared.best.Best.TheVariants.{Least, Never, Spent}
+use Rattle.rt_least.specs.Least.{IsBest}
+use Rattle.rt_least.specs.declared.best.Best.{Best}
+use Rattle.rt_least.specs.declared.best.Best.TheVariants.{Least, Never, Spent}
 use Rattle.rt_tools.specs.Holds.{IsRowVerdict, holds_at}
 use Rattle.rt_tools.proofs.Transfer.{Means, least_of, never_of, some_spent}
 

@@ -8,9 +8,9 @@ use Rattle.rt_schema.specs.Kept.{kept}
 use Rattle.rt_schema.specs.Law.{lawful}
 use Rattle.rt_algebra.specs.Answer.{has_row, plain}
 use Rattle.rt_algebra.specs.declared.typed.Typed.{Typed}
-use Rattle.rt_search.specs.Least.{IsLeast, IsSpentBest}
-use Rattle.rt_search.specs.declared.best.Best.{Best}
-use Rattle.rt_search.specs.declared.best.Best.TheVariants.{Least, Never, Spent}
+use Rattle.rt_least.specs.Least.{IsLeast, IsSpentBest}
+use Rattle.rt_least.specs.declared.best.Best.{Best}
+use Rattle.rt_least.specs.declared.best.Best.TheVariants.{Least, Never, Spent}
 
 -- on the kept rows the first query answers with the row, and the second doesn't
 abbrev pub told_at : Instance → Typed → Typed → List Value → List Bool → Bool

@@ -4,7 +4,7 @@ use Rattle.rt_schema.specs.Given.{places}
 use Rattle.rt_algebra.specs.declared.typed.Typed.{Typed}
 use Rattle.rt_annot.specs.Reference.{IsReference}
 use Rattle.rt_input.specs.declared.first.First.{First}
-use Rattle.rt_search.specs.declared.best.Best.{Best}
+use Rattle.rt_least.specs.declared.best.Best.{Best}
 use Rattle.rt_top.specs.Smallest.{IsVerdict}
 use Rattle.rt_tools.specs.declared.prepared.Prepared.{Prepared}
 

@@ -2,7 +2,7 @@
 use Rattle.std.specs.Prelude.{◌≡◌, ℕ, Bool, false, List, length, Some, Ok, Err}
 use Rattle.rt_value.specs.declared.value.Value.{Value}
 use Rattle.rt_schema.specs.Given.{places}
-use Rattle.rt_search.specs.Least.{IsLeast, IsSpentBest}
+use Rattle.rt_least.specs.Least.{IsLeast, IsSpentBest}
 use Rattle.rt_tools.specs.Rows.{is_memory, row_read}
 use Rattle.rt_tools.specs.Holds.{Holds, holds_at}
 use Rattle.rt_input.specs.Accepted.{Accepted}

@@ -7,7 +7,7 @@ ghost use Rattle.rt_schema.specs.Kept.{kept};
 ghost use Rattle.rt_schema.specs.Law.{lawful};
 ghost use Rattle.rt_algebra.specs.Typed.{IsTyped};
 ghost use Rattle.rt_formula.specs.Shared.{val, IsGrown};
-ghost use Rattle.rt_annot.specs.Ann.{AreOf, node_at, node_value};
+ghost use Rattle.rt_noted.specs.Ann.{AreOf, node_at, node_value};
 ghost use Rattle.rt_tools.specs.Holds.{holds_at, told_at};
 
 use rt_algebra::Typed;

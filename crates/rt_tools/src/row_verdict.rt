@@ -4,7 +4,7 @@ ghost use Rattle.std.specs.Prelude.{◌≡◌, IfOk, IfErr, Ok, Some};
 ghost use Rattle.rt_io.specs.Edge.{NoneFell};
 ghost use Rattle.rt_tools.specs.Holds.{IsRowVerdict};
 ghost use Rattle.rt_schema.specs.Given.{places};
-ghost use Rattle.rt_search.specs.Least.{IsSpentBest};
+ghost use Rattle.rt_least.specs.Least.{IsSpentBest};
 ghost use Rattle.rt_io.specs.Command.{command};
 ghost use Rattle.rt_input.specs.Begun.{Begins};
 ghost use Rattle.rt_input.specs.Reading.{call, Stop};

@@ -12,11 +12,11 @@ use Rattle.rt_algebra.specs.declared.typed.Typed.{Typed}
 use Rattle.rt_formula.specs.Cut.{cut}
 use Rattle.rt_formula.specs.Shared.{IsGrown, Shared, val}
 use Rattle.rt_formula.proofs.Cutting.{cut-length}
-use Rattle.rt_search.specs.Least.{HasFewest as HasFewestRows, IsBest, IsEnough, IsGoal, IsSpentBest}
-use Rattle.rt_search.specs.Nogoods.{IsSpentBy}
-use Rattle.rt_search.proofs.Targets.{spent-narrowed}
-use Rattle.rt_search.specs.declared.best.Best.{Best}
-use Rattle.rt_search.specs.declared.best.Best.TheVariants.{Least, Never, Spent}
+use Rattle.rt_least.specs.Least.{HasFewest as HasFewestRows, IsBest, IsEnough, IsGoal, IsSpentBest}
+use Rattle.rt_least.specs.Nogoods.{IsSpentBy}
+use Rattle.rt_least.proofs.Targets.{spent-narrowed}
+use Rattle.rt_least.specs.declared.best.Best.{Best}
+use Rattle.rt_least.specs.declared.best.Best.TheVariants.{Least, Never, Spent}
 use Rattle.rt_input.specs.Accepted.{Accepted}
 use Rattle.rt_top.specs.Smallest.{HasFewest, IsCounter, IsFirst, IsGivenUp, IsVerdict, counters, differ_at, lawful_at}
 

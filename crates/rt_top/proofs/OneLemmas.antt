@@ -1,8 +1,8 @@
 -- At most one choice is a smallest counterexample, so a call has one answer.
 use Rattle.std.proofs.Common.{◌≡◌, ℕ, Bool, true, false, List, Ok, inl, inr, refl, sym, ap, subst, ◌∙◌, arith}
-use Rattle.rt_search.specs.declared.best.Best.{Best}
-use Rattle.rt_search.specs.declared.best.Best.TheVariants.{Least, Never, Spent}
-use Rattle.rt_search.proofs.Keeps.{either-before}
+use Rattle.rt_least.specs.declared.best.Best.{Best}
+use Rattle.rt_least.specs.declared.best.Best.TheVariants.{Least, Never, Spent}
+use Rattle.rt_least.proofs.Keeps.{either-before}
 use Rattle.rt_input.specs.declared.outcome.Outcome.{Outcome}
 use Rattle.rt_input.specs.declared.outcome.Outcome.TheVariants as outcome
 use Rattle.rt_input.specs.Accepted.{Accepted}

@@ -1,7 +1,7 @@
 -- One answer: a call that ends in agreement or in a witness could have ended in no other one.
 use Rattle.std.specs.Prelude.{◌≡◌, ℕ, Bool, List, ⊤}
-use Rattle.rt_search.specs.declared.best.Best.{Best}
-use Rattle.rt_search.specs.declared.best.Best.TheVariants.{Least, Never, Spent}
+use Rattle.rt_least.specs.declared.best.Best.{Best}
+use Rattle.rt_least.specs.declared.best.Best.TheVariants.{Least, Never, Spent}
 use Rattle.rt_input.specs.declared.outcome.Outcome.{Outcome}
 use Rattle.rt_input.specs.declared.outcome.Outcome.TheVariants as outcome
 use Rattle.rt_input.specs.Accepted.{Accepted}

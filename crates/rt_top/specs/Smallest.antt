@@ -9,10 +9,10 @@ use Rattle.rt_algebra.specs.Answer.{plain, same_rows}
 use Rattle.rt_algebra.specs.declared.typed.Typed.{Typed}
 use Rattle.rt_input.specs.Accepted.{Accepted}
 use Rattle.rt_clause.specs.Literal.{Literal}
-use Rattle.rt_search.specs.Nogoods.{IsSpentBy}
-use Rattle.rt_search.specs.Order.{ComesBefore}
-use Rattle.rt_search.specs.declared.best.Best.{Best}
-use Rattle.rt_search.specs.declared.best.Best.TheVariants.{Least, Never, Spent}
+use Rattle.rt_least.specs.Nogoods.{IsSpentBy}
+use Rattle.rt_least.specs.Order.{ComesBefore}
+use Rattle.rt_least.specs.declared.best.Best.{Best}
+use Rattle.rt_least.specs.declared.best.Best.TheVariants.{Least, Never, Spent}
 
 -- a choice has one Bool a place
 abbrev pub IsChoice : Accepted → List Bool → Type 0

@@ -14,21 +14,21 @@ use Rattle.rt_schema.specs.Given.{base_of}
 use Rattle.rt_rules.proofs.BoolLemmas.{and-false}
 use Rattle.rt_split.specs.Probe.{IsProbeOf}
 use Rattle.rt_schema.specs.Kept.{kept}
-use Rattle.rt_annot.specs.Entries.{rows_at, selected}
-use Rattle.rt_annot.specs.Annotated.{IsGate, IsNode, entries_of, placed, set_rows, test_under, yes_when, no_when, yes_of, no_of}
-use Rattle.rt_annot.specs.Joints.{GiveEach, joint_entries}
-use Rattle.rt_annot.proofs.Exact.{table_exact}
-use Rattle.rt_annot.specs.declared.sets.Side.TheVariants.{Standing, Missing}
-use Rattle.rt_annot.specs.declared.subquery.Memo.TheVariants.{Tested, Listed}
-use Rattle.rt_annot.specs.Known.{AreKnown}
-use Rattle.rt_annot.proofs.Knowing.{gives_under, known_more, known_stay, same_known, some_holds, tells_same, tells_stay, tells_under}
-use Rattle.rt_annot.proofs.Growing.{grown_refl, grown_trans, all_stays, mean_stays, node_as, node_never, nodes_are, nodes_stay, noted_stay}
-use Rattle.rt_annot.proofs.Distinct.{noted_at}
-use Rattle.rt_annot.proofs.Walking.{base_within, next_is, next_placed, scope_again, scope_room, scope_with, table_entries}
+use Rattle.rt_noted.specs.Entries.{rows_at, selected}
+use Rattle.rt_noted.specs.Annotated.{IsGate, IsNode, entries_of, placed, set_rows, test_under, yes_when, no_when, yes_of, no_of}
+use Rattle.rt_noted.specs.Joints.{GiveEach, joint_entries}
+use Rattle.rt_noted.proofs.Exact.{table_exact}
+use Rattle.rt_noted.specs.declared.side.Side.TheVariants.{Standing, Missing}
+use Rattle.rt_noted.specs.declared.subquery.Memo.TheVariants.{Tested, Listed}
+use Rattle.rt_noted.specs.Known.{AreKnown}
+use Rattle.rt_noted.proofs.Knowing.{gives_under, known_more, known_stay, same_known, some_holds, tells_same, tells_stay, tells_under}
+use Rattle.rt_noted.proofs.Growing.{grown_refl, grown_trans, all_stays, mean_stays, node_as, node_never, nodes_are, nodes_stay, noted_stay}
+use Rattle.rt_noted.proofs.Distinct.{noted_at}
+use Rattle.rt_noted.proofs.Walking.{base_within, next_is, next_placed, scope_again, scope_room, scope_with, table_entries}
 use Rattle.rt_algebra.proofs.Equations.{at_table, at_cmp, at_is_null, at_one_of, at_select, at_project, at_union, at_except, at_intersect}
-use Rattle.rt_annot.proofs.Layers.{outcome, mean_push, mean_as, yes_more, no_more, joined_gate, joined_stops, and_gate, or_gate, exists_gate, member_gate, gives_as, gives_same, gives_stay, gives_of, gives_projected, gives_merged, choose, leave_out, choosing_at, choosing_start}
-use Rattle.rt_annot.proofs.Joining.{joint_below}
-use Rattle.rt_annot.proofs.Members.{chosen_rows, choosing_rows, narrowed_rows, whole_rows, members_same, members_below, makes_product, makes_single, give_push, answers_more}
+use Rattle.rt_noted.proofs.Layers.{outcome, mean_push, mean_as, yes_more, no_more, joined_gate, joined_stops, and_gate, or_gate, exists_gate, member_gate, gives_as, gives_same, gives_stay, gives_of, gives_projected, gives_merged, choose, leave_out, choosing_at, choosing_start}
+use Rattle.rt_noted.proofs.Joining.{joint_below}
+use Rattle.rt_noted.proofs.Members.{chosen_rows, choosing_rows, narrowed_rows, whole_rows, members_same, members_below, makes_product, makes_single, give_push, answers_more}
 use Rattle.rt_annot.proofs.+annotate.Goals as goal
 use Rattle.rt_annot.proofs.+annotate.Goals.{evaluate::chosen-then-not-is_never+in_ok-note, evaluate::chosen-else-not-is_never, evaluate::table_selection-then-not-is_never+in_ok-note, evaluate::table_selection-else-not-is_never}
 

@@ -4,10 +4,10 @@ use Rattle.rt_algebra.specs.Answer.{answer_by}
 use Rattle.rt_algebra.specs.Expression.{wrapped}
 use Rattle.rt_schema.specs.Kept.{kept}
 use Rattle.rt_formula.specs.Shared.{IsGrown}
-use Rattle.rt_annot.specs.Entries.{selected}
-use Rattle.rt_annot.specs.Annotated.{Choosing, Mean, placed, test_under, yes_of, no_of}
-use Rattle.rt_annot.specs.Known.{AreKnown}
-use Rattle.rt_annot.specs.Joints.{GiveEach, joint_entries}
+use Rattle.rt_noted.specs.Entries.{selected}
+use Rattle.rt_noted.specs.Annotated.{Choosing, Mean, placed, test_under, yes_of, no_of}
+use Rattle.rt_noted.specs.Known.{AreKnown}
+use Rattle.rt_noted.specs.Joints.{GiveEach, joint_entries}
 use Rattle.rt_annot.proofs.+annotate.Given as goal
 
 abbrev pub invariant-conditions::together-loop-p : goal.invariant-conditions::together-loop-p

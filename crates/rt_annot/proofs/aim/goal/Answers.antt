@@ -1,8 +1,8 @@
 use Rattle.std.proofs.Common.{◌∙◌, sym}
 use Rattle.std.proofs.lemmas.Result.{IfOk-weaker}
 use Rattle.rt_annot.proofs.Referring.{goal_means, goal_parts}
-use Rattle.rt_annot.proofs.Growing.{grown_trans}
-use Rattle.rt_annot.proofs.Joining.{both_hold}
+use Rattle.rt_noted.proofs.Growing.{grown_trans}
+use Rattle.rt_noted.proofs.Joining.{both_hold}
 use Rattle.rt_annot.proofs.aim.goal.Goals as goal
 
 pub returns-clause-parts : goal.returns-clause-parts

@@ -2,8 +2,8 @@ use Rattle.std.proofs.Common.{◌∙◌, ◌≡◌, Bool, true, false, not, ◌&
 use Rattle.rt_algebra.specs.Answer.{has_row}
 use Rattle.rt_formula.proofs.Meaning.{val-grown}
 use Rattle.rt_rules.proofs.Meanings.{below-grown}
-use Rattle.rt_annot.proofs.Growing.{grown_trans, two_nodes}
-use Rattle.rt_annot.proofs.SameRows.{mapped_stay, rows_stay, same_rows_is}
+use Rattle.rt_noted.proofs.Growing.{grown_trans, two_nodes}
+use Rattle.rt_noted.proofs.SameRows.{mapped_stay, rows_stay, same_rows_is}
 use Rattle.rt_annot.proofs.aim.goal_beside.Goals as goal
 
 both_of : (a b x y : Bool) → a ≡ x → b ≡ y → (a && (b && true)) ≡ (x && y)

@@ -1,4 +1,4 @@
-use Rattle.rt_annot.proofs.Knowing.{none_known}
+use Rattle.rt_noted.proofs.Knowing.{none_known}
 use Rattle.rt_annot.proofs.annotation.noted_rows.Goals as goal
 
 pub annotated-requires-clause-known : goal.annotated-requires-clause-known

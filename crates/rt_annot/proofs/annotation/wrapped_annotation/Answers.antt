@@ -2,10 +2,10 @@ use Rattle.std.proofs.Common.{◌∙◌, ap, sym, []}
 use Rattle.rt_algebra.specs.Answer.{answer_by, has_row}
 use Rattle.rt_algebra.specs.Expression.{wrapped}
 use Rattle.rt_schema.specs.Kept.{kept}
-use Rattle.rt_annot.specs.Entries.{rows_at}
-use Rattle.rt_annot.specs.Annotated.{entries_of}
-use Rattle.rt_annot.proofs.Merged.{merged_below, annotated_rows, rows_value}
-use Rattle.rt_annot.proofs.Growing.{grown_trans}
+use Rattle.rt_noted.specs.Entries.{rows_at}
+use Rattle.rt_noted.specs.Annotated.{entries_of}
+use Rattle.rt_noted.proofs.Merged.{merged_below, annotated_rows, rows_value}
+use Rattle.rt_noted.proofs.Growing.{grown_trans}
 use Rattle.rt_annot.proofs.annotation.wrapped_annotation.Goals as goal
 
 pub returns-clause-nodes : goal.returns-clause-nodes

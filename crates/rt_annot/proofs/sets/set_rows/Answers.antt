@@ -1,9 +1,9 @@
 use Rattle.std.proofs.Common.{ap, sym}
 use Rattle.std.proofs.lemmas.Result.{IfOk-weaker}
-use Rattle.rt_annot.specs.Annotated.{set_rows}
-use Rattle.rt_annot.proofs.Distinct.{noted_at}
-use Rattle.rt_annot.proofs.Growing.{grown_refl}
-use Rattle.rt_annot.proofs.Layers.{gives_append, gives_as, gives_same, gives_sifted}
+use Rattle.rt_noted.specs.Annotated.{set_rows}
+use Rattle.rt_noted.proofs.Distinct.{noted_at}
+use Rattle.rt_noted.proofs.Growing.{grown_refl}
+use Rattle.rt_noted.proofs.Layers.{gives_append, gives_as, gives_same, gives_sifted}
 use Rattle.rt_annot.proofs.sets.set_rows.Goals as goal
 
 pub sifted-requires-clause-from : goal.sifted-requires-clause-from

@@ -1,15 +1,15 @@
 use Rattle.std.proofs.Common.{◌∙◌, refl, subst, sym, ◌≡◌, ℕ, ◌<◌, length}
-use Rattle.rt_annot.specs.Entries.{stands, Test}
+use Rattle.rt_noted.specs.Entries.{stands, Test}
 use Rattle.rt_formula.specs.Groups.{standing}
-use Rattle.rt_annot.specs.Annotated.{IsNode, entries_of, side_test, IsGate, side_node}
-use Rattle.rt_annot.proofs.Growing.{grown_trans, nodes_stay, nodes_are, any_stays, either_means, node_stays}
-use Rattle.rt_annot.proofs.Layers.{side_is}
-use Rattle.rt_annot.proofs.Nodes.{where_below, any_standing}
-use Rattle.rt_annot.proofs.Walking.{along_push, next_selected, node_below, both_over, itself}
+use Rattle.rt_noted.specs.Annotated.{IsNode, entries_of, side_test, IsGate, side_node}
+use Rattle.rt_noted.proofs.Growing.{grown_trans, nodes_stay, nodes_are, any_stays, either_means, node_stays}
+use Rattle.rt_noted.proofs.Layers.{side_is}
+use Rattle.rt_noted.proofs.Nodes.{where_below, any_standing}
+use Rattle.rt_noted.proofs.Walking.{along_push, next_selected, node_below, both_over, itself}
 use Rattle.rt_formula.specs.Shared.{Shared}
-use Rattle.rt_annot.specs.declared.gate.TruthNodes.{TruthNodes}
-use Rattle.rt_annot.specs.declared.sets.Side.{Side}
-use Rattle.rt_annot.specs.declared.sets.Side.TheVariants.{Standing, Missing}
+use Rattle.rt_noted.specs.declared.gate.TruthNodes.{TruthNodes}
+use Rattle.rt_noted.specs.declared.side.Side.{Side}
+use Rattle.rt_noted.specs.declared.side.Side.TheVariants.{Standing, Missing}
 use Rattle.rt_annot.proofs.sets.sifted.Goals as goal
 
 side_below : (side : Side) {d : Shared} {g : TruthNodes} {t : Test} {n : ℕ} → IsGate d g t → n ≡ side_node side g → n < length d.entries

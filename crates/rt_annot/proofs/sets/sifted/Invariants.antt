@@ -1,6 +1,6 @@
 use Rattle.std.proofs.Common.{drop}
-use Rattle.rt_annot.specs.Entries.{selected}
-use Rattle.rt_annot.specs.Annotated.{Along, entries_of, side_test}
+use Rattle.rt_noted.specs.Entries.{selected}
+use Rattle.rt_noted.specs.Annotated.{Along, entries_of, side_test}
 use Rattle.rt_annot.proofs.sets.sifted.Given as goal
 
 abbrev pub invariant-loop-noted : goal.invariant-loop-noted

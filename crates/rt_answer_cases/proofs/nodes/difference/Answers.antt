@@ -1,4 +1,4 @@
-use Rattle.rt_annot.proofs.SameRows.{mapped_stay}
+use Rattle.rt_noted.proofs.SameRows.{mapped_stay}
 use Rattle.rt_answer_cases.proofs.nodes.difference.Goals as goal
 
 pub differ-requires : goal.differ-requires

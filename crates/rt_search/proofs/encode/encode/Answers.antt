@@ -1,4 +1,4 @@
-use Rattle.rt_search.proofs.Aiming.{aimed-begun}
+use Rattle.rt_least.proofs.Aiming.{aimed-begun}
 use Rattle.rt_search.proofs.encode.encode.Goals as goal
 
 pub returns-clause-aimed : goal.returns-clause-aimed

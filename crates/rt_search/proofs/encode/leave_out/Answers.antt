@@ -1,5 +1,5 @@
 use Rattle.std.proofs.Common.{arith}
-use Rattle.rt_search.proofs.LeftOut.{lines-more}
+use Rattle.rt_least.proofs.LeftOut.{lines-more}
 use Rattle.rt_search.proofs.encode.leave_out.Goals as goal
 
 pub loop-place-preserved : goal.loop-place-preserved

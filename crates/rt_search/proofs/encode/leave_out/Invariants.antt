@@ -1,5 +1,5 @@
 use Rattle.std.proofs.Common.{◌≡◌, ◌++◌, take}
-use Rattle.rt_search.specs.Sought.{left_out}
+use Rattle.rt_least.specs.Sought.{left_out}
 use Rattle.rt_search.proofs.encode.leave_out.Given as goal
 
 abbrev pub invariant-loop-place : goal.invariant-loop-place

@@ -2,11 +2,11 @@ use Rattle.std.proofs.Common.{◌<◌, ◌∙◌, None, refl, sym, subst, arith}
 use Rattle.rt_clause.specs.Refuting.{IsRefuted}
 use Rattle.rt_solver.specs.declared.solver.Found.{Found}
 use Rattle.rt_derive.specs.declared.checker.Checker.{Checker}
-use Rattle.rt_search.specs.Attempts.{IsTold}
-use Rattle.rt_search.proofs.Aiming.{aimed-extends, model-sought, refuted-never}
-use Rattle.rt_search.proofs.Attempts.{aimed-grown}
-use Rattle.rt_search.proofs.Keeps.{size-most}
-use Rattle.rt_search.proofs.Rounds.{none-spent}
+use Rattle.rt_least.specs.Attempts.{IsTold}
+use Rattle.rt_least.proofs.Aiming.{aimed-extends, model-sought, refuted-never}
+use Rattle.rt_least.proofs.Attempts.{aimed-grown}
+use Rattle.rt_least.proofs.Keeps.{size-most}
+use Rattle.rt_least.proofs.Rounds.{none-spent}
 use Rattle.rt_search.proofs.search.within.Goals as goal
 
 pub count_among-requires-clause-below : goal.count_among-requires-clause-below

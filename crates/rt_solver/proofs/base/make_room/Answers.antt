@@ -1,5 +1,5 @@
 use Rattle.std.proofs.Common.{length, ap, refl, ◌∙◌, arith}
-use Rattle.rt_solver.proofs.Looks.{has-at}
+use Rattle.rt_store.proofs.Looks.{has-at}
 use Rattle.rt_solver.proofs.Basing.{has-lists, grown-listed}
 use Rattle.rt_solver.proofs.base.make_room.Goals as goal
 

@@ -1,8 +1,8 @@
 use Rattle.std.proofs.Common.{◌≡◌, ◌≤◌, sym, subst, arith, rules, List, length, ℕ, true, nat_eq, ◌∷◌, [], ◌++◌, ◌∙◌}
 use Rattle.rt_clause.specs.Literal.{Literal}
-use Rattle.rt_solver.specs.Watching.{Listed}
+use Rattle.rt_store.specs.Watching.{Listed}
 use Rattle.rt_solver.specs.Propagating.{AreListed, AreShort}
-use Rattle.rt_solver.proofs.Looks.{has-at}
+use Rattle.rt_store.proofs.Looks.{has-at}
 use Rattle.rt_solver.proofs.Shorts.{short-push}
 use Rattle.rt_solver.proofs.Putting.{IsNew, new-first, new-second, put-two, put-short}
 use Rattle.rt_solver.proofs.base.put.Goals as goal

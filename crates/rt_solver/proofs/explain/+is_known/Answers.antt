@@ -1,5 +1,5 @@
 use Rattle.std.proofs.Common.{arith}
-use Rattle.rt_solver.proofs.Looks.{has-at}
+use Rattle.rt_store.proofs.Looks.{has-at}
 use Rattle.rt_solver.proofs.explain.+is_known.Goals as goal
 
 pub is-requires : goal.is-requires

@@ -1,7 +1,7 @@
 use Rattle.std.proofs.Common.{◌+◌, ◌∙◌, ap, sym, refl, subst, List, arith}
-use Rattle.rt_solver.specs.declared.trail.Step.{Step}
+use Rattle.rt_store.specs.declared.trail.Step.{Step}
 use Rattle.rt_solver.specs.Marking.{marked_by}
-use Rattle.rt_solver.specs.Trail.{oldest}
+use Rattle.rt_store.specs.Trail.{oldest}
 use Rattle.rt_solver.specs.Analysis.{IsWalkedBy, IsGatheredBy}
 use Rattle.rt_solver.proofs.Walks.{step-var, step-rests, line-within}
 use Rattle.rt_solver.proofs.Gathering.{apart-at, lead-walked, gathered-found, gathered-skip, gathered-decided, found-same}

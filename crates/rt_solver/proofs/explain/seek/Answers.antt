@@ -1,7 +1,7 @@
 use Rattle.std.proofs.Common.{◌+◌, ◌∙◌, subst, List, length, nat_eq, arith}
-use Rattle.rt_solver.specs.declared.trail.Step.{Step}
+use Rattle.rt_store.specs.declared.trail.Step.{Step}
 use Rattle.rt_solver.specs.Marking.{marked_by}
-use Rattle.rt_solver.specs.Trail.{oldest}
+use Rattle.rt_store.specs.Trail.{oldest}
 use Rattle.rt_solver.specs.Analysis.{IsWalkedBy}
 use Rattle.rt_solver.proofs.Walks.{step-rests, line-within}
 use Rattle.rt_solver.proofs.Stops.{walk-stopped, stop-marked}

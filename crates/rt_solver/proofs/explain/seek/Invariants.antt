@@ -1,5 +1,5 @@
 use Rattle.std.proofs.Common.{◌≡◌, ◌≤◌, length, []}
-use Rattle.rt_solver.specs.Trail.{oldest}
+use Rattle.rt_store.specs.Trail.{oldest}
 use Rattle.rt_solver.specs.Analysis.{IsWalked}
 use Rattle.rt_solver.proofs.explain.seek.Given as goal
 

@@ -1,7 +1,7 @@
 use Rattle.std.proofs.Common.{subst, List, ℕ, Option, arith}
 use Rattle.std.specs.Prelude.{MatchOption}
-use Rattle.rt_solver.specs.declared.trail.Step.{Step}
-use Rattle.rt_solver.specs.Trail.{oldest}
+use Rattle.rt_store.specs.declared.trail.Step.{Step}
+use Rattle.rt_store.specs.Trail.{oldest}
 use Rattle.rt_solver.specs.Analysis.{IsWalkedBy, IsSought, IsGathered}
 use Rattle.rt_solver.proofs.Walks.{oldest-none}
 use Rattle.rt_solver.proofs.Gathering.{gathered-all, placed-none}

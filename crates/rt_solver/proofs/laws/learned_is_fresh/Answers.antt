@@ -1,4 +1,4 @@
-use Rattle.rt_solver.proofs.FreshLaws.{first_law}
+use Rattle.rt_store.proofs.FreshLaws.{first_law}
 use Rattle.rt_solver.proofs.laws.learned_is_fresh.Goals as goal
 
 pub returns : goal.returns

@@ -1,4 +1,4 @@
-use Rattle.rt_solver.proofs.Number.{number-small, number-grows, number-kept}
+use Rattle.rt_store.proofs.Number.{number-small, number-grows, number-kept}
 use Rattle.rt_solver.proofs.laws.number_grows.Goals as goal
 
 pub returns : goal.returns

@@ -1,6 +1,6 @@
 use Rattle.std.proofs.Common.{◌+◌, ◌∙◌, ap, sym, arith}
 use Rattle.rt_solver.specs.Marking.{marked_by}
-use Rattle.rt_solver.specs.Trail.{oldest}
+use Rattle.rt_store.specs.Trail.{oldest}
 use Rattle.rt_solver.proofs.Walks.{step-var}
 use Rattle.rt_solver.proofs.Gathering.{decision-under}
 use Rattle.rt_solver.proofs.lead.decision_under.Goals as goal

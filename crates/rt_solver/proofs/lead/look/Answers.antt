@@ -1,6 +1,6 @@
 use Rattle.std.proofs.Common.{◌-◌, ◌+◌, refl, arith}
 use Rattle.rt_solver.specs.Marking.{marked_by}
-use Rattle.rt_solver.specs.Trail.{oldest}
+use Rattle.rt_store.specs.Trail.{oldest}
 use Rattle.rt_solver.specs.Analysis.{IsPlain}
 use Rattle.rt_solver.proofs.Walks.{step-var}
 use Rattle.rt_solver.proofs.Stops.{each-more, stop-at}

@@ -1,5 +1,5 @@
 use Rattle.std.proofs.Common.{◌∙◌, ap, arith}
-use Rattle.rt_solver.specs.Trail.{value_in}
+use Rattle.rt_store.specs.Trail.{value_in}
 use Rattle.rt_solver.proofs.next.picked.Goals as goal
 
 pub returns-in-None-clause-next : goal.returns-in-None-clause-next

@@ -1,8 +1,8 @@
 use Rattle.std.proofs.Common.{◌∙◌, ◌+◌, ℕ, Option, arith, subst}
 use Rattle.std.specs.Prelude.{MatchOption}
-use Rattle.rt_solver.specs.Trail.{lits, oldest}
+use Rattle.rt_store.specs.Trail.{lits, oldest}
 use Rattle.rt_solver.specs.Propagating.{IsQueued, IsConflict}
-use Rattle.rt_solver.proofs.Number.{length-fits}
+use Rattle.rt_store.proofs.Number.{length-fits}
 use Rattle.rt_solver.proofs.Queues.{all-trans, propagated-same, propagated-trans, length-grown}
 use Rattle.rt_solver.proofs.propagate.propagate.Goals as goal
 

@@ -1,6 +1,6 @@
 use Rattle.std.proofs.Common.{◌≡◌, ◌≤◌, ◌-◌, length}
-use Rattle.rt_solver.specs.Trail.{lits, oldest}
-use Rattle.rt_solver.specs.Same.{AreSame}
+use Rattle.rt_store.specs.Trail.{lits, oldest}
+use Rattle.rt_store.specs.Same.{AreSame}
 use Rattle.rt_solver.specs.Propagating.{IsQueued, IsPropagated, AreListed}
 use Rattle.rt_solver.proofs.propagate.propagate.Given as goal
 

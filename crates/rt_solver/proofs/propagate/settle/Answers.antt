@@ -1,6 +1,6 @@
 use Rattle.std.proofs.Common.{◌∙◌, subst, List, Bool, get_or}
 use Rattle.rt_clause.specs.Literal.{Literal}
-use Rattle.rt_solver.specs.Trail.{lits}
+use Rattle.rt_store.specs.Trail.{lits}
 use Rattle.rt_solver.specs.Looking.{IsBroken}
 use Rattle.rt_solver.specs.Propagating.{IsShortAs}
 use Rattle.rt_solver.proofs.Visiting.{line-read}

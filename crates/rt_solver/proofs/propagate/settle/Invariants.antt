@@ -1,5 +1,5 @@
 use Rattle.std.proofs.Common.{◌≡◌}
-use Rattle.rt_solver.specs.Trail.{IsApart}
+use Rattle.rt_store.specs.Trail.{IsApart}
 use Rattle.rt_solver.specs.Propagating.{IsPropagated}
 use Rattle.rt_solver.proofs.Settling.{AreSettled}
 use Rattle.rt_solver.proofs.propagate.settle.Given as goal

@@ -1,6 +1,6 @@
 use Rattle.std.proofs.Common.{◌≡◌, ◌-◌, ◌/◌, ◌%◌, ◌∷◌, [], ◌++◌, get_or, length, ap, sym, ◌∙◌, arith}
 use Rattle.rt_clause.specs.Lists.{line_at}
-use Rattle.rt_solver.specs.Watching.{list_at}
+use Rattle.rt_store.specs.Watching.{list_at}
 use Rattle.rt_solver.proofs.Visiting.{line-read}
 use Rattle.rt_solver.proofs.Shifts.{at-entry, to-within, to-other, other-small, shift-at}
 use Rattle.rt_solver.proofs.propagate.shift.Goals as goal

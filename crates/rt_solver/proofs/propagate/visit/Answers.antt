@@ -2,9 +2,9 @@ use Rattle.std.proofs.Common.{◌≡◌, ◌+◌, ◌-◌, ◌/◌, ◌%◌, ◌
 use Rattle.std.proofs.lemmas.List.{get_or_default}
 use Rattle.rt_clause.specs.Literal.{Literal}
 use Rattle.rt_clause.specs.Lists.{line_at}
-use Rattle.rt_solver.specs.declared.trail.Step.{Step}
+use Rattle.rt_store.specs.declared.trail.Step.{Step}
 use Rattle.rt_solver.specs.declared.turn.Turn.TheVariants.{Met, Stays, Moves, Broken}
-use Rattle.rt_solver.specs.Watching.{Listed}
+use Rattle.rt_store.specs.Watching.{Listed}
 use Rattle.rt_solver.specs.Turning.{IsTurned, IsTurn, IsUnwatched}
 use Rattle.rt_solver.specs.Propagating.{AreWatchedBefore}
 use Rattle.rt_solver.proofs.Visiting.{turned, met-at, stays-at, small-at, unwatched-at, moves-at, begin-at, end-at, none-at}

@@ -1,5 +1,5 @@
 use Rattle.std.proofs.Common.{◌≡◌, ◌<◌, length}
-use Rattle.rt_solver.specs.Trail.{lits, IsApart, oldest}
+use Rattle.rt_store.specs.Trail.{lits, IsApart, oldest}
 use Rattle.rt_solver.proofs.Visits.{IsVisit}
 use Rattle.rt_solver.proofs.propagate.visit.Given as goal
 

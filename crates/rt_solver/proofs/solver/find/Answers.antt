@@ -8,6 +8,7 @@ use Rattle.rt_solver.specs.Answers.{IsFound, IsUnspent, IsReplied}
 use Rattle.rt_solver.specs.Solving.{reach, variables, HasSearched, IsEnding, IsSettled, IsUnspentEnding}
 use Rattle.rt_solver.proofs.Founds.{searched-none, begun-ready, modelled, refuted, spent-found}
 use Rattle.rt_solver.proofs.solver.find.Goals.{in-Whole+in_ok-values-in-Whole, in-Refuted, in-Spent, in-Missed}
+use Rattle.rt_solver.specs.Analysis.{IsRested}
 use Rattle.rt_solver.specs.Fixed.{AreSmallest, IsInOrder}
 use Rattle.rt_solver.proofs.Ordered.{greatest, if-fixed, read-true}
 use Rattle.rt_solver.proofs.Seeks.{if-some, asked-bound, denied-none}
@@ -30,7 +31,7 @@ returns-clause-found g c =
     c.in_ok-run.ensures.vars ∙ c.in_ok-trail.ensures.vars ∙ c.variables_of-vars.ensures ∙ ap (λ n. reach (max c.args.first n) (option_to_list c.args.assume.now)) c.vars.ensures.is in
     let P : Option Found → Type 0 = λ o. IfSome o (λ f. IsFound (g.L.Adds.lines c.args.base.now.0) (g.L.Adds.lines c.run.new.base.0) c.args.assume.now c.args.first (variables (g.L.Adds.lines c.args.base.now.0) c.args.assume.now c.args.first) c.args.budget f) in
     let E : Ending → Type 0 = λ e. IsEnding (g.L.Adds.lines c.args.base.now.0) (g.L.Adds.lines c.run.new.base.0) c.args.assume.now c.args.first c.run.new.trail c.args.budget e in
-    elim c.match-branch-4.branch [
+    elim c.match-branch-5.branch [
       | in-Whole+in_ok-values-in-Whole w ↦ (let e = subst E w.in-Whole.is c.in_ok-run.ensures.ending in subst P (sym w.found-is) (
           modelled _ (g.L.Adds.lines c.run.new.base.0) c.args.assume.now _ c.run.new.trail _ refl m e.0 e.1 w.in_ok-values-in-Whole.ensures.len w.in_ok-values-in-Whole.ensures.reads))
       | in-Refuted w ↦ (let e = subst E w.in-Refuted.is c.in_ok-run.ensures.ending in subst P (sym w.found-is) (refuted _ e.0 (g.L.Adds.lines c.run.new.base.0) c.args.assume.now refl e.1))
@@ -44,7 +45,7 @@ returns-clause-replied g c =
     let P : Option Found → Type 0 = λ o. IsReplied (g.L.Adds.lines c.run.new.base.0) c.args.assume.now c.args.question.now o in
     let S : Ending → Type 0 = λ e. IsSettled c.args.question.now c.run.new.trail.steps e in
     let E : Ending → Type 0 = λ e. IsEnding (g.L.Adds.lines c.args.base.now.0) (g.L.Adds.lines c.run.new.base.0) c.args.assume.now c.args.first c.run.new.trail c.args.budget e in
-    elim c.match-branch-4.branch [
+    elim c.match-branch-5.branch [
       | in-Whole+in_ok-values-in-Whole w ↦ (let e = subst E w.in-Whole.is r.ending in subst P (sym w.found-is)
           (if-some _ _ c.args.question.now (λ a h. read-true c.run.new.trail.vars c.run.new.trail.steps _ e.0.apart w.in_ok-values-in-Whole.ensures.reads a h) (subst S w.in-Whole.is r.settled)))
       | in-Refuted w ↦ subst P (sym w.found-is) tt
@@ -59,7 +60,7 @@ returns-clause-order g c =
     let low : c.args.first ≤ c.run.new.trail.vars = (let a = reach-least (max c.args.first c.vars.result) (option_to_list c.args.assume.now) in let m = le-max_left c.args.first c.vars.result in let b = c.variables_of-vars.ensures in let d = c.in_ok-trail.ensures.vars in let e = r.vars in omega (arith, a, m, b, d, e)) in
     let P : Option Found → Type 0 = λ o. IfSome o (λ f. IsInOrder c.args.order (g.L.Adds.lines c.args.base.now.0) c.args.assume.now c.args.first f) in
     let E : Ending → Type 0 = λ e. IsEnding (g.L.Adds.lines c.args.base.now.0) (g.L.Adds.lines c.run.new.base.0) c.args.assume.now c.args.first c.run.new.trail c.args.budget e in
-    elim c.match-branch-4.branch [
+    elim c.match-branch-5.branch [
       | in-Whole+in_ok-values-in-Whole w ↦ (let e = subst E w.in-Whole.is r.ending in subst P (sym w.found-is)
           (if-fixed c.args.order (AreSmallest c.run.new.trail.steps) _
           (λ o. greatest (g.L.Adds.lines c.args.base.now.0) (g.L.Adds.lines c.run.new.base.0) c.args.assume.now c.args.first c.run.new.trail.vars c.run.new.trail.steps _ low e.0.apart e.0.founded o w.in_ok-values-in-Whole.ensures.reads r.searched.sound) r.smallest))
@@ -79,7 +80,7 @@ pub returns-clause-unspent : goal.returns-clause-unspent
 returns-clause-unspent g c =
     let P : Option Found → Type 0 = λ o. IfSome o (λ f. IsUnspent (g.L.Adds.lines c.args.base.now.0) (g.L.Adds.lines c.run.new.base.0) c.args.budget f) in
     let E : Ending → Type 0 = λ e. IsUnspentEnding (g.L.Adds.lines c.args.base.now.0) (g.L.Adds.lines c.run.new.base.0) c.args.budget e in
-    elim c.match-branch-4.branch [
+    elim c.match-branch-5.branch [
       | in-Whole+in_ok-values-in-Whole w ↦ subst P (sym w.found-is) (subst E w.in-Whole.is c.in_ok-run.ensures.unspent)
       | in-Refuted w ↦ subst P (sym w.found-is) (subst E w.in-Refuted.is c.in_ok-run.ensures.unspent)
       | in-Spent w ↦ subst P (sym w.found-is) tt
@@ -124,3 +125,10 @@ pub run-requires-clause-asked : goal.run-requires-clause-asked
 run-requires-clause-asked g c =
     let q = c.in_ok-begin.ensures.bound in
     asked-bound c.args.order c.args.question.now c.args.first _ (λ f. q ∙ c.bound.ensures.free f) c.requires.free c.requires.asked
+
+pub run-requires-clause-rested : goal.run-requires-clause-rested
+run-requires-clause-rested g c = let W : ℕ → Type 0 = λ n. IsRested n c.in_ok-walk.walk in subst W (sym c.in_ok-trail.ensures.vars) c.in_ok-walk.ensures
+
+pub returns-in_err-walk-clause-searched : goal.returns-in_err-walk-clause-searched
+returns-in_err-walk-clause-searched g c =
+    searched-none _ _ _ _ c.args.assume.now c.args.first _ refl refl

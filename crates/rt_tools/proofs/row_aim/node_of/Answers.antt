@@ -1,5 +1,5 @@
 use Rattle.std.proofs.Common.{sym}
-use Rattle.rt_annot.proofs.Merged.{node_below}
+use Rattle.rt_noted.proofs.Merged.{node_below}
 use Rattle.rt_tools.proofs.row_aim.node_of.Goals as goal
 
 pub returns-in-Some-clause-below : goal.returns-in-Some-clause-below

@@ -1,6 +1,6 @@
 use Rattle.std.proofs.Common.{◌∙◌, sym}
 use Rattle.rt_formula.proofs.Meaning.{val-grown}
-use Rattle.rt_annot.proofs.Growing.{grown_trans}
+use Rattle.rt_noted.proofs.Growing.{grown_trans}
 use Rattle.rt_rules.proofs.Meanings.{below-grown}
 use Rattle.rt_tools.proofs.Nodes.{both_of}
 use Rattle.rt_tools.proofs.row_aim.row_aim.Goals as goal

@@ -1,7 +1,7 @@
 use Rattle.std.proofs.Common.{◌∙◌, ap, not}
 use Rattle.rt_formula.proofs.Meaning.{val-grown}
-use Rattle.rt_annot.proofs.Growing.{grown_trans}
-use Rattle.rt_annot.proofs.Merged.{value_stays}
+use Rattle.rt_noted.proofs.Growing.{grown_trans}
+use Rattle.rt_noted.proofs.Merged.{value_stays}
 use Rattle.rt_tools.proofs.Nodes.{both_of, if_ok}
 use Rattle.rt_tools.proofs.row_aim.told.Goals as goal
 

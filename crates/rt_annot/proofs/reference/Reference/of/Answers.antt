@@ -1,4 +1,4 @@
-use Rattle.rt_annot.proofs.Growing.{grown_trans}
+use Rattle.rt_noted.proofs.Growing.{grown_trans}
 use Rattle.std.proofs.Common.{◌∙◌}
 use Rattle.rt_formula.proofs.Meaning.{val-grown}
 use Rattle.rt_rules.proofs.Meanings.{below-grown}

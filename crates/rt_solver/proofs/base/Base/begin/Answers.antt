@@ -2,7 +2,7 @@ use Rattle.std.proofs.Common.{sym, ap, subst, List, [], ℕ, length, ◌<◌}
 use Rattle.std.proofs.lemmas.Result.{IfOk-weaker}
 use Rattle.rt_clause.specs.Literal.{Literal}
 use Rattle.rt_clause.specs.Lists.{line_at}
-use Rattle.rt_solver.specs.Trail.{lits}
+use Rattle.rt_store.specs.Trail.{lits}
 use Rattle.rt_solver.specs.Propagating.{IsPropagated, IsWatched, IsQueued}
 use Rattle.rt_solver.proofs.Queues.{propagated-same, propagated-trans, all-trans, before-none}
 use Rattle.rt_solver.proofs.Shorts.{short-same}

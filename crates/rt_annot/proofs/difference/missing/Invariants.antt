@@ -1,5 +1,0 @@
-use Rattle.rt_annot.specs.Ann.{Losing}
-use Rattle.rt_annot.proofs.difference.missing.Given as goal
-
-abbrev pub invariant-loop-row : goal.invariant-loop-row
-invariant-loop-row l = Losing l.fn.dag l.dag l.b l.nodes l.row-iterator l.a

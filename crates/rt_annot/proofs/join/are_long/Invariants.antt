@@ -1,6 +1,0 @@
-use Rattle.std.proofs.Common.{◌≡◌, drop}
-use Rattle.rt_annot.specs.Narrowed.{are_long}
-use Rattle.rt_annot.proofs.join.are_long.Given as goal
-
-abbrev pub invariant-loop-at : goal.invariant-loop-at
-invariant-loop-at l = are_long (drop l.at l.widths) (drop l.at l.members) ≡ are_long l.widths l.members

@@ -1,6 +1,0 @@
-use Rattle.std.proofs.Common.{◌≡◌, ◌++◌, drop}
-use Rattle.rt_annot.specs.Joints.{pair_joints}
-use Rattle.rt_annot.proofs.joint.joined.Given as goal
-
-abbrev pub invariant-loop-first : goal.invariant-loop-first
-invariant-loop-first l = l.out ++ pair_joints (drop l.first-index l.firsts) l.rests ≡ pair_joints l.firsts l.rests

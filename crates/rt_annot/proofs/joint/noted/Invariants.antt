@@ -1,7 +1,0 @@
-use Rattle.std.proofs.Common.{drop}
-use Rattle.rt_annot.specs.Annotated.{Along}
-use Rattle.rt_annot.specs.Joints.{joint_entries}
-use Rattle.rt_annot.proofs.joint.noted.Given as goal
-
-abbrev pub invariant-loop-joint : goal.invariant-loop-joint
-invariant-loop-joint l = Along l.fn.dag l.dag l.out (joint_entries l.fn.dag (drop l.joint-index l.joints)) (joint_entries l.fn.dag l.joints)

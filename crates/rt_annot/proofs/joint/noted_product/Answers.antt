@@ -1,6 +1,0 @@
-use Rattle.std.proofs.Common.{◌∙◌}
-use Rattle.rt_annot.proofs.Members.{whole_joints}
-use Rattle.rt_annot.proofs.joint.noted_product.Goals as goal
-
-pub noted-requires : goal.noted-requires
-noted-requires c = whole_joints c.args.dag.now c.args.members.now (c.as_slice.ensures ∙ c.in_ok-joints.ensures) c.requires

@@ -1,6 +1,0 @@
-use Rattle.std.proofs.Common.{◌≡◌, take}
-use Rattle.rt_annot.specs.Annotated.{nodes_of}
-use Rattle.rt_annot.proofs.member.nodes_of.Given as goal
-
-abbrev pub invariant-loop-noted : goal.invariant-loop-noted
-invariant-loop-noted l = l.out ≡ nodes_of (take l.noted-index l.rows)

@@ -1,6 +1,0 @@
-use Rattle.std.proofs.Common.{◌≡◌, ◌++◌, drop}
-use Rattle.rt_annot.specs.Annotated.{possible}
-use Rattle.rt_annot.proofs.member.possible.Given as goal
-
-abbrev pub invariant-loop-noted : goal.invariant-loop-noted
-invariant-loop-noted l = l.out ++ possible l.x (drop l.noted-index l.rows) ≡ possible l.x l.rows

@@ -1,6 +1,0 @@
-use Rattle.std.proofs.Common.{take}
-use Rattle.rt_annot.specs.Annotated.{Collecting}
-use Rattle.rt_annot.proofs.rows.merged.Given as goal
-
-abbrev pub invariant-loop-noted : goal.invariant-loop-noted
-invariant-loop-noted l = Collecting l.fn.dag l.dag l.known l.out l.rows (take l.noted-index l.rows)

@@ -1,7 +1,0 @@
-use Rattle.std.proofs.Common.{◌∙◌, ap, sym}
-use Rattle.rt_annot.specs.declared.subquery.Memo.TheVariants.{Listed}
-use Rattle.rt_annot.proofs.Knowing.{same_holds}
-use Rattle.rt_annot.proofs.subquery.Subquery.rows.Goals as goal
-
-pub returns-in-Listed : goal.returns-in-Listed
-returns-in-Listed c d given h = same_holds d given (c.same_query.ensures c.if-same_query.true) (c.in-Listed.is ∙ ap Listed (sym c.as_slice.ensures)) h

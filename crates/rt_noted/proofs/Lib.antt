@@ -1,0 +1,15 @@
+pub mod Growing
+pub mod Nodes
+pub mod Walking
+pub mod Layers
+pub mod Maps
+pub mod Merged
+pub mod SameRows
+pub mod Alike
+pub mod Distinct
+pub mod Exact
+pub mod Joining
+pub mod Knowing
+pub mod Telling
+pub mod Narrowing
+pub mod Members

@@ -1,5 +1,0 @@
-use Rattle.rt_search.specs.Order.{IsBare}
-use Rattle.rt_search.proofs.in_order.next_kept.Given as goal
-
-abbrev pub invariant-loop-row : goal.invariant-loop-row
-invariant-loop-row l = IsBare l.place l.row l.keep

@@ -1,9 +1,0 @@
-use Rattle.std.proofs.Common.{◌∙◌, sym, arith}
-use Rattle.rt_search.proofs.Between.{between-none}
-use Rattle.rt_search.proofs.none_kept.not_kept_between.Goals as goal
-
-pub loop-row-init : goal.loop-row-init
-loop-row-init c = record {
-  from = omega arith;
-  lits = c.new-lits.ensures ∙ sym (between-none c.args.cone.now c.args.place c.args.place (omega arith));
-}

@@ -1,6 +1,0 @@
-use Rattle.std.proofs.Common.{arith}
-use Rattle.std.proofs.lemmas.Grind.{common_steps}
-use Rattle.rt_search.proofs.widened.all_widened.Goals as goal
-
-pub loop-clause-preserved : goal.loop-clause-preserved
-loop-clause-preserved c = grind (arith, common_steps)

@@ -1,9 +1,0 @@
-//! What the trail makes of a literal.
-
-/// A literal is true, false or unassigned.
-#[derive(Clone, Copy)]
-pub(crate) enum Status {
-    True,
-    False,
-    Unassigned,
-}

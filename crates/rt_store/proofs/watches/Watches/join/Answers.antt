@@ -1,0 +1,14 @@
+use Rattle.std.proofs.Common.{ap, ◌∙◌, ◌-◌, [], ◌∷◌, ◌++◌}
+use Rattle.std.specs.Prelude.{vec_items, vec_capacity, vec_len}
+use Rattle.rt_store.proofs.Editing.{within-lists, read-list, set-list, edited}
+use Rattle.rt_store.proofs.watches.Watches.join.Goals as goal
+
+pub returns-clause-list : goal.returns-clause-list
+returns-clause-list c =
+    let vs = c.self.inside.lists.items in
+    let b = within-lists vs vec_items (λ v. vec_capacity v - vec_len v) c.args.self.now c.args.list c.self.view_is c.requires.list in
+    set-list vs vec_items (λ v. vec_capacity v - vec_len v) c.args.list c.push_reserved.new.self b ∙ c.push_reserved.ensures.items
+    ∙ ap (λ es. es ++ c.args.entry ∷ []) (read-list vs vec_items (λ v. vec_capacity v - vec_len v) c.args.self.now c.args.list c.index_mut.result.now c.self.view_is b c.index_mut.ensures.value)
+
+pub returns-clause-edited : goal.returns-clause-edited
+returns-clause-edited c = edited c.self.inside.lists.items vec_items (λ v. vec_capacity v - vec_len v) c.args.self.now c.args.list c.push_reserved.new.self c.self.view_is
