@@ -162,7 +162,8 @@ fn some_row<'q>(
     }
 }
 
-// The same of a query that names no row outside of it. It is known from then on.
+// Where a query that names no row outside of it has a row, or where the value that is sought is among
+// its rows. It is known from then on.
 #[cycle(annotate)]
 fn newly_asked<'q>(
     alloc: Global,

@@ -88,8 +88,8 @@ fn search(
     Ok(best)
 }
 
-/// What a search found, and two numbers. `clauses` counts those of the formula and the counter.
-/// `conflicts` counts the clauses that were derived, one in each conflict.
+/// What a search found, and two numbers. `clauses` counts those of the formula, the counter and the
+/// questions. `conflicts` counts the clauses that were derived, one in each conflict.
 #[derive(Drop)]
 pub struct Searched {
     pub best: Best,

@@ -31,16 +31,6 @@ short-push old numbers c n e h = record {
   ];
 }
 
--- a longer one need not be
-pub long-push : (old : List (List Literal)) (numbers : List ℕ) (c : List Literal) → 2 ≤ length c → AreShort old numbers → AreShort (old ++ c ∷ []) numbers
-long-push old numbers c long h = record {
-  within = within-more old c numbers h.within;
-  all = λ i b s. elim (place-cases old c i b) [
-    | inl p ↦ h.all i p.0 (let q = ap (λ (d : List Literal). length d) p.1 in omega (arith, q, s))
-    | inr p ↦ absurd (let q = ap (λ (d : List Literal). length d) p.1 in omega (arith, q, s, long))
-  ];
-}
-
 -- where the first two literals differ, no clause of fewer than two has the same ones
 short-of : (a b : List Literal) → IsSame a b → IsSpread a → length b < 2 → length a < 2
 short-of [] b s p l = omega arith

@@ -73,6 +73,7 @@ fn three(lits: &[Lit]) -> Option<[Short; 3]>
 }
 
 impl Clause {
+    /// A copy of the literals in their order.
     pub fn new(alloc: Global, lits: &[Lit]) -> Result<Clause, NoMemory>
         ensures { IfOk result (λ c. c ≡ lits.now) }
     {

@@ -35,6 +35,7 @@ impl Model for Entry {
 }
 
 impl Entry {
+    /// The entry of a watch, whether its clause has two literals only, and another literal of it.
     pub fn new(watch: Watch, two: bool, other: Lit) -> Entry
         requires watch { watch < 2 ^ 31 }
         requires other { packed other < 2 ^ 32 }
@@ -48,6 +49,7 @@ impl Entry {
         }
     }
 
+    /// Whose entry it is.
     pub fn watch(self) -> Watch
         ensures is { result ≡ self.watch }
         ensures small { result < 2 ^ 31 }
@@ -55,12 +57,14 @@ impl Entry {
         Watch::of(self.mark as usize / 2)
     }
 
+    /// Whether the clause has two literals only.
     pub fn is_two(self) -> bool
         ensures { result ≡ self.two }
     {
         self.mark % 2 == 1
     }
 
+    /// Another literal of the clause.
     pub fn other(self) -> Lit
         ensures { result ≡ self.other }
     {

@@ -35,6 +35,7 @@ impl Model for Packed {
 }
 
 impl Packed {
+    /// The step in two words.
     pub fn of(step: Step) -> Packed
         ensures { result ≡ step }
     {
@@ -62,6 +63,7 @@ impl Packed {
         Lit::of(index / 2, index % 2 == 1)
     }
 
+    /// Why its literal is on the trail.
     pub fn why(self) -> Why
         ensures { result ≡ self.why }
     {
@@ -74,6 +76,7 @@ impl Packed {
         }
     }
 
+    /// The step that was packed.
     pub fn step(self) -> Step
         ensures { result ≡ self }
     {

@@ -27,6 +27,7 @@ impl Model for HeapOrder {
 }
 
 impl HeapOrder {
+    /// No variables, which takes no memory.
     pub fn new(alloc: Global) -> HeapOrder
         ensures { result ≡ [] }
     {
@@ -36,12 +37,14 @@ impl HeapOrder {
         }
     }
 
+    /// How many variables there are.
     pub fn len(&self) -> usize
         ensures { result ≡ length self.now }
     {
         self.places.len()
     }
 
+    /// The place of a variable.
     pub fn place(&self, var: usize) -> usize
         requires { var < length self.now }
         ensures is { result ≡ slice_index_or self.now var 0 }
@@ -51,6 +54,7 @@ impl HeapOrder {
         self.places[var]
     }
 
+    /// The variable at a place.
     pub fn at(&self, place: usize) -> usize
         requires { place < length self.now }
         ensures is { slice_index_or self.now result 0 ≡ place }

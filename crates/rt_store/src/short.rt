@@ -51,6 +51,7 @@ impl Short {
         }
     }
 
+    /// The literal.
     pub fn lit(self) -> Lit
         ensures { result ≡ self }
     {

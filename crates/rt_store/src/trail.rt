@@ -26,6 +26,7 @@ pub struct Step {
 }
 
 impl Why {
+    /// Whether the literal was decided.
     pub fn is_decided(self) -> bool
         ensures { IsTrue result ↔ (self ≡ Decided) }
     {
@@ -85,6 +86,7 @@ impl Trail {
         })
     }
 
+    /// How many variables may be on the trail.
     pub fn vars(&self) -> usize
         ensures vars { result ≡ self.now.vars }
         ensures apart { IsApart self.now.vars self.now.steps }
@@ -101,6 +103,7 @@ impl Trail {
         self.statuses[lit.index()]
     }
 
+    /// The value of a variable, where it has one.
     pub fn value(&self, v: usize) -> Option<bool>
         requires { v < self.now.vars }
         ensures { result ≡ value_in self.now.steps v }
@@ -126,6 +129,7 @@ impl Trail {
         }
     }
 
+    /// Whether a literal is true.
     pub fn is_true(&self, lit: Lit) -> bool
         requires { lit.var < self.now.vars }
         ensures is { result ≡ has (lits self.now.steps) lit }
@@ -138,6 +142,7 @@ impl Trail {
         }
     }
 
+    /// Whether a literal is false.
     pub fn is_false(&self, lit: Lit) -> bool
         requires { lit.var < self.now.vars }
         ensures { result ≡ is_false (lits self.now.steps) lit }
@@ -149,6 +154,7 @@ impl Trail {
         }
     }
 
+    /// The number of steps.
     pub fn len(&self) -> usize
         ensures is { result ≡ length self.now.steps }
         ensures apart { IsApart self.now.vars self.now.steps }
@@ -211,6 +217,7 @@ impl Trail {
         }
     }
 
+    /// Takes back the newest step.
     pub fn pop(&mut self) -> Option<Step>
         ensures step { MatchOption result ((self.old.steps ≡ []) × (self.new ≡ self.old)) (λ s. self.old.steps ≡ s ∷ self.new.steps) }
         ensures vars { self.new.vars ≡ self.old.vars }

@@ -32,6 +32,7 @@ impl Model for Watches {
 }
 
 impl Watches {
+    /// No lists, which takes no memory.
     pub fn new(alloc: Global) -> Watches
         ensures { result.lists ≡ [] }
     {
