@@ -21,11 +21,11 @@ use Rattle.rt_value.specs.declared.value.Value.{Value}
 use Rattle.rt_value.specs.declared.value.Value.TheVariants as v
 use Rattle.rt_ra.specs.OperatorAnswers.{all_yes, cell, meets, side_value, test_truth}
 use Rattle.rt_ra.specs.OperatorAnswers as answers
-use Rattle.rt_ra.specs.Columns.{Text, column_at, has, names, place}
-use Rattle.rt_ra.specs.Fault.{◌>>=◌}
-use Rattle.rt_ra.specs.Operators.{matching}
+use Rattle.rt_relation.specs.Columns.{Text, column_at, has, names, place}
+use Rattle.rt_relation.specs.Fault.{◌>>=◌}
+use Rattle.rt_relation.specs.Operators.{matching}
 use Rattle.rt_ra.specs.Tests.{column_scalar, compared, negated, number, side, test, tests}
-use Rattle.rt_ra.specs.declared.column.Column.{Column}
+use Rattle.rt_relation.specs.declared.column.Column.{Column}
 use Rattle.rt_ra.specs.declared.scalar.Scalar.{Scalar}
 use Rattle.rt_ra_tree.specs.declared.fault.RaFault.{RaFault}
 use Rattle.rt_ra_tree.specs.declared.tree.RaSide.{RaSide}

@@ -12,10 +12,10 @@ use Rattle.rt_value.specs.Value.{value_eq}
 use Rattle.rt_value.specs.declared.value.Value.{Value}
 use Rattle.rt_value.specs.declared.value.Value.TheVariants as v
 use Rattle.rt_ra.specs.OperatorAnswers.{cells, divided, further_cells, paired}
-use Rattle.rt_ra.specs.Columns.{Text, further_columns, names}
+use Rattle.rt_relation.specs.Columns.{Text, further_columns, names}
 use Rattle.rt_ra.specs.OperatorMeaning.{Has, Wide}
-use Rattle.rt_ra.specs.Operators.{further, missing, own, pairs_of, placed, product, quotient, rest_of}
-use Rattle.rt_ra.specs.declared.relation.Relation.{Relation}
+use Rattle.rt_relation.specs.Operators.{further, missing, own, pairs_of, placed, product, quotient, rest_of}
+use Rattle.rt_relation.specs.declared.relation.Relation.{Relation}
 use Rattle.rt_ra.proofs.ConditionLaws.{and-assoc}
 use Rattle.rt_ra.proofs.Joined.{further-row, own-row, pairs-joined, placed-row, row-append, under}
 use Rattle.rt_ra.proofs.Layers.{answer-Except, answer-Project, answer-pairs}

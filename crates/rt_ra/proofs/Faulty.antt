@@ -9,12 +9,13 @@ use Rattle.rt_algebra.specs.declared.set_op.SetOp.{SetOp}
 use Rattle.rt_algebra.specs.declared.set_op.SetOp.TheVariants as sets
 use Rattle.rt_algebra.specs.declared.query.Query.TheVariants as query
 use Rattle.rt_algebra.specs.declared.typed.Typed.{Typed}
-use Rattle.rt_ra.specs.Columns.{Text, column_at, common_fit, further_columns, if_fit, known, lacked, names, picked, place, renamed, same_kinds, shared, texts, twice, united_columns, unless_twice, widened}
-use Rattle.rt_ra.specs.Fault.{◌>>=◌}
-use Rattle.rt_ra.specs.Operators.{anti, filled, if_further, joined, placed, product, project, quotient, rename, select, semi, table_columns, table_named, two, typed_of, united, unless_lacked}
+use Rattle.rt_relation.specs.Columns.{Text, column_at, common_fit, further_columns, if_fit, known, lacked, names, picked, place, renamed, same_kinds, shared, texts, twice, united_columns, unless_twice, widened}
+use Rattle.rt_relation.specs.Fault.{◌>>=◌}
+use Rattle.rt_relation.specs.Operators.{anti, filled, if_further, joined, placed, product, quotient, semi, two, typed_of, united, unless_lacked}
+use Rattle.rt_ra.specs.Unary.{project, rename, select, table_columns, table_named}
 use Rattle.rt_ra.specs.Tests.{column_scalar, compared, negated, side, test, tests}
-use Rattle.rt_ra.specs.declared.column.Column.{Column}
-use Rattle.rt_ra.specs.declared.relation.Relation.{Relation}
+use Rattle.rt_relation.specs.declared.column.Column.{Column}
+use Rattle.rt_relation.specs.declared.relation.Relation.{Relation}
 use Rattle.rt_ra.specs.declared.scalar.Scalar.{Scalar}
 use Rattle.rt_ra.specs.Faults.{IsWalkFault}
 use Rattle.rt_ra.specs.Lowered.{Lowering, ra_lowered, relation}

@@ -14,12 +14,12 @@ use Rattle.rt_value.specs.declared.value.Value.{Value}
 use Rattle.rt_value.specs.declared.value.Value.TheVariants as v
 use Rattle.rt_ra.specs.OperatorAnswers.{Named, cells, further_cells, meets, met}
 use Rattle.rt_ra.specs.OperatorAnswers as answers
-use Rattle.rt_ra.specs.Columns.{Text, further_columns, further_names, has, names, place}
+use Rattle.rt_relation.specs.Columns.{Text, further_columns, further_names, has, names, place}
 use Rattle.rt_ra.specs.OperatorMeaning.{Has, Wide}
-use Rattle.rt_ra.specs.Operators.{anti, filled, further, joined, matched, matching, own, placed, product, semi}
+use Rattle.rt_relation.specs.Operators.{anti, filled, further, joined, matched, matching, own, placed, product, semi}
 use Rattle.rt_algebra.specs.Parts.{selected}
-use Rattle.rt_ra.specs.declared.column.Column.{Column}
-use Rattle.rt_ra.specs.declared.relation.Relation.{Relation}
+use Rattle.rt_relation.specs.declared.column.Column.{Column}
+use Rattle.rt_relation.specs.declared.relation.Relation.{Relation}
 use Rattle.rt_ra.proofs.ConditionLaws.{all_hold, answer-selected, index-at, long, matching-meets, shift}
 use Rattle.rt_ra.proofs.Layers.{answer-Project, answer-Select, answer-Union, answer-pairs, pred-Exists, pred-Not, value-Col, value-Null}
 use Rattle.rt_ra.proofs.Widths.{filter-wide, further-length, map-wide, names-further, names-length, wide-append, wide-each, wide-filter, wide-map}

@@ -3,8 +3,6 @@ pub mod Kept
 pub mod Means
 pub mod Sizes
 pub mod Types
-pub mod More
-pub mod Dividing
 pub mod ConditionLaws
 pub mod Divided
 pub mod Joined

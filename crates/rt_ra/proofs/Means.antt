@@ -7,10 +7,11 @@ use Rattle.rt_algebra.specs.declared.typed.Typed.{Typed}
 use Rattle.rt_ra.proofs.ConditionLaws.{then-ok}
 use Rattle.rt_ra.proofs.Meant.{project-keeps, rename-keeps, select-keeps, table-ok, two-ok}
 use Rattle.rt_ra.specs.OperatorAnswers as answers
-use Rattle.rt_ra.specs.Columns.{texts}
-use Rattle.rt_ra.specs.Fault.{◌>>=◌}
+use Rattle.rt_relation.specs.Columns.{texts}
+use Rattle.rt_relation.specs.Fault.{◌>>=◌}
 use Rattle.rt_ra.specs.OperatorMeaning.{Fit, Means}
-use Rattle.rt_ra.specs.Operators.{project, rename, select, two, typed_of}
+use Rattle.rt_relation.specs.Operators.{two, typed_of}
+use Rattle.rt_ra.specs.Unary.{project, rename, select}
 use Rattle.rt_ra.proofs.Kept.{kept-fit}
 use Rattle.rt_ra.specs.Answer.{Meaning, named}
 use Rattle.rt_ra.specs.Answer as answer

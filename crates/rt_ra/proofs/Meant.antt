@@ -17,12 +17,13 @@ use Rattle.rt_schema.specs.declared.table.Table.{Table}
 use Rattle.rt_value.specs.declared.value.Value.{Value}
 use Rattle.rt_ra.specs.OperatorAnswers.{Named, all_yes, cells, table_rows}
 use Rattle.rt_ra.specs.OperatorAnswers as answers
-use Rattle.rt_ra.specs.Columns.{Text, column_at, common_fit, further_columns, if_fit, lacked, known, names, picked, place, renamed, same_kinds, shared, twice, united_columns, unless_twice, widened}
-use Rattle.rt_ra.specs.Operators.{if_further, placed, product, project, quotient, rename, select, table_columns, table_named, two, united, unless_lacked}
+use Rattle.rt_relation.specs.Columns.{Text, column_at, common_fit, further_columns, if_fit, lacked, known, names, picked, place, renamed, same_kinds, shared, twice, united_columns, unless_twice, widened}
+use Rattle.rt_relation.specs.Operators.{if_further, placed, product, quotient, two, united, unless_lacked}
+use Rattle.rt_ra.specs.Unary.{project, rename, select, table_columns, table_named}
 use Rattle.rt_ra.specs.OperatorMeaning.{Fit, Has, KeepsOne, Means, Wide}
 use Rattle.rt_ra.specs.Tests.{tests}
-use Rattle.rt_ra.specs.declared.column.Column.{Column}
-use Rattle.rt_ra.specs.declared.relation.Relation.{Relation}
+use Rattle.rt_relation.specs.declared.column.Column.{Column}
+use Rattle.rt_relation.specs.declared.relation.Relation.{Relation}
 use Rattle.rt_ra_tree.specs.declared.fault.RaFault.{RaFault}
 use Rattle.rt_ra_tree.specs.declared.fault.RaFault.TheVariants as fault
 use Rattle.rt_ra_tree.specs.declared.tree.RaOp.{RaOp}

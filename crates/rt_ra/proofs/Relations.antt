@@ -13,13 +13,13 @@ use Rattle.rt_algebra.specs.declared.query.Query.{Query}
 use Rattle.rt_algebra.specs.declared.query.Query.TheVariants as q
 use Rattle.rt_schema.specs.Schema.{kind_eq}
 use Rattle.rt_value.specs.declared.value.Op.TheVariants.{Eq}
-use Rattle.rt_ra.specs.Columns.{common_fit, fits, further_columns, has, lacked, names, place}
+use Rattle.rt_relation.specs.Columns.{common_fit, fits, further_columns, has, lacked, names, place}
 use Rattle.rt_ra.specs.OperatorMeaning.{HasColumns, column_as, columns_as}
-use Rattle.rt_ra.specs.Operators.{anti, filled, further, joined, matched, matching, missing, own, pairs_of, placed, product, quotient, rest_of, semi}
+use Rattle.rt_relation.specs.Operators.{anti, filled, further, joined, matched, matching, missing, own, pairs_of, placed, product, quotient, rest_of, semi}
 use Rattle.rt_algebra.specs.Parts.{selected}
 use Rattle.rt_algebra.proofs.Combining.{selected-typed}
-use Rattle.rt_ra.specs.declared.column.Column.{Column}
-use Rattle.rt_ra.specs.declared.relation.Relation.{Relation}
+use Rattle.rt_relation.specs.declared.column.Column.{Column}
+use Rattle.rt_relation.specs.declared.relation.Relation.{Relation}
 use Rattle.rt_algebra.proofs.Columned.{column-Col, columns-Except, columns-Product, columns-Project, columns-Select, columns-Union, typed-Cmp, typed-Exists, typed-Not}
 use Rattle.rt_algebra.proofs.Fitting.{and-left, and-right, and-true}
 use Rattle.rt_ra.proofs.Typing.{Stand, first-stands, found, further-typed, items-append, merged-append, merged-nulls, merged-self, null_columns, nulls-typed, own-typed, rest-stand, stand-left, stand-own, stand-right}

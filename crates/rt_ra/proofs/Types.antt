@@ -14,12 +14,13 @@ use Rattle.rt_token.specs.declared.terminal.Terminal.TheVariants as terminal
 use Rattle.rt_ra.proofs.ConditionLaws.{then-ok}
 use Rattle.rt_ra.proofs.Typings.{project-ok, rename-ok, select-ok, table-ok, two-ok}
 use Rattle.rt_algebra.proofs.Fitting.{all-fit, table-as}
-use Rattle.rt_ra.specs.Columns.{called, texts}
-use Rattle.rt_ra.specs.Fault.{◌>>=◌}
+use Rattle.rt_relation.specs.Columns.{called, texts}
+use Rattle.rt_relation.specs.Fault.{◌>>=◌}
 use Rattle.rt_ra.specs.OperatorMeaning.{AreTables, HasColumns}
-use Rattle.rt_ra.specs.Operators.{project, rename, select, table_columns, two, typed_of}
-use Rattle.rt_ra.specs.declared.column.Column.{Column}
-use Rattle.rt_ra.specs.declared.relation.Relation.{Relation}
+use Rattle.rt_relation.specs.Operators.{two, typed_of}
+use Rattle.rt_ra.specs.Unary.{project, rename, select, table_columns}
+use Rattle.rt_relation.specs.declared.column.Column.{Column}
+use Rattle.rt_relation.specs.declared.relation.Relation.{Relation}
 use Rattle.rt_ra.proofs.Sizes.{formed-front, formed-operands, tests-fit}
 use Rattle.rt_ra.specs.Lowered.{Lowering, ra_lowered, relation}
 use Rattle.rt_ra.specs.Lowered as lowered

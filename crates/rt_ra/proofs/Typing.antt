@@ -7,10 +7,10 @@ use Rattle.rt_algebra.specs.Columns as algebra
 use Rattle.rt_algebra.specs.Columns.{column_of, item_columns, merged_column, merged_columns, with_column}
 use Rattle.rt_algebra.specs.declared.expr.Expr.{Expr}
 use Rattle.rt_algebra.specs.declared.expr.Expr.TheVariants as expr
-use Rattle.rt_ra.specs.Columns.{Text, further_columns, has, names, place}
+use Rattle.rt_relation.specs.Columns.{Text, further_columns, has, names, place}
 use Rattle.rt_ra.specs.OperatorMeaning.{column_as, columns_as}
-use Rattle.rt_ra.specs.Operators.{further, own}
-use Rattle.rt_ra.specs.declared.column.Column.{Column}
+use Rattle.rt_relation.specs.Operators.{further, own}
+use Rattle.rt_relation.specs.declared.column.Column.{Column}
 use Rattle.rt_algebra.proofs.Columned.{column-Col, column-Null}
 use Rattle.rt_algebra.proofs.Fitting.{kind-self}
 use Rattle.rt_ra.proofs.Widths.{names-length}

@@ -15,14 +15,15 @@ use Rattle.rt_schema.specs.Schema.{kind_eq}
 use Rattle.rt_schema.specs.declared.table.ColKind.TheVariants.{Whole}
 use Rattle.rt_schema.specs.declared.table.Table.{Table}
 use Rattle.rt_value.specs.declared.value.Op.{Op}
-use Rattle.rt_ra.specs.Columns.{Text, bounded, column_at, common_fit, further_columns, if_fit, known, lacked, names, picked, place, renamed, same_kinds, shared, twice, united_columns, unless_twice, widened}
-use Rattle.rt_ra.specs.Fault.{◌>>=◌}
+use Rattle.rt_relation.specs.Columns.{Text, bounded, column_at, common_fit, further_columns, if_fit, known, lacked, names, picked, place, renamed, same_kinds, shared, twice, united_columns, unless_twice, widened}
+use Rattle.rt_relation.specs.Fault.{◌>>=◌}
 use Rattle.rt_ra.specs.OperatorMeaning.{AreTables, HasColumns, column_as, columns_as}
-use Rattle.rt_ra.specs.Operators.{if_further, placed, project, quotient, rename, select, table_columns, table_named, two, united, unless_lacked}
+use Rattle.rt_relation.specs.Operators.{if_further, placed, quotient, two, united, unless_lacked}
+use Rattle.rt_ra.specs.Unary.{project, rename, select, table_columns, table_named}
 use Rattle.rt_ra.specs.Numbers.{side_fits, test_fits, tests_fit}
 use Rattle.rt_ra.specs.Tests.{column_scalar, compared, negated, number, side, test, tests}
-use Rattle.rt_ra.specs.declared.column.Column.{Column}
-use Rattle.rt_ra.specs.declared.relation.Relation.{Relation}
+use Rattle.rt_relation.specs.declared.column.Column.{Column}
+use Rattle.rt_relation.specs.declared.relation.Relation.{Relation}
 use Rattle.rt_ra.specs.declared.scalar.Scalar.{Scalar}
 use Rattle.rt_ra_tree.specs.declared.fault.RaFault.{RaFault}
 use Rattle.rt_ra_tree.specs.declared.fault.RaFault.TheVariants as fault

@@ -6,9 +6,9 @@ use Rattle.rt_algebra.specs.Answer.{join_each, pairs}
 use Rattle.rt_schema.specs.Given.{Rows}
 use Rattle.rt_value.specs.declared.value.Value.{Value}
 use Rattle.rt_ra.specs.OperatorAnswers.{cells, further_cells}
-use Rattle.rt_ra.specs.Columns.{Text, further_columns, further_names, has, names}
+use Rattle.rt_relation.specs.Columns.{Text, further_columns, further_names, has, names}
 use Rattle.rt_ra.specs.OperatorMeaning.{Wide}
-use Rattle.rt_ra.specs.declared.column.Column.{Column}
+use Rattle.rt_relation.specs.declared.column.Column.{Column}
 
 pub wide-filter : (n : ℕ) (f : List Value → Bool) (rows : Rows) → Wide n rows → Wide n (filter f rows)
 wide-filter n f [] w = tt

@@ -1,7 +1,7 @@
 -- What an algebra text answers on the rows of the tables of a schema, over plain lists.
 use Rattle.std.specs.Prelude.{List, ◌∷◌}
 use Rattle.rt_ra.specs.OperatorAnswers.{Named, project, rename, select, table_rows, two}
-use Rattle.rt_ra.specs.Columns.{texts}
+use Rattle.rt_relation.specs.Columns.{texts}
 use Rattle.rt_ra_tree.specs.declared.tree.Ra.{Ra}
 use Rattle.rt_ra_tree.specs.declared.tree.Ra.TheFolds.{fold-Ra}
 use Rattle.rt_ra_tree.specs.declared.tree.Ra.TheOpen.{Ra-F}

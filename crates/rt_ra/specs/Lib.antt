@@ -3,10 +3,7 @@ pub mod Faults
 pub mod Lowered
 pub mod Meaning
 pub mod OperatorAnswers
-pub mod Columns
-pub mod Fault
 pub mod OperatorMeaning
 pub mod Numbers
-pub mod Operators
 pub mod Tests
-pub mod Divisor
+pub mod Unary

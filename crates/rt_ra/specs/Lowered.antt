@@ -2,9 +2,10 @@
 -- operands from the left, then the tests of the operator itself.
 use Rattle.std.specs.Prelude.{List, Result, Ok}
 use Rattle.rt_algebra.specs.declared.typed.Typed.{Typed}
-use Rattle.rt_ra.specs.Columns.{texts}
-use Rattle.rt_ra.specs.Fault.{◌>>=◌}
-use Rattle.rt_ra.specs.Operators.{Answer, project, rename, select, table_named, two, typed_of}
+use Rattle.rt_relation.specs.Columns.{texts}
+use Rattle.rt_relation.specs.Fault.{◌>>=◌}
+use Rattle.rt_relation.specs.Operators.{Answer, two, typed_of}
+use Rattle.rt_ra.specs.Unary.{project, rename, select, table_named}
 use Rattle.rt_ra_tree.specs.declared.fault.RaFault.{RaFault}
 use Rattle.rt_ra_tree.specs.declared.tree.Ra.{Ra}
 use Rattle.rt_ra_tree.specs.declared.tree.Ra.TheFolds.{fold-Ra}

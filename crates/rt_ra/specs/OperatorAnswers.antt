@@ -12,7 +12,7 @@ use Rattle.rt_value.specs.declared.truth.Truth.{Truth}
 use Rattle.rt_value.specs.declared.value.Op.TheVariants.{Eq}
 use Rattle.rt_value.specs.declared.value.Value.{Value}
 use Rattle.rt_value.specs.declared.value.Value.TheVariants as v
-use Rattle.rt_ra.specs.Columns.{Text, further_names, has, place}
+use Rattle.rt_relation.specs.Columns.{Text, further_names, has, place}
 use Rattle.rt_ra_tree.specs.declared.tree.RaOp.{RaOp}
 use Rattle.rt_ra_tree.specs.declared.tree.RaOp.TheVariants as op
 use Rattle.rt_ra_tree.specs.declared.tree.RaSide.{RaSide}

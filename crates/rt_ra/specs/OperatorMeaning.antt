@@ -5,12 +5,14 @@ use Rattle.rt_algebra.specs.Columns as algebra
 use Rattle.rt_algebra.specs.Expression.{Env}
 use Rattle.rt_ra.specs.OperatorAnswers.{Named}
 use Rattle.rt_ra.specs.OperatorAnswers as answers
-use Rattle.rt_ra.specs.Columns.{Text, names}
+use Rattle.rt_relation.specs.Columns.{Text, names}
 use Rattle.rt_ra.specs.Numbers.{tests_fit}
-use Rattle.rt_ra.specs.Operators.{Answer, table_columns}
-use Rattle.rt_ra.specs.Operators as operators
-use Rattle.rt_ra.specs.declared.column.Column.{Column}
-use Rattle.rt_ra.specs.declared.relation.Relation.{Relation}
+use Rattle.rt_relation.specs.Operators.{Answer}
+use Rattle.rt_relation.specs.Operators as operators
+use Rattle.rt_ra.specs.Unary.{table_columns}
+use Rattle.rt_ra.specs.Unary as unary
+use Rattle.rt_relation.specs.declared.column.Column.{Column}
+use Rattle.rt_relation.specs.declared.relation.Relation.{Relation}
 use Rattle.rt_ra_tree.specs.declared.tree.RaOp.{RaOp}
 use Rattle.rt_ra_tree.specs.declared.tree.RaTests.{RaTests}
 use Rattle.rt_schema.specs.Given.{Rows, Tables, rows_at}
@@ -46,7 +48,7 @@ abbrev pub KeepsTwo : RaOp → Relation → Relation → Type 0
 KeepsTwo o t u = (db : Tables) (m n : Named) → Means db m t → Means db n u → IfOk (operators.two o t u) (Means db (answers.two o m n))
 
 abbrev pub TableKeeps : Text → List Table → Type 0
-TableKeeps n ts = (db : Tables) → Fit db 0 ts → IfOk (operators.table_named n 0 ts) (Means db (answers.table_rows n 0 ts db))
+TableKeeps n ts = (db : Tables) → Fit db 0 ts → IfOk (unary.table_named n 0 ts) (Means db (answers.table_rows n 0 ts db))
 
 -- ---- kinds and bounds
 
@@ -75,7 +77,7 @@ TwoTyped o t u = (tables : List algebra.Columns) → HasColumns tables t → Has
 
 -- the numbers of the tests may not be too large
 abbrev pub SelectTyped : Relation → RaTests → Type 0
-SelectTyped t ts = tests_fit (ts.head ∷ ts.tail) ≡ true → StaysTyped t (operators.select t ts)
+SelectTyped t ts = tests_fit (ts.head ∷ ts.tail) ≡ true → StaysTyped t (unary.select t ts)
 
 abbrev pub TableTyped : Text → List Table → Type 0
-TableTyped n ts = (tables : List algebra.Columns) → AreTables tables 0 ts → IfOk (operators.table_named n 0 ts) (HasColumns tables)
+TableTyped n ts = (tables : List algebra.Columns) → AreTables tables 0 ts → IfOk (unary.table_named n 0 ts) (HasColumns tables)

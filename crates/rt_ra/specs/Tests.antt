@@ -8,9 +8,9 @@ use Rattle.rt_algebra.specs.declared.query.Pred.TheVariants as pred
 use Rattle.rt_schema.specs.Schema.{kind_eq}
 use Rattle.rt_schema.specs.declared.table.ColKind.TheVariants.{Whole, Text as Texts}
 use Rattle.rt_value.specs.declared.value.Op.{Op}
-use Rattle.rt_ra.specs.Columns.{column_at, names, place}
-use Rattle.rt_ra.specs.Fault.{◌>>=◌}
-use Rattle.rt_ra.specs.declared.column.Column.{Column}
+use Rattle.rt_relation.specs.Columns.{column_at, names, place}
+use Rattle.rt_relation.specs.Fault.{◌>>=◌}
+use Rattle.rt_relation.specs.declared.column.Column.{Column}
 use Rattle.rt_ra.specs.declared.scalar.Scalar.{Scalar}
 use Rattle.rt_ra_tree.specs.declared.fault.RaFault.{RaFault}
 use Rattle.rt_ra_tree.specs.declared.fault.RaFault.TheVariants as fault

@@ -1,15 +1,13 @@
 //! CROSS: all pairs, where no column is in both operands.
 
 ghost use Rattle.std.specs.Prelude.{◌≡◌, ◌++◌, IfOk};
-ghost use Rattle.rt_ra.specs.Operators as spec;
+ghost use Rattle.rt_relation.specs.Operators as spec;
 ghost use Rattle.rt_ra_tree.specs.Refusals.{is_memory};
 ghost use Rattle.rt_ra_tree.specs.declared.tree.RaOp.TheVariants as op;
 ghost use Rattle.rt_value.specs.Gives.{Gives};
 
-use crate::lists::{concatenated, shared_name};
-use crate::products::product;
-use crate::relation::Relation;
 use rt_ra_tree::RaFault;
+use rt_relation::{Relation, concatenated, product, shared_name};
 use rt_value::NoMemory;
 use std::alloc::Global;
 

@@ -3,20 +3,17 @@
 ghost use Rattle.std.specs.Prelude.{◌≡◌, ◌++◌, IfOk, length};
 ghost use Rattle.rt_algebra.specs.Parts as parts;
 ghost use Rattle.rt_algebra.specs.declared.query.Query.TheVariants as query;
-ghost use Rattle.rt_ra.specs.Columns.{further_columns};
-ghost use Rattle.rt_ra.specs.Operators as spec;
+ghost use Rattle.rt_relation.specs.Columns.{further_columns};
+ghost use Rattle.rt_relation.specs.Operators as spec;
 ghost use Rattle.rt_ra_tree.specs.Refusals.{is_memory};
 ghost use Rattle.rt_ra_tree.specs.declared.tree.RaOp.TheVariants as op;
 ghost use Rattle.rt_value.specs.Gives.{Gives};
 
-use crate::column::Column;
-use crate::faults::check_fit;
-use crate::items::{matching, own, with_further as items_further};
-use crate::lists::with_further;
-use crate::products::product;
-use crate::relation::Relation;
 use rt_algebra::{Expr, Pred, Query, selected};
 use rt_ra_tree::RaFault;
+use rt_relation::{
+    Column, Relation, check_fit, items_further, matching, own, product, with_further,
+};
 use rt_value::{Boxed, List, NoMemory};
 use std::alloc::Global;
 

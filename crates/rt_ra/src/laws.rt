@@ -4,10 +4,10 @@
 ghost use Rattle.std.specs.Prelude.{◌∷◌};
 ghost use Rattle.rt_ra.specs.OperatorAnswers as answers;
 ghost use Rattle.rt_ra.specs.OperatorMeaning.{KeepsOne, KeepsTwo, SelectTyped, StaysTyped, TableKeeps, TableTyped, TwoTyped};
-ghost use Rattle.rt_ra.specs.Operators as spec;
+ghost use Rattle.rt_ra.specs.Unary as spec;
 
-use crate::relation::Relation;
 use rt_ra_tree::{RaOp, RaTests};
+use rt_relation::Relation;
 use rt_schema::Table;
 use rt_value::Txt;
 

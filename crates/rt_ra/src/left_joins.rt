@@ -3,20 +3,16 @@
 
 ghost use Rattle.std.specs.Prelude.{◌≡◌, ◌-◌, IfOk, length};
 ghost use Rattle.rt_algebra.specs.declared.query.Query.TheVariants as query;
-ghost use Rattle.rt_ra.specs.Operators as spec;
+ghost use Rattle.rt_relation.specs.Operators as spec;
 ghost use Rattle.rt_ra_tree.specs.Refusals.{is_memory};
 ghost use Rattle.rt_ra_tree.specs.declared.tree.RaOp.TheVariants as op;
 ghost use Rattle.rt_value.specs.Gives.{Gives};
 
-use crate::column::Column;
-use crate::faults::check_fit;
-use crate::items::{own, with_nulls};
 use crate::joins::joined;
-use crate::lists::copied;
-use crate::relation::Relation;
 use crate::semijoins::anti;
 use rt_algebra::Query;
 use rt_ra_tree::RaFault;
+use rt_relation::{Column, Relation, check_fit, copied, own, with_nulls};
 use rt_value::{Boxed, NoMemory};
 use std::alloc::Global;
 

@@ -4,25 +4,19 @@
 //! `specs/Answer.antt` says what a text answers on the rows of the tables, over plain lists;
 //! `specs/Lowered.antt` says which query it becomes, or its first error in the walk from the left.
 //!
-//! An operator works on relations. `specs/Operators.antt` says which query and which columns it
-//! becomes, or its first error; `specs/OperatorAnswers.antt` has what it answers, over plain lists.
-//! `specs/OperatorMeaning.antt` ties the two together: what an operator becomes answers just the
-//! rows that it means, and the laws say so of each.
+//! An operator works on relations. `specs/Unary.antt`, and `Operators` of `rt_relation` for two
+//! operands, say which query and which columns it becomes, or its first error;
+//! `specs/OperatorAnswers.antt` has what it answers, over plain lists. `specs/OperatorMeaning.antt`
+//! ties the two together: what an operator becomes answers just the rows that it means, and the laws
+//! say so of each.
 #![tactic(auto)]
 
-mod column;
 mod crosses;
-mod division;
-mod faults;
-mod items;
 mod joins;
 mod laws;
 mod left_joins;
-mod lists;
 mod names;
-mod products;
 mod projections;
-mod relation;
 mod renaming;
 mod resolve;
 mod scalar;
@@ -33,7 +27,6 @@ mod table;
 mod tests;
 mod walk;
 
-pub use column::Column;
 pub use laws::{project_law, rename_law, select_law, table_law, two_law};
-pub use relation::Relation;
 pub use resolve::resolve_ra;
+pub use rt_relation::{Column, Relation};

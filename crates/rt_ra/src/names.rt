@@ -1,7 +1,7 @@
 //! The names of PROJECT and RENAME as texts.
 
 ghost use Rattle.std.specs.Prelude.{◌≡◌, IfOk};
-ghost use Rattle.rt_ra.specs.Columns as spec;
+ghost use Rattle.rt_relation.specs.Columns as spec;
 
 use rt_ra_tree::RaNames;
 use rt_value::{List, NoMemory, Txt};

@@ -1,15 +1,12 @@
 //! PROJECT: named columns, in the order of the names.
 
-ghost use Rattle.rt_ra.specs.Operators as spec;
+ghost use Rattle.rt_ra.specs.Unary as spec;
 ghost use Rattle.rt_ra_tree.specs.Refusals.{is_memory};
 ghost use Rattle.rt_value.specs.Gives.{Gives};
 
-use crate::faults::unless_twice;
-use crate::items::with_placed;
-use crate::lists::picked;
-use crate::relation::Relation;
 use rt_algebra::Query;
 use rt_ra_tree::RaFault;
+use rt_relation::{Relation, picked, unless_twice, with_placed};
 use rt_value::{Boxed, List, Txt};
 use std::alloc::Global;
 

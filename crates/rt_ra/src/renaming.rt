@@ -1,15 +1,13 @@
 //! RENAME: new names for all columns, over the same query.
 
 ghost use Rattle.std.specs.Prelude.{◌≡◌, IfOk};
-ghost use Rattle.rt_ra.specs.Columns as columns_spec;
-ghost use Rattle.rt_ra.specs.Operators as spec;
+ghost use Rattle.rt_relation.specs.Columns as columns_spec;
+ghost use Rattle.rt_ra.specs.Unary as spec;
 ghost use Rattle.rt_ra_tree.specs.Refusals.{is_memory};
 ghost use Rattle.rt_value.specs.Gives.{Gives};
 
-use crate::column::Column;
-use crate::faults::unless_twice;
-use crate::relation::Relation;
 use rt_ra_tree::RaFault;
+use rt_relation::{Column, Relation, unless_twice};
 use rt_value::{List, NoMemory, Txt};
 use std::alloc::Global;
 

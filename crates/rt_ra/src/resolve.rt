@@ -9,10 +9,10 @@ ghost use Rattle.rt_ra_tree.specs.Formed.{IsFormed};
 ghost use Rattle.rt_ra_tree.specs.Refusals.{is_memory};
 ghost use Rattle.rt_value.specs.Gives.{Gives};
 
-use crate::relation::typed_of;
 use crate::walk::relation;
 use rt_algebra::Typed;
 use rt_ra_tree::{RaFault, RaText};
+use rt_relation::typed_of;
 use rt_schema::{Schema, Table};
 use std::alloc::Global;
 

@@ -1,13 +1,13 @@
 //! SELECT: the rows that meet all tests.
 
-ghost use Rattle.rt_ra.specs.Operators as spec;
+ghost use Rattle.rt_ra.specs.Unary as spec;
 ghost use Rattle.rt_ra_tree.specs.Refusals.{is_memory};
 ghost use Rattle.rt_value.specs.Gives.{Gives};
 
-use crate::relation::Relation;
 use crate::tests::tests as conditions;
 use rt_algebra::selected;
 use rt_ra_tree::{RaFault, RaTests};
+use rt_relation::Relation;
 use std::alloc::Global;
 
 /// The rows that meet the tests.

@@ -1,17 +1,14 @@
 //! SEMI and ANTI: the rows of the first that meet a row of the second, or none.
 
 ghost use Rattle.std.specs.Prelude.{◌≡◌, IfOk};
-ghost use Rattle.rt_ra.specs.Operators as spec;
+ghost use Rattle.rt_relation.specs.Operators as spec;
 ghost use Rattle.rt_ra_tree.specs.Refusals.{is_memory};
 ghost use Rattle.rt_ra_tree.specs.declared.tree.RaOp.TheVariants as op;
 ghost use Rattle.rt_value.specs.Gives.{Gives};
 
-use crate::column::Column;
-use crate::faults::check_fit;
-use crate::items::matching;
-use crate::relation::Relation;
 use rt_algebra::{Pred, Query, selected};
 use rt_ra_tree::RaFault;
+use rt_relation::{Column, Relation, check_fit, matching};
 use rt_value::{Boxed, NoMemory};
 use std::alloc::Global;
 

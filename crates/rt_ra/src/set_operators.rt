@@ -1,14 +1,13 @@
 //! UNION, EXCEPT and INTERSECT, over operands whose columns fit.
 
-ghost use Rattle.rt_ra.specs.Columns as columns_spec;
-ghost use Rattle.rt_ra.specs.Operators as spec;
+ghost use Rattle.rt_relation.specs.Columns as columns_spec;
+ghost use Rattle.rt_relation.specs.Operators as spec;
 ghost use Rattle.rt_ra_tree.specs.Refusals.{is_memory};
 ghost use Rattle.rt_value.specs.Gives.{Gives};
 
-use crate::column::Column;
-use crate::relation::Relation;
 use rt_algebra::{SetOp, combined, same_kinds, widened};
 use rt_ra_tree::RaFault;
+use rt_relation::{Column, Relation};
 use rt_value::List;
 use std::alloc::Global;
 

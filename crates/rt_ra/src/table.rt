@@ -1,13 +1,12 @@
 //! Tables of the schema, the leaves of a text.
 
-ghost use Rattle.rt_ra.specs.Operators as spec;
+ghost use Rattle.rt_ra.specs.Unary as spec;
 ghost use Rattle.rt_ra_tree.specs.Refusals.{is_memory};
 ghost use Rattle.rt_value.specs.Gives.{Gives};
 
-use crate::lists::next;
-use crate::relation::Relation;
 use rt_algebra::{Query, table_columns};
 use rt_ra_tree::RaFault;
+use rt_relation::{Relation, next};
 use rt_schema::Table;
 use rt_value::{Boxed, Txt};
 use std::alloc::Global;

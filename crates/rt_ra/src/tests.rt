@@ -5,11 +5,10 @@ ghost use Rattle.rt_ra.specs.Tests as spec;
 ghost use Rattle.rt_ra_tree.specs.Refusals.{is_memory};
 ghost use Rattle.rt_value.specs.Gives.{Gives};
 
-use crate::column::Column;
-use crate::lists::{column_at, place_of};
 use crate::scalar::Scalar;
 use rt_algebra::{Expr, Pred, Term};
 use rt_ra_tree::{RaFault, RaSide, RaTest, RaTests};
+use rt_relation::{Column, column_at, place_of};
 use rt_schema::ColKind;
 use rt_value::{Boxed, List, NoMemory, Op};
 use std::alloc::Global;

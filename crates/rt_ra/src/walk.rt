@@ -2,19 +2,17 @@
 //! where an operand comes more than once, its tree is walked again.
 
 ghost use Rattle.std.specs.Prelude.{◌≡◌, IfOk, Ok};
-ghost use Rattle.rt_ra.specs.Operators as operators;
+ghost use Rattle.rt_relation.specs.Operators as operators;
 ghost use Rattle.rt_ra.specs.Lowered as spec;
 ghost use Rattle.rt_ra_tree.specs.Refusals.{is_memory};
 ghost use Rattle.rt_ra_tree.specs.declared.tree.RaOp.TheVariants as op;
 ghost use Rattle.rt_value.specs.Gives.{Gives};
 
 use crate::crosses::cross;
-use crate::division::{Dividend, divide};
 use crate::joins::join;
 use crate::left_joins::{Doubled, left_join};
 use crate::names::texts;
 use crate::projections::project;
-use crate::relation::Relation;
 use crate::renaming::rename;
 use crate::selections::select;
 use crate::semijoins::{anti_join, semi_join};
@@ -22,6 +20,7 @@ use crate::set_operators::united;
 use crate::table::table_named;
 use rt_algebra::{Query, SetOp};
 use rt_ra_tree::{Ra, RaFault, RaNames, RaOp, RaTests};
+use rt_relation::{Dividend, Relation, divide};
 use rt_schema::Table;
 use rt_value::{Boxed, NoMemory};
 use std::alloc::Global;

@@ -1,5 +1,5 @@
 use Rattle.std.proofs.Common.{◌≡◌, ◌++◌, drop, map}
-use Rattle.rt_ra.specs.Columns.{texts}
+use Rattle.rt_relation.specs.Columns.{texts}
 use Rattle.rt_ra.proofs.names.texts.Given as goal
 
 abbrev pub invariant-loop-name : goal.invariant-loop-name

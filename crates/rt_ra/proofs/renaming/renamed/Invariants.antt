@@ -1,5 +1,5 @@
 use Rattle.std.proofs.Common.{◌≡◌, ◌++◌, length}
-use Rattle.rt_ra.specs.Columns.{renamed}
+use Rattle.rt_relation.specs.Columns.{renamed}
 use Rattle.rt_ra.proofs.renaming.renamed.Given as goal
 
 abbrev pub invariant-names : goal.invariant-names

@@ -1,5 +1,5 @@
 use Rattle.std.proofs.Common.{◌≡◌, drop}
-use Rattle.rt_ra.specs.Operators.{table_named}
+use Rattle.rt_ra.specs.Unary.{table_named}
 use Rattle.rt_ra.proofs.table.table_named.Given as goal
 
 abbrev pub invariant-loop-table : goal.invariant-loop-table

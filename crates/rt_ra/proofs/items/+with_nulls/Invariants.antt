@@ -1,4 +1,0 @@
-use Rattle.rt_ra.proofs.items.+with_nulls.Given as goal
-
-abbrev pub decreases-with_nulls : goal.decreases-with_nulls
-decreases-with_nulls l = l.count

@@ -1,6 +1,0 @@
-use Rattle.std.proofs.Common.{◌≡◌, ◌++◌, drop}
-use Rattle.rt_ra.specs.Operators.{own}
-use Rattle.rt_ra.proofs.items.own.Given as goal
-
-abbrev pub invariant-loop-column : goal.invariant-loop-column
-invariant-loop-column l = l.items ++ own l.at (drop l._column-index l.columns) ≡ own 0 l.columns

@@ -1,7 +1,0 @@
-use Rattle.std.proofs.Common.{◌≡◌, ◌++◌, drop}
-use Rattle.rt_ra.specs.Columns.{names}
-use Rattle.rt_ra.specs.Operators.{placed}
-use Rattle.rt_ra.proofs.items.with_named.Given as goal
-
-abbrev pub invariant-loop-other : goal.invariant-loop-other
-invariant-loop-other l = l.items ++ placed (names (drop l.other-index l.others)) l.columns ≡ l.fn.so_far ++ placed (names l.others) l.columns

@@ -1,6 +1,0 @@
-use Rattle.std.proofs.Common.{◌≡◌, ◌++◌, drop}
-use Rattle.rt_ra.specs.Operators.{placed}
-use Rattle.rt_ra.proofs.items.with_placed.Given as goal
-
-abbrev pub invariant-loop-name : goal.invariant-loop-name
-invariant-loop-name l = l.items ++ placed (drop l.name-index l.names) l.columns ≡ l.fn.so_far ++ placed l.names l.columns

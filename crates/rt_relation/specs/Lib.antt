@@ -1,0 +1,4 @@
+pub mod Columns
+pub mod Fault
+pub mod Operators
+pub mod Divisor
