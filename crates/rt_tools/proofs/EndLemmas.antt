@@ -12,12 +12,12 @@ use Rattle.rt_input.specs.Source.{Text}
 use Rattle.rt_input.specs.Steps.{Seen}
 use Rattle.rt_value.specs.declared.no_memory.NoMemory.{NoMemory}
 use Rattle.rt_tools.specs.declared.run.ToolAnswer.{ToolAnswer}
-use Rattle.rt_tools.specs.RowVerdicts.{IsRowAnswer}
-use Rattle.rt_tools.specs.declared.row_outcome.RowVerdict.{RowVerdict}
-use Rattle.rt_tools.specs.declared.row_outcome.RowVerdict.TheVariants as rows
-use Rattle.rt_tools.specs.GradeAnswers.{Stops}
-use Rattle.rt_tools.specs.declared.grade_fault.GradeFault.{GradeFault}
-use Rattle.rt_tools.specs.declared.grade_fault.GradeFault.TheVariants as faults
+use Rattle.rt_row.specs.RowVerdicts.{IsRowAnswer}
+use Rattle.rt_row.specs.declared.outcome.RowVerdict.{RowVerdict}
+use Rattle.rt_row.specs.declared.outcome.RowVerdict.TheVariants as rows
+use Rattle.rt_grade.specs.GradeAnswers.{Stops}
+use Rattle.rt_grade.specs.declared.grade_fault.GradeFault.{GradeFault}
+use Rattle.rt_grade.specs.declared.grade_fault.GradeFault.TheVariants as faults
 use Rattle.rt_tools.specs.declared.outcome.ToolOutcome.{ToolOutcome}
 use Rattle.rt_tools.specs.declared.outcome.ToolOutcome.TheVariants.{Verdict}
 use Rattle.rt_tools.specs.Answers.{Ends, EndsGrades, EndsGrading, IsOwn, SaysGrade, SaysRow, StopsTool, with_words}

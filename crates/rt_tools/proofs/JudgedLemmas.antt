@@ -9,7 +9,7 @@ use Rattle.rt_io.specs.declared.place.Place.TheVariants as at
 use Rattle.rt_schema.specs.Given.{places}
 use Rattle.rt_io.specs.Command.{command}
 use Rattle.rt_io.specs.Ranges.{Command}
-use Rattle.rt_tools.specs.Rows.{row_read}
+use Rattle.rt_row.specs.Rows.{row_read}
 use Rattle.rt_input.specs.declared.first.First.{First}
 use Rattle.rt_input.specs.declared.outcome.Fault.{Fault}
 use Rattle.rt_input.specs.declared.outcome.Limit.{Limit}
@@ -28,15 +28,15 @@ use Rattle.rt_input.proofs.RowLemmas.{named_from_reached}
 use Rattle.rt_io.specs.Edge.{Rose}
 use Rattle.rt_input.specs.Source.{IsKnown, Text, file_of, source_from, source_of}
 use Rattle.rt_input.specs.Steps.{Failed, IsFirstPart, Seen}
-use Rattle.rt_tools.specs.RowVerdicts.{IsRowAnswer, Judges}
-use Rattle.rt_tools.specs.declared.row_outcome.RowVerdict.{RowVerdict}
-use Rattle.rt_tools.specs.declared.row_outcome.RowVerdict.TheVariants as rows
-use Rattle.rt_tools.specs.declared.grade.Grade.{Grade}
-use Rattle.rt_tools.specs.GradeAnswers.{AreGradedBy, FailsToRead, RefusesList, Stops, StopsFirst, StopsOf}
-use Rattle.rt_tools.specs.GradeWords.{grade_words}
-use Rattle.rt_tools.specs.declared.grade_fault.GradeFault.{GradeFault}
-use Rattle.rt_tools.specs.declared.grade_fault.GradeFault.TheVariants as faults
-use Rattle.rt_tools.specs.declared.grade_words.GradeWords.{GradeWords}
+use Rattle.rt_row.specs.RowVerdicts.{IsRowAnswer, Judges}
+use Rattle.rt_row.specs.declared.outcome.RowVerdict.{RowVerdict}
+use Rattle.rt_row.specs.declared.outcome.RowVerdict.TheVariants as rows
+use Rattle.rt_grade.specs.declared.grade.Grade.{Grade}
+use Rattle.rt_grade.specs.GradeAnswers.{AreGradedBy, FailsToRead, RefusesList, Stops, StopsFirst, StopsOf}
+use Rattle.rt_grade.specs.GradeWords.{grade_words}
+use Rattle.rt_grade.specs.declared.grade_fault.GradeFault.{GradeFault}
+use Rattle.rt_grade.specs.declared.grade_fault.GradeFault.TheVariants as faults
+use Rattle.rt_grade.specs.declared.grade_words.GradeWords.{GradeWords}
 use Rattle.rt_tools.specs.declared.outcome.ToolOutcome.{ToolOutcome}
 use Rattle.rt_tools.specs.declared.outcome.ToolOutcome.TheVariants.{RowWitness, RowNever, RowSpent, RowRefused, BadList, TooManyPaths, ListLong, FileRead, Grades, Verdict}
 use Rattle.rt_tools.specs.Answers.{Ends, EndsGrades, StopsTool, WritesTo, with_words}

@@ -3,7 +3,7 @@ use Rattle.std.proofs.Common.{◌≡◌, ◌∙◌, List, [], ◌∷◌, ◌++�
 use Rattle.std.specs.Prelude.{◌⊎◌}
 use Rattle.std.proofs.lemmas.List.{append-nil}
 use Rattle.rt_input.specs.Source.{Text}
-use Rattle.rt_tools.specs.declared.grade.Grade.{Grade}
+use Rattle.rt_grade.specs.declared.grade.Grade.{Grade}
 use Rattle.rt_tools.specs.Texts.{grade_line, grade_lines}
 
 -- a line more

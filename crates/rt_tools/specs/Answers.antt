@@ -6,13 +6,13 @@ use Rattle.rt_input.specs.declared.outcome.Outcome.{Outcome}
 use Rattle.rt_input.specs.declared.outcome.Outcome.TheVariants as outcome
 use Rattle.rt_input.specs.Reading.{Call, Stop, limit_of}
 use Rattle.rt_input.specs.Source.{Text}
-use Rattle.rt_tools.specs.RowVerdicts.{IsRowAnswer}
-use Rattle.rt_tools.specs.declared.row_outcome.RowVerdict.{RowVerdict}
-use Rattle.rt_tools.specs.declared.row_outcome.RowVerdict.TheVariants as rows
-use Rattle.rt_tools.specs.declared.grade.Grade.{Grade}
-use Rattle.rt_tools.specs.GradeAnswers.{AreGraded, Stops}
-use Rattle.rt_tools.specs.declared.grade_fault.GradeFault.{GradeFault}
-use Rattle.rt_tools.specs.declared.grade_fault.GradeFault.TheVariants as faults
+use Rattle.rt_row.specs.RowVerdicts.{IsRowAnswer}
+use Rattle.rt_row.specs.declared.outcome.RowVerdict.{RowVerdict}
+use Rattle.rt_row.specs.declared.outcome.RowVerdict.TheVariants as rows
+use Rattle.rt_grade.specs.declared.grade.Grade.{Grade}
+use Rattle.rt_grade.specs.GradeAnswers.{AreGraded, Stops}
+use Rattle.rt_grade.specs.declared.grade_fault.GradeFault.{GradeFault}
+use Rattle.rt_grade.specs.declared.grade_fault.GradeFault.TheVariants as faults
 use Rattle.rt_tools.specs.declared.outcome.ToolOutcome.{ToolOutcome}
 use Rattle.rt_tools.specs.declared.outcome.ToolOutcome.TheVariants.{RowWitness, RowNever, RowSpent, RowRefused, BadList, TooManyPaths, ListLong, FileRead, Grades, Verdict}
 use Rattle.rt_tools.specs.Outcomes.{of_fault, of_verdict}

@@ -3,8 +3,8 @@
 use Rattle.std.specs.Prelude.{◌≡◌, ◌⊎◌, IsSomeAnd, IsTrue, List, Option, None, Some, Result, Ok, Err, ⊤}
 use Rattle.rt_value.specs.declared.value.Value.{Value}
 use Rattle.rt_io.specs.Edge.{Rose}
-use Rattle.rt_tools.specs.Rows.{row_read}
-use Rattle.rt_tools.specs.declared.row_fault.RowFault.{RowFault}
+use Rattle.rt_row.specs.Rows.{row_read}
+use Rattle.rt_row.specs.declared.fault.RowFault.{RowFault}
 use Rattle.rt_input.specs.declared.first.First.{First}
 use Rattle.rt_input.specs.declared.outcome.Outcome.{Outcome}
 use Rattle.rt_input.specs.declared.outcome.Outcome.TheVariants as outcome
@@ -20,11 +20,11 @@ use Rattle.rt_input.specs.Judged.{IsNamed, judged}
 use Rattle.rt_input.specs.Held.{Holding}
 use Rattle.rt_input.specs.Source.{IsKnown, Text, file_of, source_of}
 use Rattle.rt_input.specs.Steps.{IsFirstPart, Seen}
-use Rattle.rt_tools.specs.GradeAnswers.{IsNamedIn}
-use Rattle.rt_tools.specs.Listing.{list_judged}
-use Rattle.rt_tools.specs.GradeWords.{grade_words}
-use Rattle.rt_tools.specs.declared.grade_fault.GradeFault.{GradeFault}
-use Rattle.rt_tools.specs.declared.grade_words.GradeWords.{GradeWords}
+use Rattle.rt_grade.specs.GradeAnswers.{IsNamedIn}
+use Rattle.rt_grade.specs.Listing.{list_judged}
+use Rattle.rt_grade.specs.GradeWords.{grade_words}
+use Rattle.rt_grade.specs.declared.grade_fault.GradeFault.{GradeFault}
+use Rattle.rt_grade.specs.declared.grade_words.GradeWords.{GradeWords}
 use Rattle.rt_tools.specs.Answers.{with_words}
 use Rattle.rt_tools.specs.Outcomes.{of_fault}
 use Rattle.rt_tools.specs.Words.{Tool, grade, neither, row}

@@ -4,16 +4,3 @@ pub mod Judged
 pub mod Outcomes
 pub mod Texts
 pub mod Words
-pub mod Rows
-pub mod RowVerdicts
-pub mod Said
-pub mod Holds
-pub mod GradeAnswers
-pub mod Candidates
-pub mod Listing
-pub mod GradeWords
-pub mod Grades
-pub mod Known
-pub mod Prepared
-pub mod Review
-pub mod Listed

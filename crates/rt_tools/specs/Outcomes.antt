@@ -1,8 +1,8 @@
 -- The verdicts on a row, and what stops a call that grades, as outcomes of a tool.
-use Rattle.rt_tools.specs.declared.row_outcome.RowVerdict.{RowVerdict}
-use Rattle.rt_tools.specs.declared.row_outcome.RowVerdict.TheVariants as row
-use Rattle.rt_tools.specs.declared.grade_fault.GradeFault.{GradeFault}
-use Rattle.rt_tools.specs.declared.grade_fault.GradeFault.TheVariants as grade
+use Rattle.rt_row.specs.declared.outcome.RowVerdict.{RowVerdict}
+use Rattle.rt_row.specs.declared.outcome.RowVerdict.TheVariants as row
+use Rattle.rt_grade.specs.declared.grade_fault.GradeFault.{GradeFault}
+use Rattle.rt_grade.specs.declared.grade_fault.GradeFault.TheVariants as grade
 use Rattle.rt_tools.specs.declared.outcome.ToolOutcome.{ToolOutcome}
 use Rattle.rt_tools.specs.declared.outcome.ToolOutcome.TheVariants.{RowWitness, RowNever, RowSpent, RowRefused, BadList, TooManyPaths, ListLong, FileRead, Verdict}
 

@@ -7,10 +7,10 @@ use Rattle.rt_input.specs.declared.outcome.Outcome.{Outcome}
 use Rattle.rt_input.specs.declared.outcome.Outcome.TheVariants as outcome
 use Rattle.rt_input.specs.Source.{Text}
 use Rattle.rt_input.specs.Texts.{fault_text, stopped_text, status_of as status_of_outcome}
-use Rattle.rt_tools.specs.declared.grade.Grade.{Grade}
-use Rattle.rt_tools.specs.declared.grade.Grade.TheVariants as grade
-use Rattle.rt_tools.specs.declared.grade_fault.GradeFault.{GradeFault}
-use Rattle.rt_tools.specs.declared.grade_fault.GradeFault.TheVariants as fault
+use Rattle.rt_grade.specs.declared.grade.Grade.{Grade}
+use Rattle.rt_grade.specs.declared.grade.Grade.TheVariants as grade
+use Rattle.rt_grade.specs.declared.grade_fault.GradeFault.{GradeFault}
+use Rattle.rt_grade.specs.declared.grade_fault.GradeFault.TheVariants as fault
 use Rattle.rt_tools.specs.declared.outcome.ToolOutcome.{ToolOutcome}
 use Rattle.rt_tools.specs.declared.outcome.ToolOutcome.TheVariants.{RowWitness, RowNever, RowSpent, RowRefused, BadList, TooManyPaths, ListLong, FileRead, Grades, Verdict}
 

@@ -3,7 +3,7 @@ use Rattle.std.specs.Prelude.{◌≡◌, List, [], ◌∷◌, None, codes, if◌
 use Rattle.std.specs.Str.{bytes_eq}
 use Rattle.rt_io.specs.Command.{command}
 use Rattle.rt_input.specs.Source.{Text}
-use Rattle.rt_tools.specs.GradeWords.{grade_words}
+use Rattle.rt_grade.specs.GradeWords.{grade_words}
 
 -- the tool that the arguments name, and what is after its name
 pub data Tool : Type 0 where

@@ -3,12 +3,10 @@
 ghost use Rattle.std.specs.Prelude.{◌≡◌};
 ghost use Rattle.rt_tools.specs.Texts.{place, status_of};
 
-use crate::grade::Grade;
-use crate::grade_fault::GradeFault;
-use crate::row_fault::RowFault;
-use crate::row_outcome::RowVerdict;
+use rt_grade::{Grade, GradeFault};
 use rt_input::{Outcome, Spent};
 use rt_io::Place;
+use rt_row::{RowFault, RowVerdict};
 use rt_value::{Keep, List, Txt};
 
 /// How a call of `tool_run` ends.

@@ -7,20 +7,20 @@ ghost use Rattle.rt_input.specs.Begun.{BeginsFor};
 ghost use Rattle.rt_input.specs.Reading.{call};
 ghost use Rattle.rt_io.specs.Command.{command};
 ghost use Rattle.rt_tools.specs.Answers.{Ends, EndsBegun, EndsBroken, EndsWritten, IfNoMemory, IfText, IfWriteFault, SaysGrade, SaysRow, SaysVerdict, WritesTo};
-ghost use Rattle.rt_tools.specs.Begun.{Begins, GradesFor};
-ghost use Rattle.rt_tools.specs.GradeWords.{grade_words};
+ghost use Rattle.rt_grade.specs.Begun.{GradesFor};
+ghost use Rattle.rt_tools.specs.Begun.{Begins};
+ghost use Rattle.rt_grade.specs.GradeWords.{grade_words};
 ghost use Rattle.rt_tools.specs.Judged.{HasRoomFor, IsAsJudged, IsNoFault, IsToldTool, IsUsageOrFault, NoNamedRose, refusal_of};
 ghost use Rattle.rt_tools.specs.Texts.{place};
 ghost use Rattle.rt_tools.specs.Words.{IsUsage, tool_of};
 ghost use Rattle.rt_tools.specs.declared.outcome.ToolOutcome.{ToolOutcome};
 
-use crate::grade_fault::GradeFault;
-use crate::grade_run::grades;
 use crate::outcome::ToolOutcome;
-use crate::row_verdict::row_answer;
 use crate::say::{USAGE, fault_line, grades_text};
+use rt_grade::{GradeFault, grades};
 use rt_input::{Outcome, stopped_text};
 use rt_io::{Files, Sink, SinkFail, write_at};
+use rt_row::row_answer;
 use rt_value::{Bytes, List, NoMemory, Txt};
 use std::alloc::Global;
 

@@ -3,8 +3,7 @@
 ghost use Rattle.std.specs.Prelude.{◌≡◌, ◌++◌, IfOk, OnOk};
 ghost use Rattle.rt_tools.specs.Texts as spec;
 
-use crate::grade::Grade;
-use crate::grade_fault::GradeFault;
+use rt_grade::{Grade, GradeFault};
 use rt_input::fault_text;
 use rt_value::{Bytes, List, NoMemory, Txt};
 use std::alloc::Global;

@@ -1,0 +1,10 @@
+pub mod Grades
+pub mod Listed
+pub mod Listing
+pub mod GradeWords
+pub mod Known
+pub mod Prepared
+pub mod Review
+pub mod Candidates
+pub mod GradeAnswers
+pub mod Begun

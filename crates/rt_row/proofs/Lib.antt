@@ -1,0 +1,5 @@
+mod Nodes
+mod ReaderLemmas
+mod RowLemmas
+mod Transfer
+mod VerdictLemmas
