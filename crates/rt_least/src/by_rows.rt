@@ -7,7 +7,7 @@ ghost use Rattle.rt_least.specs.Aimed.{IsAimed};
 ghost use Rattle.rt_least.specs.Leading.{AllFew, IsLeading};
 ghost use Rattle.rt_least.specs.Sought.{IsBestWithin};
 
-use crate::attempt::attempt;
+use crate::attempts::attempt;
 use crate::best::{Best, SpentBest};
 use crate::both::both;
 use crate::choice::rows_of;

@@ -9,7 +9,7 @@ use crate::best::Best;
 use crate::both::MOST_VARIABLES;
 use crate::by_rows::by_rows;
 use crate::counted::Counted;
-use crate::lower::fewer;
+use crate::lowering::fewer;
 use rt_clause::Named;
 use rt_formula::{Dag, Node};
 use rt_solver::Solver;

@@ -4,7 +4,7 @@
 
 mod alone;
 mod ask;
-mod attempt;
+mod attempts;
 mod best;
 mod both;
 mod by_rows;
@@ -12,15 +12,15 @@ mod choice;
 mod counted;
 mod first;
 mod in_order;
-mod lower;
+mod lowering;
 mod none_kept;
 mod others;
-mod smaller;
+mod shrinking;
 mod widened;
 
-pub use attempt::attempt;
+pub use attempts::attempt;
 pub use best::{Best, SpentBest};
 pub use choice::rows_of;
 pub use counted::Counted;
-pub use lower::lower;
-pub use smaller::smaller;
+pub use lowering::lower;
+pub use shrinking::smaller;

@@ -1,7 +1,7 @@
 use Rattle.std.proofs.Common.{◌≡◌}
 use Rattle.rt_value.specs.Keep.{size}
 use Rattle.rt_least.specs.Aimed.{IsUnderWay}
-use Rattle.rt_least.proofs.lower.lower.Given as goal
+use Rattle.rt_least.proofs.lowering.lower.Given as goal
 
 abbrev pub invariant-lower : goal.invariant-lower
 invariant-lower l = record {

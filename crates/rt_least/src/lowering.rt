@@ -5,7 +5,7 @@ ghost use Rattle.std.specs.Prelude.{◌≡◌, ◌≤◌, ◌<◌, IfOk, IfSome,
 ghost use Rattle.rt_least.specs.Aimed.{IsUnderWay, fewer_than};
 ghost use Rattle.rt_least.specs.Sought.{IsBestWithin};
 
-use crate::attempt::{attempt, is_small};
+use crate::attempts::{attempt, is_small};
 use crate::best::{Best, SpentBest};
 use crate::choice::rows_of;
 use crate::counted::Counted;

@@ -1,6 +1,6 @@
 use Rattle.std.proofs.Common.{◌≡◌, length}
 use Rattle.rt_least.specs.Sought.{IsSought}
-use Rattle.rt_least.proofs.smaller.smaller.Given as goal
+use Rattle.rt_least.proofs.shrinking.smaller.Given as goal
 
 abbrev pub invariant-loop-i : goal.invariant-loop-i
 invariant-loop-i l = record {

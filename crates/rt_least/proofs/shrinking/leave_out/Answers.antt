@@ -1,5 +1,5 @@
 use Rattle.rt_least.proofs.Leaving.{length-again, sought-again}
-use Rattle.rt_least.proofs.smaller.leave_out.Goals as goal
+use Rattle.rt_least.proofs.shrinking.leave_out.Goals as goal
 
 pub returns-then-not-branch-clause-long : goal.returns-then-not-branch-clause-long
 returns-then-not-branch-clause-long c = length-again c.args.best.now c.set.new.self c.set-then-not-branch.new.self c.args.place c.requires.kept c.set.ensures c.set-then-not-branch.ensures

@@ -5,7 +5,7 @@ use Rattle.rt_derive.specs.declared.checker.Checker.{Checker}
 use Rattle.rt_least.specs.Attempts.{IsTold}
 use Rattle.rt_least.proofs.Leading.{least-none}
 use Rattle.rt_least.proofs.Rounds.{round-begun, round-on, round-model, round-least, round-spent}
-use Rattle.rt_least.proofs.lower.lower.Goals as goal
+use Rattle.rt_least.proofs.lowering.lower.Goals as goal
 
 pub lower-smaller : goal.lower-smaller
 lower-smaller c =
