@@ -7,11 +7,11 @@ ghost use Rattle.rt_least.specs.Aimed.{IsAimed};
 ghost use Rattle.rt_least.specs.Leading.{AllFew, IsLeading};
 ghost use Rattle.rt_least.specs.Sought.{IsBestWithin};
 
-use crate::attempts::attempt;
 use crate::best::{Best, SpentBest};
 use crate::both::both;
 use crate::choice::rows_of;
 use crate::counted::Counted;
+use crate::tries::attempt;
 use crate::widened::all_widened;
 use rt_clause::{Lit, LitList, Named};
 use rt_formula::{Dag, Node};

@@ -4,7 +4,6 @@
 
 mod alone;
 mod ask;
-mod attempts;
 mod best;
 mod both;
 mod by_rows;
@@ -16,11 +15,12 @@ mod lowering;
 mod none_kept;
 mod others;
 mod shrinking;
+mod tries;
 mod widened;
 
-pub use attempts::attempt;
 pub use best::{Best, SpentBest};
 pub use choice::rows_of;
 pub use counted::Counted;
 pub use lowering::lower;
 pub use shrinking::smaller;
+pub use tries::attempt;

@@ -5,12 +5,12 @@ ghost use Rattle.std.specs.Prelude.{◌≡◌, ◌≤◌, ◌<◌, IfOk, IfSome,
 ghost use Rattle.rt_least.specs.Aimed.{IsUnderWay, fewer_than};
 ghost use Rattle.rt_least.specs.Sought.{IsBestWithin};
 
-use crate::attempts::{attempt, is_small};
 use crate::best::{Best, SpentBest};
 use crate::choice::rows_of;
 use crate::counted::Counted;
 use crate::first::first;
 use crate::others::others;
+use crate::tries::{attempt, is_small};
 use rt_clause::{Lit, LitList, Named};
 use rt_formula::{Dag, Node};
 use rt_solver::{Found, Solver};

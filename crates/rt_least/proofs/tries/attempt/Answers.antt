@@ -1,6 +1,6 @@
 use Rattle.std.proofs.Common.{arith}
 use Rattle.rt_least.proofs.Attempts.{grown-on, grown-trans, told-second}
-use Rattle.rt_least.proofs.attempts.attempt.Goals as goal
+use Rattle.rt_least.proofs.tries.attempt.Goals as goal
 
 pub returns-then-not-is_small-clause-grown : goal.returns-then-not-is_small-clause-grown
 returns-then-not-is_small-clause-grown c = grown-on _ _ _ _ c.args.assume.now c.args.next c.args.next (omega arith) c.in_ok-found.ensures.searched
