@@ -1,5 +1,5 @@
 -- Division means in the algebra what it means on rows.
-use Rattle.std.proofs.Common.{◌≡◌, ◌∙◌, ℕ, ◌+◌, Bool, true, false, not, cond, ◌&&◌, ◌||◌, List, [], ◌∷◌, ◌++◌, map, length, refl, sym, ap, ap₂, subst, arith}
+use Rattle.std.proofs.Common.{◌≡◌, ◌∙◌, ℕ, Bool, true, false, not, cond, ◌&&◌, ◌||◌, List, [], ◌∷◌, ◌++◌, map, length, refl, sym, ap, ap₂, subst, arith}
 use Rattle.std.specs.List.{filter, flat_map, list_all, list_any}
 use Rattle.std.proofs.lemmas.Bool.Decides.{Decides-int_eq}
 use Rattle.std.proofs.lemmas.Slice.Eq.{bytes_eq-Decides}
@@ -12,7 +12,7 @@ use Rattle.rt_value.specs.Value.{value_eq}
 use Rattle.rt_value.specs.declared.value.Value.{Value}
 use Rattle.rt_value.specs.declared.value.Value.TheVariants as v
 use Rattle.rt_ra.specs.OperatorAnswers.{cells, divided, further_cells, paired}
-use Rattle.rt_relation.specs.Columns.{Text, further_columns, names}
+use Rattle.rt_relation.specs.Columns.{further_columns, names}
 use Rattle.rt_ra.specs.OperatorMeaning.{Has, Wide}
 use Rattle.rt_relation.specs.Operators.{further, missing, own, pairs_of, placed, product, quotient, rest_of}
 use Rattle.rt_relation.specs.declared.relation.Relation.{Relation}

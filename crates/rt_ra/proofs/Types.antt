@@ -18,7 +18,7 @@ use Rattle.rt_relation.specs.Columns.{called, texts}
 use Rattle.rt_relation.specs.Fault.{◌>>=◌}
 use Rattle.rt_ra.specs.OperatorMeaning.{AreTables, HasColumns}
 use Rattle.rt_relation.specs.Operators.{two, typed_of}
-use Rattle.rt_ra.specs.Unary.{project, rename, select, table_columns}
+use Rattle.rt_ra.specs.Unary.{project, rename, select}
 use Rattle.rt_relation.specs.declared.column.Column.{Column}
 use Rattle.rt_relation.specs.declared.relation.Relation.{Relation}
 use Rattle.rt_ra.proofs.Sizes.{formed-front, formed-operands, tests-fit}
