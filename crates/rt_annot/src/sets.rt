@@ -1,7 +1,7 @@
 //! Set operators: a row of the first query is kept or dropped by the nodes of the same rows of the
 //! second, which are found by an index.
 
-ghost use Rattle.std.specs.Prelude.{◌≡◌, List, Bool, IfOk};
+ghost use Rattle.std.specs.Prelude.{List, Bool, IfOk};
 ghost use Rattle.rt_schema.specs.Given.{Rows};
 ghost use Rattle.rt_formula.specs.Shared.{IsGrown};
 ghost use Rattle.rt_noted.specs.Entries.{selected};

@@ -1,5 +1,5 @@
 -- Which files a call that grades begins.
-use Rattle.std.proofs.Common.{◌≡◌, ◌∙◌, ◌<◌, ◌+◌, Bool, IsTrue, List, [], ◌∷◌, ◌++◌, Ok, length, take, drop, get_or, sym, ap, subst, arith}
+use Rattle.std.proofs.Common.{◌≡◌, ◌∙◌, ◌<◌, ◌+◌, Bool, IsTrue, List, [], ◌∷◌, ◌++◌, Ok, length, take, drop, get_or, sym, ap, subst}
 use Rattle.std.specs.Prelude.{ℕ, Option, None, Some}
 use Rattle.std.proofs.lemmas.List.{take_more, take-append-drop}
 use Rattle.rt_io.proofs.AddLemmas.{adds_first, adds_then, all_then}

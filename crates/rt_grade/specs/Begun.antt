@@ -7,7 +7,6 @@ use Rattle.rt_input.specs.First.{first_judged}
 use Rattle.rt_input.specs.Held.{Holding}
 use Rattle.rt_input.specs.Source.{Text, source_of}
 use Rattle.rt_grade.specs.declared.grade_words.GradeWords.{GradeWords}
-use Rattle.rt_grade.specs.GradeWords.{grade_words}
 use Rattle.rt_grade.specs.Listing.{list_judged}
 
 -- the list, and where it is accepted its candidates

@@ -4,7 +4,7 @@
 ghost use Rattle.std.specs.Prelude.{◌≡◌, ◌≤◌, ◌<◌, ◌^◌, IfOk, IfSome, length};
 ghost use Rattle.rt_value.specs.Keep.{size};
 ghost use Rattle.rt_least.specs.Aimed.{IsAimed};
-ghost use Rattle.rt_least.specs.Leading.{AllFew, IsLeading};
+ghost use Rattle.rt_least.specs.Leading.{AllFew};
 ghost use Rattle.rt_least.specs.Sought.{IsBestWithin};
 
 use crate::best::{Best, SpentBest};

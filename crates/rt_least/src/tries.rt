@@ -1,6 +1,6 @@
 //! One call of the solver, or two where a budget can be spent.
 
-ghost use Rattle.std.specs.Prelude.{◌≡◌, ◌≤◌, IfOk, IfSome};
+ghost use Rattle.std.specs.Prelude.{◌≤◌, IfOk, IfSome};
 ghost use Rattle.rt_least.specs.Attempts.{IsGrown, IsTold};
 
 use crate::counted::Counted;

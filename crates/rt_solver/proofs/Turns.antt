@@ -1,15 +1,12 @@
 -- A watched literal that is false, and what becomes of it.
-use Rattle.std.proofs.Common.{◌≡◌, ◌≢◌, ℕ, zero, suc, ◌-◌, ◌<◌, ◌≤◌, Bool, true, false, not, nat_eq, nat_lt, min, List, [], ◌∷◌, length, take, get_or, swap, refl, sym, ap, subst, ◌∙◌, ◌⊎◌, inl, inr, Some, None, arith, rules}
-use Rattle.std.proofs.lemmas.List.{get_or_default}
+use Rattle.std.proofs.Common.{◌≡◌, ◌≢◌, ℕ, ◌-◌, ◌<◌, ◌≤◌, Bool, true, false, not, nat_eq, nat_lt, min, List, [], ◌∷◌, length, take, get_or, swap, refl, sym, ap, subst, ◌∙◌, ◌⊎◌, inl, inr, Some, arith, rules}
 use Rattle.std.proofs.lemmas.List.Edits.{length-swap, swapped_from_swap}
-use Rattle.std.proofs.lemmas.List.Sorted.{list_any-IsPermutation, IsPermutation-swap}
 use Rattle.rt_clause.specs.Literal.{Literal, lit_eq}
 use Rattle.rt_clause.specs.Lists.{has, is_false}
 use Rattle.rt_clause.proofs.Bools.{bool-cases}
-use Rattle.rt_clause.proofs.Literals.{has-head, has-cases, lit_eq-refl}
+use Rattle.rt_clause.proofs.Literals.{has-head, lit_eq-refl}
 use Rattle.rt_store.specs.declared.trail.Step.{Step}
-use Rattle.rt_store.specs.Trail.{lits, value_in, IsApart, IsUnit}
-use Rattle.rt_store.specs.Same.{IsSame, IsSpread, AreFirst, HasOther}
+use Rattle.rt_store.specs.Trail.{lits, value_in, IsUnit}
 use Rattle.rt_store.specs.Watching.{literal_in}
 use Rattle.rt_solver.specs.Turning.{AreFalseWithin, AreFalseFrom, IsFreeAt, IsMoved, IsHeld, IsLast}
 use Rattle.rt_store.specs.declared.trail.Why.TheVariants.{Line}

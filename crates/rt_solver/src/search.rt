@@ -1,8 +1,8 @@
 //! The loop of a search: propagate, learn from a conflict, decide. Its contract is `IsEnding`.
 
-ghost use Rattle.std.specs.Prelude.{◌≡◌, ℕ, ◌<◌, ◌≤◌, ◌^◌, List as Seq, [], ◌∷◌, ◌++◌, length, None, Some, IsSome, IfSome, IfOk, MatchOption, IsTrue, ◌↔◌};
+ghost use Rattle.std.specs.Prelude.{◌≡◌, ◌<◌, ◌≤◌, ◌^◌, List as Seq, [], ◌∷◌, ◌++◌, None, Some, IfSome, IfOk, IsTrue, ◌↔◌};
 ghost use Rattle.rt_clause.specs.Literal.{Literal};
-ghost use Rattle.rt_store.specs.Trail.{value_in, decisions};
+ghost use Rattle.rt_store.specs.Trail.{decisions};
 ghost use Rattle.rt_solver.specs.declared.order.Order.TheVariants.{Fixed};
 ghost use Rattle.rt_solver.specs.Analysis.{IsRested};
 ghost use Rattle.rt_solver.specs.Fixed.{IfFixed, AreSmallest};

@@ -1,11 +1,8 @@
 //! The public solver: lines are added, and `solve` and `seek` search over them.
 
-ghost use Rattle.std.specs.Prelude.{◌≡◌, ◌≤◌, ◌<◌, ◌^◌, ℕ, List as Seq, Bool, map, true, false, [], ◌∷◌, ◌++◌, length, max, drop, Some, None, IfSome, IfOk, IsErr, IsTrue, OnOk, OnErr};
+ghost use Rattle.std.specs.Prelude.{◌≡◌, ◌≤◌, ◌<◌, Bool, true, false, [], ◌∷◌, ◌++◌, length, max, Some, None, IfSome, IfOk, IsErr, IsTrue, OnOk, OnErr};
 ghost use Rattle.std.specs.Option.{option_to_list};
-ghost use Rattle.rt_clause.specs.Literal.{Literal};
-ghost use Rattle.rt_clause.specs.Lists.{Determined};
-ghost use Rattle.rt_store.specs.Trail.{value_in};
-ghost use Rattle.rt_solver.specs.Search.{line_of, HasValues};
+ghost use Rattle.rt_solver.specs.Search.{HasValues};
 ghost use Rattle.rt_solver.specs.Solving.{reach, width, variables, HasSearched};
 ghost use Rattle.rt_solver.specs.State.{has_failed};
 ghost use Rattle.rt_solver.specs.Fixed.{IsInOrder};

@@ -1,6 +1,6 @@
 //! What becomes of one watch whose literal is false.
 
-ghost use Rattle.std.specs.Prelude.{◌≡◌, ℕ, ◌<◌, ◌≤◌, ◌-◌, ◌/◌, ◌%◌, true, List, length, Some, MatchOption};
+ghost use Rattle.std.specs.Prelude.{◌≡◌, ◌<◌, ◌≤◌, ◌-◌, ◌/◌, ◌%◌, true, List, length, Some, MatchOption};
 ghost use Rattle.rt_clause.specs.Literal.{Literal};
 ghost use Rattle.rt_clause.specs.Lists.{is_false, line_at, IsBelow, AreBelow};
 ghost use Rattle.rt_store.specs.Trail.{lits, IsApart, IsUnit};

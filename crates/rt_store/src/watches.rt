@@ -1,6 +1,6 @@
 //! The lists of watches.
 
-ghost use Rattle.std.specs.Prelude.{◌≡◌, ◌≢◌, ℕ, ◌+◌, ◌<◌, ◌≤◌, ◌^◌, [], ◌∷◌, ◌++◌, length, slice_index_or, slice_set, OnOk, OnErr};
+ghost use Rattle.std.specs.Prelude.{◌≡◌, ℕ, ◌+◌, ◌<◌, ◌≤◌, ◌^◌, [], ◌∷◌, ◌++◌, length, slice_index_or, slice_set, OnOk};
 ghost use Rattle.std.specs.List.{swap_remove};
 ghost use Rattle.rt_clause.specs.Packed.{packed};
 ghost use Rattle.rt_store.specs.Watching.{Listed, list_at, room_at, noted, IsEdited};
