@@ -12,11 +12,12 @@ import pytest
 from hypothesis import HealthCheck, given, settings
 from hypothesis import strategies as st
 
-from compare import by_postgres, by_z3, steps
+from compare import by_postgres, by_tried, by_z3, steps
 from compare.by_broken import Broken
 from compare.by_plus import AlgebraTexts, Certificates, Grades, Rows
 from compare.by_postgres import ByPostgres
 from compare.by_sqlite import BySqlite
+from compare.by_tried import ByTried
 from compare.by_z3 import ByZ3
 from compare.change import reduced
 from compare.command import Comparison, case_of, fails, run
@@ -44,6 +45,12 @@ def compare(comparison: Comparison, count: int = COUNT) -> None:
                          ids=["sqlite", "grades", "rows", "algebra", "certificates", "broken"])
 def test_with_sqlite_and_one_another(comparison: Comparison) -> None:
     compare(comparison)
+
+
+def test_with_what_is_tried() -> None:
+    if by_tried.lack():
+        pytest.skip(by_tried.lack() or "")
+    compare(ByTried())
 
 
 def test_with_postgres() -> None:

@@ -7,6 +7,7 @@ import shlex
 import subprocess
 from dataclasses import dataclass
 from functools import cache
+from collections.abc import Iterable
 from pathlib import Path
 
 import pytest
@@ -25,7 +26,7 @@ HEADING = re.compile(r"^#+ (.*)$", re.MULTILINE)
 PATH = re.compile(r"[A-Za-z0-9_.][A-Za-z0-9_./-]*/[A-Za-z0-9_./-]*")
 # What is made by a call and so is no file of the repository.
 MADE = ("results", "out", "asked.db")
-MOST_WORDS = 900
+MOST_WORDS = 950
 
 
 @cache
@@ -248,7 +249,7 @@ def refusals() -> list[tuple[str, str, str | None]]:
         cells = [QUOTED.findall(cell) for cell in line.split(" | ")]
         if line.startswith("| `"):
             instead = [it for it in cells[2] if it.startswith("SELECT")]
-            found.append((cells[0][0], cells[1][0], instead[0] if instead else None))
+            found.append((cells[0][0].replace("\\|", "|"), cells[1][0], instead[0] if instead else None))
     return found
 
 
@@ -348,3 +349,98 @@ def test_readme_has_every_command() -> None:
     ran = subprocess.run([TOP / "classroom", "--help"], capture_output=True, text=True, check=True)
     commands = set(re.findall(r"^    ([a-z]+)  ", ran.stdout, re.MULTILINE))
     assert len(commands) > 3 and commands <= quoted
+
+
+def test_lines_of_the_crates_are_counted() -> None:
+    """Within a twentieth, so that not each change of a crate is one of the document."""
+    text = (TOP / "docs/ARCHITECTURE.md").read_text(encoding="utf-8")
+    told = {folder: int(number.replace(",", "")) for number, folder in re.findall(r"([\d,]+)(?: lines)? in `(src|specs|proofs)/`", text)}
+    counted = {folder: sum(len(file.read_text(encoding="utf-8").splitlines()) for file in (TOP / "crates").glob(f"*/{folder}/**/*")
+                           if file.suffix in (".rt", ".antt")) for folder in ("src", "specs", "proofs")}
+    assert set(told) == set(counted) and all(abs(told[it] - counted[it]) * 20 < counted[it] for it in told), counted
+
+
+def test_code_that_the_decisions_compare_is_in_the_crates_that_they_name() -> None:
+    """Of each row of "Code that looks the same and stays": each function, type or module is in a crate that its cell
+    names."""
+    section = (TOP / "docs/DECISIONS.md").read_text(encoding="utf-8").split("## Code that looks the same and stays")[1].split("\n## ")[0]
+    rows = [line.split(" | ")[0] for line in section.splitlines() if line.startswith("| ") and "`" in line]
+    assert len(rows) > 8
+    for row in rows:
+        named = QUOTED.findall(row)
+        among = [it for it in named if it.startswith("rt_")] or crates()
+        files = [file for crate in among for file in (TOP / "crates" / crate / "src").rglob("*.rt")]
+        sources = "".join(file.read_text(encoding="utf-8") for file in files)
+        lost = [name for name in named if not name.startswith("rt_") and name not in {file.stem for file in files}
+                and not re.search(rf"\b(?:fn|struct|enum|trait) {name.rpartition('::')[2]}\b", sources)]
+        assert not lost, row
+
+
+def test_installation_names_what_the_package_recommends() -> None:
+    """Each package of INSTALL's table is one that the Debian package recommends, and the other way round; and each extra
+    is one of the wheel."""
+    import tomllib
+    text = (TOP / "docs/INSTALL.md").read_text(encoding="utf-8").split("## What each command needs")[1].split("\n## ")[0]
+    named = {word for line in re.findall(r"`apt-get install ([^`]*)`", text) for word in line.split()}
+    packing = (TOP / "tools/release/packing.py").read_text(encoding="utf-8").split("RECOMMENDED = {")[1].split("\n}")[0]
+    recommended = {word for words in re.findall(r'": \(([^)]*)\)', packing) for word in re.findall(r'"([^"]+)"', words)}
+    assert named == recommended - {"python3-markupsafe"}
+    extras = tomllib.loads((TOP / "python/pyproject.toml").read_text(encoding="utf-8"))["project"]["optional-dependencies"]
+    assert set(re.findall(r"\| `([a-z]+)` \|$", text, re.MULTILINE)) == set(extras)
+
+
+def counts_of_testing() -> dict[str, int]:
+    """What docs/TESTING.md counts, by the words of its tables."""
+    sources = [file.read_text(encoding="utf-8") for file in (TOP / "crates").glob("*/src/**/*.rt")]
+    tests = {file: file.read_text(encoding="utf-8") for file in (TOP / "tests").glob("**/test_*.py")}
+
+    def all_of(pattern: str, texts: Iterable[str]) -> int:
+        return sum(len(re.findall(pattern, text, re.MULTILINE)) for text in texts)
+
+    found = {
+        "functions of the crates, each proved safe and ended": all_of(r"^\s*(?:pub(?:\([a-z]+\))? )?fn \w+", sources),
+        "clauses of their contracts": all_of(r"^\s*(?:ensures|requires)\b", sources),
+        "mutants in the gate": len(list((TOP / "crates").glob("*/must-fail/*.edit"))),
+        "mutants outside of it": len(list((TOP / "mutants").glob("*/*.edit"))),
+        "tests of the crates": all_of(r"#\[test\]", sources),
+        "programs with a stored run": len(list((TOP / "crates").glob("*/stdout"))),
+        "tests of the tools": all_of(r"^def test_", tests.values())}
+    for folder in ("classroom", "trial", "repair", "library", "launcher", "install", "web", "hostile"):
+        found[f"`{folder}`"] = all_of(r"^def test_", (text for file, text in tests.items() if file.parent.name == folder))
+    return found
+
+
+def test_kinds_of_tests_are_counted() -> None:
+    text = (TOP / "docs/TESTING.md").read_text(encoding="utf-8")
+    told = {words: int(number.replace(",", "")) for words, number in re.findall(r"^\| ([^|]+) \| ([\d,]+) \|", text, re.MULTILINE)}
+    assert told == counts_of_testing()
+    tests = [file.read_text(encoding="utf-8") for file in (TOP / "tests").glob("**/test_*.py")]
+    browser = sum(len(re.findall(r"^def test_\w+\([^)]*\bbrowser\b", text, re.MULTILINE)) for text in tests)
+    assert f"In a real browser run {browser} of these tests." in text
+
+
+def cited(text: str) -> set[Path]:
+    """The files of specs/ that a file of the crates uses."""
+    found = (TOP / "crates" / crate / "specs" / f"{module.replace('.', '/')}.antt" for crate, module in re.findall(
+        r"use Rattle\.(rt_\w+)\.specs\.([A-Za-z][\w.]*?)(?:\.\{|\s|;| as )", text) if not module.startswith("declared"))
+    return {file for file in found if file.is_file()}
+
+
+def below(files: Iterable[Path]) -> set[Path]:
+    """These files of specs/ and all that they rest on."""
+    seen: set[Path] = set()
+    left = list(files)
+    while left:
+        file = left.pop()
+        if file not in seen:
+            seen.add(file)
+            left += cited(file.read_text(encoding="utf-8"))
+    return seen
+
+
+def test_files_below_the_dozen_are_counted() -> None:
+    section = (TOP / "docs/DEFINITIONS.md").read_text(encoding="utf-8").split("## The headline's dozen")[1].split("\n## ")[0]
+    dozen = [(TOP / "docs" / link).resolve() for link in re.findall(r"\]\((\.\./crates/[^)]*\.antt)\)", section)]
+    clauses = cited((TOP / "crates/rt_top/src/top.rt").read_text(encoding="utf-8"))
+    assert len(dozen) == 12
+    assert f"in {len(below(dozen))} files of `specs/` in all, and the clauses on {len(below({*dozen, *clauses}))}:" in section

@@ -8,15 +8,16 @@ from pathlib import Path
 
 import pytest
 
+TESTS = Path(__file__).resolve().parent
 # The folder in which mypy runs, and what it checks there. Modules of these folders are found too.
 CHECKED = [
     ("python", ["classroom", "ratest"]),
-    ("tests", ["compare", "test_comparisons.py", "test_documents.py", "test_memory.py", "test_style.py"]),
-    ("tests/hostile", ["."]),
-    ("tests/web", ["."]),
+    ("tests", ["compare", *(path.name for path in sorted(TESTS.glob("*.py")))]),
+    # Each folder with a conftest.py of its own.
+    *((f"tests/{path.parent.name}", ["."]) for path in sorted(TESTS.glob("*/conftest.py"))),
     ("tools", ["web"]),
 ]
-FOUND = ("python", "tests", "tools")
+FOUND = ("python", "tests", "tests/classroom", "tests/trial", "tools")
 SCRIPTS = [".ci/run", "bench/classroom", "bench/run", "tests/mutants"]
 
 
@@ -25,7 +26,8 @@ def test_types(folder: str, checked: list[str], top: Path, tmp_path: Path) -> No
     if not shutil.which("mypy"):
         pytest.skip("there is no mypy: apt-get install mypy")
     # Debian's mypy, which sees Debian's packages.
-    done = subprocess.run(["/usr/bin/python3", "-m", "mypy", "--strict", "--explicit-package-bases", f"--cache-dir={tmp_path}", *checked],
+    done = subprocess.run(["/usr/bin/python3", "-m", "mypy", "--strict", "--explicit-package-bases", f"--cache-dir={tmp_path}",
+                           f"--config-file={top / 'python/pyproject.toml'}", *checked],
                           cwd=top / folder, capture_output=True, text=True, check=False,
                           env={**os.environ, "MYPYPATH": ":".join(str(top / it) for it in FOUND)})
     assert done.returncode == 0, done.stdout

@@ -36,4 +36,5 @@ def environment() -> jinja2.Environment:
     # What it gives is escaped.
     made.globals["witness"] = lambda of: library("markupsafe", "python3-markupsafe").Markup(drawn(of))
     made.filters["counted"] = counted
+    made.filters["moment"] = lambda of: of.strftime("%Y-%m-%d at %H:%M %Z")
     return made

@@ -9,9 +9,9 @@ import signal
 import subprocess
 import tempfile
 import time
-from typing import NamedTuple, Optional, Sequence
+from typing import Callable, NamedTuple, Optional, Sequence
 
-WANTED_MEMORY = 7
+OUT_OF_MEMORY = 7    # the exit status, as `ratest.printed` has it, which is not sent to hosts
 MEGABYTE = 1_000_000
 
 
@@ -33,16 +33,21 @@ class Ran(NamedTuple):
     passed: str       # the limit that it passed: "time", "memory" or "output"; "" where it passed none
 
 
-def run(words: Sequence[str], limits: Limits, folder: Optional[str] = None) -> Ran:
+# Where the parent ended before the signal of its death was asked for, there is none: then nothing is run.
+GUARD = '[ "$PPID" = "$1" ] || exit 1; shift; exec "$@"'
+
+
+def run(words: Sequence[str], limits: Limits, folder: Optional[str] = None,
+        started: Callable[["subprocess.Popen[bytes]"], None] = lambda process: None) -> Ran:
     """Runs a program in a folder, with nothing on its standard input and no environment but a PATH.
 
     The first word is the program's path. A program that doesn't start raises OSError. Where the caller
-    ends, however it does, so does the program.
+    ends, however it does, so does the program. `started` gets the process, whose group it leads.
     """
     if not os.access(words[0], os.X_OK):
         raise FileNotFoundError(2, "no program", words[0])
     most = round(limits.output * MEGABYTE)
-    wrapped = ["setpriv", "--pdeathsig", "KILL", "prlimit", f"--as={limits.megabytes * MEGABYTE}",
+    wrapped = ["setpriv", "--pdeathsig", "KILL", "sh", "-c", GUARD, "sh", str(os.getpid()), "prlimit", f"--as={limits.megabytes * MEGABYTE}",
                f"--fsize={most + 1}", "--core=0", "--", *words]
     with tempfile.TemporaryFile() as out, tempfile.TemporaryFile() as err:
         begun = time.monotonic()
@@ -51,6 +56,7 @@ def run(words: Sequence[str], limits: Limits, folder: Optional[str] = None) -> R
             env={"PATH": os.defpath, "LC_ALL": "C.UTF-8"}, start_new_session=True)
         passed = ""
         try:
+            started(process)
             status = process.wait(limits.seconds)
         except subprocess.TimeoutExpired:
             passed = "time"
@@ -65,6 +71,6 @@ def run(words: Sequence[str], limits: Limits, folder: Optional[str] = None) -> R
             texts.append(file.read(most + 1))
     if not passed and max(map(len, texts)) > most:
         passed = "output"
-    elif not passed and status == WANTED_MEMORY:
+    elif not passed and status == OUT_OF_MEMORY:
         passed = "memory"
     return Ran(status, texts[0][:most], texts[1][:most], round(seconds, 3), passed)

@@ -8,20 +8,25 @@ from __future__ import annotations
 
 import argparse
 import importlib
+import logging
 import os
 import sys
 from collections.abc import Sequence
 
+from classroom import tell
 from classroom.commands import COMMANDS
 from classroom.fault import Fault, told
+from ratest.installed import VERSION
 
 USAGE, FAULT, STOPPED = 2, 1, 130
+log = logging.getLogger("classroom.main")
 
 
 def parser() -> argparse.ArgumentParser:
     top = argparse.ArgumentParser(
         prog="classroom", allow_abbrev=False, description="From a school's database to a graded class.",
         epilog="`classroom COMMAND --help` tells more of each. docs/GUIDE.md begins with a class in four commands.")
+    top.add_argument("--version", action="version", version=f"classroom {VERSION}")
     subparsers = top.add_subparsers(metavar="COMMAND", dest="command", required=True)
     for name, module_name in COMMANDS.items():
         module = importlib.import_module(module_name)
@@ -29,6 +34,7 @@ def parser() -> argparse.ArgumentParser:
             name, allow_abbrev=False, help=module.SUMMARY, description=module.__doc__,
             formatter_class=argparse.RawDescriptionHelpFormatter)
         module.add_arguments(sub)
+        sub.add_argument("--verbose", action="store_true", help="also tell on standard error what is done")
         sub.set_defaults(run=module.run)
     return top
 
@@ -36,23 +42,19 @@ def parser() -> argparse.ArgumentParser:
 def main(words: Sequence[str] | None = None) -> int:
     """Runs the command on these words, else on the program's own; gives the exit status."""
     arguments = parser().parse_args(words)
+    tell.begin(arguments.verbose)
     try:
         status: int = arguments.run(arguments)
         sys.stdout.flush()
         return status
     except Fault as fault:
-        say(str(fault))
+        log.error("%s", fault)
     except BrokenPipeError:
         # Whoever reads what is printed has gone; nothing more can be told.
         os.dup2(os.open(os.devnull, os.O_WRONLY), sys.stdout.fileno())
     except OSError as fault:
-        say(told(fault))
+        log.error("%s", told(fault))
     except KeyboardInterrupt:
-        say("stopped; the same command goes on from here")
+        log.error("stopped; the same command goes on from here")
         return STOPPED
     return FAULT
-
-
-def say(line: str) -> None:
-    """One line on standard error."""
-    print(f"classroom: {line}".encode("utf-8", "backslashreplace").decode(), file=sys.stderr)

@@ -1,217 +1,122 @@
-"""Runs many jobs at once by GNU parallel, on this machine or on the hosts of an `--sshloginfile`.
+"""Runs many jobs at once: by threads on this machine, by GNU parallel on other ones.
 
-A job is one call of a program over files. All that the jobs need is put into one bundle, a zip file that
-Python runs (see `classroom.worker`): the programs, the files that all jobs share, and those of each job.
-GNU parallel starts `python3 bundle.pyz BATCH` for batches of jobs; hosts get the bundle by its
-`--basefile` and lose it by its `--cleanup`. So no name of a file ever stands in a command line, and each
-result is one line of JSON on standard output, told by the key of its job.
+A job is one call of a program over files, in a folder that has nothing else.
 """
 from __future__ import annotations
 
-import hashlib
-import json
 import os
-import shlex
-import socket
+import signal
 import subprocess
-import sys
 import tempfile
-import zipfile
+import threading
 from collections.abc import Iterator, Mapping, Sequence
-from concurrent.futures import ThreadPoolExecutor
-from dataclasses import dataclass
+from concurrent.futures import FIRST_COMPLETED, Future, ThreadPoolExecutor, wait
+from itertools import islice
 from pathlib import Path
+from queue import SimpleQueue
 
-from classroom import guard, limited, worker
-from classroom.fault import Fault, shown, tool
-from classroom.limited import Limits, Ran
+from classroom import hosts, limited, tell
+from classroom.jobs import Job, Means
+from classroom.limited import Ran
 
-MOST_HERE, MOST_ON_HOSTS = 16, 64    # jobs in a batch
-# It ends with GNU parallel, and then the worker on the host does at its next line.
-SSH = "setpriv --pdeathsig KILL ssh -o BatchMode=yes -o ConnectTimeout=10"
-MAIN = "import sys\nfrom classroom.worker import main\nsys.exit(main(*sys.argv))\n"
-
-
-@dataclass(frozen=True)
-class Job:
-    """One call of a program, in a folder that has the shared files and its own ones."""
-
-    key: str                    # by which its result is told; each job has another
-    words: tuple[str, ...]      # of the call; paths are names of files, `.` is the folder
-    files: tuple[str, ...]      # the names of its own files, as `files` of `run` has them
-    program: str = "ratest"
-
-
-@dataclass(frozen=True)
-class Means:
-    """With what jobs are run."""
-
-    limits: Limits = Limits()
-    jobs: int | None = None         # at once, on each machine; as many as it has cores where it is None
-    hosts: Path | None = None       # an --sshloginfile of GNU parallel
-    shows_progress: bool = False    # its --bar on standard error
+__all__ = ["Job", "Means", "cores", "run"]
 
 
 def run(jobs: Sequence[Job], programs: Mapping[str, Path], shared: Mapping[str, bytes], files: Mapping[str, bytes],
         means: Means, work: Path) -> Iterator[tuple[str, Ran]]:
     """The results of jobs, as they come; no result of a job that could not be run.
 
-    `work` is an empty folder for what is needed meanwhile. The jobs end with this process, however it ends.
+    `work` is a folder for what is needed meanwhile. The jobs end with this process, however it ends.
     """
     if not jobs:
         return
-    parallel = gnu_parallel()
-    hosts = reached(parallel, means.hosts, work) if means.hosts else None
-    batches = batches_of(jobs, means, hosts)
-    write_bundle(work / "bundle.pyz", batches, programs, shared, files, means.limits, bool(hosts))
-    words = [*parallel, "--line-buffer", "--jobs", str(means.jobs or "100%"), "--arg-file", "batches"]
-    words += ["--bar"] if means.shows_progress else []
-    (work / "batches").write_text("".join(f"{number}\n" for number in range(len(batches))))
-    if hosts:
-        words += ["--sshloginfile", "hosts", "--ssh", SSH, "--basefile", "./bundle.pyz",
-                  "--workdir", place_on_hosts(work), "--cleanup", "--retries", "3", "exec python3 bundle.pyz {}"]
-    else:
-        words += [f"exec {shlex.quote(sys.executable)} -S -P bundle.pyz {{}} $PARALLEL_PID"]
-    try:
-        yield from lines(words, work, means)
-    finally:
-        if hosts:
-            sweep(parallel, place_on_hosts(work), work)
+    with tell.progress(len(jobs), means.shows_progress) as step:
+        for result in (hosts.run if means.hosts else here)(jobs, programs, shared, files, means, work):
+            step()
+            yield result
 
 
-def gnu_parallel() -> list[str]:
-    """The words that begin a call of GNU parallel, without anybody's own settings."""
-    path = tool("parallel", "parallel")
-    version = subprocess.run([path, "--version"], stdin=subprocess.DEVNULL, capture_output=True, check=False)
-    if not version.stdout.startswith(b"GNU parallel"):
-        raise Fault(f"{path} is not GNU parallel: apt-get install parallel")
-    return [path, "--plain", "--will-cite"]
+def cores() -> int:
+    """How many of this machine may be used."""
+    return len(os.sched_getaffinity(0))
 
 
-def environment(work: Path) -> dict[str, str]:
-    return {**os.environ, "SHELL": "/bin/sh", "TMPDIR": os.fspath(work.absolute())}
+class Running:
+    """The processes that run, which can be ended at once."""
+
+    def __init__(self) -> None:
+        self._lock = threading.Lock()
+        self._processes: list[subprocess.Popen[bytes]] = []
+        self._is_stopped = False
+
+    def add(self, process: subprocess.Popen[bytes]) -> None:
+        with self._lock:
+            self._processes = [other for other in self._processes if other.returncode is None]
+            self._processes.append(process)
+            if self._is_stopped:
+                end(process)
+
+    def stop(self) -> None:
+        """Ends all, and whatever is begun from now on."""
+        with self._lock:
+            self._is_stopped = True
+            for process in self._processes:
+                end(process)
 
 
-def lines(words: Sequence[str], work: Path, means: Means) -> Iterator[tuple[str, Ran]]:
-    with tempfile.TemporaryFile(dir=work) as errors:
-        process = subprocess.Popen(
-            [sys.executable, "-S", "-P", guard.__file__, str(os.getpid()), *words], stdin=subprocess.DEVNULL,
-            stdout=subprocess.PIPE, stderr=None if means.shows_progress else errors, cwd=work, env=environment(work),
-            encoding="ascii", errors="replace")
-        assert process.stdout
+def end(process: subprocess.Popen[bytes]) -> None:
+    # The number of a process that was waited for may be another one's.
+    if process.returncode is None:
         try:
-            for text in process.stdout:
-                found = worker.result(text)
-                if found:
-                    yield found
-            process.wait()
+            os.killpg(process.pid, signal.SIGKILL)
+        except ProcessLookupError:
+            pass
+
+
+def here(jobs: Sequence[Job], programs: Mapping[str, Path], shared: Mapping[str, bytes], files: Mapping[str, bytes],
+         means: Means, work: Path) -> Iterator[tuple[str, Ran]]:
+    """The results of jobs on this machine; each thread has a folder with the shared files."""
+    most = min(len(jobs), means.jobs or cores())
+    running = Running()
+    with tempfile.TemporaryDirectory(dir=work, prefix="run-") as name:
+        folders: SimpleQueue[Path] = SimpleQueue()
+        for number in range(most):
+            folders.put(folder_of(Path(name), number, shared))
+
+        def one(job: Job) -> tuple[str, Ran]:
+            folder = folders.get()
+            try:
+                for file in job.files:
+                    (folder / file).write_bytes(files[file])
+                ran = limited.run([os.fspath(programs[job.program]), *job.words], means.limits, os.fspath(folder), running.add)
+                for file in job.files:
+                    (folder / file).unlink()
+                return job.key, ran
+            finally:
+                folders.put(folder)
+
+        threads = ThreadPoolExecutor(most)
+        try:
+            left, pending = iter(jobs), set[Future[tuple[str, Ran]]]()
+            # Few results wait at a time.
+            while pending := pending | {threads.submit(one, job) for job in islice(left, 2 * most - len(pending))}:
+                done, pending = wait(pending, return_when=FIRST_COMPLETED)
+                for future in done:
+                    yield future.result()
         finally:
-            if process.poll() is None:
-                stop(process)
-        if process.returncode:
-            errors.seek(0)
-            last = errors.read().decode("utf-8", "replace").strip().splitlines()[-1:]
-            print(f"classroom: parallel: {shown(*last) if last else f'status {process.returncode}'}", file=sys.stderr)
+            threads.shutdown(wait=False, cancel_futures=True)
+            running.stop()
+            threads.shutdown()
 
 
-def stop(process: subprocess.Popen[str]) -> None:
-    """Ends GNU parallel, and with it its jobs, which follow their parent."""
-    process.terminate()
-    process.wait()
-
-
-def batches_of(jobs: Sequence[Job], means: Means, hosts: Sequence[str] | None) -> list[Sequence[Job]]:
-    """The jobs in batches, neighbours in different ones, since these take alike long.
-
-    The start of a batch costs as much as ten short runs here, and a hundred on a host; but no core may wait
-    for one that has too many.
-    """
-    cores = (means.jobs or os.cpu_count() or 1) * len(hosts or "1")
-    size = min(MOST_ON_HOSTS, 1 + len(jobs) // (2 * cores)) if hosts else min(MOST_HERE, 2 + len(jobs) // (4 * cores))
-    count = -(-len(jobs) // size)
-    return [jobs[start::count] for start in range(count)]
-
-
-def write_bundle(path: Path, batches: Sequence[Sequence[Job]], programs: Mapping[str, Path], shared: Mapping[str, bytes],
-                 files: Mapping[str, bytes], limits: Limits, goes_away: bool) -> None:
-    """Writes all that the jobs need. The programs are left where they are if the bundle stays here."""
-    with zipfile.ZipFile(path, "w", zipfile.ZIP_DEFLATED, compresslevel=1) as bundle:
-        bundle.writestr("__main__.py", MAIN)
-        bundle.writestr("classroom/__init__.py", "")
-        for module in (limited, worker):
-            bundle.write(str(module.__file__), f"classroom/{module.__name__.rpartition('.')[2]}.py")
-        for name, program in programs.items():
-            if goes_away:
-                bundle.write(program, f"programs/{name}")
-        common = {
-            "limits": limits,
-            "programs": {name: f"programs/{name}" if goes_away else os.fspath(program.absolute())
-                         for name, program in programs.items()},
-            "files": [(name, f"shared/{number}") for number, name in enumerate(shared)]}
-        for number, content in enumerate(shared.values()):
-            bundle.writestr(f"shared/{number}", content)
-        members = {}
-        for number, (name, content) in enumerate(files.items()):
-            members[name] = f"files/{number}"
-            bundle.writestr(members[name], content)
-        bundle.writestr("common.json", json.dumps(common))
-        for number, batch in enumerate(batches):
-            bundle.writestr(f"batches/{number}.json", json.dumps([
-                {"key": job.key, "program": job.program, "words": job.words,
-                 "files": [(name, members[name]) for name in job.files]} for job in batch]))
-
-
-def reached(parallel: Sequence[str], path: Path, work: Path) -> list[str]:
-    """The lines of an --sshloginfile whose hosts answer and have what is needed; the others are told.
-
-    They are written to the file `hosts` in the folder.
-    """
-    for program, package in (("ssh", "openssh-client"), ("rsync", "rsync")):
-        tool(program, package)
-    try:
-        told = [line.strip() for line in path.read_text(encoding="utf-8").splitlines()]
-    except (OSError, UnicodeDecodeError) as why:
-        raise Fault(f"{shown(str(path))}: can't be read as a list of hosts: {why}") from None
-    hosts = [line for line in told if line and not line.startswith("#")]
-    with ThreadPoolExecutor() as threads:
-        faults = list(threads.map(lambda host: fault_of(parallel, host, work), hosts))
-    for host, fault in zip(hosts, faults):
-        if fault:
-            print(f"classroom: the host {shown(host)} is left out: {shown(fault)}", file=sys.stderr)
-    good = [host for host, fault in zip(hosts, faults) if not fault]
-    if not good:
-        raise Fault(f"{shown(str(path))}: no host answers")
-    (work / "hosts").write_text("".join(f"{host}\n" for host in good), encoding="utf-8")
-    return good
-
-
-def place_on_hosts(work: Path) -> str:
-    """A folder in the home of the hosts, the same for each run: so what a run left there that was killed
-    goes with the next one."""
-    whole = f"{socket.gethostname()}:{work.resolve().parent}"
-    return f".classroom-{hashlib.sha256(os.fsencode(whole)).hexdigest()[:16]}"
-
-
-def fault_of(parallel: Sequence[str], host: str, work: Path) -> str:
-    """Why a host can't be used; empty where it can."""
-    try:
-        ran = subprocess.run(
-            [*parallel, "--nonall", "--ssh", SSH, "--sshlogin", host,
-             "for program in python3 rsync prlimit setpriv; do command -v $program >/dev/null || echo $program; done"],
-            stdin=subprocess.DEVNULL, capture_output=True, encoding="utf-8", errors="replace", timeout=40,
-            env=environment(work), check=False)
-    except subprocess.TimeoutExpired:
-        return "no answer within 40 seconds"
-    if ran.returncode:
-        return (ran.stderr.strip().splitlines() or [f"status {ran.returncode}"])[-1]
-    return f"no program {', '.join(ran.stdout.split())}" if ran.stdout else ""
-
-
-def sweep(parallel: Sequence[str], place: str, work: Path) -> None:
-    """Removes the folder on the hosts; GNU parallel removes what it copied there and leaves the folder."""
-    try:
-        subprocess.run(
-            [*parallel, "--nonall", "--sshloginfile", "hosts", "--ssh", SSH, f"rm -rf {place}"], cwd=work,
-            stdin=subprocess.DEVNULL, capture_output=True, env=environment(work), check=True, timeout=60)
-    except (subprocess.TimeoutExpired, subprocess.CalledProcessError):
-        print(f"classroom: a host did not answer in the end; ~/{place} may be left on it", file=sys.stderr)
+def folder_of(above: Path, number: int, shared: Mapping[str, bytes]) -> Path:
+    """A folder with the files that all jobs share; each file stands on the disk once."""
+    folder = above / str(number)
+    folder.mkdir()
+    for name, text in shared.items():
+        if number:
+            os.link(above / "0" / name, folder / name)
+        else:
+            (folder / name).write_bytes(text)
+            (folder / name).chmod(0o444)
+    return folder

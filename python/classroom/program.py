@@ -11,18 +11,13 @@ from pathlib import Path
 from classroom import limited
 from classroom.fault import Fault
 from classroom.limited import Limits, Ran
-
-# The exit statuses of `ratest`.
-AGREE, WITNESS, USAGE, REFUSED, SPENT, LIMIT, FILE_FAULT, WANTED_MEMORY = range(8)
-
-TOP = Path(__file__).resolve().parents[2]
-# The folder of the programs below the prefix that this package is installed in, lib/python3/dist-packages.
-INSTALLED = Path(__file__).resolve().parents[3] / "ratest"
+from ratest import installed
 
 
 def find(name: str = "ratest") -> Path:
-    """The program of a name: the one that the variable of this name in capitals tells; else that of the
-    repository, which is built where it isn't; else an installed one.
+    """The program of a name: the one that the variable of this name in capitals tells; else that of the wheel
+    that this package came in; else that of the repository, which is built where it isn't; else the one that was
+    installed with this package below a prefix; else the one on the PATH.
     """
     told = os.environ.get(name.upper())
     if told:
@@ -30,20 +25,33 @@ def find(name: str = "ratest") -> Path:
         if not path.is_file() or not os.access(path, os.X_OK):
             raise Fault(f"{name.upper()} is set, but there is no program {told}")
         return path
-    launcher = TOP / name
-    built = TOP / "crates" / name / "out" / name
+    packed = installed.packed(name)
+    if packed:
+        return packed
+    launcher = installed.REPOSITORY / name
+    built = installed.REPOSITORY / "crates" / name / "out" / name
     if launcher.is_file():
         if not built.is_file():
             subprocess.run([launcher, "--build"], stdin=subprocess.DEVNULL, stdout=sys.stderr, check=False)
         if not built.is_file():
             raise Fault(f"the program {name} is not built: {launcher} --build")
         return built
-    if (INSTALLED / name).is_file():
-        return INSTALLED / name
-    installed = shutil.which(name)
-    if installed is None:
+    beside = installed.below_prefix(name)
+    if beside:
+        return beside
+    on_path = shutil.which(name)
+    if on_path is None:
         raise Fault(f"the program {name} is not there: neither the variable {name.upper()} nor PATH names it")
-    return Path(installed).absolute()
+    return Path(on_path).absolute()
+
+
+def there(name: str) -> Path:
+    """The program as `find` gives it; a Fault, and no build of the repository's, where it isn't built."""
+    launcher = installed.REPOSITORY / name
+    if not os.environ.get(name.upper()) and not installed.packed(name) and launcher.is_file():
+        if not (installed.REPOSITORY / "crates" / name / "out" / name).is_file():
+            raise Fault(f"the program {name} is not built: {launcher} --build")
+    return find(name)
 
 
 def run(program: Path, words: Sequence[str], limits: Limits = Limits(), folder: Path | None = None) -> Ran:

@@ -1,8 +1,7 @@
 """Runs one batch of jobs of a bundle, and prints each result as one line of JSON.
 
-The bundle is the zip file that Python runs: `python3 bundle.pyz BATCH [PARENT]`, where PARENT is the number
-of the process that starts it, if that runs on the same machine. This module, too, stands on the standard
-library of Python 3.8 alone, since it runs on the hosts that grade.
+The bundle is the zip file that Python runs: `python3 bundle.pyz BATCH`. This module, too, stands on the
+standard library of Python 3.8 alone, since it runs on the hosts that grade.
 """
 from __future__ import annotations
 
@@ -20,18 +19,16 @@ from classroom.limited import Limits, Ran, run
 PR_SET_PDEATHSIG = 1
 
 
-def main(bundle: str, batch: str, parent: Optional[str] = None) -> int:
+def main(bundle: str, batch: str) -> int:
     """Runs the jobs of a batch in a folder of their own beside the bundle, which is removed at the end."""
     follow_parent()
-    if parent and os.getppid() != int(parent):    # it ended before it was followed
-        return 1
     with zipfile.ZipFile(bundle) as members:
         common = json.loads(members.read("common.json"))
         limits = Limits(*common["limits"])
         jobs: List[Dict[str, Any]] = json.loads(members.read(f"batches/{batch}.json"))
         place = os.path.dirname(os.path.abspath(bundle))
         with tempfile.TemporaryDirectory(prefix="run-", dir=place) as folder:
-            programs = {name: member if os.path.isabs(member) else unpack(members, member, place_of(folder, name))
+            programs = {name: unpack(members, member, place_of(folder, name))
                         for name, member in common["programs"].items()}
             rows = os.path.join(folder, "files")
             os.mkdir(rows)

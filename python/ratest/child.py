@@ -9,8 +9,8 @@ from pathlib import Path
 
 from ratest.library import NoLibrary
 from ratest.limited import MALFORMED, NO_LIBRARY
+from ratest.printed import OUT_OF_MEMORY
 
-OUT_OF_MEMORY = 7
 PROGRAM = "import sys; sys.path.insert(0, sys.argv[1]); from ratest.limited import main; sys.exit(main(*sys.argv[2:]))"
 
 

@@ -9,10 +9,9 @@ from functools import cache
 from pathlib import Path
 from typing import NamedTuple
 
+from ratest import installed
+
 NAME = "libratest.so"
-HERE = Path(__file__).resolve()
-# In the repository, and below a prefix: beside lib/python3/dist-packages.
-PLACES = (HERE.parents[2] / "out/library" / NAME, HERE.parents[3] / "ratest" / NAME, HERE.parent / NAME)
 MALFORMED, NO_MEMORY = -1, -2
 FIRST_ROOM = 1 << 16
 
@@ -30,12 +29,16 @@ class Said(NamedTuple):
 
 
 def path() -> Path:
-    """The shared object: the one that $LIBRATEST names, else that of the repository or of the installation."""
+    """The shared object: the one that $LIBRATEST names, else that of the wheel, of the repository or of the
+    installation below a prefix."""
     named = os.environ.get("LIBRATEST")
-    found = [Path(named)] if named else [place for place in PLACES if place.is_file()]
-    if not found:
+    if named:
+        return Path(named)
+    built = installed.REPOSITORY / "out/library" / NAME
+    found = installed.packed(NAME) or (built if built.is_file() else installed.below_prefix(NAME))
+    if found is None:
         raise NoLibrary(f"there is no {NAME}: tools/library makes it, and $LIBRATEST may name it")
-    return found[0]
+    return found
 
 
 @cache

@@ -15,6 +15,7 @@ TOKEN = re.compile(
     |(?P<text>'(?:[^']|'')*+')
     |(?P<other>.)""", re.VERBOSE | re.DOTALL)
 KINDS = {"integer": "INTEGER", "int": "INTEGER", "bigint": "INTEGER", "text": "TEXT", "char": "TEXT", "varchar": "TEXT"}
+MARK = "\ufeff"
 RULES = ("constraint", "primary", "unique", "foreign", "check", "dependency")
 PLAIN = re.compile(r"[a-z_][a-z0-9_]*")
 RESERVED = frozenset(
@@ -61,41 +62,62 @@ def tokens(text: str) -> Iterator[Token]:
             yield Token(kind, match[0])
 
 
+def unmarked(text: str) -> str:
+    """The text without a mark of byte order, of which one is dropped at the start of a file."""
+    return text.removeprefix(MARK)
+
+
+def marked(text: str) -> str:
+    """The text of a file that is to be read as this one."""
+    return MARK + text if text.startswith(MARK) else text
+
+
 def tables_of(text: str) -> tuple[Table, ...]:
     """The tables of a schema in its order."""
-    found = list(tokens(text.removeprefix("\ufeff")))
-    made: list[Table] = []
+    return tuple(Table(name, tuple(_column(item) for item in items if not _is_rule(item))) for name, items in items_of(text))
+
+
+def items_of(text: str) -> Iterator[tuple[str, list[list[Token]]]]:
+    """The name of each table of a schema, with the tokens of each item between its parentheses; NoSchema where
+    one has no end."""
+    found = list(tokens(unmarked(text)))
     at = 0
     while at < len(found):
-        if found[at] != Token("word", "table"):
-            at += 1
-            continue
         at += 1
-        if found[at:at + 3] == [Token("word", word) for word in ("if", "not", "exists")]:
-            at += 3
-        name, stop = at, at + 1
-        columns, stop = _columns(found, at + 1)
-        if stop > len(found) or found[name].kind not in ("word", "quoted"):
-            raise NoSchema("a table without an end")
-        made.append(Table(found[name].text, columns))
-        at = stop
-    return tuple(made)
+        if found[at - 1] == Token("word", "table"):
+            if found[at:at + 3] == [Token("word", word) for word in ("if", "not", "exists")]:
+                at += 3
+            if at >= len(found) or found[at].kind not in ("word", "quoted"):
+                raise NoSchema("a table without a name")
+            name = found[at].text
+            items, at = _items(found, at + 1)
+            yield name, items
 
 
-def _columns(found: list[Token], at: int) -> tuple[tuple[Column, ...], int]:
-    """The columns between the parenthesis at a place and its end, and the place behind it."""
-    depth, columns, begins = 0, [], False
+def _items(found: list[Token], at: int) -> tuple[list[list[Token]], int]:
+    """The items between the parenthesis at a place and its end, and the place behind it."""
+    depth, items = 0, [[]]    # type: int, list[list[Token]]
     while at < len(found):
-        token = found[at]
-        sign = token.text if token.kind == "other" else ""
-        if begins and not (token.kind == "word" and token.text in RULES) and at + 1 < len(found):
-            columns.append(Column(token.text, KINDS.get(found[at + 1].text, "TEXT")))
+        sign = found[at].text if found[at].kind == "other" else ""
         depth += (sign == "(") - (sign == ")")
-        begins = depth == 1 and sign in ("(", ",")
-        at += 1
         if depth == 0:
-            return tuple(columns), at
-    return tuple(columns), at + 1
+            break
+        if depth == 1 and sign == ",":
+            items.append([])
+        elif depth > 1 or sign != "(":
+            items[-1].append(found[at])
+        at += 1
+    if at == len(found) or not all(items):
+        raise NoSchema("a table without an end")
+    return items, at + 1
+
+
+def _is_rule(item: list[Token]) -> bool:
+    return item[0].kind == "word" and item[0].text in RULES
+
+
+def _column(item: list[Token]) -> Column:
+    return Column(item[0].text, KINDS.get(item[1].text if len(item) > 1 else "", "TEXT"))
 
 
 def spelled(name: str) -> str:

@@ -12,7 +12,7 @@ import sqlite3
 from collections.abc import Iterable, Mapping, Sequence
 from typing import Any, Union
 
-from ratest.schema import Table, quoted
+from ratest.schema import Table, marked, quoted
 
 # One byte more than is read of a file: what is longer is as long.
 MOST_BYTES = 4_194_305
@@ -70,8 +70,7 @@ def csv_text(table: Table, rows: Iterable[Sequence[Any]]) -> bytes:
             raise TypeError(f"row {number} of {table.name} is no list of values")
         lines.append([cell_text(table, number, cell) for cell in row])
     text = "".join(map(csv_line, lines))
-    # One mark of byte order is dropped at the start of a file.
-    return (f"\ufeff{text}" if text.startswith("\ufeff") else text).encode()
+    return marked(text).encode()
 
 
 def cell_text(table: Table, number: int, cell: Any) -> str:

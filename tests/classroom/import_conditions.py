@@ -1,12 +1,14 @@
 """CHECKs: those that are carried over, and those that are left out with what is told."""
 from __future__ import annotations
 
+from collections.abc import Sequence
+
 from products import Postgres, Sqlite
 
 # The columns of every table here, with values that tell conditions apart.
 INTEGERS = [None, -32768, -5, -1, 0, 1, 2, 3, 5, 7, 32767]
 TEXTS = [None, "a", "A", "b", "B", "ab", "a ", " a", "é", "Z", "10", "9", "☃", "😀", "\ufffd", "it's", "b\\c"]
-COLUMNS = {
+COLUMNS: dict[str, tuple[str, Sequence[int | str | None]]] = {
     "id": ("INTEGER PRIMARY KEY", [0]),
     "a": ("SMALLINT", INTEGERS),
     "s": ("TEXT", TEXTS),
@@ -99,7 +101,7 @@ DOMAINS = [
 
 # A condition, and why it is left out: by both tools, or by from-sqlite and by from-postgres. Without a reason
 # it is left out with its column.
-LEFT = [
+LEFT: list[tuple[str, ...]] = [
     ("length(s) > 3", "calls length"),
     ("s LIKE 'a%'", "has the word LIKE", "has the operator ~~"),
     ("a + 1 > 2", "has the operator +"),
@@ -117,7 +119,7 @@ LEFT = [
     ("price > 0", ""),
     ("a > 0 OR price > 0.5", ""),
 ]
-LEFT_SQLITE = [
+LEFT_SQLITE: list[tuple[str, ...]] = [
     ("a = 'x'", "compares a whole number with a text"),
     ("'5' BETWEEN s AND a", "compares a whole number with a text"),
     ("s IN ('a', 5)", "compares a whole number with a text"),
@@ -148,7 +150,7 @@ LEFT_SQLITE = [
     ("'a' < 'b'", "orders constants"),
     ("(" * 51 + "a" + ")" * 51 + " > 0", "is nested too deep"),
 ]
-LEFT_POSTGRES = [
+LEFT_POSTGRES: list[tuple[str, ...]] = [
     ("v::varchar(1) = 'x'", "casts to character varying(1)"),
     ("c::char(1) = 'x'", "casts to character(1)"),
     ("c = v", "casts to bpchar"),

@@ -15,8 +15,10 @@ def without_seconds(exercise: Path) -> dict[str, bytes]:
     for name, text in texts.items():
         if name.startswith("runs/"):
             record = json.loads(text)
-            assert record.pop("seconds") >= 0
-            texts[name] = json.dumps(record).encode()
+            # Those of calls have seconds, those of trials none.
+            if "status" in record:
+                assert record.pop("seconds") >= 0
+                texts[name] = json.dumps(record).encode()
         elif name == "grades.csv":
             lines = list(csv.reader(io.StringIO(text.decode(), newline="")))
             at = lines[0].index("seconds")

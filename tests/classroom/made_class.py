@@ -43,3 +43,10 @@ def spelled(query: str, student: int, chosen: random.Random) -> str:
     if chosen.random() < 0.4:
         query = f"-- student {student}\n{query}"
     return query + chosen.choice(("", ";", "\n"))
+
+
+def left(folder: Path) -> str:
+    """What is told on standard error of a class: the answers that `ratest` refuses and SQLite does not count."""
+    texts = [" ".join(path.read_text().lower().split()) for path in folder.glob("*/answers/*.sql")]
+    by_hand = sum("count(*)" in text or "city = 3" in text for text in texts)
+    return f"classroom: {by_hand} of {len(texts)} answers are to be graded by hand\n"

@@ -65,14 +65,13 @@ PRINTED = {
     "killed": ("", "", -9),
     "right": ("agree\n", "", 0),
 }
-SUMMARY = ("15 answers: 2 agree, 2 differ, 2 are undecided, 2 are refused, 1 passes a limit, "
-           "1 has no verdict in time, 5 have no verdict")
+SUMMARY = "15 answers: 2 agree, 4 differ, 1 is wrong SQL, 8 have no verdict"
 KINDS = {
-    ANSWER: "differs on 4 rows", "9 spent": "undecided after 7 conflicts: differs on 1 row, perhaps on fewer",
+    ANSWER: "differs on 4 rows", "9 spent": "differs on 1 row, perhaps on fewer rows",
     "10 agrees": "agrees", "broad": "differs on 1 row", "cut": "no verdict", "killed": "no verdict",
-    "longer": "no verdict", "memory": "no verdict in time", "none": "undecided after 7 conflicts",
-    "refused": "refused: unknown column: a\nb<i>", "right": "agrees", "shapes": "refused: numbers of columns differ",
-    "wide": "no verdict", "work": "passes a limit: work 662 is above 9", "unprinted": "no verdict",
+    "longer": "no verdict", "memory": "no verdict: passes the limit of memory", "none": "no verdict: 7 conflicts were not enough",
+    "refused": "wrong SQL: unknown column: a\nb<i>", "right": "agrees", "shapes": "differs: other columns",
+    "wide": "no verdict", "work": "no verdict: passes a limit: work 662 is above 9", "unprinted": "no verdict",
 }
 SCHEMA = f"""CREATE TABLE "{TABLE.replace('"', '""')}" ("a<b" TEXT, "c & ""d""
 second line" TEXT, n INTEGER);

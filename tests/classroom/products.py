@@ -99,7 +99,8 @@ def export(product: Product, folder: Path, words: Sequence[str] = ()) -> subproc
 
 
 def content(folder: Path) -> dict[str, str]:
-    return {path.name: path.read_bytes().decode() for path in sorted(folder.iterdir())}
+    """What `ratest` reads of an exercise."""
+    return {path.name: path.read_bytes().decode() for path in sorted(folder.iterdir()) if path.suffix == ".csv" or path.name == "schema.sql"}
 
 
 # Whole answers. Query 1 is the query where each given row is there, and nothing where one is not; query 2

@@ -6,6 +6,8 @@ import http.client
 import os
 import re
 import signal
+import socket
+import ssl
 import subprocess
 import urllib.parse
 from collections.abc import Iterator, Mapping
@@ -34,18 +36,39 @@ class Reply:
 
     @property
     def verdict(self) -> str:
-        found = re.search(r'<h2><span class="grade [a-z-]*">(.*?)</span>', self.answer, re.DOTALL)
+        found = re.search(r'<h2><span class="grade [a-z -]*">(.*?)</span>', self.answer, re.DOTALL)
         return html.unescape(found[1]) if found else ""
+
+
+class AtSocket(http.client.HTTPConnection):
+    """A connection to a Unix socket."""
+
+    def __init__(self, path: Path) -> None:
+        super().__init__("localhost", timeout=30)
+        self.path = path
+
+    def connect(self) -> None:
+        self.sock = socket.socket(socket.AF_UNIX)
+        self.sock.settimeout(self.timeout)
+        self.sock.connect(str(self.path))
 
 
 class Server:
     """A running one."""
 
-    def __init__(self, process: subprocess.Popen[str], port: int, errors: Path) -> None:
-        self.process, self.port, self.errors = process, port, errors
+    def __init__(self, process: subprocess.Popen[str], port: int, errors: Path, is_tls: bool = False,
+                 socket_path: Path | None = None) -> None:
+        self.process, self.port, self.errors, self.is_tls, self.socket_path = process, port, errors, is_tls, socket_path
+
+    def connection(self) -> http.client.HTTPConnection:
+        if self.socket_path:
+            return AtSocket(self.socket_path)
+        if self.is_tls:
+            return http.client.HTTPSConnection("127.0.0.1", self.port, timeout=30, context=ssl._create_unverified_context())
+        return http.client.HTTPConnection("127.0.0.1", self.port, timeout=30)
 
     def send(self, method: str, path: str, body: bytes | None = None, headers: Mapping[str, str] = {}) -> Reply:
-        connection = http.client.HTTPConnection("127.0.0.1", self.port, timeout=30)
+        connection = self.connection()
         try:
             connection.request(method, path, body, dict(headers))
             got = connection.getresponse()
@@ -54,9 +77,16 @@ class Server:
         finally:
             connection.close()
 
-    def ask(self, task: str, query: str, headers: Mapping[str, str] = {}) -> Reply:
-        body = urllib.parse.urlencode({"task": task, "query": query}).encode()
-        return self.send("POST", "/", body, {**FORM, **headers})
+    def ask(self, task: str, query: str, headers: Mapping[str, str] = {}, at: str = "/", do: str = "ask") -> Reply:
+        body = urllib.parse.urlencode({"task": task, "query": query, "do": do}).encode()
+        return self.send("POST", at, body, {**FORM, **headers})
+
+    def hint(self, task: str, query: str, step: int, headers: Mapping[str, str] = {}, at: str = "/") -> Reply:
+        body = urllib.parse.urlencode({"task": task, "query": query, "do": "hint", "step": step}).encode()
+        return self.send("POST", at, body, {**FORM, **headers})
+
+    # The port of the teacher's page, where there is one.
+    teacher = 0
 
     def family(self) -> list[int]:
         """The processes that the server started and that still run."""
@@ -85,21 +115,29 @@ class Server:
 
 
 @contextmanager
-def serving(exercise: Path, *words: str, ratest: Path | None = None, errors: str = "") -> Iterator[Server]:
-    """Serves an exercise at a free port, and stops; then standard error has to be just `errors`."""
+def serving(exercise: Path, *words: str, ratest: Path | None = None, errors: str = "", socket_path: Path | None = None,
+            tries: bool = False) -> Iterator[Server]:
+    """Serves a course at a free port, or at a socket, and stops; then standard error has to be just `errors`. Nothing
+    is tried by a database, unless the test says so."""
+    words = words if tries else ("--only-proved", *words)
     path = exercise.parent / "errors"
     # What a server leaves that is killed goes with the test's folder.
     environment = {**os.environ, "SECRET_OF_THE_SERVER": "not for children", "TMPDIR": str(exercise.parent),
                    **({"RATEST": str(ratest)} if ratest else {})}
+    place = ["--socket", str(socket_path)] if socket_path else ["--port", "0"]
     with open(path, "w") as file:
         process = subprocess.Popen(
-            [str(TOP / "classroom"), "serve", str(exercise), "--port", "0", *words], stdin=subprocess.DEVNULL,
+            [str(TOP / "classroom"), "serve", str(exercise), *place, *words], stdin=subprocess.DEVNULL,
             stdout=subprocess.PIPE, stderr=file, text=True, env=environment)
     try:
         assert process.stdout
-        found = re.fullmatch(r"http://127\.0\.0\.1:([0-9]+)/\n", process.stdout.readline())
+        line = process.stdout.readline()
+        teacher = re.fullmatch(r"teacher: http://127\.0\.0\.1:([0-9]+)/\n", line)
+        line = process.stdout.readline() if teacher else line
+        found = re.fullmatch(r"http://127\.0\.0\.1:([0-9]+)/\n|unix:.*\n", line)
         assert found, path.read_text()
-        server = Server(process, int(found[1]), path)
+        server = Server(process, int(found[1] or 0), path, socket_path=socket_path)
+        server.teacher = int(teacher[1]) if teacher else 0
         yield server
         if process.returncode is None:
             assert process.poll() is None and server.stop() == 0

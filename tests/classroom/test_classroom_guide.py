@@ -44,14 +44,20 @@ def test_guide(ratest: Path, tmp_path: Path) -> None:
         pytest.skip(f"there is no program {plus}: {len(missing)} of the commands were not run")
 
 
-def test_the_four_commands_come_first() -> None:
+def test_the_way_from_the_archive_to_the_feedback_comes_first() -> None:
     text = (TOP / "docs/GUIDE.md").read_text(encoding="utf-8")
-    assert text.startswith("# A class in four commands\n")
-    first = text.split("\n# ")[0]
-    for number, word in enumerate(("import", "grade", "page"), 1):
+    assert text.startswith("# Guide\n")
+    first = text.split("\n# ")[1]
+    assert first.startswith("From the archive to the feedback\n")
+    for number, word in ((1, "import"), (3, "collect"), (4, "grade"), (5, "feedback")):
         assert re.search(rf"^{number}\. `{word}`", first, re.MULTILINE)
         assert f"$ ./classroom {word} " in first
-    assert "$ ./ratest class/schema.sql class class/1/reference.sql class/1/answers/ben.sql\n" in first
+
+
+def test_the_contents_name_every_part() -> None:
+    text = (TOP / "docs/GUIDE.md").read_text(encoding="utf-8")
+    parts = re.findall(r"^# (.*)$", re.sub(r"^```.*?^```", "", text, flags=re.DOTALL | re.MULTILINE), re.MULTILINE)[1:]
+    assert len(parts) == 6 and re.findall(r"^- \[(.*?)\]\(#", text.split("\n# ")[0], re.MULTILINE) == parts
 
 
 def test_readme(ratest: Path) -> None:

@@ -17,7 +17,7 @@ import pytest
 from kept import same, without_seconds
 from products import classroom, run
 
-from classroom.parallel import place_on_hosts
+from classroom.hosts import place_on_hosts
 
 NEEDED = {"sshd": "openssh-server", "ssh-keygen": "openssh-client", "rsync": "rsync", "parallel": "parallel"}
 
@@ -75,9 +75,9 @@ def test_two_hosts(ratest: Path, tmp_path: Path, hosts: list[str]) -> None:
     made_class.make(tmp_path / "here/class", 2000 if os.environ.get("CLASSROOM_FULL") else 60)
     shutil.copytree(tmp_path / "here/class", tmp_path / "there/class")
     (tmp_path / "hosts").write_text("# two hosts\n" + "".join(f"{line}\n" for line in hosts))
-    here = classroom("grade", tmp_path / "here/class")
-    there = classroom("grade", tmp_path / "there/class", "--hosts", tmp_path / "hosts", "--jobs", "2")
-    assert (here.returncode, here.stderr) == (there.returncode, there.stderr) == (0, "")
+    here = classroom("grade", "--only-proved", tmp_path / "here/class")
+    there = classroom("grade", "--only-proved", tmp_path / "there/class", "--hosts", tmp_path / "hosts", "--jobs", "2")
+    assert (here.returncode, here.stderr) == (there.returncode, there.stderr) == (1, made_class.left(tmp_path / "here/class"))
     assert here.stdout.splitlines()[0] == there.stdout.splitlines()[0]
     same(tmp_path / "here/class", tmp_path / "there/class")
     assert not place_of(tmp_path / "there/class").exists()
@@ -86,13 +86,13 @@ def test_two_hosts(ratest: Path, tmp_path: Path, hosts: list[str]) -> None:
 def test_a_host_that_does_not_answer(ratest: Path, tmp_path: Path, beers: Path, hosts: list[str]) -> None:
     port = free_port()
     (tmp_path / "hosts").write_text(f"{hosts[0]}\nssh -p {port} nobody@127.0.0.1\n")
-    ran = classroom("grade", beers, "--hosts", tmp_path / "hosts")
+    ran = classroom("grade", "--only-proved", beers, "--hosts", tmp_path / "hosts")
     assert ran.returncode == 0, ran.stderr
     assert ran.stderr.count("\n") == 1
     assert ran.stderr.startswith(f"classroom: the host ssh -p {port} nobody@127.0.0.1 is left out: ")
     (tmp_path / "hosts").write_text(f"ssh -p {port} nobody@127.0.0.1\n")
     shutil.rmtree(beers / "results")
-    ran = classroom("grade", beers, "--hosts", tmp_path / "hosts")
+    ran = classroom("grade", "--only-proved", beers, "--hosts", tmp_path / "hosts")
     assert ran.returncode == 1
     assert ran.stderr.splitlines()[-1] == f"classroom: {tmp_path}/hosts: no host answers"
 
@@ -112,7 +112,8 @@ def test_killed_with_hosts(ratest: Path, tmp_path: Path, hosts: list[str]) -> No
     assert place_of(tmp_path / "one/class").exists()
     process.send_signal(signal.SIGKILL)
     process.wait()
-    assert classroom("grade", tmp_path / "one/class", "--hosts", tmp_path / "hosts").returncode == 0
-    assert classroom("grade", tmp_path / "two/class").returncode == 0
+    left = made_class.left(tmp_path / "two/class")
+    assert classroom("grade", "--only-proved", tmp_path / "one/class", "--hosts", tmp_path / "hosts").stderr == left
+    assert classroom("grade", "--only-proved", tmp_path / "two/class").stderr == left
     assert without_seconds(tmp_path / "one/class") == without_seconds(tmp_path / "two/class")
     assert not place_of(tmp_path / "one/class").exists()

@@ -10,7 +10,9 @@ import pytest
 from import_cases import CASES, FILES, ODD, ODD_NOTES, ODD_QUERIES, ODD_SCHEMA, OWN, POSTGRES_CASES, SQLITE_CASES
 from import_conditions import (CARRIED, CARRIED_POSTGRES, CARRIED_SQLITE, COLLATIONS, COLUMNS, DOMAINS, INTEGERS, LEFT,
                                LEFT_POSTGRES, LEFT_SQLITE, OWN_LEFT, TEXTS)
-from products import TOP, Postgres, Product, Sqlite, classroom, content, export, literal, quoted, run, whole_answers
+from products import TOP, Postgres, Product, Sqlite, classroom, content, export, quoted, run, whole_answers
+
+from classroom.schema import literal
 
 
 def put(text: str, words: dict[str, str]) -> str:

@@ -23,7 +23,7 @@ from classroom.witness import Agree, Kept, NoVerdict, Refused, Undecided, Witnes
 
 VOID = ("meta", "link", "input")
 ATTRIBUTES = ("lang", "charset", "name", "content", "rel", "href", "id", "class", "scope", "type", "checked",
-              "autocomplete", "tabindex")
+              "autocomplete", "tabindex", "title", "aria-label")
 
 
 class Page(html.parser.HTMLParser):
@@ -40,7 +40,7 @@ class Page(html.parser.HTMLParser):
         self.counts: list[list[str]] = []
         self.codes: list[str] = []
         self.groups: list[str] = []
-        self.title = self.held = self.heading = self.kind = self.caption = ""
+        self.title = self.held = self.label = self.heading = self.kind = self.caption = ""
         self.feed(text)
         self.close()
         assert not self.open, f"left open: {self.open}"
@@ -60,7 +60,8 @@ class Page(html.parser.HTMLParser):
         if tag not in VOID:
             self.open.append(tag)
         if tag in ("h3", "h4", "caption", "code", "th", "td", "title"):
-            self.held = ""
+            self.held = self.label = ""
+        self.label = str(names.get("aria-label") or self.label)
         if tag == "tr":
             self.row: list[str] = []
         if tag == "table":
@@ -83,13 +84,16 @@ class Page(html.parser.HTMLParser):
         elif tag == "code":
             self.codes.append(self.held)
         elif tag in ("th", "td"):
-            self.row.append(self.held)
+            # A mark is its points, and reads as these with the verdict.
+            self.row.append(self.label or self.held)
         elif tag == "tr":
             self.rows.append(self.row)
         elif tag == "table" and self.caption:
             self.tables.setdefault(f"{self.heading}: {self.caption}", []).append(self.rows)
-        elif tag == "table" and self.kind == "grades":
-            self.grades = {"/".join(row[:-1]): row[-1] for row in self.rows[1:]}
+        elif tag == "table" and self.kind == "matrix":
+            tasks = self.rows[0][1:-1]
+            self.grades = {(f"{task}/{row[0]}" if len(tasks) > 1 else row[0]): mark.partition(": ")[2]
+                           for row in self.rows[1:-3] for task, mark in zip(tasks, row[1:-1]) if mark != "\u2013"}
         elif tag == "table":
             self.counts = self.rows
 
@@ -113,7 +117,7 @@ def odd(tmp_path_factory: pytest.TempPathFactory) -> Path:
     pytest.importorskip("jinja2")
     folder = tmp_path_factory.mktemp("odd") / "odd"
     program = odd_class.make(folder)
-    ran = classroom("grade", folder, env={**os.environ, "RATEST": str(program)})
+    ran = classroom("grade", "--only-proved", folder, env={**os.environ, "RATEST": str(program)})
     assert ran.returncode == 1 and ran.stdout.splitlines()[0] == SUMMARY, ran.stderr
     return folder
 
@@ -149,7 +153,7 @@ def test_example(ratest: Path, graded: Path) -> None:
 def test_groups(ratest: Path, tmp_path: Path) -> None:
     """The same witness once, with the answers that share it, the most frequent first."""
     made_class.make(tmp_path / "class", 100)
-    assert classroom("grade", tmp_path / "class").returncode == 0
+    assert classroom("grade", "--only-proved", tmp_path / "class").stderr == made_class.left(tmp_path / "class")
     page = checked((tmp_path / "class/results/page.html").read_text())
     assert sum(int(row[-1]) for row in page.counts[1:]) == 100
     differing = [[int(found[1]) for head in part if (found := re.search(r"^differs on .* ([0-9]+) answers?$", head))]
@@ -227,16 +231,16 @@ def test_in_a_browser(browser: Any, odd: Path, graded: Path) -> None:
 
 def test_filter(browser: Any, odd: Path, graded: Path) -> None:
     browser.get((graded / "results/page.html").as_uri())
-    assert len(visible(browser, ".grades tbody tr")) == 15
+    assert len(visible(browser, ".matrix tbody tr")) == 3 and len(visible(browser, ".matrix tbody td > a")) == 15
     browser.find_element("id", "show-task-2").click()
-    assert len(visible(browser, ".grades tbody tr")) == 12
+    assert len(visible(browser, ".matrix tbody td > a")) == 12
     assert visible(browser, ".counts tbody th") == ["1", "3", "4", "5"]
     assert visible(browser, "section.task h2") == ["Task 1", "Task 3", "Task 4", "Task 5"]
     browser.get((odd / "results/page.html").as_uri())
-    assert len(visible(browser, ".grades tbody tr")) == 15
+    assert len(visible(browser, ".matrix tbody tr")) == 15
     before = visible(browser, "section.answer h3 .grade")
     browser.find_element("xpath", "//label[contains(., 'agrees')]/input").click()
-    assert len(visible(browser, ".grades tbody tr")) == 13
+    assert len(visible(browser, ".matrix tbody tr")) == 13
     assert [words for words in before if words != "agrees"] == visible(browser, "section.answer h3 .grade")
 
 
@@ -266,15 +270,15 @@ def of_beers(ratest: Path) -> list[tuple[str, str, Witness]]:
     found = []
     for task in given.tasks:
         for answer in task.answers:
-            ran = products.run(ratest, given.schema, given.folder, task.reference, answer.path)
-            outcome = read(Ran(ran.returncode, ran.stdout.encode(), ran.stderr.encode(), 0, ""), given.tables())
+            ran = products.run(ratest, given.folder / "schema.sql", given.folder, task.folder / "reference.sql", task.folder / f"answers/{answer.name}.sql")
+            outcome = read(Ran(ran.returncode, ran.stdout.encode(), ran.stderr.encode(), 0, ""), given.tables)
             assert isinstance(outcome, Witness)
-            found.append((task.reference.read_text(), answer.path.read_text(), outcome))
+            found.append((task.reference.decode(), answer.text.whole.decode(), outcome))
     return found
 
 
 def test_rows_as_sql_in_sqlite(ratest: Path) -> None:
-    tables = exercise.load(TOP / "examples/beers").tables()
+    tables = exercise.load(TOP / "examples/beers").tables
     for reference, answer, outcome in of_beers(ratest):
         database = sqlite3.connect(":memory:")
         database.executescript(draw.sql(outcome.kept, tables))
@@ -286,7 +290,7 @@ def test_rows_as_sql_in_postgres(ratest: Path, server: products.Postgres | None)
     if server is None:
         pytest.skip("no psql or initdb: apt-get install postgresql")
     psycopg = pytest.importorskip("psycopg")
-    tables = exercise.load(TOP / "examples/beers").tables()
+    tables = exercise.load(TOP / "examples/beers").tables
     for reference, answer, outcome in of_beers(ratest):
         with psycopg.connect(f"{server.place} dbname=postgres") as database:
             database.execute("SET search_path = pg_temp")
@@ -297,7 +301,7 @@ def test_rows_as_sql_in_postgres(ratest: Path, server: products.Postgres | None)
 
 
 def test_odd_rows_as_sql(odd: Path) -> None:
-    tables = exercise.load(odd).tables()
+    tables = exercise.load(odd).tables
     ran = Ran(1, odd_class.WITNESS.encode(), b"", 0, "")
     outcome = read(ran, tables)
     assert isinstance(outcome, Witness)
@@ -310,7 +314,7 @@ def test_odd_rows_as_sql(odd: Path) -> None:
 # What is read of printed texts.
 
 def test_printed_texts(odd: Path) -> None:
-    tables = exercise.load(odd).tables()
+    tables = exercise.load(odd).tables
 
     def of(status: int, out: str, err: str = "") -> object:
         return read(Ran(status, out.encode(), err.encode(), 0, ""), tables)

@@ -33,6 +33,10 @@ MADE = {
         "a = -1 dropped": "SELECT n FROM t WHERE b = 0 OR n IS NULL",
         "n IS NULL dropped": "SELECT n FROM t WHERE a = -1 AND b = 0",
         "= NULL for IS NULL": "SELECT n FROM t WHERE a = -1 AND b = 0 OR n = NULL"},
+    "SELECT a FROM t WHERE a = 1 OR b = 2 AND n IS NULL": {
+        "b = 2 dropped": "SELECT a FROM t WHERE a = 1 OR n IS NULL",
+        "AND for OR": "SELECT a FROM t WHERE a = 1 AND b = 2 AND n IS NULL",
+        "OR for AND": "SELECT a FROM t WHERE a = 1 OR (b = 2 OR n IS NULL)"},
     "SELECT a FROM t WHERE NOT (a = 1 OR b = 2)": {
         "NOT dropped": "SELECT a FROM t WHERE a = 1 OR b = 2",
         "AND for OR": "SELECT a FROM t WHERE NOT (a = 1 AND b = 2)"},
@@ -108,7 +112,8 @@ def test_beers(ratest: Path, ratest_plus: Path, beers: Path) -> None:
     assert "  agrees: t.price for s.price\n" in ran.stdout
     found = list(csv.reader(io.StringIO((beers / "mutants/mutants.csv").read_text(), newline="")))
     assert len(found) == 156 and sum(line[3] == "told" for line in found) == 135
-    for task, _, _, verdict, rows, _, query in found[1::7]:
+    for task, _, _, verdict, rows, _, query, by in found[1::7]:
+        assert by == "proved"
         (beers / "query.sql").write_text(query)
         alone = run(ratest, beers / "schema.sql", beers, beers / task / "reference.sql", beers / "query.sql")
         assert alone.stdout.startswith("agree\n" if verdict == "agrees" else f"witness: {rows}\n"), query

@@ -107,8 +107,8 @@ def test_beers(ratest: Path, ratest_plus: Path, tmp_path: Path, count: int) -> N
 def test_same_again(ratest: Path, ratest_plus: Path, tmp_path: Path) -> None:
     """One seed picks the same rows, in another folder and with fewer jobs; a row that is left is needed."""
     whole = grown(tmp_path / "whole", 60, "2")
-    made = [classroom("pick", whole, tmp_path / name, *words) for name, words in (
-        ("one", []), ("two", ["--jobs", "1"]))]
+    more: dict[str, list[str]] = {"one": [], "two": ["--jobs", "1"]}
+    made = [classroom("pick", whole, tmp_path / name, *words) for name, words in more.items()]
     assert made[0].returncode == 0 and made[0].stdout == made[1].stdout
     assert rows(tmp_path / "one") == rows(tmp_path / "two")
 
@@ -170,7 +170,7 @@ def test_school(ratest: Path, ratest_plus: Path, tmp_path: Path) -> None:
     assert found[3] == count and found[2] == meets(folder) <= MOST
     assert found[0] >= 0.8 * found[1]
     graded = classroom("grade", folder)
-    assert graded.stdout.splitlines()[0] == "3 answers: 1 agrees, 1 differs, 1 is refused"
+    assert graded.stdout.splitlines()[0] == "3 answers: 1 agrees, 1 differs, 1 is wrong SQL"
 
 
 def test_orders(ratest: Path, ratest_plus: Path, server: Postgres | None, tmp_path: Path) -> None:
@@ -222,7 +222,8 @@ def test_rules() -> None:
     ("rm -r 1 2 3 4 5", ["whole", "picked"], "picked: no task: neither reference.sql nor a folder with one"),
     ("true", ["whole", "whole"], "whole: the rows of this folder would be written over; take another one for the picked rows"),
     ("true", ["nosuch.db", "picked"], "there is no file nosuch.db"),
-    ("echo 'SELECT nmae FROM bar' > 3/reference.sql", ["whole", "picked"], "task 3: reference.sql: unknown column: nmae"),
+    ("rm -r 1 2 4 5; echo 'SELECT nmae FROM bar' > 3/reference.sql", ["whole", "picked"],
+     "task 3 is left out: reference.sql: unknown column: nmae\nclassroom: there is no task whose reference can be asked about"),
     ("echo 'name,city' > bar.csv; echo 'a,b,c' >> bar.csv", ["whole", "picked"], "whole/bar.csv: row 1 has 3 fields, not 2"),
     ("echo 'bar,beer,price' > serves.csv; echo 'a,b,c' >> serves.csv", ["whole", "picked"],
      "whole/serves.csv: row 1: price is no whole number"),

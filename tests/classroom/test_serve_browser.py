@@ -2,6 +2,7 @@
 from __future__ import annotations
 
 import os
+import time
 from pathlib import Path
 from typing import Any
 
@@ -22,16 +23,37 @@ def texts(browser: Any, selector: str) -> list[str]:
 def ask(browser: Any, task: str, query: str) -> None:
     """Types as a student does, and waits for the answer."""
     browser.find_element("css selector", f"#task option[value='{task}']").click()
-    field = browser.find_element("id", "query")
-    field.clear()
-    field.send_keys(query)
-    before = browser.find_element("css selector", "#answer").id
+    write(browser, query)
+    before = heading(browser)
     browser.find_element("css selector", "#ask button").click()
-    for _ in range(200):
-        found = browser.find_elements("css selector", "#answer h2")
-        if found and browser.find_element("css selector", "#answer").id != before:
+    answered(browser, before)
+
+
+def write(browser: Any, query: str) -> None:
+    """Into the editor, or the field where there is none."""
+    editors = browser.find_elements("css selector", ".CodeMirror-code")
+    if editors:
+        browser.execute_script("document.querySelector('.CodeMirror').CodeMirror.setValue('')")
+        browser.find_element("css selector", ".CodeMirror").click()
+        editors[0].send_keys(query)
+        assert browser.find_element("id", "query").get_property("value") == query
+    else:
+        field = browser.find_element("id", "query")
+        field.clear()
+        field.send_keys(query)
+
+
+def heading(browser: Any) -> str:
+    found = browser.find_elements("css selector", "#answer h2")
+    return str(found[0].id) if found else ""
+
+
+def answered(browser: Any, before: str) -> None:
+    """Waits for a verdict after the one before."""
+    for _ in range(600):
+        if heading(browser) not in ("", before):
             return
-        browser.implicitly_wait(0.05)
+        time.sleep(0.05)
     pytest.fail("no answer came")
 
 
@@ -45,10 +67,10 @@ def test_a_student_asks(ratest: Path, beers: Path, browser: Any, has_script: boo
             browser.get(f"http://127.0.0.1:{server.port}/")
             ask(browser, "3", WRONG)
             assert texts(browser, "#answer h2") == ["differs on 5 rows"]
-            assert texts(browser, ".kept caption") == ["bar", "beer", "serves"]
-            assert texts(browser, ".kept td") == [
+            assert texts(browser, "#answer .kept caption") == ["bar", "beer", "serves"]
+            assert texts(browser, "#answer .kept td") == [
                 "Joe's", "Durham", "Dixie", "Dixie Brewing", "Corona", "Grupo Modelo", "Joe's", "Dixie", "3", "Joe's", "Corona", "NULL"]
-            assert texts(browser, ".only td") == ["Joe's"]
+            assert texts(browser, "#answer .only td") == ["Joe's"]
             picture(browser, has_script)
             ask(browser, "3", "SELECT bar\nFROM WHERE x")
             assert texts(browser, "#answer h2") == ["refused: syntax fault near byte 16 (line 2, column 6)"]
@@ -56,8 +78,9 @@ def test_a_student_asks(ratest: Path, beers: Path, browser: Any, has_script: boo
             assert browser.find_element("id", "query").get_property("value") == "SELECT bar\nFROM WHERE x"
             assert browser.find_element("id", "task").get_property("value") == "3"
             if has_script:
-                assert browser.execute_script("return [query.selectionStart, query.selectionEnd]") == [16, 21]
-                assert browser.execute_script("return document.activeElement.id") == "query"
+                assert browser.execute_script("return document.querySelector('.CodeMirror').CodeMirror.getSelection()") == "WHERE"
+                assert texts(browser, ".CodeMirror .fault-place") == ["WHERE"]
+                assert browser.execute_script("return document.activeElement.closest('.CodeMirror') !== null")
                 # The page itself was asked for once, and nothing came from elsewhere.
                 asked = browser.execute_script("return performance.getEntriesByType('resource').map(entry => entry.name)")
                 assert asked and all(name.startswith(f"http://127.0.0.1:{server.port}/") for name in asked)
@@ -89,4 +112,5 @@ def test_hostile_texts_run_nothing(ratest: Path, beers: Path, browser: Any) -> N
             ask(browser, "1", query)
             assert browser.title == "beers"
             assert browser.find_elements("css selector", "#answer script, #answer img, #answer svg, #answer b") == []
+            assert browser.find_elements("css selector", ".CodeMirror script, .CodeMirror svg, .CodeMirror b") == []
         assert not browser.get_log("browser")

@@ -44,7 +44,7 @@ def client(server: Server, number: int, every: float, until: float, seen: Seen) 
     while time.monotonic() < until:
         begun = time.monotonic()
         try:
-            status = once(server, chosen)
+            status = once(server, chosen, {"X-Forwarded-For": f"198.51.{number // 250}.{number % 250}"})
         except (OSError, http.client.HTTPException) as fault:
             with seen.lock:
                 seen.faults.append(repr(fault))
@@ -56,18 +56,18 @@ def client(server: Server, number: int, every: float, until: float, seen: Seen) 
         time.sleep(max(0.0, every - took))
 
 
-def once(server: Server, chosen: random.Random) -> int:
+def once(server: Server, chosen: random.Random, own: dict[str, str]) -> int:
     """One question; gives its status, and 200 for a hostile one that was turned away as it has to be."""
     task = chosen.choice("12345")
     if chosen.random() < 0.01:
-        got = server.send("POST", "/", b"x" * 500_000) if chosen.random() < 0.2 else server.ask(
-            task, chosen.choice((*HOSTILE, *HEAVY)))
+        got = server.send("POST", "/", b"x" * 500_000, own) if chosen.random() < 0.2 else server.ask(
+            task, chosen.choice((*HOSTILE, *HEAVY)), own)
         return 200 if got.status in (404, 413) else got.status
     is_right = chosen.random() < 0.5
     name = "reference.sql" if is_right else f"answers/{chosen.choice('abc')}.sql"
     text = (TOP / "examples/beers" / task / name).read_text()
     # Some texts were asked before, and some were not.
-    got = server.ask(task, f"{text}\n-- {chosen.randrange(200)}")
+    got = server.ask(task, f"{text}\n-- {chosen.randrange(200)}", own)
     if got.status == 200:
         assert got.verdict == "agrees" if is_right else got.verdict.startswith("differs on "), (task, name, got.verdict)
     return got.status
@@ -82,7 +82,7 @@ def test_load(ratest: Path, beers: Path) -> None:
     previous = threading.excepthook
     threading.excepthook = failures.append
     try:
-        with serving(beers) as server:
+        with serving(beers, "--proxy", "127.0.0.1", "--hourly", "0") as server:
             until = time.monotonic() + seconds
             clients = [threading.Thread(target=client, args=(server, number, every, until, seen)) for number in range(count)]
             for thread in clients:

@@ -34,7 +34,7 @@ def test_the_same_bytes_in_another_folder(top: Path, packages: Path, ratest: Pat
     finally:
         os.umask(mask)
     names = sorted(os.listdir(packages))
-    assert names == sorted(os.listdir(other)) and len(names) == 4
+    assert names == sorted(os.listdir(other)) and len(names) == 5
     for name in names:
         assert (packages / name).read_bytes() == (other / name).read_bytes(), name
 
@@ -60,6 +60,20 @@ def test_the_archive_works_where_it_is_unpacked(packages: Path, tmp_path: Path, 
     ran = subprocess.run([top / "bin/ratest", at / "schema.sql", at, at / "3/reference.sql", at / "3/answers/b.sql"], env=NO_TOOLCHAIN,
                          text=True, capture_output=True, timeout=SECONDS)
     assert (ran.returncode, ran.stdout, ran.stderr) == (1, beers, "")
+
+
+# A call that names the Debian package of a library or a program that one command needs.
+NEEDED = re.compile(r'\b(?:library|tool)\("[^"]+", "([^"]+)"\)')
+
+
+def test_what_each_command_needs_is_recommended(packages: Path, top: Path) -> None:
+    named = {name for path in (top / "python/classroom").rglob("*.py") for names in NEEDED.findall(path.read_text())
+             for name in names.split()}
+    needed = {name for name in named if subprocess.run(["dpkg-query", "-W", "-f", "${Essential}", name], text=True,
+                                                       capture_output=True, timeout=SECONDS).stdout != "yes"}
+    control = subprocess.run(["dpkg-deb", "--field", only(packages, "*.deb"), "Recommends"], text=True, capture_output=True,
+                             check=True, timeout=SECONDS).stdout
+    assert len(needed) >= 5 and needed <= set(control.strip().split(", "))
 
 
 def test_lintian_is_quiet(packages: Path) -> None:

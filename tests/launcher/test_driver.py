@@ -65,13 +65,32 @@ def test_tests_that_do_not_load_fail(place: Path) -> None:
     assert ran.returncode == 1 and ", 1 failed" in ran.stdout.splitlines()[-1]
 
 
-def test_missing_packages_are_named(place: Path) -> None:
+@pytest.fixture
+def lacking(place: Path) -> Path:
+    """The folder, where a package is missing, and a command apt-get that only notes its words."""
     text = (place / "tools/setup").read_text()
     (place / "tools/setup").write_text(text.replace("packages=(\n", "packages=(\n  no-such-package\n"))
-    ran = run(place, "True", "echo 1 passed, 0 failed")
+    for name, said in (("apt-get", f"echo \"$*\" >>{place}/asked"), ("id", "echo 1000")):
+        (place / "bin" / name).write_text(f"#!/bin/sh\n{said}\n")
+        (place / "bin" / name).chmod(0o755)
+    return place
+
+
+def test_missing_packages_are_named(lacking: Path) -> None:
+    """Where it does not run as root: the line that installs them, and nothing is installed."""
+    ran = run(lacking, "True", "echo 1 passed, 0 failed")
+    assert "as root: apt-get install --no-install-recommends" in ran.stderr and "no-such-package" in ran.stderr
     assert "no-such-package" in ran.stdout and "tools/setup installs what the tests need" in ran.stdout
-    checked = subprocess.run([place / "tools/setup", "--check"], text=True, capture_output=True)
+    assert not (lacking / "asked").exists()
+    checked = subprocess.run([lacking / "tools/setup", "--check"], text=True, capture_output=True)
     assert checked.returncode == 0 and "no-such-package" in checked.stdout.split()
+
+
+def test_missing_packages_are_installed_by_root(lacking: Path) -> None:
+    (lacking / "bin/id").write_text("#!/bin/sh\necho 0\n")
+    ran = run(lacking, "True", "echo 1 passed, 0 failed")
+    asked = (lacking / "asked").read_text().splitlines()
+    assert ran.returncode == 0 and asked[0] == "update" and asked[1].startswith("install ") and "no-such-package" in asked[1]
 
 
 def test_setup_has_one_form(place: Path) -> None:

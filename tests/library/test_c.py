@@ -18,7 +18,7 @@ WANTED = {"free", "malloc", "realloc", "memcpy", "memmove", "memset", "memcmp", 
 
 
 def compile_c(source: Path, to: Path, built: Path, library: str) -> Path:
-    rest = [f"-L{built}", f"-Wl,-rpath,{built}", "-lratest"] if library == "shared" else [built / "libratest.a"]
+    rest: list[str | Path] = [f"-L{built}", f"-Wl,-rpath,{built}", "-lratest"] if library == "shared" else [built / "libratest.a"]
     subprocess.run(["cc", "-std=c11", "-Wall", "-Wextra", "-Werror", "-pedantic", f"-I{built}", "-o", to, source, *rest],
                    check=True, timeout=SECONDS)
     return to
@@ -76,7 +76,7 @@ int main(void) {
 }
 """)
     program = tmp_path / "again"
-    words = ["cc", "-std=c11", "-g", "-fsanitize=address", f"-I{built}", "-o", program, source, built / "libratest.a"]
+    words: list[str | Path] = ["cc", "-std=c11", "-g", "-fsanitize=address", f"-I{built}", "-o", program, source, built / "libratest.a"]
     if subprocess.run(words, capture_output=True, timeout=SECONDS).returncode:
         pytest.skip("the C compiler has no address sanitizer")
     ran = subprocess.run([program], capture_output=True, text=True, timeout=SECONDS,

@@ -7,6 +7,7 @@ import re
 import sqlite3
 import subprocess
 import sys
+from collections.abc import Callable
 from pathlib import Path
 from typing import Any
 
@@ -51,10 +52,10 @@ def file(folder: Path) -> Path:
 
 @pytest.mark.parametrize("kind", ["rows", "path", "text of a path", "sqlite3", "pandas"])
 def test_tables(kind: str, tmp_path: Path) -> None:
-    source: Any = {"rows": lambda: {"serves": ROWS}, "path": lambda: {"serves": file(tmp_path)},
-                   "text of a path": lambda: {"serves": str(file(tmp_path))}, "sqlite3": database,
-                   "pandas": lambda: {"serves": frame()}}[kind]()
-    answer = ratest.explain(SCHEMA, source, FIRST, SECOND)
+    sources: dict[str, Callable[[], Any]] = {
+        "rows": lambda: {"serves": ROWS}, "path": lambda: {"serves": file(tmp_path)},
+        "text of a path": lambda: {"serves": str(file(tmp_path))}, "sqlite3": database, "pandas": lambda: {"serves": frame()}}
+    answer = ratest.explain(SCHEMA, sources[kind](), FIRST, SECOND)
     assert isinstance(answer, ratest.Witness) and str(answer) == WITNESS
     assert answer.kept == {"serves": ratest.KeptRows(("bar", "beer", "price"), (2,), (("Joe's", "Corona", None),))}
     assert (answer.size, answer.only_first, answer.only_second, answer.both) == (1, (("Joe's", "Corona"),), (), ())
@@ -97,7 +98,8 @@ def test_agreement_and_refusals() -> None:
         "table serves", "record 2, column 3: not an integer", None, None)    # the header is record 1
     many = {"serves": [("a", str(number), 1) for number in range(2001)]}
     assert ratest.explain(SCHEMA, many, FIRST, SECOND) == ratest.Refused("limit", "more than 2000 rows", None, None)
-    for wrong in ({"conflicts": 0}, {"work": 32_000_001}):
+    wrongs: list[dict[str, Any]] = [{"conflicts": 0}, {"work": 32_000_001}]
+    for wrong in wrongs:
         with pytest.raises(ValueError):
             ratest.explain(SCHEMA, tables, FIRST, SECOND, **wrong)
 

@@ -38,6 +38,16 @@ def test_explain(shared: Path, monkeypatch: pytest.MonkeyPatch) -> None:
     assert printed(cells[6]) == "query 2: syntax fault near byte 42 (line 3, column 16)\n"
 
 
+def test_references_of_the_homework_are_hidden_from_students() -> None:
+    """What nbgrader leaves out for students is all that has a reference."""
+    nbformat = pytest.importorskip("nbformat")
+    cells = [cell for cell in nbformat.read(NOTEBOOKS / "homework.ipynb", as_version=4).cells if cell.metadata.get("nbgrader", {}).get("grade")]
+    assert len(cells) == 2
+    for cell in cells:
+        lines = cell.source.splitlines()
+        assert (lines[0], lines[-1]) == ("### BEGIN HIDDEN TESTS", "### END HIDDEN TESTS") and lines[1].startswith("check(")
+
+
 def test_homework(shared: Path, monkeypatch: pytest.MonkeyPatch) -> None:
     cells = [cell for cell in ran("homework.ipynb", shared, monkeypatch, allow_errors=True).cells if cell.cell_type == "code"]
     graded = [cell for cell in cells if cell.metadata.get("nbgrader", {}).get("grade")]

@@ -76,3 +76,8 @@ def version(program: Program) -> str:
     elif here != toolchain.wanted(program.top):
         text += f"toolchain here: {here}\n"
     return text
+
+
+def packed(top: str, name: str) -> dict[str, str]:
+    """The texts that stand beside an installed program, for the front that prints them."""
+    return {"usage": usage(top, name), "help": help_text(top, name), "version": version_text(top, name, "proved")}

@@ -1,4 +1,4 @@
-"""The Debian package and the tar.gz, which depend on the commit and the proved programs alone."""
+"""The Debian package, the tar.gz and the wheel, which depend on the commit and the proved programs alone."""
 from __future__ import annotations
 
 import gzip
@@ -14,7 +14,7 @@ from email.utils import formatdate
 from pathlib import Path
 
 from launcher import texts
-from release import tree
+from release import tree, wheel
 from release.files import Refused, copy, files_below, moment, put, settle
 from release.library import SHARED
 
@@ -40,8 +40,15 @@ Description: explains why two SQL queries differ by the fewest rows
  classroom grades a class and serves a page where students ask. The library
  libratest and the Python package ratest answer in other programs.
 """
-# What classroom and the package ratest use where they find it.
-RECOMMENDED = ("python3-flask", "python3-jinja2", "python3-pandas", "python3-psycopg", "python3-sqlglot", "python3-waitress")
+# What each command of classroom, and the package ratest, use where they find it.
+RECOMMENDED = {
+    "page": ("python3-jinja2", "python3-markupsafe"),
+    "grade --hosts": ("openssh-client", "parallel", "rsync"),
+    "import and grade with PostgreSQL": ("postgresql-client", "python3-psycopg"),
+    "grade where a database tries, mutants, pick": ("python3-sqlglot",),
+    "serve": ("graphviz", "libjs-codemirror", "python3-flask", "python3-jinja2", "python3-limits", "python3-markdown-it", "python3-waitress"),
+    "tables of the package ratest": ("python3-pandas",),
+}
 CHANGES = """ratest ({version}) unstable; urgency=medium
 
   * What has changed stands in changelog.gz. Built from the commit
@@ -74,7 +81,7 @@ ratest: initial-upload-closes-no-bugs *
 
 
 def pack(top: Path, output: Path) -> list[Path]:
-    """Makes both packages, a file that names the build, and SHA256SUMS in the folder; gives their paths."""
+    """Makes the packages and the wheel, a file that names the build, and SHA256SUMS in the folder; gives their paths."""
     commit = texts.commit(str(top))
     if not re.match(r"[0-9a-f]{40}\b", commit):
         raise Refused(f"the commit is {commit}: a package names its commit")
@@ -85,15 +92,18 @@ def pack(top: Path, output: Path) -> list[Path]:
         write_archive(top, made / f"ratest-{version}", archive)
         package = made / f"ratest_{version}-1_amd64.deb"
         write_package(top, made / "root", package, version, commit)
+        wheel_file = made / wheel.name(version)
+        wheel.write_wheel(top, wheel_file)
         build = made / "BUILD"
         build.write_text(texts.version_text(str(top), "ratest", "proved"))
+        packed = (archive, package, wheel_file, build)
         sums = made / "SHA256SUMS"
         sums.write_text("".join(f"{hashlib.sha256(path.read_bytes()).hexdigest()}  {path.name}\n"
-                                for path in (archive, package, build)))
+                                for path in packed))
         output.mkdir(parents=True, exist_ok=True)
-        for path in (archive, package, build, sums):
+        for path in (*packed, sums):
             copy(path, output / path.name)
-    return [output / path.name for path in (archive, package, build, sums)]
+    return [output / path.name for path in (*packed, sums)]
 
 
 def write_archive(top: Path, folder: Path, path: Path) -> None:
@@ -120,7 +130,7 @@ def write_package(top: Path, root: Path, path: Path, version: str, commit: str) 
     maintainer = subprocess.run(["git", "-C", top, "log", "-1", "--format=%an <%ae>"], capture_output=True, text=True,
                                 check=True).stdout.strip()
     facts = {"version": f"{version}-1", "maintainer": maintainer, "commit": commit,
-             "date": formatdate(seconds), "libc": libc(root), "recommended": ", ".join(RECOMMENDED)}
+             "date": formatdate(seconds), "libc": libc(root), "recommended": ", ".join(sorted({it for packages in RECOMMENDED.values() for it in packages}))}
     put(copyright_text(about).encode(), about / "copyright")
     for name in ("LICENSE", "LICENSE-circular_buffer"):
         (about / name).unlink()

@@ -46,9 +46,7 @@ def lay_out_program(top: Path, to: Path, name: str) -> None:
         raise Refused(f"{name} is not proved and built here: ./{name} --build")
     put(Path(program.proved).read_bytes(), to / "lib/ratest" / name, executable=True)
     put((top / "tools/release/front").read_bytes(), to / "bin" / name, executable=True)
-    said = {"usage": texts.usage(str(top), name), "help": texts.help_text(str(top), name),
-            "version": texts.version_text(str(top), name, "proved")}
-    for kind, text in said.items():
+    for kind, text in texts.packed(str(top), name).items():
         put(text.encode(), to / f"share/ratest/{name}.{kind}")
     page = manual_page(name, texts.manual(str(top), name), (top / "VERSION").read_text().strip(), moment(top))
     put(gzip.compress(page, mtime=0), to / f"share/man/man1/{name}.1.gz")

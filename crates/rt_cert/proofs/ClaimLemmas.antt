@@ -1,7 +1,7 @@
 -- What the places of a certificate claim, and what its check says.
 use Rattle.std.proofs.Common.{◌≡◌, ◌∙◌, ℕ, zero, suc, ◌+◌, ◌^◌, drop, ◌<◌, ◌≤◌, nat_le, Bool, true, false, cond, ◌&&◌, List, [], ◌∷◌, length, get_or, slice_index_or, refl, sym, ap, subst, arith, rules, Result, Ok, Err}
 use Rattle.std.specs.Prelude.{Option, None, Some, IfOk, IfSome, if◌then◌else◌}
-use Rattle.std.specs.List.{All, find}
+use Rattle.std.specs.List.{All, AllByRecursion as Each, find}
 use Rattle.std.specs.Option.{ForSome, option_map}
 use Rattle.std.proofs.lemmas.List.{drop_more, drop_all}
 use Rattle.rt_value.specs.declared.no_memory.NoMemory.{NoMemory}
@@ -15,14 +15,14 @@ use Rattle.rt_input.specs.Accepted.{Accepted}
 use Rattle.rt_top.specs.Smallest.{IsCounter, counters, differ_at, lawful_at}
 use Rattle.rt_cert.specs.Certified.{IsJudged, IsToBeRefuted, IsTried, IsWrong, choice_fault, claim_fault, places_fault, rows_of}
 use Rattle.rt_cert.specs.Claims.{Holds, IsJudgedOver, IsWrongOver}
-use Rattle.rt_cert.specs.Least.{IsLeastOrNone}
+use Rattle.rt_cert.specs.Least.{IsLeastOrNone, IsSmallestOrNone}
 use Rattle.rt_cert.specs.Places.{keep_of, places_of}
 use Rattle.rt_cert.specs.declared.judgement.Judgement.{Judgement}
 use Rattle.rt_cert.specs.declared.judgement.Judgement.TheVariants.{Valid, Wrong}
 use Rattle.rt_cert.specs.declared.judgement.Why.{Why}
 use Rattle.rt_cert.specs.declared.judgement.Why.TheVariants as why
 use Rattle.rt_cert.proofs.LeastLemmas.{refutation-least}
-use Rattle.rt_cert.proofs.PlaceLemmas.{keep-back, keep-long, places-fit}
+use Rattle.rt_cert.proofs.PlaceLemmas.{keep-back, keep-long, places-below, places-fit}
 
 -- ---- the places
 
@@ -87,6 +87,34 @@ kept-back rows (Some keep) h = ap (λ (n : ℕ). Some (keep_of n (places_of keep
 pub kept-fit : (rows : ℕ) (keep : Option (List Bool)) → rows < 2 ^ 62 → ForSome keep (λ k. length k ≡ rows) → IfSome (option_map places_of keep) ArePlaces
 kept-fit rows None small h = tt
 kept-fit rows (Some keep) small h = let l = h keep refl in places-fit keep (omega (arith, l, small))
+
+none-past : (rows : ℕ) (ps : List ℕ) → Each (λ p. p < rows) ps → find (λ p. nat_le rows p) ps ≡ None
+none-past rows [] h = refl
+none-past rows (p ∷ ps) h = by (nat_le rows p) (past rows p h.0) (none-past rows ps h.1) where
+  past : (m n : ℕ) → n < m → nat_le m n ≡ false
+  past m n b = search rules
+
+  by : (b : Bool) → b ≡ false → find (λ q. nat_le rows q) ps ≡ None → cond b (Some p) (find (λ q. nat_le rows q) ps) ≡ None
+  by true e r = cc
+  by false e r = r
+
+-- a counterexample has no fault
+counter-stands : (input : Accepted) (keep : List Bool) → counters input keep ≡ true → choice_fault input keep ≡ None
+unfolding counters
+counter-stands input keep h = by (lawful_at input keep) (differ_at input keep) h where
+  by : (l d : Bool) → (l && d) ≡ true → (if l then (if d then None else Some why.SameAnswers) else Some why.NotLawful) ≡ None
+  by true true h = refl
+  by true false h = cc
+  by false d h = cc
+
+-- so nothing is wrong with the places of a smallest one
+pub verdict-stands : (input : Accepted) (keep : Option (List Bool)) → IsSmallestOrNone input keep → claim_fault input (option_map places_of keep) ≡ None
+verdict-stands input None h = refl
+verdict-stands input (Some keep) h =
+    let l = h.counter.0 in
+    let below : Each (λ p. p < rows_of input) (places_of keep) = (let P : ℕ → Type 0 = λ n. Each (λ p. p < n) (places_of keep) in subst P l (places-below keep)) in
+    let back : keep_of (rows_of input) (places_of keep) ≡ keep = ap (λ (n : ℕ). keep_of n (places_of keep)) (sym l) ∙ keep-back keep in
+    places-at input (places_of keep) (none-past (rows_of input) (places_of keep) below) ∙ ap (choice_fault input) back ∙ counter-stands input keep h.counter.1
 
 -- ---- the check
 

@@ -16,7 +16,7 @@ use Rattle.rt_input.specs.Accepted.{Accepted}
 use Rattle.rt_top.specs.Smallest.{counters}
 use Rattle.rt_cert.specs.Encodes.{Encodes}
 use Rattle.rt_cert.specs.Encoding.{IsEncoding, most_of}
-use Rattle.rt_cert.proofs.Encoded.{wanted-as}
+use Rattle.rt_cert.proofs.EncodedLemmas.{wanted-as}
 
 abbrev Lines : Type 0
 Lines = List (List Literal)

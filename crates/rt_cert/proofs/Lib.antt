@@ -3,7 +3,7 @@ mod ClaimLemmas
 mod LeastLemmas
 mod PlaceLemmas
 mod Refutations
-mod Encoded
+mod EncodedLemmas
 mod InputLemmas
 mod ExactLemmas
 mod FileLemmas

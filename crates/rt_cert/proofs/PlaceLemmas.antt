@@ -124,6 +124,10 @@ length-filter p (x ∷ xs) = by (p x) (length-filter p xs) where
   by true r = omega (arith, r)
   by false r = omega (arith, r)
 
+-- each is one of a row
+pub places-below : (keep : List Bool) → Each (λ place. place < length keep) (places_of keep)
+places-below keep = each-filter (λ place. place < length keep) (λ r. slice_index_or keep r false) (range_with_len 0 (length keep)) (range-small 0 (length keep) (length keep) (omega arith))
+
 -- they can be written in a certificate
 pub places-fit : (keep : List Bool) → length keep < 2 ^ 62 → ArePlaces (places_of keep)
 places-fit keep h =

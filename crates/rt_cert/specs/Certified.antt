@@ -32,17 +32,6 @@ abbrev pub IsToBeRefuted : Option (List Bool) → Type 0
 IsToBeRefuted None = ⊤
 IsToBeRefuted (Some keep) = 0 < size keep
 
--- ---- a certificate that is written
-
--- a certificate of the verdict on an input, with the encoding that its steps go on from
-pub record IsProof (input : Accepted) (cert : Cert) (encoded : Encoded) : Type 0 where
-  pub spelled : IsCert cert
-  pub verdict : IsSmallestOrNone input (kept_by input cert)
-  pub encoding : IsEncoding input (kept_by input cert) encoded.lines encoded.assume
-  pub added : length encoded.lines ≡ cert.added
-  pub accepted : AreAccepted encoded.lines cert.steps
-  pub refuted : IsToBeRefuted (kept_by input cert) → IsRefuted (encoded.lines ++ clauses cert.steps) encoded.assume
-
 -- ---- the check of one
 
 -- what is wrong with a choice of rows
@@ -84,3 +73,16 @@ pub record IsValid (input : Accepted) (cert : Cert) (keep : Option (List Bool)) 
 abbrev pub IsJudged : Accepted → Cert → Judgement → Type 0
 IsJudged input cert (Valid keep) = IsValid input cert keep
 IsJudged input cert (Wrong w) = IsWrong input cert w
+
+-- ---- a certificate that is written
+
+-- A certificate of the verdict on an input, with the encoding that its steps go on from. Nothing is
+-- wrong with what it claims, so each of its places is one of a row.
+pub record IsProof (input : Accepted) (cert : Cert) (encoded : Encoded) : Type 0 where
+  pub spelled : IsCert cert
+  pub claim : claim_fault input cert.keep ≡ None
+  pub verdict : IsSmallestOrNone input (kept_by input cert)
+  pub encoding : IsEncoding input (kept_by input cert) encoded.lines encoded.assume
+  pub added : length encoded.lines ≡ cert.added
+  pub accepted : AreAccepted encoded.lines cert.steps
+  pub refuted : IsToBeRefuted (kept_by input cert) → IsRefuted (encoded.lines ++ clauses cert.steps) encoded.assume

@@ -53,8 +53,8 @@ fn judge(
     }
 }
 
-/// Checks a certificate of an input without any search, in time linear in its steps and their
-/// hints. Its choice of rows is tried, the input is encoded anew, and the steps are checked over
+/// Checks a certificate of an input without any search. A step takes at most the time of its hints
+/// times its own length, and of all different lines once: n·√n for n bytes. Its choice of rows is tried, the input is encoded anew, and the steps are checked over
 /// these lines. The answer is the first cause of rejection in the order of `Why`.
 pub fn check(alloc: Global, input: &Input, cert: &Cert) -> Result<Judgement, NoMemory>
     ensures judged { IfOk result (IsJudged input.now cert.now) }

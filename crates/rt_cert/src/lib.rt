@@ -35,5 +35,6 @@ pub use input::encode;
 pub use judgement::{Judgement, Why};
 pub use outcome::CertOutcome;
 pub use proving::{Proof, prove};
+pub use rt_recorder::{Encoded, Recorder, cert_text, check_steps, read_cert};
 pub use run::cert_run;
 pub use say::CERT_USAGE;

@@ -58,7 +58,7 @@ pub(crate) fn refutation(alloc: Global, encoded: &Encoded) -> Result<List<Step>,
     ensures refuted { IfOk result (λ steps. IsRefuted (encoded.now.lines ++ clauses steps) encoded.now.assume) }
     ensures spelled { IfOk result (Each IsStep) }
 {
-    let mut solver = Solver::new(alloc, Recorder::new(alloc));
+    let mut solver = Solver::new(alloc, Recorder::new(alloc))?;
     put_lines(&encoded.lines, &mut solver)?;
     let first = variables(&encoded.lines);
     match solver.solve(encoded.assume, first, None, Order::Free)? {

@@ -1,5 +1,4 @@
--- A set of literals as marks of some of them and an ordered set of the others, and a set of lines
--- as one mark for each.
+-- A set of literals: marks of some of them, and an ordered set of the others.
 use Rattle.std.specs.Prelude.{◌≡◌, ℕ, Bool, false, List, length, nat_lt, if◌then◌else◌, slice_index_or}
 use Rattle.std.specs.BTreeMap.{is_at}
 use Rattle.std.specs.List.{list_any}

@@ -2,18 +2,18 @@
 //! remembers of its own run (literals held, long lines used) is private; contracts see lines and
 //! their Bools.
 
-ghost use Rattle.std.specs.Prelude.{◌≡◌, List as Seq, [], ◌∷◌, ◌++◌, ◌<◌, length, Bool, true, false, IsTrue, ◌↔◌, OnOk, OnErr, IfOk, if◌then◌else◌};
-ghost use Rattle.std.specs.List.{All as Each};
-ghost use Rattle.rt_clause.specs.Literal.{Literal};
+ghost use Rattle.std.specs.Prelude.{◌≡◌, List as Seq, [], ◌∷◌, ◌++◌, ◌<◌, length, Bool, true, false, IsTrue, ◌↔◌, OnOk, OnErr, IfOk, Some, MatchOption, if◌then◌else◌};
+ghost use Rattle.std.specs.List.{All as Each, list_all};
+ghost use Rattle.rt_clause.specs.Literal.{Literal, negated};
 ghost use Rattle.rt_clause.specs.Lists.{follows, left, line_at};
-ghost use Rattle.rt_clause.specs.Refuting.{IsRefuted, Refutes};
+ghost use Rattle.rt_clause.specs.Refuting.{IsDenial, IsDenied, IsRefuted, Refutes, is_negation};
 ghost use Rattle.rt_derive.specs.Alike.{Alike};
 ghost use Rattle.rt_derive.specs.Remaining.{IsRest};
 ghost use Rattle.rt_derive.specs.Spent.{AreSpent, Takes};
 
 use crate::held::Held;
 use crate::store::Store;
-use rt_clause::{Adds, Lines, Lit, LitList};
+use rt_clause::{Adds, Denial, Lines, Lit, LitList};
 use rt_value::NoMemory;
 use std::alloc::Global;
 use std::collections::BTreeSet;
@@ -152,6 +152,36 @@ fn refutes_line(line: &[Lit], assume: &Option<Lit>) -> bool
     }
 }
 
+fn is_opposite(assume: &Option<Lit>, question: Lit) -> bool
+    ensures { IsTrue result ↔ (assume.now ≡ Some (negated question)) }
+{
+    match assume {
+        Some(a) => *a == question.negated(),
+        None => false,
+    }
+}
+
+fn is_negation(assume: &Option<Lit>, question: Lit, lit: Lit) -> bool
+    ensures { result ≡ is_negation assume.now question lit }
+{
+    match assume {
+        Some(a) => lit == question.negated() || lit == a.negated(),
+        None => lit == question.negated(),
+    }
+}
+
+// Whether each literal of a line is the negation of the question or of what is assumed.
+fn denies(line: &[Lit], assume: &Option<Lit>, question: Lit) -> bool
+    ensures { result ≡ list_all (is_negation assume.now question) line.now }
+{
+    for l in line {
+        if !is_negation(assume, question, *l) {
+            return false;
+        }
+    }
+    true
+}
+
 /// A list of lines, each with whether it was derived. A line is derived only if it follows from
 /// those before it by unit propagation along the hints given with it (reverse unit propagation,
 /// as in LRAT).
@@ -199,6 +229,24 @@ impl Checker {
             }
         }
         false
+    }
+
+    /// Why no model of the lines makes what is assumed and the question true, where one line says so
+    /// or the two are opposite. Such a line mostly came last, so the search begins there.
+    pub fn denial(&self, assume: Option<Lit>, question: Lit) -> Option<Denial>
+        ensures { MatchOption result (IsDenied (⟦<Checker as Adds>⟧.lines self.now) assume question → ⊥) (IsDenial (⟦<Checker as Adds>⟧.lines self.now) assume question) }
+    {
+        if is_opposite(&assume, question) {
+            return Some(Denial::Opposite);
+        }
+        let mut i = self.lines.len();
+        'lines: while i > 0 {
+            i -= 1;
+            if denies(self.lines.at(i), &assume, question) {
+                return Some(Denial::Line(i));
+            }
+        }
+        None
     }
 
     fn put(&mut self, lits: &[Lit], derived: bool) -> Result<(), NoMemory>

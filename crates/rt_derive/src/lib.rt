@@ -2,6 +2,7 @@
 //!
 //! It shares only `rt_clause` with the solver, so that an answer of the solver rests on these few
 //! functions.
+
 #![tactic(auto)]
 
 mod checker;

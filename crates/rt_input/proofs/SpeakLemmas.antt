@@ -20,7 +20,7 @@ use Rattle.rt_input.specs.declared.outcome.Outcome.{Outcome}
 use Rattle.rt_input.specs.declared.outcome.Outcome.TheVariants as outcome
 use Rattle.rt_input.specs.Faults.{excess_limit, lex_outcome, load_outcome, name_outcome, schema_outcome, sql_outcome}
 use Rattle.rt_input.specs.Source.{Text}
-use Rattle.rt_input.specs.Steps.{IsFirstPart, IsLimitOf, Seen, SpeaksOf, TextStops}
+use Rattle.rt_input.specs.Steps.{IsDataPart, IsFirstPart, IsLimitOf, Seen, SpeaksOf, TextStops}
 
 limit_as : (P Q : Part → Type 0) (l : Limit) → ((p : Part) → P p → Q p) → IsLimitOf P l → IsLimitOf Q l
 limit_as P Q (limit.TooLong p) weaker h = weaker p h
@@ -45,6 +45,19 @@ speaks_as P Q outcome.NoMemory weaker h = tt
 pub speaks_first : (p : Part) (o : Outcome) → IsFirstPart p → SpeaksOf (λ q. q ≡ p) o → SpeaksOf IsFirstPart o
 speaks_first p o first h = speaks_as (λ q. q ≡ p) IsFirstPart o (λ q is. subst IsFirstPart (sym is) first) h
 
+-- or before the queries
+pub speaks_data : (p : Part) (o : Outcome) → IsDataPart p → SpeaksOf (λ q. q ≡ p) o → SpeaksOf IsDataPart o
+speaks_data p o early h = speaks_as (λ q. q ≡ p) IsDataPart o (λ q is. subst IsDataPart (sym is) early) h
+
+pub data_first : (o : Outcome) → SpeaksOf IsDataPart o → SpeaksOf IsFirstPart o
+data_first o h = speaks_as IsDataPart IsFirstPart o by h where
+  by : (p : Part) → IsDataPart p → IsFirstPart p
+  by part.Schema d = d
+  by (part.Table at name) d = d
+  by part.Query1 d = absurd d
+  by part.Query2 d = absurd d
+  by part.Queries d = absurd d
+
 pub speaks_text : (s : Seen) (name : Text) (p : Part) (o : Outcome) → TextStops s name p o → SpeaksOf (λ q. q ≡ p) o
 speaks_text s name p outcome.Agree stop = tt
 speaks_text s name p (outcome.Witness keep) stop = tt
@@ -64,13 +77,13 @@ speaks_lex p (lex.OpenComment at) = refl
 speaks_lex p (lex.BigNumber at) = refl
 speaks_lex p lex.NoMemory = tt
 
-speaks_excess : (e : Excess) → IsLimitOf IsFirstPart (excess_limit e)
+speaks_excess : (e : Excess) → IsLimitOf IsDataPart (excess_limit e)
 speaks_excess excess.Tables = tt
 speaks_excess (excess.Columns table) = tt
 speaks_excess (excess.Rules table) = tt
 
-pub speaks_schema : (fault : SchemaFault) → SpeaksOf IsFirstPart (schema_outcome fault)
-speaks_schema (schema.Lex fault) = speaks_first part.Schema (lex_outcome part.Schema fault) tt (speaks_lex part.Schema fault)
+pub speaks_schema : (fault : SchemaFault) → SpeaksOf IsDataPart (schema_outcome fault)
+speaks_schema (schema.Lex fault) = speaks_data part.Schema (lex_outcome part.Schema fault) tt (speaks_lex part.Schema fault)
 speaks_schema (schema.Syntax at) = tt
 speaks_schema (schema.DuplicateName name) = tt
 speaks_schema (schema.UnknownName name) = tt
@@ -79,7 +92,7 @@ speaks_schema (schema.CheckTypes table) = tt
 speaks_schema (schema.TooMany e) = speaks_excess e
 speaks_schema schema.NoMemory = tt
 
-pub speaks_load : (p : Part) (fault : LoadFault) → IsFirstPart p → SpeaksOf IsFirstPart (load_outcome p fault)
+pub speaks_load : (p : Part) (fault : LoadFault) → IsDataPart p → SpeaksOf IsDataPart (load_outcome p fault)
 speaks_load p load.NoMemory first = tt
 speaks_load p load.TooManyRows first = tt
 speaks_load p load.BadHeader first = first

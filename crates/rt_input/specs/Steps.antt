@@ -123,6 +123,14 @@ SpeaksOf Among (outcome.ReadFault part) = Among part
 SpeaksOf Among outcome.WriteFault = ⊤
 SpeaksOf Among outcome.NoMemory = ⊤
 
+-- the parts that are read before the queries
+abbrev pub IsDataPart : Part → Type 0
+IsDataPart parts.Schema = ⊤
+IsDataPart (parts.Table at name) = ⊤
+IsDataPart parts.Query1 = ⊥
+IsDataPart parts.Query2 = ⊥
+IsDataPart parts.Queries = ⊥
+
 -- the parts that are read before the second query
 abbrev pub IsFirstPart : Part → Type 0
 IsFirstPart parts.Schema = ⊤

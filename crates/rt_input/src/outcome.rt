@@ -49,7 +49,7 @@ pub enum Limit {
     Tables,
     /// This table has too many columns.
     Columns(Txt),
-    /// This table has too many keys and foreign keys.
+    /// This table has too many rules.
     Rules(Txt),
     /// The tables together have too many rows.
     Rows,

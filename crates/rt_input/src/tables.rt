@@ -8,7 +8,7 @@ ghost use Rattle.rt_input.specs.Source.{IsKnown, IsMade, tables_in};
 ghost use Rattle.rt_input.specs.Judged.{schema_of, schema_judged, table_judged, tables_judged, data_judged, no_rows, IsTableReached, ReachesFirst};
 ghost use Rattle.rt_input.specs.Held.{text_of};
 ghost use Rattle.rt_input.specs.Placed.{Placed, PlacedIn};
-ghost use Rattle.rt_input.specs.Steps.{over, IsFirstPart, Refuses, SpeaksOf, Stops};
+ghost use Rattle.rt_input.specs.Steps.{over, IsDataPart, Refuses, SpeaksOf, Stops};
 ghost use Rattle.rt_input.specs.declared.part.Part.TheVariants as parts;
 
 use crate::faults::{load_outcome, schema_outcome};
@@ -53,7 +53,7 @@ impl Tables {
 fn schema_of(alloc: Global, text: &[u8]) -> Result<Schema, Outcome>
     ensures ok { IfOk result (λ schema. schema_of text.now ≡ Ok schema) }
     ensures err { IfErr result (Refuses (schema_of text.now)) }
-    ensures speaks { IfErr result (SpeaksOf IsFirstPart) }
+    ensures speaks { IfErr result (SpeaksOf IsDataPart) }
     ensures place { IfErr result (PlacedIn parts.Schema text.now) }
 {
     match read_schema(alloc, text) {
@@ -67,7 +67,7 @@ fn schema_file<F: Files>(alloc: Global, files: &mut F, source: &Source) -> Resul
     ensures ok { IfOk result (λ schema. IsKnown F.tells source.now → schema_judged source.now (F.held files.old) ≡ Ok schema) }
     ensures err { IfErr result (Stops (over F.Files files.old files.new) source.now (schema_judged source.now (F.held files.old)) (λ p. p ≡ parts.Schema)) }
     ensures place { IfErr result (λ o. IsKnown F.tells source.now → Placed (text_of source.now (F.held files.old)) o) }
-    ensures speaks { IfErr result (SpeaksOf IsFirstPart) }
+    ensures speaks { IfErr result (SpeaksOf IsDataPart) }
     ensures begun { AddsPrefix (F.begun files.old) (F.begun files.new) (part_files source.now parts.Schema) }
     ensures begun_ok { OnOk result (F.begun files.new ≡ F.begun files.old ++ part_files source.now parts.Schema) }
     ensures made { IsMade source.now → files.new ≡ files.old }
@@ -98,7 +98,7 @@ fn read_table<F: Files>(
     ensures kinds { given.new.kinds ≡ given.old.kinds }
     ensures err { IfErr result (Stops (over F.Files files.old files.new) source.now (table_judged source.now (F.held files.old) at table.now (places given.old.tables)) (λ p. p ≡ parts.Table at table.now.name)) }
     ensures place { IfErr result (λ o. IsKnown F.tells source.now → Placed (text_of source.now (F.held files.old)) o) }
-    ensures speaks { IfErr result (SpeaksOf IsFirstPart) }
+    ensures speaks { IfErr result (SpeaksOf IsDataPart) }
     ensures begun { AddsPrefix (F.begun files.old) (F.begun files.new) (part_files source.now (parts.Table at table.now.name)) }
     ensures begun_ok { OnOk result (F.begun files.new ≡ F.begun files.old ++ part_files source.now (parts.Table at table.now.name)) }
     ensures made { IsMade source.now → files.new ≡ files.old }
@@ -128,7 +128,7 @@ fn read_given<F: Files>(
     ensures ok { IfOk result (λ given. IsKnown F.tells source.now → tables_judged source.now (F.held files.old) 0 (no_rows schema.now) schema.now ≡ Ok given.tables) }
     ensures err { IfErr result (Stops (over F.Files files.old files.new) source.now (tables_judged source.now (F.held files.old) 0 (no_rows schema.now) schema.now) (IsTableReached source.now (F.held files.old) schema.now)) }
     ensures place { IfErr result (λ o. IsKnown F.tells source.now → Placed (text_of source.now (F.held files.old)) o) }
-    ensures speaks { IfErr result (SpeaksOf IsFirstPart) }
+    ensures speaks { IfErr result (SpeaksOf IsDataPart) }
     ensures begun { OnErr result (AddsPrefix (F.begun files.old) (F.begun files.new) (table_files source.now 0 schema.now)) }
     ensures begun_ok { OnOk result (F.begun files.new ≡ F.begun files.old ++ table_files source.now 0 schema.now) }
     ensures reached { OnErr result (IsKnown F.tells source.now → AddsPrefix (F.begun files.old) (F.begun files.new) (tables_reached source.now (F.held files.old) 0 (no_rows schema.now) schema.now)) }
@@ -154,7 +154,7 @@ pub(crate) fn tables_of<F: Files>(
     ensures ok { IfOk result (λ t. IsKnown F.tells source.now → data_judged source.now (F.held files.old) ≡ Ok (record { schema = t.schema; given = t.given })) }
     ensures err { IfErr result (Stops (over F.Files files.old files.new) source.now (data_judged source.now (F.held files.old)) (ReachesFirst source.now (F.held files.old))) }
     ensures place { IfErr result (λ o. IsKnown F.tells source.now → Placed (text_of source.now (F.held files.old)) o) }
-    ensures speaks { IfErr result (SpeaksOf IsFirstPart) }
+    ensures speaks { IfErr result (SpeaksOf IsDataPart) }
     ensures begun { AddsSome (IsKnown F.tells source.now) (data_files source.now) (data_reached source.now (F.held files.old)) (F.begun files.old) (F.begun files.new) }
     ensures begun_ok { OnOk result (AddsAll (IsKnown F.tells source.now) (data_files source.now) (data_reached source.now (F.held files.old)) (F.begun files.old) (F.begun files.new)) }
     ensures made { IsMade source.now → files.new ≡ files.old }
@@ -179,7 +179,7 @@ pub fn read_tables<F: Files>(
     ensures ok { IfOk result (λ t. IsTrue F.tells → data_judged (tables_in schema.now dir.now) (F.held files.old) ≡ Ok (record { schema = t.schema; given = t.given })) }
     ensures err { IfErr result (Stops (over F.Files files.old files.new) (tables_in schema.now dir.now) (data_judged (tables_in schema.now dir.now) (F.held files.old)) (ReachesFirst (tables_in schema.now dir.now) (F.held files.old))) }
     ensures place { IfErr result (λ o. IsTrue F.tells → Placed (text_of (tables_in schema.now dir.now) (F.held files.old)) o) }
-    ensures speaks { IfErr result (SpeaksOf IsFirstPart) }
+    ensures speaks { IfErr result (SpeaksOf IsDataPart) }
     ensures begun { AddsSome (IsKnown F.tells (tables_in schema.now dir.now)) (data_files (tables_in schema.now dir.now)) (data_reached (tables_in schema.now dir.now) (F.held files.old)) (F.begun files.old) (F.begun files.new) }
     ensures begun_ok { OnOk result (AddsAll (IsKnown F.tells (tables_in schema.now dir.now)) (data_files (tables_in schema.now dir.now)) (data_reached (tables_in schema.now dir.now) (F.held files.old)) (F.begun files.old) (F.begun files.new)) }
     ensures held { F.held files.new ≡ F.held files.old }

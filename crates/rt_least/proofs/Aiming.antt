@@ -16,7 +16,7 @@ use Rattle.rt_clause.proofs.Extending.{index-front, model-older}
 use Rattle.rt_clause.proofs.GateLaws.{IsTrueAt}
 use Rattle.rt_formula.specs.Shared.{Shared, bool_at, val}
 use Rattle.rt_solver.specs.Search.{line_of}
-use Rattle.rt_solver.specs.Solving.{reach, width_from, width, variables, HasSearched}
+use Rattle.rt_solver.specs.Solving.{reach, width_from, width, variables, IsLast, HasSearched}
 use Rattle.rt_solver.specs.Answers.{IsModelled}
 use Rattle.rt_solver.proofs.Widths.{reach-least}
 use Rattle.rt_totalizer.specs.Outputs.{output_at}
@@ -63,6 +63,11 @@ refuting-below next (Some x) c a (inr e) l h = (let P : List Literal → Type 0 
   | inr c' ↦ absurd (cc)
 ])
 
+last-below : (next : ℕ) (assume question : Option Literal) (c : List Literal) → IfSome assume (λ a. a.var < next) → IfSome question (λ q. q.var < next) → IsLast assume question c → IsBelow next c
+last-below next assume question c a b (inl r) = refuting-below next assume c a r
+last-below next assume None c a b (inr e) = absurd e
+last-below next assume (Some q) c a b (inr e) = (let P : List Literal → Type 0 = IsBelow next in subst P (sym e) (line-below next assume (negated q ∷ []) a (assumed-below next (Some (negated q)) b)))
+
 -- the lines of a formula with those that leave rows out are an aim
 pub aimed-begun : (d : Shared) (goal : ℕ) (cone : List Bool) (lines new : List (List Literal)) (next : ℕ) → length cone ≡ d.rows → d.rows ≤ next → AreBelow next lines
     → ((keep : List Bool) → length keep ≡ d.rows → val d keep goal ≡ true → (bools : List Bool) × (length bools ≡ next) × AgreeBelow d.rows keep bools × IsModel lines bools)
@@ -90,16 +95,16 @@ aimed-begun d goal cone lines new next long w b c s t e =
     }
 
 -- a call of solve keeps the aim
-pub aimed-on : (d : Shared) (goal : ℕ) (cone : List Bool) (lines new : List (List Literal)) (fo fn : List Bool) (assume : Option Literal) (next first : ℕ) → first ≤ next → IsAimed d goal cone lines next → IfSome assume (λ a. a.var < next)
-    → HasSearched lines new fo fn assume first (variables lines assume first) → IsAimed d goal cone new next
-aimed-on d goal cone lines new fo fn assume next first f h a s =
+pub aimed-on : (d : Shared) (goal : ℕ) (cone : List Bool) (lines new : List (List Literal)) (fo fn : List Bool) (assume question : Option Literal) (next first : ℕ) → first ≤ next → IsAimed d goal cone lines next → IfSome assume (λ a. a.var < next) → IfSome question (λ q. q.var < next)
+    → HasSearched lines new fo fn assume question first (variables lines assume first) → IsAimed d goal cone new next
+aimed-on d goal cone lines new fo fn assume question next first f h a b s =
     let more = map (line_of assume) s.learned ++ s.last in
     let m = variables lines assume first in
     let le = variables-le next lines assume first f h.below a in
     let learned : AreBelow next s.learned = (λ i b l g. let p = s.below.0 i b l g in omega (arith, p, le)) in
-    let last : AreBelow next s.last = elim s.refutes [
+    let last : AreBelow next s.last = elim s.ends [
       | inl z ↦ (let P : List (List Literal) → Type 0 = AreBelow next in subst P (sym z) (each-none (IsBelow next)))
-      | inr z ↦ (let P : List (List Literal) → Type 0 = AreBelow next in subst P (sym z.1) (each-cons (IsBelow next) z.0 [] (refuting-below next assume z.0 a z.2) (each-none (IsBelow next))))
+      | inr z ↦ (let P : List (List Literal) → Type 0 = AreBelow next in subst P (sym z.1) (each-cons (IsBelow next) z.0 [] (last-below next assume question z.0 a b z.2) (each-none (IsBelow next))))
     ] in
     let B : List (List Literal) → Type 0 = AreBelow next in
     record {

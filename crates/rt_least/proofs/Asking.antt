@@ -7,9 +7,8 @@ use Rattle.rt_clause.specs.Gates.{gate}
 use Rattle.rt_clause.proofs.Literals.{has-cases}
 use Rattle.rt_clause.proofs.Extending.{extends-gate}
 use Rattle.rt_formula.specs.Shared.{Shared}
-use Rattle.rt_solver.specs.Answers.{HasNone}
 use Rattle.rt_least.specs.Aimed.{IsAimed}
-use Rattle.rt_least.specs.Attempts.{IsAnswered, IsGrown}
+use Rattle.rt_least.specs.Attempts.{IsAnswered, IsGrown, HasNone}
 use Rattle.rt_least.specs.Leading.{IsLeading}
 use Rattle.rt_least.specs.Order.{IsNext}
 use Rattle.rt_least.specs.Sought.{not_kept_between}

@@ -9,8 +9,8 @@ use Rattle.rt_clause.proofs.Bools.{bool-cases, and-both, not-twice}
 use Rattle.rt_clause.proofs.Extending.{gate-means, model-older}
 use Rattle.rt_clause.proofs.Following.{lit_true-negated}
 use Rattle.rt_formula.specs.Shared.{Shared}
-use Rattle.rt_solver.specs.Answers.{HasNone}
 use Rattle.rt_totalizer.proofs.Totals.{kept-size}
+use Rattle.rt_least.specs.Attempts.{HasNone}
 use Rattle.rt_least.specs.Least.{HasFewest, IsLeast}
 use Rattle.rt_least.specs.Sought.{IsSought, not_kept_between}
 use Rattle.rt_least.specs.Order.{ComesBefore, IsBare, IsNext, keeps_some}

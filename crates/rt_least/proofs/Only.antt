@@ -12,10 +12,9 @@ use Rattle.rt_clause.proofs.Following.{lit_true-negated}
 use Rattle.rt_clause.proofs.Literals.{has-append_cases, has-append_left, has-append_right, has-cases, has-head}
 use Rattle.rt_clause.proofs.Extending.{extends-gate, gate-means, model-older}
 use Rattle.rt_formula.specs.Shared.{Shared}
-use Rattle.rt_solver.specs.Answers.{HasNone}
 use Rattle.rt_least.specs.Aimed.{IsAimed}
 use Rattle.rt_least.specs.Alone.{AllowsFew, AreKept, HasMoreLines, IsOnly, IsOther}
-use Rattle.rt_least.specs.Attempts.{IsAnswered, IsGrown}
+use Rattle.rt_least.specs.Attempts.{IsAnswered, IsGrown, HasNone}
 use Rattle.rt_least.specs.Least.{IsLeast}
 use Rattle.rt_least.specs.Sought.{IsSought}
 use Rattle.rt_least.proofs.Aiming.{aimed-extends, model-sought}

@@ -6,10 +6,9 @@ use Rattle.rt_clause.specs.Models.{lit_true}
 use Rattle.rt_clause.proofs.Bools.{bool-cases}
 use Rattle.rt_formula.specs.Shared.{Shared}
 use Rattle.rt_totalizer.specs.declared.counter.Outputs.{Outputs}
-use Rattle.rt_solver.specs.Answers.{HasNone}
 use Rattle.rt_least.specs.Aimed.{IsAimed, IsCounted, IsUnderWay, fewer_than}
 use Rattle.rt_least.specs.Alone.{AllowsFew}
-use Rattle.rt_least.specs.Attempts.{IsAnswered}
+use Rattle.rt_least.specs.Attempts.{IsAnswered, HasNone}
 use Rattle.rt_least.specs.Least.{HasFewest}
 use Rattle.rt_least.specs.Sought.{IsSought}
 use Rattle.rt_least.proofs.Aiming.{counted-on, fewer-means, lt-not-le, model-fewer}

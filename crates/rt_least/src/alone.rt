@@ -8,8 +8,8 @@ ghost use Rattle.rt_least.specs.Sought.{IsSought};
 
 use crate::ask::ask;
 use crate::both::MOST_VARIABLES;
-use crate::counted::Counted;
 use rt_clause::{Lit, LitList, Named, gate};
+use rt_derive::Checker;
 use rt_formula::{Dag, Node};
 use rt_solver::Solver;
 use rt_value::{Keep, List, NoMemory};
@@ -33,7 +33,7 @@ fn kept_rows(alloc: Global, keep: &Keep) -> Result<LitList, NoMemory>
 /// row of the best. `held` says that no more rows are kept. `None` says that there is none.
 pub fn other(
     alloc: Global,
-    solver: &mut Solver<Counted>,
+    solver: &mut Solver<Checker>,
     dag: &Dag,
     goal: Node,
     cone: &Keep,

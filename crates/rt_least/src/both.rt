@@ -3,8 +3,8 @@
 ghost use Rattle.std.specs.Prelude.{◌≡◌, ◌<◌, ◌^◌, ◌∷◌, ◌++◌, [], IfOk};
 ghost use Rattle.rt_clause.specs.Gates.{gate};
 
-use crate::counted::Counted;
 use rt_clause::{Lit, gate};
+use rt_derive::Checker;
 use rt_solver::Solver;
 use rt_value::NoMemory;
 use std::alloc::Global;
@@ -18,7 +18,7 @@ pub fn both(
     a: Lit,
     b: Lit,
     var: usize,
-    to: &mut Solver<Counted>,
+    to: &mut Solver<Checker>,
 ) -> Result<Lit, NoMemory>
     ensures small { IfOk result (λ _. var < 2 ^ 61) }
     ensures var { IfOk result (λ l. l.var ≡ var) }

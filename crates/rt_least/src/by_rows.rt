@@ -10,10 +10,10 @@ ghost use Rattle.rt_least.specs.Sought.{IsBestWithin};
 use crate::best::{Best, SpentBest};
 use crate::both::both;
 use crate::choice::rows_of;
-use crate::counted::Counted;
 use crate::tries::attempt;
 use crate::widened::all_widened;
 use rt_clause::{Lit, LitList, Named};
+use rt_derive::Checker;
 use rt_formula::{Dag, Node};
 use rt_solver::{Found, Solver};
 use rt_value::{Keep, List, NoMemory};
@@ -28,7 +28,7 @@ use std::alloc::Global;
 /// rows.
 pub fn by_rows(
     alloc: Global,
-    solver: &mut Solver<Counted>,
+    solver: &mut Solver<Checker>,
     dag: &Dag,
     goal: Node,
     cone: &Keep,

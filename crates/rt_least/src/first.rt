@@ -1,4 +1,5 @@
-//! From the fewest rows to the first choice of as many, within a budget.
+//! From the fewest rows to the first choice of as many. Without a budget that can be spent, only a
+//! choice of all rows comes here.
 
 ghost use Rattle.std.specs.Prelude.{◌≡◌, ◌≤◌, IfOk, IfSome};
 ghost use Rattle.rt_least.specs.Aimed.{IsUnderWay};
@@ -8,9 +9,9 @@ ghost use Rattle.rt_least.specs.Sought.{IsBestWithin, IsSought};
 use crate::best::Best;
 use crate::both::MOST_VARIABLES;
 use crate::by_rows::by_rows;
-use crate::counted::Counted;
 use crate::lowering::fewer;
 use rt_clause::Named;
+use rt_derive::Checker;
 use rt_formula::{Dag, Node};
 use rt_solver::Solver;
 use rt_totalizer::Outputs;
@@ -21,7 +22,7 @@ use std::alloc::Global;
 /// the budget is spent. A choice of all rows is the only one of its size.
 pub fn first(
     alloc: Global,
-    solver: &mut Solver<Counted>,
+    solver: &mut Solver<Checker>,
     dag: &Dag,
     goal: Node,
     cone: &Keep,

@@ -10,9 +10,9 @@ ghost use Rattle.rt_least.specs.Sought.{IsSought};
 
 use crate::ask::ask;
 use crate::both::both;
-use crate::counted::Counted;
 use crate::none_kept::none_kept;
 use rt_clause::{Lit, Named};
+use rt_derive::Checker;
 use rt_formula::{Dag, Node};
 use rt_solver::Solver;
 use rt_value::{Keep, NoMemory};
@@ -60,7 +60,7 @@ fn next_end(place: usize, row: usize, all: bool) -> usize
 ///     is row 2 or 3 kept?              no: both are left out, and row 4 is kept
 pub fn in_order(
     alloc: Global,
-    solver: &mut Solver<Counted>,
+    solver: &mut Solver<Checker>,
     dag: &Dag,
     goal: Node,
     cone: &Keep,

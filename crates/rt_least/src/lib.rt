@@ -1,5 +1,6 @@
 //! The rounds of a search for the least choice of rows at which a formula is true, the first in order
 //! of rows, over a solver that has the formula's clauses and a counter of the kept rows.
+
 #![tactic(auto)]
 
 mod alone;
@@ -8,7 +9,6 @@ mod best;
 mod both;
 mod by_rows;
 mod choice;
-mod counted;
 mod first;
 mod in_order;
 mod lowering;
@@ -20,7 +20,6 @@ mod widened;
 
 pub use best::{Best, SpentBest};
 pub use choice::rows_of;
-pub use counted::Counted;
 pub use lowering::lower;
 pub use shrinking::smaller;
 pub use tries::attempt;

@@ -7,11 +7,11 @@ ghost use Rattle.rt_least.specs.Sought.{IsBestWithin};
 
 use crate::best::{Best, SpentBest};
 use crate::choice::rows_of;
-use crate::counted::Counted;
 use crate::first::first;
 use crate::others::others;
 use crate::tries::{attempt, is_small};
 use rt_clause::{Lit, LitList, Named};
+use rt_derive::Checker;
 use rt_formula::{Dag, Node};
 use rt_solver::{Found, Solver};
 use rt_totalizer::Outputs;
@@ -32,7 +32,7 @@ pub fn fewer(outs: &LitList, most: usize) -> Lit
 /// as none.
 pub fn lower(
     alloc: Global,
-    solver: &mut Solver<Counted>,
+    solver: &mut Solver<Checker>,
     dag: &Dag,
     goal: Node,
     cone: &Keep,

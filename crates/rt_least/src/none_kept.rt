@@ -5,8 +5,8 @@ ghost use Rattle.rt_clause.specs.Gates.{gate};
 ghost use Rattle.rt_least.specs.Sought.{not_kept_between};
 
 use crate::both::MOST_VARIABLES;
-use crate::counted::Counted;
 use rt_clause::{Lit, LitList, gate};
+use rt_derive::Checker;
 use rt_solver::Solver;
 use rt_value::{Keep, List, NoMemory};
 use std::alloc::Global;
@@ -40,7 +40,7 @@ pub fn none_kept(
     place: usize,
     end: usize,
     var: usize,
-    to: &mut Solver<Counted>,
+    to: &mut Solver<Checker>,
 ) -> Result<Lit, NoMemory>
     requires order { place ≤ end }
     requires within { end ≤ length cone.now }

@@ -8,11 +8,11 @@ ghost use Rattle.rt_least.specs.Sought.{IsSought};
 
 use crate::alone::other;
 use crate::ask::ask;
-use crate::counted::Counted;
 use crate::in_order::in_order;
 use crate::lowering::fewer;
 use crate::shrinking::smaller;
 use rt_clause::Named;
+use rt_derive::Checker;
 use rt_formula::{Dag, Node};
 use rt_solver::Solver;
 use rt_totalizer::Outputs;
@@ -26,7 +26,7 @@ use std::alloc::Global;
 /// the second.
 pub fn others(
     alloc: Global,
-    solver: &mut Solver<Counted>,
+    solver: &mut Solver<Checker>,
     dag: &Dag,
     goal: Node,
     cone: &Keep,

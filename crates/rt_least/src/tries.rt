@@ -3,8 +3,8 @@
 ghost use Rattle.std.specs.Prelude.{◌≤◌, IfOk, IfSome};
 ghost use Rattle.rt_least.specs.Attempts.{IsGrown, IsTold};
 
-use crate::counted::Counted;
 use rt_clause::Lit;
+use rt_derive::Checker;
 use rt_solver::{Found, Order, Solver};
 use rt_value::NoMemory;
 
@@ -21,7 +21,7 @@ pub fn is_small(budget: Option<u64>, rows: usize) -> bool {
 /// from the lines so far, with clauses over the rows. A budget that can't be spent over the rows
 /// is left out.
 pub fn attempt(
-    solver: &mut Solver<Counted>,
+    solver: &mut Solver<Checker>,
     assume: &Option<Lit>,
     rows: usize,
     next: usize,

@@ -4,3 +4,4 @@ mod JudgeLemmas
 mod QueryLemmas
 mod RowLemmas
 mod StepLemmas
+mod OneLemmas

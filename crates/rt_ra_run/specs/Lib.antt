@@ -3,6 +3,7 @@ pub mod Asked
 pub mod Begun
 pub mod Faults
 pub mod Judged
+pub mod One
 pub mod Placed
 pub mod Smallest
 pub mod Steps

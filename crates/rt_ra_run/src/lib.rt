@@ -8,6 +8,7 @@
 mod asked;
 mod command;
 mod faults;
+pub mod laws;
 mod outcome;
 mod query;
 mod read;

@@ -3,6 +3,7 @@
 //!
 //! A certificate says which rows make a smallest witness, or that there is none. It has the steps
 //! of a proof by reverse unit propagation, as in LRAT, that there is none with fewer rows.
+
 #![tactic(auto)]
 
 mod cert;

@@ -3,3 +3,4 @@ mod ReaderLemmas
 mod RowLemmas
 mod Transfer
 mod VerdictLemmas
+mod OneRowLemmas

@@ -8,6 +8,7 @@
 mod aim;
 mod cell;
 mod fault;
+pub mod laws;
 mod outcome;
 mod reader;
 mod search;

@@ -2,7 +2,6 @@
 
 ghost use Rattle.std.specs.Prelude.{◌≡◌, IfOk, IfErr, Ok, Some};
 ghost use Rattle.rt_io.specs.Edge.{NoneFell};
-ghost use Rattle.rt_row.specs.Holds.{IsRowVerdict};
 ghost use Rattle.rt_schema.specs.Given.{places};
 ghost use Rattle.rt_least.specs.Least.{IsSpentBest};
 ghost use Rattle.rt_io.specs.Command.{command};
@@ -44,26 +43,11 @@ fn given_up(
     Ok(RowAnswer { verdict, text })
 }
 
-fn search(alloc: Global, input: &Input, row: &Row) -> Result<Best, NoMemory>
-    ensures { IfOk result (IsRowVerdict input.now.schema input.now.given input.now.left input.now.right row.now input.now.conflicts) }
-{
-    let schema = input.schema();
-    smallest_row(
-        alloc,
-        schema,
-        input.given(),
-        input.left(),
-        input.right(),
-        row,
-        input.conflicts(),
-    )
-}
-
 // The answer for a row of the first query's columns.
 fn found(alloc: Global, input: &Input, row: &Row) -> Result<RowAnswer, NoMemory>
     ensures { IfOk result (λ a. Finds input.now row.now a.verdict × (a.text ≡ row_text input.now a.verdict)) }
 {
-    match search(alloc, input, row)? {
+    match smallest_row(alloc, input, row)? {
         Best::Never => {
             let text = List::from_slice(alloc, b"never\n")?;
             let verdict = RowVerdict::Never;

@@ -10,8 +10,10 @@
 //! rows that the best leaves out. What is learned for one question serves those after it.
 //!
 //! Within a budget each round assumes that fewer rows are kept, and the order is asked about row
-//! by row, so that what was learned holds at every choice of as few rows. There a refutation
-//! counts only if the checker's own lines have it.
+//! by row, so that what was learned holds at every choice of as few rows.
+//!
+//! That there is no further choice counts only as the checker of the lines says so.
+
 #![tactic(auto)]
 
 mod encode;

@@ -8,8 +8,9 @@ ghost use Rattle.rt_least.specs.Sought.{IsBestWithin};
 
 use crate::encode::encode;
 use rt_clause::Named;
+use rt_derive::Checker;
 use rt_formula::{Dag, Node};
-use rt_least::{Best, Counted, SpentBest, attempt, lower, rows_of, smaller};
+use rt_least::{Best, SpentBest, attempt, lower, rows_of, smaller};
 use rt_solver::{Found, Solver};
 use rt_totalizer::count_among;
 use rt_value::{Keep, NoMemory};
@@ -27,7 +28,7 @@ fn one_above(size: usize, rows: usize) -> usize
 // Searches within the cone, with a solver that has the lines of the goal.
 fn within(
     alloc: Global,
-    solver: &mut Solver<Counted>,
+    solver: &mut Solver<Checker>,
     dag: &Dag,
     goal: Node,
     cone: &Keep,
@@ -70,7 +71,7 @@ fn within(
 // Searches with a solver that has no lines yet.
 fn search(
     alloc: Global,
-    solver: &mut Solver<Counted>,
+    solver: &mut Solver<Checker>,
     dag: &Dag,
     goal: Node,
     cone: &Keep,
@@ -89,7 +90,7 @@ fn search(
 }
 
 /// What a search found, and two numbers. `clauses` counts those of the formula, the counter and the
-/// questions. `conflicts` counts the clauses that were derived, one in each conflict.
+/// questions. `conflicts` counts the clauses that were learned, one in each conflict.
 #[derive(Drop)]
 pub struct Searched {
     pub best: Best,
@@ -111,10 +112,10 @@ pub fn smallest_counted(
     requires budget { IfSome budget (λ b. 1 ≤ b) }
     ensures { IfOk result (λ s. IsBest dag.now goal budget s.best) }
 {
-    let mut solver = Solver::new(alloc, Counted::new(alloc));
+    let mut solver = Solver::new(alloc, Checker::new(alloc))?;
     let best = search(alloc, &mut solver, dag, goal, cone, budget);
-    let clauses = solver.lines().given();
-    let conflicts = solver.lines().derived();
+    let clauses = solver.added();
+    let conflicts = solver.conflicts();
     drop(solver);
     Ok(Searched {
         best: best?,
@@ -125,8 +126,8 @@ pub fn smallest_counted(
 
 /// The first of the least choices of rows at which the goal is true. The cone has one Bool for
 /// each row: where the goal is true it stays true without the rows outside of it, so that these
-/// need no search. The budget, if there is one, is the number of clauses that each round of the
-/// search may learn. It is at least 1. The only error is out of memory.
+/// need no search. The budget, if there is one, is the number of clauses that each call of the solver
+/// may learn, of which a round makes two at most. It is at least 1. The only error is out of memory.
 pub fn smallest(
     alloc: Global,
     dag: &Dag,

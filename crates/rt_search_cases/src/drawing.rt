@@ -158,7 +158,7 @@ impl Drawing {
 
     /// Whether the clauses of a goal have a model that keeps just these of the first two rows.
     pub fn has_model(&self, rt: &impl Abort, goal: usize, kept: [bool; 2]) -> bool {
-        let mut solver = Solver::new(self.alloc, Checker::new(self.alloc));
+        let mut solver = Solver::new(self.alloc, Checker::new(self.alloc)).expect(rt, "memory");
         let named = clausify(self.alloc, &self.dag, self.node(goal), &mut solver);
         let rows = named.expect(rt, "memory").rows();
         for row in 0..2 {

@@ -29,7 +29,7 @@ fn values_in(rt: &impl Abort, found: &Found, lits: &[Lit]) -> [bool; 2] {
 
 // The values of both outputs of a counter of three rows, where just these are kept.
 fn outputs(rt: &impl Abort, alloc: Global, kept: [bool; 3]) -> [bool; 2] {
-    let mut solver = Solver::new(alloc, Checker::new(alloc));
+    let mut solver = Solver::new(alloc, Checker::new(alloc)).expect(rt, "memory");
     let mut named = Named::of(3, 3, Lit::of(0, true));
     let counter = count(alloc, 2, &mut named, &mut solver).expect(rt, "memory");
     for row in 0..3 {

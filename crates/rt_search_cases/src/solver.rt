@@ -11,8 +11,8 @@ use rt_value::{List, NoMemory};
 use std::alloc::Global;
 use std::process::Abort;
 
-fn solver(alloc: Global) -> Solver<Checker> {
-    Solver::new(alloc, Checker::new(alloc))
+fn solver(rt: &impl Abort, alloc: Global) -> Solver<Checker> {
+    Solver::new(alloc, Checker::new(alloc)).expect(rt, "memory")
 }
 
 // The values of both variables in the model that is found.
@@ -70,13 +70,12 @@ fn neither_of_two(rt: &impl Abort, solver: &mut Solver<Checker>) -> bool {
 
 #[test]
 fn clauses_may_be_added_between_calls(rt: HostRuntime) {
-    let mut solver = solver(rt.alloc());
+    let mut solver = solver(&rt, rt.alloc());
     assert!(rt; either_of_two(&rt, &mut solver));
     assert!(rt; the_first_alone(&rt, &mut solver));
     assert!(rt; neither_of_two(&rt, &mut solver));
 }
 
-// In fixed order both are decided, and each is set to true.
 // Whether there is a model at which the second of three variables is false and a question is true.
 fn is_found(rt: &impl Abort, solver: &mut Solver<Checker>, question: Lit) -> bool
     requires { question.var < 3 }
@@ -84,7 +83,11 @@ fn is_found(rt: &impl Abort, solver: &mut Solver<Checker>, question: Lit) -> boo
     let second = Lit::of(1, false);
     let found = solver.seek(Some(second), question, 3).expect(rt, "memory");
     match found {
-        None => false,
+        None => {
+            let denial = solver.lines().denial(Some(second), question);
+            assert!(rt; denial.is_some());
+            false
+        }
         Some(keep) => {
             assert!(rt; keep.len() == 3);
             !keep.is(1) && keep.is(question.var()) == question.on()
@@ -94,7 +97,7 @@ fn is_found(rt: &impl Abort, solver: &mut Solver<Checker>, question: Lit) -> boo
 
 #[test]
 fn questions_under_one_assumption(rt: HostRuntime) {
-    let mut solver = solver(rt.alloc());
+    let mut solver = solver(&rt, rt.alloc());
     let either = [Lit::of(0, true), Lit::of(1, true)];
     let follows = [Lit::of(0, false), Lit::of(2, true)];
     solver.add(&either).expect(&rt, "memory");
@@ -108,9 +111,10 @@ fn questions_under_one_assumption(rt: HostRuntime) {
     assert!(rt; free.is_some());
 }
 
+// In fixed order both are decided, and each is set to true.
 #[test]
 fn both_of_two_in_fixed_order(rt: HostRuntime) {
-    let mut solver = solver(rt.alloc());
+    let mut solver = solver(&rt, rt.alloc());
     let both = [Lit::of(0, true), Lit::of(1, true)];
     solver.add(&both).expect(&rt, "memory");
     assert!(rt; model(&rt, &mut solver, Order::Fixed) == [true, true]);
@@ -195,7 +199,7 @@ fn keeps_its_clause(rt: &impl Abort, solver: &mut Solver<Recorded>, spent: &[Lis
 
 #[test]
 fn four_pigeons_in_three_holes(rt: HostRuntime) {
-    let mut solver = Solver::new(rt.alloc(), Recorded::new(rt.alloc()));
+    let mut solver = Solver::new(rt.alloc(), Recorded::new(rt.alloc())).expect(&rt, "memory");
     add_pigeons(rt.alloc(), &mut solver, 3, Holes::Three).expect(&rt, "memory");
     assert!(rt; solver.lines().len() == 22);
     let spent = spent(&rt, &mut solver);
@@ -204,7 +208,7 @@ fn four_pigeons_in_three_holes(rt: HostRuntime) {
 
 #[test]
 fn seven_pigeons_in_six_holes(rt: HostRuntime) {
-    let mut solver = solver(rt.alloc());
+    let mut solver = solver(&rt, rt.alloc());
     add_pigeons(rt.alloc(), &mut solver, 6, Holes::Six).expect(&rt, "memory");
     assert!(rt; is_refuted(&rt, &mut solver, None, 42, None));
 }
@@ -235,7 +239,7 @@ fn add_two_hundred(solver: &mut Solver<Checker>) -> Result<(), NoMemory> {
 // 200 clauses of a fixed sequence, which the even variables alone make true.
 #[test]
 fn two_hundred_clauses(rt: HostRuntime) {
-    let mut solver = solver(rt.alloc());
+    let mut solver = solver(&rt, rt.alloc());
     add_two_hundred(&mut solver).expect(&rt, "memory");
     let found = solver
         .solve(None, 60, None, Order::Free)

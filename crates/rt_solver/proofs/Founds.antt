@@ -20,15 +20,15 @@ use Rattle.rt_solver.proofs.Returning.{has-var}
 use Rattle.rt_solver.proofs.Widths.{reach-least, width-below}
 
 -- nothing was done
-pub searched-none : (a b : List (List Literal)) (fo fn : List Bool) (assume : Option Literal) (first m : ℕ) → a ≡ b → fo ≡ fn → HasSearched a b fo fn assume first m
-searched-none a b fo fn assume first m e f = record {
+pub searched-none : (a b : List (List Literal)) (fo fn : List Bool) (assume question : Option Literal) (first m : ℕ) → a ≡ b → fo ≡ fn → HasSearched a b fo fn assume question first m
+searched-none a b fo fn assume question first m e f = record {
   learned = [];
   last = [];
   lines = sym e ∙ sym (append-nil a);
   derived = sym f ∙ sym (nil fo);
   sound = λ bools q. (let P : List (List Literal) → Type 0 = λ ls. IsModel ls bools in subst P e q);
   fresh = tt;
-  refutes = inl refl;
+  ends = inl refl;
   below = ((λ i h. absurd (omega arith)), (λ d i h. absurd (omega arith)));
   few = (pow-pos m, λ d. pow-pos first);
 } where

@@ -26,4 +26,5 @@ pub mod Rounds
 pub mod Picks
 pub mod Ordered
 pub mod Seeks
+pub mod Denials
 pub mod Reading

@@ -1,11 +1,9 @@
--- A question that is decided before all else: where it is false, nothing is decided, and so no model makes it true.
-use Rattle.std.proofs.Common.{◌≡◌, ℕ, ◌<◌, ◌≤◌, Bool, true, false, List, [], ◌∷◌, ◌++◌, refl, sym, subst, ◌⊎◌, inl, inr, Option, Some, None, IfSome, IsSomeAnd, arith}
+-- A question that is decided before all else: where it is false, nothing is decided.
+use Rattle.std.proofs.Common.{◌≡◌, ℕ, ◌<◌, ◌≤◌, Bool, true, false, List, [], ◌∷◌, ◌++◌, refl, sym, subst, ◌⊎◌, inl, inr, Option, Some, None, IfSome, arith}
 use Rattle.rt_clause.specs.Literal.{Literal, negated}
-use Rattle.rt_clause.specs.Lists.{has, is_false, line_at}
-use Rattle.rt_clause.specs.Models.{lit_true, IsModel}
-use Rattle.rt_clause.specs.Refuting.{Refutes, IsRefuted}
+use Rattle.rt_clause.specs.Lists.{has, is_false}
 use Rattle.rt_clause.proofs.Bools.{bool-cases}
-use Rattle.rt_clause.proofs.Literals.{has-head, has-tail, has-cases, negated-twice}
+use Rattle.rt_clause.proofs.Literals.{has-head, has-tail, negated-twice}
 use Rattle.rt_store.specs.declared.trail.Step.{Step}
 use Rattle.rt_store.specs.declared.trail.Why.{Why}
 use Rattle.rt_store.specs.declared.trail.Why.TheVariants.{Line, Decided, Assumed}
@@ -14,13 +12,11 @@ use Rattle.rt_solver.specs.declared.order.Order.TheVariants.{Free, Fixed}
 use Rattle.rt_solver.specs.declared.next.Next.{Next}
 use Rattle.rt_solver.specs.declared.next.Next.TheVariants.{Whole, Missed, Decide}
 use Rattle.rt_solver.specs.Picking.{Picking, IsOffered}
-use Rattle.rt_store.specs.Trail.{lits, value_in, IsApart, IsFounded, IfDecided, decisions, decided_by}
+use Rattle.rt_store.specs.Trail.{lits, value_in, IsApart, IfDecided, decisions, decided_by}
 use Rattle.rt_solver.specs.Propagating.{AreForced, IsPropagated}
-use Rattle.rt_solver.specs.Seeking.{IsLed, IsDenied, IsChosen, IsNext}
-use Rattle.rt_solver.specs.Answers.{HasNone}
+use Rattle.rt_solver.specs.Seeking.{IsLed, IsFalseAtRoot, IsChosen, IsNext}
 use Rattle.rt_store.proofs.FreshLaws.{consistent}
 use Rattle.rt_solver.proofs.Picks.{offered-more}
-use Rattle.rt_solver.proofs.Ordered.{AllTrue, forced, all-more, not-both, true-among}
 
 -- of an optional literal
 pub if-some : (P Q : Literal → Type 0) (o : Option Literal) → ((a : Literal) → P a → Q a) → IfSome o P → IfSome o Q
@@ -87,47 +83,16 @@ led-none a (s ∷ t) h n = by s.why h.0 (led-none a t h.1 older) where
     | inr y ↦ clash y older
   ])
 
-denied-at : (m : ℕ) (a : Literal) (t : List Step) → IsApart m t → IsLed a t → is_false (lits t) a ≡ true → IsDenied t a
-denied-at m a t p l h =
+pub denied-at : (m : ℕ) (o : Option Literal) (a : Literal) (t : List Step) → o ≡ Some a → IsApart m t → IfSome o (λ x. IsLed x t) → is_false (lits t) a ≡ true → IsFalseAtRoot t a
+denied-at m o a t e p l h =
     let P : Literal → Type 0 = λ k. has (lits t) k ≡ false in
-    (h, led-none a t l (subst P (negated-twice a) (consistent m t p (negated a) h)))
-
-pub denied : (m : ℕ) (o : Option Literal) (t : List Step) → IsApart m t → IfSome o (λ a. IsLed a t) → IsSomeAnd o (λ a. is_false (lits t) a ≡ true) → IsSomeAnd o (IsDenied t)
-denied m None t p l h = h
-denied m (Some a) t p l h = denied-at m a t p l h
-
--- where nothing is decided, what is on the trail is true in each model
-undecided-true : (lines : List (List Literal)) (assume : Option Literal) (bools : List Bool) (t : List Step) → IsFounded lines assume t → decisions t ≡ [] → IsModel lines bools → IfSome assume (λ a. lit_true bools a ≡ true) → AllTrue bools t
-undecided-true lines assume bools [] f e m a = λ l g. absurd (cc)
-undecided-true lines assume bools (s ∷ t) f e m a = each s.why refl e (λ d. undecided-true lines assume bools t f.1 d m a) where
-  more : AllTrue bools t → (s.why ≡ Decided → ⊥) → AllTrue bools (s ∷ t)
-  more all n = all-more bools s t (forced lines assume bools t s.lit s.why f.0 m a all (λ d. absurd (n d))) all
-
-  each : (w : Why) → s.why ≡ w → decided_by w s.lit (decisions t) ≡ [] → (decisions t ≡ [] → AllTrue bools t) → AllTrue bools (s ∷ t)
-  each (Line r) q d rest = more (rest d) (λ c. cc)
-  each Assumed q d rest = more (rest d) (λ c. cc)
-  each Decided q d rest = absurd (cc)
-
--- so no model makes the question true
-pub denied-none : (lines : List (List Literal)) (assume o : Option Literal) (t : List Step) → IsFounded lines assume t → IsSomeAnd o (IsDenied t) → IsSomeAnd o (HasNone lines assume)
-denied-none lines assume None t f d = d
-denied-none lines assume (Some x) t f d = λ bools m a h. not-both bools x h (undecided-true lines assume bools t f d.1 m a (negated x) d.0)
-
--- nor does any where the lines refute the assumption
-pub refuted-none : (lines : List (List Literal)) (assume : Option Literal) (x : Literal) → IsRefuted lines assume → HasNone lines assume x
-refuted-none lines assume x r bools m a h = by assume a r.2 (true-among bools (line_at lines r.0) (m r.0 r.1)) where
-  by : (o : Option Literal) → IfSome o (λ y. lit_true bools y ≡ true) → Refutes o (line_at lines r.0) → (k : Literal) × (has (line_at lines r.0) k ≡ true) × (lit_true bools k ≡ true) → ⊥
-  by o t (inl e) k = (let P : List Literal → Type 0 = λ ls. has ls k.0 ≡ true in let g = subst P e k.1 in cc)
-  by None t (inr e) k = e
-  by (Some y) t (inr e) k = (let P : List Literal → Type 0 = λ ls. has ls k.0 ≡ true in elim (has-cases (negated y) k.0 [] (subst P e k.1)) [
-    | inl q ↦ (let T : Literal → Type 0 = λ l. lit_true bools l ≡ true in not-both bools y t (subst T q k.2))
-    | inr c ↦ absurd (cc)
-  ])
+    let L : Option Literal → Type 0 = λ q. IfSome q (λ x. IsLed x t) in
+    (h, led-none a t (subst L e l) (subst P (negated-twice a) (consistent m t p (negated a) h)))
 
 -- what comes next where no question is open, with a question that is true
 pub next-asked : (picking : Picking) (vars : ℕ) (order : Order) (a : Literal) (steps : List Step) (n : Next) → IsNext picking vars order None steps n → has (lits steps) a ≡ true → IsNext picking vars order (Some a) steps n
 next-asked picking vars order a steps Whole h t = (h.0, t)
-next-asked picking vars order a steps Missed h t = absurd h
+next-asked picking vars order a steps (Missed b) h t = absurd (let e = h.0 in cc)
 next-asked picking vars order a steps (Decide lit) h t = record { within = h.within; unset = h.unset; smallest = h.smallest; fixed = h.fixed; offered = h.offered; led = inr t }
 
 -- an open question may be decided next

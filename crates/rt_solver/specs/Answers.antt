@@ -3,7 +3,7 @@ use Rattle.std.specs.Prelude.{◌≡◌, ℕ, ◌<◌, Bool, true, false, List, 
 use Rattle.rt_clause.specs.Literal.{Literal}
 use Rattle.rt_clause.specs.Lists.{has}
 use Rattle.rt_clause.specs.Models.{lit_true, IsModel}
-use Rattle.rt_clause.specs.Refuting.{IsRefuted}
+use Rattle.rt_clause.specs.Refuting.{IsRefuted, IsDenied}
 use Rattle.rt_solver.specs.declared.solver.Found.{Found}
 use Rattle.rt_solver.specs.declared.solver.Found.TheVariants.{Model, Refuted, Spent}
 use Rattle.rt_store.specs.declared.trail.Step.{Step}
@@ -40,18 +40,14 @@ pub record IsBegun (m : ℕ) (assume : Option Literal) (trail : Tracked) : Type 
   pub assumed : IfSome assume (λ a. has (lits trail.steps) a ≡ true)
   pub apart : IsApart m trail.steps
 
--- no model of the lines makes what is assumed and the question true
-abbrev pub HasNone : List (List Literal) → Option Literal → Literal → Type 0
-HasNone lines assume question = (bools : List Bool) → IsModel lines bools → IfSome assume (λ a. lit_true bools a ≡ true) → lit_true bools question ≡ true → ⊥
-
--- a model makes the question true; where a search has missed it, none does
+-- a model makes the question true; where a search has missed it, and where the lines refute, they deny it
 abbrev pub IsReplied : List (List Literal) → Option Literal → Option Literal → Option Found → Type 0
 IsReplied lines assume question (Some (Model bools)) = IfSome question (λ a. lit_true bools a ≡ true)
-IsReplied lines assume question (Some Refuted) = Unit {0}
+IsReplied lines assume question (Some Refuted) = IfSome question (IsDenied lines assume)
 IsReplied lines assume question (Some (Spent list)) = Unit {0}
-IsReplied lines assume question None = IsSomeAnd question (HasNone lines assume)
+IsReplied lines assume question None = IsSomeAnd question (IsDenied lines assume)
 
--- a model that makes what is assumed and the question true, or there is none
+-- a model that makes what is assumed and the question true, or the lines deny it
 abbrev pub IsReply : List (List Literal) → Option Literal → Literal → ℕ → Option (List Bool) → Type 0
 IsReply lines assume question m (Some bools) = IsModelled lines assume m bools × (lit_true bools question ≡ true)
-IsReply lines assume question m None = HasNone lines assume question
+IsReply lines assume question m None = IsDenied lines assume question

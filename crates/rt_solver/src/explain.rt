@@ -30,8 +30,12 @@ const DEPTH: usize = 6;
 // How many literals it looks at.
 const FUEL: usize = 100;
 
-// Resolves with the line that a marked step rests on.
-fn resolve<L: Lines + Drop>(base: &Base<L>, step: Step, walk: &mut Walk) -> Result<(), NoMemory>
+/// Resolves with the line that a marked step rests on.
+pub(crate) fn resolve<L: Lines + Drop>(
+    base: &Base<L>,
+    step: Step,
+    walk: &mut Walk,
+) -> Result<(), NoMemory>
     requires below { AreBelow (length walk.old.marks.marks) (L.lines base.now.0) }
     requires line { IsLineWithin (L.lines base.now.0) step.why }
     requires marked { marked_by walk.old.marks step.lit.var ≡ true }

@@ -1,4 +1,5 @@
 //! The two laws on trails on which the search rests, each the contract of a function.
+
 ghost use Rattle.rt_solver.specs.Laws.{LearnedIsFresh, NumberGrows};
 
 /// A clause learned after a decision is fresh: the lines do not give it by propagation.

@@ -26,7 +26,12 @@ fn negations(alloc: Global, found: &[Lit]) -> Result<Vec<Lit>, NoMemory>
     Ok(found.iter().rev().map(|l| l.negated()).collect(alloc)?)
 }
 
-fn clause(alloc: Global, found: &[Lit], assume: &Option<Lit>) -> Result<Vec<Lit>, NoMemory>
+/// The clause of what was found: its negations, oldest first, and that of what is assumed.
+pub(crate) fn clause(
+    alloc: Global,
+    found: &[Lit],
+    assume: &Option<Lit>,
+) -> Result<Vec<Lit>, NoMemory>
     ensures { IfOk result (λ v. v.items ≡ clause_of found.now assume.now) }
 {
     let mut lits = negations(alloc, found)?;
@@ -42,8 +47,8 @@ fn negations_in_order(alloc: Global, found: &[Lit]) -> Result<Vec<Lit>, NoMemory
     Ok(found.iter().map(|l| l.negated()).collect(alloc)?)
 }
 
-// The same literals, the negation of the latest one first and then that of the one before it.
-fn copy(alloc: Global, found: &[Lit], assume: &Option<Lit>) -> Result<Clause, NoMemory>
+/// The same literals, the negation of the latest one first and then that of the one before it.
+pub(crate) fn copy(alloc: Global, found: &[Lit], assume: &Option<Lit>) -> Result<Clause, NoMemory>
     ensures { IfOk result (λ c. c ≡ map negated (found.now ++ option_to_list assume.now)) }
 {
     let mut lits = negations_in_order(alloc, found)?;

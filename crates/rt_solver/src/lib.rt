@@ -9,10 +9,12 @@
 //! decided next; `Heap` finds it. There are no restarts and no clause is deleted, so that the solver's
 //! own clauses are the lines in order. It ends without a budget, by the second law of `laws`; a clause
 //! that it counts against a budget is fresh, by the first.
+
 #![tactic(auto)]
 
 mod back;
 mod base;
+mod deny;
 mod explain;
 pub mod laws;
 mod lead;

@@ -10,12 +10,12 @@ use crate::pick::Pick;
 use rt_clause::Lit;
 use rt_store::Trail;
 
-/// What comes after propagation: each variable has a value, the question is false, or a literal
-/// is decided.
+/// What comes after propagation: each variable has a value, the question, which is named, is false,
+/// or a literal is decided.
 #[derive(Clone, Copy)]
 pub enum Next {
     Whole,
-    Missed,
+    Missed(Lit),
     Decide(Lit),
 }
 
@@ -47,7 +47,7 @@ pub(crate) fn choose(order: Order, question: &Option<Lit>, pick: &mut Pick, trai
         None => picked(order, pick, trail),
         Some(asked) => match trail.is(*asked) {
             None => Next::Decide(*asked),
-            Some(false) => Next::Missed,
+            Some(false) => Next::Missed(*asked),
             Some(true) => picked(order, pick, trail),
         },
     }

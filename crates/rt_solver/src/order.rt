@@ -14,7 +14,7 @@ pub enum Order {
 }
 
 impl Order {
-    /// Of the first variables, below which ones that which counts most comes first.
+    /// The bound of the variables of which the one that counts most comes first.
     pub(crate) fn bound(self, first: usize) -> usize
         ensures low { result ≤ first }
         ensures free { self ≡ Free → result ≡ first }

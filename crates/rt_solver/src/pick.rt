@@ -13,12 +13,14 @@ use std::alloc::Global;
 use std::marker::Model;
 
 /// Which variable is decided next: of those below a bound the one that counts most, which a heap
-/// finds, and then the smallest of the others. No call but `begin` takes memory.
+/// finds, and then the smallest of the others. No call but `begin` takes memory. It counts how often it
+/// aged, which is once a conflict, up to its type's greatest value.
 #[derive(Drop)]
 pub(crate) struct Pick {
     heap: Heap,
     bound: usize,
     next: usize,
+    conflicts: u64,
 }
 
 impl Model for Pick {
@@ -94,7 +96,12 @@ impl Pick {
             heap: Heap::new(alloc),
             bound: 0,
             next: 0,
+            conflicts: 0,
         }
+    }
+
+    pub(crate) fn conflicts(&self) -> u64 {
+        self.conflicts
     }
 
     /// Begins a search over so many variables. Where the bound does not fall, the heap stays, and
@@ -150,10 +157,11 @@ impl Pick {
         }
     }
 
-    /// Lets later raises count for more.
+    /// Lets later raises count for more, after a conflict.
     pub(crate) fn age(&mut self)
         ensures { self.new ≡ self.old }
     {
         self.heap.age();
+        self.conflicts = self.conflicts.saturating_add(1);
     }
 }

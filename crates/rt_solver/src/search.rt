@@ -11,6 +11,7 @@ ghost use Rattle.rt_solver.specs.Search.{line_of, IsReady};
 ghost use Rattle.rt_solver.specs.Solving.{HasSearched, IsEnding, IsSettled, IsUnspentEnding};
 
 use crate::base::Base;
+use crate::deny::deny;
 use crate::learn::learn;
 use crate::next::{Next, choose};
 use crate::order::Order;
@@ -21,7 +22,8 @@ use rt_store::{Step, Trail, Why};
 use rt_value::{List, NoMemory};
 use std::alloc::Global;
 
-/// How a search ended: `Missed` says that the question is false where the assumption is true.
+/// How a search ended: `Missed` says that the question is false where the assumption is true, and a
+/// line says so then.
 #[derive(Drop)]
 pub enum Ending {
     Whole,
@@ -94,10 +96,10 @@ pub(crate) fn run<L: Lines + Drop>(
     requires asked { IfSome question.now (λ a. a.var < pick.old.bound) }
     ensures vars { trail.new.vars ≡ trail.old.vars }
     ensures ending { IfOk result (λ ending. IsEnding (L.lines base.old.0) (L.lines base.new.0) assume.now first trail.new budget ending) }
-    ensures settled { IfOk result (IsSettled question.now trail.new.steps) }
+    ensures settled { IfOk result (IsSettled (L.lines base.new.0) assume.now question.now trail.new.steps) }
     ensures smallest { IfOk result (λ _. IfFixed order (AreSmallest trail.new.steps)) }
     ensures unspent { IfOk result (λ ending. IsUnspentEnding (L.lines base.old.0) (L.lines base.new.0) budget ending) }
-    ensures searched { HasSearched (L.lines base.old.0) (L.lines base.new.0) (L.derived base.old.0) (L.derived base.new.0) assume.now first trail.old.vars }
+    ensures searched { HasSearched (L.lines base.old.0) (L.lines base.new.0) (L.derived base.old.0) (L.derived base.new.0) assume.now question.now first trail.old.vars }
 {
     let start = base.len();
     let mut kept: List<List<Lit>> = List::new(alloc);
@@ -117,7 +119,10 @@ pub(crate) fn run<L: Lines + Drop>(
             },
             None => match choose(order, question, pick, trail) {
                 Next::Whole => return Ok(Ending::Whole),
-                Next::Missed => return Ok(Ending::Missed),
+                Next::Missed(asked) => {
+                    deny(alloc, base, assume, asked, trail, walk)?;
+                    return Ok(Ending::Missed);
+                }
                 Next::Decide(lit) => {
                     let from = trail.len();
                     trail.push(Step {

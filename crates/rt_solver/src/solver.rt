@@ -32,12 +32,13 @@ pub enum Found {
 const MOST_VARIABLES: usize = 1 << 62;
 
 /// A solver over lines that check what it derives. Contracts see the lines, and whether an earlier
-/// call ran out of memory.
+/// call ran out of memory. It counts the clauses that were added, up to the type's greatest value.
 #[derive(Drop)]
 pub struct Solver<L: Lines + Drop> {
     base: Base<L>,
     pick: Pick,
     failed: bool,
+    added: u64,
     alloc: Global,
 }
 
@@ -109,7 +110,7 @@ fn find<L: Lines + Drop>(
     requires budget { IfSome budget (λ b. 1 ≤ b) }
     requires asked { IfSome question.now (λ a. a.var < first) }
     requires free { order ≡ Fixed → question.now ≡ None }
-    ensures searched { HasSearched (L.lines base.old.0) (L.lines base.new.0) (L.derived base.old.0) (L.derived base.new.0) assume.now first (variables (L.lines base.old.0) assume.now first) }
+    ensures searched { HasSearched (L.lines base.old.0) (L.lines base.new.0) (L.derived base.old.0) (L.derived base.new.0) assume.now question.now first (variables (L.lines base.old.0) assume.now first) }
     ensures found { IfOk result (λ found. IfSome found (IsFound (L.lines base.old.0) (L.lines base.new.0) assume.now first (variables (L.lines base.old.0) assume.now first) budget)) }
     ensures order { IfOk result (λ found. IfSome found (IsInOrder order (L.lines base.old.0) assume.now first)) }
     ensures replied { IfOk result (IsReplied (L.lines base.new.0) assume.now question.now) }
@@ -134,17 +135,28 @@ fn find<L: Lines + Drop>(
 }
 
 impl<L: Lines + Drop> Solver<L> {
-    /// A solver over no lines yet, which takes no memory.
-    pub fn new(alloc: Global, lines: L) -> Solver<L>
+    /// A solver over no lines yet. That takes no memory so far.
+    pub fn new(alloc: Global, lines: L) -> Result<Solver<L>, NoMemory>
         requires { L.lines lines ≡ [] }
-        ensures { result ≡ (lines, false) }
+        ensures { IfOk result (λ solver. solver ≡ (lines, false)) }
     {
-        Solver {
+        Ok(Solver {
             base: Base::new(alloc, lines),
             pick: Pick::new(alloc),
             failed: false,
+            added: 0,
             alloc,
-        }
+        })
+    }
+
+    /// How many clauses were added, in calls that did not fail.
+    pub fn added(&self) -> u64 {
+        self.added
+    }
+
+    /// How many clauses were learned, one in each conflict.
+    pub fn conflicts(&self) -> u64 {
+        self.pick.conflicts()
     }
 
     /// The lines, given and derived, oldest first.
@@ -166,7 +178,7 @@ impl<L: Lines + Drop> Solver<L> {
         order: Order,
     ) -> Result<Found, NoMemory>
         requires { IfSome budget (λ b. 1 ≤ b) }
-        ensures searched { HasSearched (L.lines self.old.0) (L.lines self.new.0) (L.derived self.old.0) (L.derived self.new.0) assume first (variables (L.lines self.old.0) assume first) }
+        ensures searched { HasSearched (L.lines self.old.0) (L.lines self.new.0) (L.derived self.old.0) (L.derived self.new.0) assume None first (variables (L.lines self.old.0) assume first) }
         ensures found { IfOk result (λ found. IsFound (L.lines self.old.0) (L.lines self.new.0) assume first (variables (L.lines self.old.0) assume first) budget found) }
         ensures order { IfOk result (λ found. IsInOrder order (L.lines self.old.0) assume first found) }
         ensures unspent { IfOk result (λ found. IsUnspent (L.lines self.old.0) (L.lines self.new.0) budget found) }
@@ -197,7 +209,8 @@ impl<L: Lines + Drop> Solver<L> {
 
     /// As `solve` without a budget, for a model at which the question is true too. The question is
     /// decided first, and so the learned clauses hold whether it is true or not: they serve the next
-    /// question under the same assumption. `None` says that there is no such model.
+    /// question under the same assumption. After `None` the lines deny it: one of them says that it is
+    /// false where what is assumed is true, or it is the negation of that.
     pub fn seek(
         &mut self,
         assume: Option<Lit>,
@@ -205,7 +218,7 @@ impl<L: Lines + Drop> Solver<L> {
         first: usize,
     ) -> Result<Option<Keep>, NoMemory>
         requires { question.var < first }
-        ensures searched { HasSearched (L.lines self.old.0) (L.lines self.new.0) (L.derived self.old.0) (L.derived self.new.0) assume first (variables (L.lines self.old.0) assume first) }
+        ensures searched { HasSearched (L.lines self.old.0) (L.lines self.new.0) (L.derived self.old.0) (L.derived self.new.0) assume (Some question) first (variables (L.lines self.old.0) assume first) }
         ensures sought { IfOk result (IsReply (L.lines self.new.0) assume question (variables (L.lines self.old.0) assume first)) }
         ensures failed { IsTrue (has_failed self.old) → IsErr result }
         ensures fails { OnErr result (IsTrue (has_failed self.new)) }
@@ -255,6 +268,7 @@ impl<L: Lines + Drop> Adds for Solver<L> {
         }
         self.failed = true;
         self.base.add(self.alloc, lits)?;
+        self.added = self.added.saturating_add(1);
         self.failed = false;
         Ok(())
     }

@@ -16,8 +16,8 @@ const FIRST_STEP: u64 = 64;
 // No counter and no step grows past this number.
 const LIMIT: u64 = 1 << 62;
 
-/// A heap of variables: the one with the greatest counter first, of equal ones the
-/// smallest. Contracts see for each variable whether it is in the heap.
+/// A heap of variables: the one with the greatest counter first, of equal ones the smallest, where
+/// they were not made equal by a halving. Contracts see for each variable whether it is in the heap.
 ///
 /// The first `count` variables of the order are in the heap, the others behind them, so that
 /// a variable that comes back finds a place with no memory taken.

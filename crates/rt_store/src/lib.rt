@@ -1,5 +1,6 @@
 //! What a search of the solver keeps: its copies of the clauses and the lists of their watches, the
 //! trail, and the heap of variables.
+
 #![tactic(auto)]
 
 mod clause;

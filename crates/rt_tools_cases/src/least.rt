@@ -20,9 +20,7 @@ fn read(rt: &impl Abort, alloc: Global) -> Result<Input, Outcome> {
 
 // The least choice that has a row in the first answer alone.
 fn least_choice(rt: &impl Abort, alloc: Global, input: &Input, row: &Row) -> Best {
-    let schema = input.schema();
-    let (given, left, right) = (input.given(), input.left(), input.right());
-    smallest_row(alloc, schema, given, left, right, row, None).expect(rt, "memory")
+    smallest_row(alloc, input, row).expect(rt, "memory")
 }
 
 // The same of a row that is a text.

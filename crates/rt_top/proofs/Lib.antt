@@ -1,3 +1,3 @@
 pub mod DecideLemmas
-mod OneLemmas
+pub mod OneLemmas
 mod VerdictLemmas

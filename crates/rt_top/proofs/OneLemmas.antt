@@ -1,7 +1,8 @@
 -- At most one choice is a smallest counterexample, so a call has one answer.
-use Rattle.std.proofs.Common.{◌≡◌, ℕ, Bool, true, false, List, Ok, inl, inr, refl, sym, ap, subst, ◌∙◌, arith}
+use Rattle.std.proofs.Common.{◌≡◌, ℕ, Bool, true, false, List, length, Ok, inl, inr, refl, sym, ap, subst, ◌∙◌, arith}
 use Rattle.rt_least.specs.declared.best.Best.{Best}
 use Rattle.rt_least.specs.declared.best.Best.TheVariants.{Least, Never, Spent}
+use Rattle.rt_least.specs.Least.{IsLeast}
 use Rattle.rt_least.proofs.Keeps.{either-before}
 use Rattle.rt_input.specs.declared.outcome.Outcome.{Outcome}
 use Rattle.rt_input.specs.declared.outcome.Outcome.TheVariants as outcome
@@ -26,6 +27,19 @@ smallest-one input s t a b =
       ]
     ]
 
+-- at most one choice of so many rows is the first of the least of its kind
+pub least-one : (IsTarget : List Bool → Type 0) (rows : ℕ) → ((keep : List Bool) → IsTarget keep → length keep ≡ rows) → (s t : List Bool) → IsLeast IsTarget s → IsLeast IsTarget t → s ≡ t
+least-one IsTarget rows long s t a b =
+    let x = a.least t b.is_target in
+    let y = b.least s a.is_target in
+    elim (either-before s t (long s a.is_target ∙ sym (long t b.is_target))) [
+      | inl e ↦ e
+      | inr r ↦ elim r [
+        | inl f ↦ absurd (b.first s a.is_target (omega (arith, x, y)) f)
+        | inr f ↦ absurd (a.first t b.is_target (omega (arith, x, y)) f)
+      ]
+    ]
+
 pub smallest-none : (input : Accepted) (s : List Bool) → IsSmallest input s → Agrees input → ⊥
 smallest-none input s a n = let t = a.counter.1 in let f = n s a.counter.0 in clash t f where
   clash : {b : Bool} → b ≡ true → b ≡ false → ⊥
@@ -41,7 +55,7 @@ verdict-one input Never (Spent x) f g v w = absurd g
 verdict-one input (Spent x) b f g v w = absurd f
 
 -- two calls on the same arguments and contents read the same input
-same-input : (a b : Call) → AreAlike a b → (input other : Accepted) → IsRead a input → IsRead b other → input ≡ other
+pub same-input : (a b : Call) → AreAlike a b → (input other : Accepted) → IsRead a input → IsRead b other → input ≡ other
 same-input a b h input other r s =
     let same : judged a.words a.files.held ≡ judged b.words b.files.held = (λ i. judged (h.words i) (h.held i)) in
     let e : Ok input ≡ Ok other = sym (r.told h.told) ∙ same ∙ s.told h.told_too in

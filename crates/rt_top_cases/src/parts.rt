@@ -1,14 +1,12 @@
 //! The parts of a command that other commands use, each called by itself.
 
 use rt_cases::{ALL, SCHEMA, TABLE, files, words};
-use rt_input::{
-    Fault, First, Limit, Outcome, Part, Tables, fault_text, query_of, read_first, read_tables,
-    read_text, read_words, refusal_line, stopped_text,
-};
+use rt_input::{Fault, First, Limit, Part, Tables, query_of, read_first, stopped_text};
 use rt_io::{MemSink, Place, Words, write_at};
 use rt_load::LoadFault;
 use rt_resolve::NameFault;
 use rt_schema::Schema;
+use rt_top::{Outcome, fault_text, read_tables, read_text, read_words, refusal_line};
 use rt_value::{Bytes, Txt};
 use std::alloc::Global;
 use std::process::Abort;

@@ -6,6 +6,7 @@
 //! merged to those of both, with one variable a cell. The rows are cut into blocks. Each block is
 //! merged as a balanced tree, and then to the cells of all rows before it. The cells of all rows are
 //! the outputs.
+
 #![tactic(auto)]
 
 mod blocks;

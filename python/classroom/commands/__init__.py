@@ -2,9 +2,13 @@
 
 COMMANDS = {
     "import": "classroom.commands.import_",
+    "collect": "classroom.commands.collect",
     "grade": "classroom.commands.grade",
+    "mistakes": "classroom.commands.mistakes",
     "page": "classroom.commands.page",
+    "feedback": "classroom.commands.feedback",
     "serve": "classroom.commands.serve",
+    "asked": "classroom.commands.asked",
     "mutants": "classroom.commands.mutants",
     "pick": "classroom.commands.pick",
 }

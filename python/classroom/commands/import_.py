@@ -7,6 +7,9 @@ names in it are written over. Tables stand in the order in which they were made,
 key, else in the database's own.
 
 What can't be carried over, and what becomes of a type, is told on standard error by table and column.
+With --rows the first hundred rows of each table go to EXERCISE/guard, where they keep `classroom mistakes` and hints
+from what holds on a few rows by chance.
+
 CHECKs are written as far as `ratest` has their form and means the same by it. Nothing in the database is
 changed.
 
@@ -16,15 +19,18 @@ words that can't be read.
 from __future__ import annotations
 
 import argparse
+import logging
 import re
-import sys
 from pathlib import Path
 
-from classroom.database.export import MOST_ROWS, export
-from classroom.database.model import Source
-from classroom.fault import Fault, shown
+from classroom.database.export import export
+from classroom.database.named import opened
+from classroom.repair import guard
+from classroom.schema import MOST_ROWS
 
 SUMMARY = "make an exercise of a database"
+GUARD_ROWS = 100    # of each table
+log = logging.getLogger(__name__)
 
 
 def add_arguments(parser: argparse.ArgumentParser) -> None:
@@ -42,19 +48,8 @@ def rows(word: str) -> int:
 
 
 def run(arguments: argparse.Namespace) -> int:
-    source = opened(arguments.source)
-    for note in export(source, arguments.exercise, arguments.tables, arguments.rows):
-        print(f"classroom: {note}", file=sys.stderr)
+    for note in export(opened(arguments.source), arguments.exercise, arguments.tables, arguments.rows):
+        log.warning("%s", note)
+    if arguments.rows is not None and arguments.rows < GUARD_ROWS:
+        export(opened(arguments.source), arguments.exercise / guard.FOLDER, arguments.tables, GUARD_ROWS)
     return 0
-
-
-def opened(source: str) -> Source:
-    """The database that a word names: a file where there is one, else PostgreSQL's."""
-    is_connection = "=" in source or re.match("postgres(ql)?://", source)
-    if not is_connection and Path(source).is_file():
-        from classroom.database.sqlite import Sqlite
-        return Sqlite(Path(source))
-    if not is_connection and ("/" in source or re.search(r"\.(db3?|sqlite3?)$", source)):
-        raise Fault(f"there is no file {shown(source)}")
-    from classroom.database.postgres import Postgres
-    return Postgres(source)

@@ -3,74 +3,97 @@
 A mutant is the reference with one mistake: another comparison, a condition dropped, AND for OR, NOT dropped
 or added, a constant one higher or lower, another column, a join condition dropped, JOIN for EXISTS or IN and
 back, IN for NOT IN, UNION, EXCEPT and INTERSECT for one another, IS NULL for = NULL, a column of SELECT
-dropped or exchanged. What `ratest` refuses is left out. All of them are graded against the reference; those
+dropped or exchanged. Of a reference that `ratest` doesn't read also another aggregate, DISTINCT in one, HAVING,
+GROUP BY, LIMIT, the order, an outer join for a join and back; these a database tries. What is refused is left out. All of them are graded against the reference; those
 that agree with it are shown: such a query means the same on every lawful part of these rows, so either it is
 right or the rows lack something.
 
 EXERCISE/mutants/mutants.csv tells all of them. What is stopped, or killed, goes on where it was.
 
-Exit status: 0 where every mutant has a verdict, 1 where one has none or nothing could be graded, which
+Exit status: 0 where every mutant has a verdict, 1 where one has none or a task could not be tried, which
 standard error tells, 2 for words that can't be read.
 """
 from __future__ import annotations
 
 import argparse
+import logging
 import sys
 from collections.abc import Sequence
-from pathlib import Path
 
-from classroom import exercise, parallel, program
-from classroom.commands.grade import check_references, count, say, seconds
-from classroom.exercise import Exercise, Task
+from classroom import opening, options, parallel, tried
+from classroom.exercise import Task
 from classroom.fault import Fault, library, shown
-from classroom.limited import Limits
 from classroom.results import Results, write
 
 SUMMARY = "tell which usual mistakes the rows show"
+log = logging.getLogger(__name__)
 
 
 def add_arguments(parser: argparse.ArgumentParser) -> None:
-    parser.add_argument("exercise", metavar="EXERCISE", type=Path, help="the folder of the exercise")
+    options.exercise(parser)
     parser.add_argument("--task", metavar="T", help="of this task alone")
-    parser.add_argument("--jobs", metavar="N", type=count, help="calls at once; all cores where it isn't said")
-    parser.add_argument("--time", metavar="S", type=seconds, default=60.0, help="seconds for a mutant (60)")
-    parser.add_argument("--memory", metavar="MB", type=count, default=2000, help="megabytes for a call (2000)")
-    parser.add_argument("--work", metavar="N", type=count, help="as `ratest` takes it")
-    parser.add_argument("--conflicts", metavar="N", type=count, help="as `ratest` takes it")
+    options.jobs(parser)
+    options.limits(parser, "a mutant", 60)
+    tried.add_arguments(parser)
 
 
 def run(arguments: argparse.Namespace) -> int:
     library("sqlglot", "python3-sqlglot")
-    from classroom.mutation import grading, questions, told
+    from classroom.mutation import grading, questions, told, trying
 
-    given = exercise.load(arguments.exercise)
-    tasks = chosen(given, arguments.task)
-    limits = Limits(arguments.time, arguments.memory)
-    options = [word for name in ("work", "conflicts") if getattr(arguments, name)
-               for word in (f"--{name}", str(getattr(arguments, name)))]
-    check_references(given, program.find(), limits, options)
-    tables, files = given.tables(), given.files()
-    asked = [of for task in tasks for of in questions.of_mutants(task, tables)]
-    means = parallel.Means(limits, arguments.jobs, None, sys.stderr.isatty())
+    opened = opening.opened(arguments, 60.0)
+    given = opened.given
+    chosen = named(given.tasks, arguments.task)
+    trial = tried.wanted(arguments, given, opened.limits.seconds)
+    by_trying = [task for task in chosen if trial and task.reference and (task.fault or task.limit)]
+    tasks = [task for task in chosen if task not in by_trying and is_tried(task)]
+    asked = {}
+    for task in tasks[:]:
+        try:
+            asked[task.label] = questions.of_mutants(task, given.tables)
+        except Fault as fault:
+            log.warning("%s", fault)
+            tasks.remove(task)
+    means = parallel.Means(opened.limits, arguments.jobs, None, sys.stderr.isatty())
     results = Results(given.folder / "mutants")
     with results.held() as work:
-        verdicts = grading.Verdicts(results.runs, files, options)
-        back = [questions.written_back(task) for task in tasks]
-        found = verdicts.grade([*back, *asked], means, work)
-        told.check_written_back(back, [found[verdicts.key(of)] for of in back])
-        made = [told.Told(of, found[verdicts.key(of)]) for of in asked]
+        verdicts = grading.Verdicts(results.runs, given.files, opened.options)
+        back = {task.label: questions.written_back(task) for task in tasks}
+        found = verdicts.grade([*back.values(), *(of for one in asked.values() for of in one)], means, work)
+        for label, of in back.items():
+            try:
+                told.check_written_back([of], [found[verdicts.key(of)]])
+            except Fault as fault:
+                log.warning("%s", fault)
+                del asked[label]
+        made = [told.Told(of, found[verdicts.key(of)]) for one in asked.values() for of in one]
+        for task in by_trying:
+            try:
+                assert trial
+                made += trying.mutants(trial, task, given.settings, results, arguments.jobs)
+                asked[task.label] = []
+            except Fault as fault:
+                log.warning("%s", fault)
         write(results.folder / "mutants.csv", told.csv_of(made))
-    for line in told.lines([task.label for task in tasks], made):
+    for line in told.lines([task.label for task in chosen if task.label in asked], made):
         print(line)
-    print(f"{told.summary(made)} by {told.rows_of(files)} rows")
+    print(f"{told.summary(made)} by {told.rows_of(given.files)} rows", flush=True)
     missing = told.open_ones(made)
     if missing:
-        say(f"{missing} mutants have no verdict")
-    return 1 if missing else 0
+        log.warning("%d mutants have no verdict", missing)
+    return 1 if missing or len(asked) < len(chosen) else 0
 
 
-def chosen(given: Exercise, name: str | None) -> Sequence[Task]:
-    found = [task for task in given.tasks if name is None or name in (task.name, task.label)]
+def is_tried(task: Task) -> bool:
+    """Whether its mutants are tried; a reference that passes a limit alone is told in one line."""
+    if task.limit:
+        log.warning("task %s: the reference alone passes a limit, so no mutant is tried: %s", shown(task.name), shown(task.limit))
+    return not (task.fault or task.limit)
+
+
+def named(tasks: Sequence[Task], name: str | None) -> Sequence[Task]:
+    """All of the tasks, or the one of this name."""
+    found = [task for task in tasks if name is None or name in (task.name, task.label)]
     if not found:
         raise Fault(f"there is no task {shown(name or '')}")
     return found

@@ -1,7 +1,8 @@
 """Makes the page of a class that was graded: EXERCISE/results/page.html.
 
 It is one file that asks for nothing from anywhere and needs no script. `classroom grade` makes it too; this
-makes it again, as without the reference queries for a page that students see before the deadline.
+makes it again. With --no-reference it is one that students may see before the deadline: it has neither the
+references nor any text that may be as good as one, so of the answers only the texts that differ.
 
 With --asked it makes EXERCISE/results/asked.html instead, of what was asked at the page of `classroom serve`:
 which mistakes are made in each task, the most frequent first.
@@ -14,7 +15,8 @@ from __future__ import annotations
 import argparse
 from pathlib import Path
 
-from classroom import classpage, exercise
+from classroom import classpage, exercise, options, students
+from classroom.classpage import Showing
 from classroom.results import Results, write
 from classroom.server import askedpage
 from classroom.server.asked import LOG
@@ -23,8 +25,10 @@ SUMMARY = "make the page of a class"
 
 
 def add_arguments(parser: argparse.ArgumentParser) -> None:
-    parser.add_argument("exercise", metavar="EXERCISE", type=Path, help="the folder of the exercise, graded")
-    parser.add_argument("--no-reference", action="store_true", help="leave the reference queries out")
+    options.exercise(parser, ", graded")
+    parser.add_argument("--no-reference", action="store_true",
+                        help="for students: no reference, and no text of an answer but of those that differ")
+    parser.add_argument("--no-names", action="store_true", help="no name of an answer")
     parser.add_argument("--asked", action="store_true", help="make the page of what was asked")
     parser.add_argument("--asked-file", metavar="FILE", type=Path, help="what was asked (EXERCISE/results/asked.db)")
     parser.add_argument("--output", metavar="FILE", type=Path, help="write the page here")
@@ -32,12 +36,13 @@ def add_arguments(parser: argparse.ArgumentParser) -> None:
 
 def run(arguments: argparse.Namespace) -> int:
     given = exercise.load(arguments.exercise)
+    showing = Showing(not arguments.no_reference, not arguments.no_names)
     if arguments.asked or arguments.asked_file:
-        log = arguments.asked_file or given.results / LOG
-        write(arguments.output or given.results / "asked.html",
-              askedpage.page_of(given, log, not arguments.no_reference))
+        asked = arguments.asked_file or given.results / LOG
+        write(arguments.output or given.results / "asked.html", askedpage.page_of(given, asked, showing))
         return 0
-    graded = Results(given.results).graded(given)
-    write(arguments.output or given.results / "page.html",
-          classpage.page_of(given, graded, not arguments.no_reference))
+    given, graded = Results(given.results).graded(given)
+    # Students know one another by the names of the files at most.
+    listed = students.read(given.folder / given.settings.students) if showing.solutions else students.ClassList()
+    write(arguments.output or given.results / "page.html", classpage.page_of(given, graded, listed, showing))
     return 0

@@ -20,9 +20,8 @@ from __future__ import annotations
 
 import argparse
 import sys
-from pathlib import Path
 
-from classroom.commands.grade import count
+from classroom import opening, options
 from classroom.fault import library
 
 SUMMARY = "pick the few rows that tell every mistake"
@@ -30,20 +29,20 @@ SUMMARY = "pick the few rows that tell every mistake"
 
 def add_arguments(parser: argparse.ArgumentParser) -> None:
     parser.add_argument("source", metavar="SOURCE", help="a database, or the folder of an exercise")
-    parser.add_argument("exercise", metavar="EXERCISE", type=Path, help="the folder of the exercise that gets the rows")
-    parser.add_argument("--rows", metavar="N", type=count,
+    options.exercise(parser, " that gets the rows")
+    parser.add_argument("--rows", metavar="N", type=options.count,
                         help="at most N rows, those that tell the most; as many as are needed where it isn't said")
-    parser.add_argument("--seed", metavar="N", type=count, default=1, help="of the rows at random (1)")
-    parser.add_argument("--jobs", metavar="N", type=count, help="calls at once; all cores where it isn't said")
-    parser.add_argument("--work", metavar="N", type=count, default=2_000_000,
+    parser.add_argument("--seed", metavar="N", type=options.count, default=1, help="of the rows at random (1)")
+    options.jobs(parser)
+    parser.add_argument("--work", metavar="N", type=options.count, default=2_000_000,
                         help="as `ratest` takes it: what passes it is asked over a smaller part (2000000)")
-    parser.add_argument("--conflicts", metavar="N", type=count, default=1000, help="in the same way (1000)")
+    parser.add_argument("--conflicts", metavar="N", type=options.count, default=1000, help="in the same way (1000)")
 
 
 def run(arguments: argparse.Namespace) -> int:
     library("sqlglot", "python3-sqlglot")
     from classroom.picking.pick import Wanted, pick
 
-    options = ("--work", str(arguments.work), "--conflicts", str(arguments.conflicts))
-    wanted = Wanted(arguments.rows, str(arguments.seed), arguments.jobs, options, sys.stderr.isatty())
+    limits = opening.options_of(arguments.work, arguments.conflicts)
+    wanted = Wanted(arguments.rows, str(arguments.seed), arguments.jobs, limits, sys.stderr.isatty())
     return pick(arguments.source, arguments.exercise, wanted)

@@ -1,16 +1,19 @@
 """Serves a page at which students ask: they pick a task, type a query and see at once whether it agrees with
 the reference, or the fewest rows on which the two differ, or why it is refused and where.
 
-The reference queries are never sent. The exercise is read at the start, so a change of it counts from the
-next start on. Where the folder of a task has a file question.txt, the page shows it. What is asked is kept
-in an SQLite file without anybody's name; `classroom page --asked` makes a page of it.
+COURSE is the folder of an exercise, or a folder of exercises. The reference queries are never sent, but after the
+exercise closes where exercise.toml says so. All is read at the start, so a change counts from the next start on.
+exercise.toml has titles, and when an exercise opens and closes; question.txt in the folder of a task, in Markdown,
+is shown above the query. What is asked is kept in an SQLite file with its hour and without anybody's name;
+`classroom page --asked` makes a page of it.
 
-A question is one call of `ratest` without environment and network, with the limits below; a text that was
-asked before is answered from memory. At most --jobs calls run at once; further ones wait for three seconds
-at most, --queue of them, and the others are told to ask again (status 503).
+What `ratest` doesn't read a database tries, for three seconds in a process of its own; what comes of that is called
+tried. A question is one call of `ratest` without environment and network, with the limits below; a text that was
+asked before is answered from memory. At most --jobs calls run at once, one for each visitor; further ones wait for
+three seconds at most, --queue of them, and the others are told to ask again (status 503).
 
-Who has used up --hourly is told by a random cookie and by the address, or by --user-header where a web server
-asks for a login. None of these is written anywhere.
+Who asks is told by a random cookie and by the address, or by --user-header where a web server in front asks for a
+login; this is believed of --proxy and of --socket alone. With a login students may hand in.
 
 Exit status: 0 where it was stopped, 1 where it can't serve, which standard error tells, 2 for words that
 can't be read.
@@ -20,50 +23,64 @@ from __future__ import annotations
 import argparse
 import logging
 import os
-import signal
-import socket
+import re
 import sys
 import tempfile
+from collections.abc import Sequence
+from concurrent.futures import ThreadPoolExecutor
 from pathlib import Path
-from types import FrameType
-from typing import Any
 
-from classroom import exercise, program
-from classroom.commands.grade import check_references, count, seconds
-from classroom.fault import library
+from classroom import opening, options, tried
+from classroom.exercise import Task, digest
+from classroom.fault import Fault, library, shown
 from classroom.limited import Limits
+from classroom.repair import guard
 from classroom.server import child
-from classroom.server.asked import LOG, Log
-from classroom.server.asker import MOST_BYTES, Asker, Budget
+from classroom.server.asked import Log, foundation_of
+from classroom.server.asker import MOST_BYTES, Asker, Budget, Decided
+from classroom.server.course import Course, Served, folders, place_of_hand_ins, place_of_log
+from classroom.server.handedin import HandIns
+from classroom.server.recent import Recent
 from classroom.server.material import copied
-from classroom.server.visitors import Visitors
 from classroom.server.waiting import Places
+from classroom.trial import words
+from classroom.trial.asking import Trier
+from classroom.trial.material import SQLITE
+from classroom.trial.verdict import Barred, Passed, WrongSql
+from classroom.tried import Trial
 
 SUMMARY = "serve a page at which students ask"
+SECONDS, CONFLICTS = 10, 2000
+TRIAL_SECONDS = 3.0
 WAITING_SECONDS = 3.0
 KEPT_BYTES = 64_000_000
-# Threads beyond those that wait or run, for what is answered at once.
-QUICK_THREADS = 16
-CONNECTIONS = 900
+HOURLY, KEEP_DAYS = 20, 180
+log = logging.getLogger(__name__)
 
 
 def add_arguments(parser: argparse.ArgumentParser) -> None:
-    parser.add_argument("exercise", metavar="EXERCISE", type=Path, help="the folder of the exercise")
+    parser.add_argument("exercise", metavar="COURSE", type=Path, help="the folder of an exercise, or one with exercises")
     parser.add_argument("--port", metavar="N", type=port, default=8000, help="the port (8000); 0 for a free one")
     parser.add_argument("--host", metavar="ADDRESS", default="127.0.0.1", help="the address (127.0.0.1, so this machine alone)")
-    parser.add_argument("--jobs", metavar="N", type=count, help="calls at once; all cores where it isn't said")
-    parser.add_argument("--queue", metavar="N", type=count, default=64, help="questions that may wait (64)")
-    parser.add_argument("--time", metavar="S", type=seconds, default=10.0, help="seconds for a question (10)")
-    parser.add_argument("--memory", metavar="MB", type=count, default=2000, help="megabytes for a question (2000)")
-    parser.add_argument("--work", metavar="N", type=count, help="as `ratest` takes it")
-    parser.add_argument("--conflicts", metavar="N", type=count, default=2000, help="as `ratest` takes it (2000)")
+    parser.add_argument("--socket", metavar="PATH", type=Path, help="a Unix socket in place of the port, for a web server in front")
+    parser.add_argument("--socket-mode", metavar="MODE", type=mode, default=0o660, help="its mode, as chmod takes it (660)")
+    options.jobs(parser)
+    parser.add_argument("--queue", metavar="N", type=options.count, default=64, help="questions that may wait (64)")
+    options.limits(parser, "a question", SECONDS, CONFLICTS)
+    tried.add_arguments(parser)
     showing = parser.add_mutually_exclusive_group()
-    showing.add_argument("--hourly", metavar="N", type=count, help="show a student N counterexamples an hour")
+    showing.add_argument("--hourly", metavar="N", type=whole, default=HOURLY,
+                         help=f"show a student N different counterexamples an hour ({HOURLY}); 0 for any number")
     showing.add_argument("--only-verdict", action="store_true", help="tell only whether a query agrees")
-    parser.add_argument("--asked-file", metavar="FILE", type=Path, help="keep what is asked here (EXERCISE/results/asked.db)")
-    parser.add_argument("--asked-size", metavar="MB", type=count, default=1000, help="megabytes that it may have (1000)")
+    parser.add_argument("--asked-file", metavar="FILE", type=Path,
+                        help="keep what is asked here (EXERCISE/results/asked.db); of a course a folder")
+    parser.add_argument("--asked-size", metavar="MB", type=options.count, default=1000, help="megabytes that it may have (1000)")
+    parser.add_argument("--keep-days", metavar="N", type=whole, default=KEEP_DAYS, help=f"days that questions are kept ({KEEP_DAYS}); 0 for ever")
     parser.add_argument("--proxy", metavar="ADDRESS", help="the address of a web server in front, whose X-Forwarded-For is believed")
-    parser.add_argument("--user-header", metavar="NAME", help="the header in which that server sends the name of a login")
+    parser.add_argument("--user-header", metavar="NAME", help="the header in which that server sends the name of a login, which is wanted then")
+    parser.add_argument("--frame-ancestors", metavar="SITE", action="append", default=[], type=site,
+                        help="a site in whose frames the page may stand, as https://moodle.example.org")
+    parser.add_argument("--teacher-port", metavar="N", type=port, help="the teacher's page, at this port of 127.0.0.1 alone")
 
 
 def port(word: str) -> int:
@@ -72,65 +89,138 @@ def port(word: str) -> int:
     return int(word)
 
 
+def whole(word: str) -> int:
+    return 0 if word == "0" else options.count(word)
+
+
+def mode(word: str) -> int:
+    if not re.fullmatch("0?[0-7]{3}", word):
+        raise argparse.ArgumentTypeError("a mode of three octal digits is wanted")
+    return int(word, 8)
+
+
+def site(word: str) -> str:
+    if not re.fullmatch(r"https?://[A-Za-z0-9.*-]+(:[0-9]+)?", word):
+        raise argparse.ArgumentTypeError("a site is wanted, as https://moodle.example.org")
+    return word
+
+
 def run(arguments: argparse.Namespace) -> int:
-    library("flask", "python3-flask")
-    library("waitress", "python3-waitress")
-    given = exercise.load(arguments.exercise)
-    ratest = program.find()
-    limits = Limits(arguments.time, arguments.memory, MOST_BYTES / 1_000_000)
-    budget = Budget(arguments.conflicts, arguments.work)
-    check_references(given, ratest, limits, budget.options())
+    for name, package in (("flask", "python3-flask"), ("waitress", "python3-waitress"), ("limits", "python3-limits")):
+        library(name, package)
+    from classroom.server.running import Address, Running, serve
+    from classroom.server.who import SOCKET_PEER, Front
+
+    peers = {SOCKET_PEER} if arguments.socket else {arguments.proxy} if arguments.proxy else set()
+    if arguments.user_header and not peers:
+        raise Fault("--user-header needs --socket or --proxy: from anybody else the header is not believed")
+    front = Front(frozenset(peers), arguments.user_header or "")
+    jobs = arguments.jobs or len(os.sched_getaffinity(0))
     with tempfile.TemporaryDirectory(prefix="classroom-") as work:
-        material = copied(given, Path(work))
-        jobs = arguments.jobs or len(os.sched_getaffinity(0))
-        places = Places(jobs, arguments.queue, WAITING_SECONDS)
-        asker = Asker(material, child.around(ratest, has_network()), limits, budget, places, KEPT_BYTES)
-        path = arguments.asked_file or given.results / LOG
-        if not arguments.asked_file:
-            path.parent.mkdir(exist_ok=True)
-        log = Log(path, arguments.asked_size)
+        course, watched = served(arguments, Path(work), jobs)
+        address = Address(arguments.host, arguments.port, arguments.socket, arguments.socket_mode)
         try:
-            serve(asker, log, arguments, jobs)
+            serve(Running(course, watched, front, address, jobs + arguments.queue, arguments.hourly or None, arguments.only_verdict,
+                          tuple(arguments.frame_ancestors), arguments.keep_days or None, arguments.teacher_port))
         finally:
-            log.close()
+            for one in course.served:
+                one.log.close()
+                if one.hand_ins:
+                    one.hand_ins.close()
     return 0
 
 
-def has_network() -> bool:
+def served(arguments: argparse.Namespace, work: Path, jobs: int) -> tuple[Course, dict[str, tuple[opening.Opened, Path]]]:
+    """The course, each exercise copied below `work`; and for the teacher each exercise with its file."""
+    from classroom.server.hinting import hinter    # with itsdangerous, which other commands do without
+
+    places = Places(jobs, arguments.queue, WAITING_SECONDS)
+    kept: Recent[Decided] = Recent(KEPT_BYTES)
+    has_network = keeps_network()
+    made, watched = [], {}
+    for number, (name, folder) in enumerate(folders(arguments.exercise)):
+        found = opened(arguments, folder)
+        trial = None if arguments.only_proved else trial_of(found, arguments.engine)
+        trier = trier_of(trial, work / f"{number}.trial", has_network) if trial else None
+        by_trying = tried_tasks(found.given.tasks, trier, jobs) if trier else frozenset()
+        if all(task.fault and task.label not in by_trying for task in found.given.tasks):
+            if name:
+                log.error("%s is not offered: no task can be graded", shown(name))
+                continue
+            raise Fault(f"{shown(str(folder))}: no task can be graded")
+        place = work / str(number)
+        place.mkdir()
+        limits = found.limits._replace(output=MOST_BYTES / 1_000_000)
+        budget = Budget(found.conflicts or CONFLICTS, found.work)
+        material = copied(found.given, place, by_trying)
+        asker = Asker(material, child.around(found.ratest, has_network), limits, budget, places, kept,
+                      foundation(material.digest, found.ratest, limits, budget, trial.digest if trial else ""),
+                      trial, trier)
+        path = place_of_log(name, folder, arguments.asked_file)
+        hand_ins = HandIns(place_of_hand_ins(path)) if arguments.user_header else None
+        other_rows = work / f"{number}-{guard.FOLDER}"
+        other_rows.mkdir()
+        hints = hinter(found.given, material, other_rows, child.around(Path(sys.executable), has_network), places)
+        made.append(Served(name, asker, Log(path, arguments.asked_size, arguments.keep_days or None), hand_ins, hints))
+        watched[name] = (found, path)
+    if not made:
+        raise Fault(f"{shown(str(arguments.exercise))}: no task of any exercise can be graded")
+    title = made[0].material.title if not made[0].name else shown(arguments.exercise.resolve().name)
+    return Course(title, tuple(made)), watched
+
+
+def opened(arguments: argparse.Namespace, folder: Path) -> opening.Opened:
+    # The time of `exercise.toml` is that of a grading, for which nobody waits.
+    words = argparse.Namespace(**{**vars(arguments), "exercise": folder, "time": arguments.time or SECONDS})
+    return opening.opened(words, SECONDS, CONFLICTS)
+
+
+def trial_of(found: opening.Opened, engine: str | None) -> Trial | None:
+    """How what `ratest` leaves open is tried; None where that can't be, which is told."""
+    try:
+        return tried.trial_of(found.given, TRIAL_SECONDS, engine)
+    except Fault as fault:
+        log.warning("%s: nothing is tried: %s", shown(str(found.given.folder)), fault)
+        return None
+
+
+def trier_of(trial: Trial, folder: Path, has_network: bool) -> Trier:
+    """What tries, with SQLite without the network."""
+    folder.mkdir()
+    alone = [] if has_network or trial.material.product != SQLITE else [*child.namespace(), "--"]
+    return Trier(trial.material, folder, trial.options, alone)
+
+
+def tried_tasks(tasks: Sequence[Task], trier: Trier, jobs: int) -> frozenset[str]:
+    """The labels of those whose reference `ratest` refuses and the database answers."""
+    left = [task for task in tasks if task.fault and task.reference]
+    with ThreadPoolExecutor(jobs) as threads:
+        return frozenset(task.label for task, answers in zip(left, threads.map(lambda task: is_answered(task, trier), left)) if answers)
+
+
+def is_answered(task: Task, trier: Trier) -> bool:
+    """Whether the database answers the reference; else why not is told."""
+    text = tried.text_of(task.reference)
+    try:
+        found = trier.ask(text, text, agrees=True)
+    except Fault as fault:
+        why = str(fault)
+    else:
+        if not isinstance(found.outcome, (WrongSql, Barred, Passed)):
+            return True
+        why = words.refusal(found.outcome, found.engine)
+    log.error("task %s is not offered: reference.sql: %s", shown(task.name), why)
+    return False
+
+
+def foundation(exercise: str, ratest: Path, limits: Limits, budget: Budget, engine: str) -> str:
+    """What verdicts rest on: see `foundation_of`."""
+    return foundation_of(exercise, digest(ratest.read_bytes()), engine, [*map(str, limits), *budget.options()])
+
+
+def keeps_network() -> bool:
     """Whether a call has to keep the network, which is then told."""
     if child.can_be_alone():
         return False
-    print("classroom: this machine lets no process give up its network (unshare --map-root-user --net): "
-          "`ratest` runs with it", file=sys.stderr)
+    log.warning("this machine lets no process give up its network (unshare --map-root-user --net): `ratest` runs with it")
     return True
-
-
-def serve(asker: Asker, log: Log, arguments: argparse.Namespace, jobs: int) -> None:
-    """Serves until the process is stopped."""
-    import waitress
-
-    from classroom.server.application import MOST_FORM, Showing, application
-    from classroom.server.slow import Channel
-
-    visitors = Visitors(arguments.hourly) if arguments.hourly else None
-    app = application(asker, log, Showing(arguments.only_verdict, visitors, arguments.user_header or ""))
-    proxy = {"trusted_proxy": arguments.proxy, "trusted_proxy_headers": {"x-forwarded-for", "x-forwarded-proto"},
-             "trusted_proxy_count": 1} if arguments.proxy else {}
-    # One address, where a name has several.
-    address = socket.getaddrinfo(arguments.host, arguments.port, type=socket.SOCK_STREAM)[0][4][0]
-    server: Any = waitress.create_server(
-        app, host=address, port=arguments.port, threads=jobs + arguments.queue + QUICK_THREADS,
-        connection_limit=CONNECTIONS, asyncore_use_poll=True, channel_timeout=20, cleanup_interval=5,
-        max_request_header_size=16_384, max_request_body_size=MOST_FORM, inbuf_overflow=2 * MOST_FORM,
-        clear_untrusted_proxy_headers=True, ident="classroom", **proxy)
-    server.channel_class = Channel
-    # Else each question that waits is told.
-    for name in ("waitress", "waitress.queue"):
-        logging.getLogger(name).setLevel(logging.ERROR)
-    signal.signal(signal.SIGTERM, stop)
-    print(f"http://{f'[{address}]' if ':' in str(address) else address}:{server.effective_port}/", flush=True)
-    server.run()
-
-
-def stop(number: int, frame: FrameType | None) -> None:
-    raise SystemExit(0)

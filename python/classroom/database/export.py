@@ -3,19 +3,24 @@ refusal comes before the first file is written.
 """
 from __future__ import annotations
 
-from collections.abc import Iterator, Sequence
+import json
+import re
+from collections.abc import Iterator, Mapping, Sequence
 from pathlib import Path
 
+from classroom.database.full import DATABASE, SCRIPT
 from classroom.database.model import Cell, Foreign, Source, Table
 from classroom.fault import Fault, shown
 from classroom.results import write
-from classroom.schema import spelled
+from classroom.schema import MOST_ROWS, marked, spelled
 from ratest.tables import csv_line
 
 # The limits of `ratest`.
-MOST_ROWS = 2000
 MOST_TABLES = MOST_COLUMNS = MOST_RULES = 64
 MOST_BYTES = 4_194_304
+# Of the tables as the database has them.
+MOST_FULL = 67_108_864
+FULL = (DATABASE, SCRIPT)
 
 Tables = dict[str, Table]
 
@@ -23,7 +28,8 @@ Tables = dict[str, Table]
 def export(source: Source, folder: Path, names: Sequence[str], rows: int | None) -> list[str]:
     """Writes schema.sql and a CSV file a table; gives what has to be told."""
     chosen = choose(source, names)
-    for table in chosen.values():
+    every = list(chosen.values())
+    for table in every:
         source.look(table)
     notes = ([] if names else list(source.left)) + list(leave_out(chosen))
     check_limits(chosen, rows)
@@ -31,6 +37,8 @@ def export(source: Source, folder: Path, names: Sequence[str], rows: int | None)
         table.rows = source.first(table, MOST_ROWS if rows is None else rows)
     close(source, chosen)
     notes += check_rows(chosen)
+    full_name, full = full_of(source, every, chosen)
+    engine = source.engine()
     source.close()
     if rows is not None:
         notes += [f"{shown(table.name)}: {len(table.rows)} of {table.count} rows" for table in chosen.values()]
@@ -42,7 +50,33 @@ def export(source: Source, folder: Path, names: Sequence[str], rows: int | None)
     folder.mkdir(parents=True, exist_ok=True)
     for name, text in texts.items():
         write(folder / name, text.encode())
+    for name in FULL:
+        (folder / name).unlink(missing_ok=True)
+    if isinstance(full, bytes):
+        write(folder / full_name, full)
+    else:
+        notes.append(f"{full_name} is not written: {full}")
+    if engine:
+        note_engine(folder / "exercise.toml", engine)
     return notes
+
+
+def note_engine(path: Path, engine: Mapping[str, str]) -> None:
+    """Puts the keys in front of what the file says, where it doesn't say them."""
+    text = path.read_text(encoding="utf-8") if path.is_file() else ""
+    lines = [f"{key} = {json.dumps(value)}\n" for key, value in engine.items() if not re.search(rf"(?m)^\s*{key}\s*=", text)]
+    if lines:
+        write(path, ("".join(lines) + text).encode())
+
+
+def full_of(source: Source, every: Sequence[Table], chosen: Tables) -> tuple[str, bytes | str]:
+    """The tables as the database has them; also those of which no column is carried over, with all rows."""
+    if sum(table.count for table in every if table.name not in chosen) > MOST_ROWS:
+        every = list(chosen.values())
+    name, full = source.full(every, {table.name: sorted(table.rows) for table in chosen.values()})
+    if isinstance(full, bytes) and len(full) > MOST_FULL:
+        return name, f"it would be longer than {MOST_FULL} bytes"
+    return name, full
 
 
 def choose(source: Source, names: Sequence[str]) -> Tables:
@@ -229,5 +263,4 @@ def csv_text(table: Table) -> str:
     lines: list[Sequence[Cell]] = [[column.written for column in table.columns]]
     lines += [table.rows[number] for number in sorted(table.rows)]
     text = "".join(map(csv_line, lines))
-    # One mark of byte order is dropped at the start of a file.
-    return f"\ufeff{text}" if text.startswith("\ufeff") else text
+    return marked(text)

@@ -1,7 +1,7 @@
 """The tables of a database as its catalogue tells them, and what reads them."""
 from __future__ import annotations
 
-from collections.abc import Sequence
+from collections.abc import Mapping, Sequence
 from dataclasses import dataclass, field
 from typing import Protocol, Union
 
@@ -75,5 +75,12 @@ class Source(Protocol):
     def matching(self, table: Table, places: Sequence[int],
                  values: Sequence[tuple[Cell, ...]]) -> dict[int, tuple[Cell, ...]]:
         """The rows that have one of these values in the columns at these places."""
+
+    def full(self, tables: Sequence[Table], numbers: Mapping[str, Sequence[int]]) -> tuple[str, bytes | str]:
+        """The name and the bytes of a file with the tables as the database has them, and their rows of these
+        numbers, all where a table isn't named; a text in place of the bytes tells why there is none."""
+
+    def engine(self) -> Mapping[str, str]:
+        """What exercise.toml says of the database that tries queries; nothing where that is SQLite."""
 
     def close(self) -> None: ...

@@ -5,11 +5,12 @@ table, and knows no indexes.
 """
 from __future__ import annotations
 
-from collections.abc import Iterator, Mapping, Sequence
+from collections.abc import Callable, Iterator, Mapping, Sequence
 from contextlib import contextmanager
 from dataclasses import replace
 from typing import Any
 
+from classroom.database import full
 from classroom.database.conditions import EQUALITY, NOTHING, ORDER, Side
 from classroom.database.model import Cell, Column, Foreign, Key, Table
 from classroom.database.moments import one_form, padded
@@ -84,6 +85,7 @@ class Postgres:
     def __init__(self, database: str) -> None:
         psycopg = library("psycopg", "python3-psycopg")
         self.error: type[Exception] = psycopg.Error
+        self.made: Callable[..., str] = psycopg.conninfo.make_conninfo
         self.left: list[str] = []
         self.bases: dict[tuple[str, str], str] = {}
         self.digits = 0
@@ -118,6 +120,16 @@ class Postgres:
 
     def close(self) -> None:
         self.connection.close()
+
+    def full(self, tables: Sequence[Table], numbers: Mapping[str, Sequence[int]]) -> tuple[str, bytes | str]:
+        with self.faults():
+            return full.SCRIPT, full.of_postgres(self.connection, tables, numbers)
+
+    def engine(self) -> Mapping[str, str]:
+        """The two roles and the database that docs/GUIDE.md makes, on the same server; passwords are in none."""
+        info = self.connection.info
+        place = {"host": info.host, "port": info.port, "dbname": "ratest_scratch"}
+        return {key: self.made(**place, user=user) for key, user in (("engine", "ratest_loader"), ("engine_asker", "ratest_asker"))}
 
     def tables(self, names: Sequence[str]) -> dict[str, Table]:
         found: dict[int, Table] = {}

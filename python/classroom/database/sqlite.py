@@ -3,12 +3,13 @@ from __future__ import annotations
 
 import re
 import sqlite3
-from collections.abc import Iterator, Sequence
+from collections.abc import Iterator, Mapping, Sequence
 from contextlib import contextmanager
 from pathlib import Path
 from typing import Any
 from urllib.parse import quote
 
+from classroom.database import full
 from classroom.database.model import Cell, Column, Foreign, Key, Table
 from classroom.database.moments import one_form
 from classroom.database.sqlite_conditions import checks_of, fold, has_collation
@@ -82,6 +83,14 @@ class Sqlite:
 
     def close(self) -> None:
         self.connection.close()
+
+    def full(self, tables: Sequence[Table], numbers: Mapping[str, Sequence[int]]) -> tuple[str, bytes | str]:
+        with self.faults():
+            self.connection.text_factory = lambda raw: raw.decode("utf-8", "surrogateescape")
+            return full.DATABASE, full.of_sqlite(self.connection, tables, numbers)
+
+    def engine(self) -> Mapping[str, str]:
+        return {}
 
     def tables(self, names: Sequence[str]) -> dict[str, Table]:
         tables: dict[str, Table] = {}

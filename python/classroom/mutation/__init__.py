@@ -1,5 +1,5 @@
-"""Wrong answers that are made of a right one: the usual mistakes, one module a family.
+"""Changes of a query at one place: the usual mistakes in a right one, and what may make a wrong one right.
 
-Each family is a function that gives, for a node of the query's tree, what a mistake puts in its place. The
-trees are sqlglot's, which reads and writes the texts.
+One vocabulary serves `mutants` and `pick`, and the repairs and classes of wrong answers. sqlglot reads the
+texts; a change's text is made from the places of its tree in the text.
 """

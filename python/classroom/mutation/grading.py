@@ -18,15 +18,23 @@ MOST_IN_LIST = 256    # that the program takes
 # In few lists a core may wait for one with the slow queries; in many the rows are read more often.
 SHORT_LIST = 8
 AGREES, TOLD, REFUSED, OPEN = "agrees", "told", "refused", "no verdict"
+# Of a database that tries.
+NOT_FOUND, NOT_DETERMINED = "no difference found", "not determined"
 
 
 @dataclass(frozen=True)
 class Verdict:
     """What is known of a query."""
 
-    kind: str         # AGREES, TOLD, REFUSED, or OPEN where a limit was passed
+    kind: str         # AGREES, TOLD, REFUSED, or OPEN where a limit was passed; of trying also NOT_FOUND, NOT_DETERMINED
     rows: int = 0     # of the witness
     why: str = ""     # it is refused or open
+    engine: str = ""  # of a database that tried; empty of what `ratest` says
+
+    @property
+    def decided_by(self) -> str:
+        """"proved" or the engine; empty where there is no verdict."""
+        return "" if self.kind in (OPEN, REFUSED) else self.engine or "proved"
 
 
 class Verdicts:
@@ -95,7 +103,7 @@ def lists_of(left: Mapping[str, Question], most: int, means: parallel.Means) -> 
 
 def read(ran: Ran, keys: Sequence[str]) -> dict[str, Verdict]:
     """The verdicts of a list by their keys; none where the call failed."""
-    if ran.passed or ran.status != program.AGREE:
+    if ran.passed or ran.status != printed.FINE:
         return {}
     try:
         grades = printed.grades_of(ran.stdout.decode("utf-8", "replace"), keys)

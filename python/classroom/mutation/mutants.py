@@ -4,12 +4,11 @@ from __future__ import annotations
 from collections.abc import Sequence
 from dataclasses import dataclass
 
-from classroom.mutation import columns, comparisons, constants, joins, logic, nulls, projection, sets
-from classroom.mutation.scopes import Scopes
-from classroom.mutation.tree import changed, nodes, parsed, written
+from classroom.mutation.families import MISTAKES, Family
+from classroom.mutation.query import Query
+from classroom.mutation.tree import parsed, written
+from classroom.mutation.vocabulary import of_tables
 from classroom.schema import Table
-
-FAMILIES = (comparisons, logic, constants, columns, joins, nulls, sets, projection)
 
 
 @dataclass(frozen=True)
@@ -25,15 +24,15 @@ def plain(query: str) -> str:
     return written(parsed(query))
 
 
-def mutants(query: str, tables: Sequence[Table]) -> list[Mutant]:
+def mutants(query: str, tables: Sequence[Table], families: Sequence[Family] = MISTAKES) -> list[Mutant]:
     """The mutants of a query over these tables, each text once: by their places in the query, and at one
     place by the families. A Fault where sqlglot doesn't read it."""
-    tree, scopes = parsed(query), Scopes(tables)
+    whole = Query.plain(query, of_tables(tables))
     found: dict[str, Mutant] = {}
-    for place, node in enumerate(nodes(tree)):
-        for family in FAMILIES:
-            for change in family.changes(node, scopes):
-                text = written(changed(tree, place, change))
+    for node in whole.nodes():
+        for family in families:
+            for change in family(node, whole):
+                text = change.on(whole.text).strip()
                 found.setdefault(text, Mutant(change.mistake, text))
-    found.pop(written(tree), None)
+    found.pop(whole.text, None)
     return list(found.values())

@@ -4,11 +4,11 @@ from __future__ import annotations
 from collections.abc import Sequence
 from dataclasses import dataclass
 
-from classroom import exercise
 from classroom.exercise import Task
 from classroom.fault import Fault, shown
+from classroom.mutation.families import MISTAKES, Family
 from classroom.mutation.mutants import mutants, plain
-from classroom.schema import Table
+from classroom.schema import Table, unmarked
 
 
 @dataclass(frozen=True)
@@ -27,11 +27,11 @@ class Question:
         return f"{self.task}: {self.mistake}" if self.mistake else f"{self.task}: the answer {self.name}"
 
 
-def of_mutants(task: Task, tables: Sequence[Table]) -> list[Question]:
+def of_mutants(task: Task, tables: Sequence[Table], families: Sequence[Family] = MISTAKES) -> list[Question]:
     """The mutants of a task's reference; a Fault where they can't be made."""
-    reference = exercise.read(task.reference)
+    reference = task.reference
     try:
-        made = mutants(text_of(reference), tables)
+        made = mutants(text_of(reference), tables, families)
     except Fault as fault:
         raise Fault(f"task {shown(task.name)}: reference.sql: {fault}") from None
     return [Question(task.label, reference, mutant.text.encode(), mutant.mistake, str(number))
@@ -40,20 +40,15 @@ def of_mutants(task: Task, tables: Sequence[Table]) -> list[Question]:
 
 def written_back(task: Task) -> Question:
     """The reference as it stands in the mutants, which has to mean the same."""
-    reference = exercise.read(task.reference)
+    reference = task.reference
     return Question(task.label, reference, plain(text_of(reference)).encode(), "as it is written back", "0")
 
 
 def of_answers(task: Task) -> list[Question]:
     """The answers of a task that can be read."""
-    found = []
-    for answer in task.answers:
-        try:
-            found.append(Question(task.label, exercise.read(task.reference), answer.read(), "", answer.label))
-        except OSError:
-            continue
-    return found
+    return [Question(task.label, task.reference, answer.text.query, "", answer.label)
+            for answer in task.answers if not answer.fault]
 
 
 def text_of(query: bytes) -> str:
-    return query.decode("utf-8", "replace").removeprefix("\ufeff").strip().removesuffix(";")
+    return unmarked(query.decode("utf-8", "replace")).strip().removesuffix(";")

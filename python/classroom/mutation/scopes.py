@@ -1,12 +1,12 @@
 """Which tables and columns can be named at a place of a query."""
 from __future__ import annotations
 
-from collections.abc import Iterator, Mapping, Sequence
+from collections.abc import Iterator, Mapping
 
 from sqlglot import exp
 
 from classroom.mutation.tree import SETS, Node, bare
-from classroom.schema import Table, spelled
+from classroom.schema import spelled
 
 # The columns of a table at hand by their names, with their kinds; None where the kind is not known.
 Columns = Mapping[str, "str | None"]
@@ -20,20 +20,17 @@ def name_of(identifier: Node | None) -> str:
     return name if identifier.args.get("quoted") else name.lower()
 
 
-def identifier(name: str) -> Node:
-    return exp.Identifier(this=name, quoted=spelled(name) != name)
-
-
-def column(table: str, name: str) -> Node:
+def column(table: str, name: str) -> str:
     """TABLE.NAME, or NAME where the table is empty."""
-    return exp.Column(this=identifier(name), table=identifier(table) if table else None)
+    return f"{spelled(table)}.{spelled(name)}" if table else spelled(name)
 
 
 class Scopes:
-    """Over the tables of a schema."""
+    """Over the tables of a schema, the columns of each with their kinds."""
 
-    def __init__(self, tables: Sequence[Table]) -> None:
-        self.tables = {table.name: {column.name: column.kind for column in table.columns} for table in tables}
+    def __init__(self, tables: Mapping[str, Columns]) -> None:
+        self.tables = tables
+        self.known: dict[int, dict[str, Columns]] = {}
 
     def visible(self, node: Node) -> list[dict[str, Columns]]:
         """What can be named at a node: for each SELECT around it, the innermost first, its tables at hand."""
@@ -49,7 +46,9 @@ class Scopes:
 
     def sources(self, select: Node) -> dict[str, Columns]:
         """The tables in the FROM of a SELECT by the names that they have there."""
-        return {name_in_from(source): self.columns(source) for source in sources(select)}
+        if id(select) not in self.known:
+            self.known[id(select)] = {name_in_from(source): self.columns(source) for source in sources(select)}
+        return self.known[id(select)]
 
     def columns(self, source: Node) -> Columns:
         if isinstance(source, exp.Table):
@@ -81,6 +80,21 @@ class Scopes:
             if holders:
                 return holders[0], scope[holders[0]]
         return table, {}
+
+    def table_of(self, node: Node) -> str:
+        """The schema's table that a column is taken from; empty of a derived table's."""
+        return self.table_named(node, self.source_of(node)[0])
+
+    def table_named(self, node: Node, name: str) -> str:
+        """The schema's table that a name is at a node; empty of a derived table."""
+        at = node.parent
+        while at is not None and name:
+            if isinstance(at, exp.Select):
+                for source in sources(at):
+                    if name_in_from(source) == name:
+                        return name_of(source.this) if isinstance(source, exp.Table) else ""
+            at = at.parent
+        return ""
 
     def kind(self, node: Node) -> str | None:
         """INTEGER or TEXT; None where it isn't known."""

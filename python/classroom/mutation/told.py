@@ -7,7 +7,8 @@ from collections.abc import Iterator, Mapping, Sequence
 from dataclasses import dataclass
 
 from classroom.fault import Fault, shown
-from classroom.grades import counted
+from classroom.grades import safe
+from ratest.draw import counted
 from classroom.mutation.grading import OPEN, REFUSED, TOLD, Verdict
 from classroom.mutation.questions import Question
 
@@ -30,10 +31,10 @@ def check_written_back(back: Sequence[Question], verdicts: Sequence[Verdict]) ->
 def csv_of(made: Sequence[Told]) -> bytes:
     text = io.StringIO(newline="")
     lines = csv.writer(text, lineterminator="\n")
-    lines.writerow(("task", "mutant", "mistake", "verdict", "rows", "why", "query"))
+    lines.writerow(("task", "mutant", "mistake", "verdict", "rows", "why", "query", "decided_by"))
     for one in kept(made):
-        lines.writerow((one.of.task, one.of.name, one.of.mistake, one.verdict.kind, one.verdict.rows or "",
-                        one.verdict.why, one.of.text.decode("utf-8", "replace")))
+        lines.writerow(map(safe, (one.of.task, one.of.name, one.of.mistake, one.verdict.kind, str(one.verdict.rows or ""),
+                                  one.verdict.why, one.of.text.decode("utf-8", "replace"), one.verdict.decided_by)))
     return text.getvalue().encode("utf-8", "replace")
 
 
@@ -41,7 +42,9 @@ def lines(tasks: Sequence[str], made: Sequence[Told]) -> Iterator[str]:
     """For each task how many are told, and those that aren't."""
     for task in tasks:
         group = [one for one in made if one.of.task == task]
-        yield f"task {shown(task)}: {summary(group)}"
+        engines = sorted({one.verdict.engine for one in group} - {""})
+        tried = f", tried by {', '.join(engines)} and not proved" if engines else ""
+        yield f"task {shown(task)}: {summary(group)}{tried}"
         yield from untold(group)
 
 

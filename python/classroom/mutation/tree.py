@@ -1,8 +1,7 @@
-"""Queries as trees of sqlglot, and a tree with another node in the place of one of its own."""
+"""Queries as trees of sqlglot."""
 from __future__ import annotations
 
 from collections.abc import Iterator
-from dataclasses import dataclass
 
 import sqlglot
 from sqlglot import exp
@@ -13,14 +12,6 @@ from classroom.fault import Fault
 Node = exp.Expression
 SETS = (exp.Union, exp.Except, exp.Intersect)
 COMPARISONS = (exp.EQ, exp.NEQ, exp.LT, exp.LTE, exp.GT, exp.GTE)
-
-
-@dataclass(frozen=True)
-class Change:
-    """A mistake at a node."""
-
-    mistake: str
-    node: Node | None    # what stands in its place; None where nothing does
 
 
 def parsed(text: str) -> Node:
@@ -44,38 +35,6 @@ def nodes(tree: Node) -> Iterator[Node]:
         yield node
 
 
-def changed(tree: Node, place: int, change: Change) -> Node:
-    """A copy of the tree with a change at the node that is number `place` of `nodes`."""
-    copy = tree.copy()
-    old = next(node for number, node in enumerate(nodes(copy)) if number == place)
-    new = change.node.copy() if change.node else None
-    if old.parent is None:
-        assert new
-        return new
-    if new is None:
-        old.pop()
-    else:
-        old.replace(grouped(new, old.parent))
-    return copy
-
-
-def grouped(node: Node, parent: Node) -> Node:
-    """The node in parentheses where it would be read otherwise below its parent."""
-    if isinstance(node, exp.Connector) and isinstance(parent, (exp.Connector, exp.Not)):
-        return exp.Paren(this=node)
-    if isinstance(node, exp.Not) and isinstance(parent, (exp.Binary, exp.Is)) and not isinstance(parent, exp.Connector):
-        return exp.Paren(this=node)
-    return exp.Subquery(this=node) if isinstance(node, SETS) and isinstance(parent, SETS) else node
-
-
-def negated(condition: Node) -> Node:
-    """NOT before a condition, or its own NOT gone."""
-    if isinstance(condition, exp.Not):
-        return bare(condition.this).copy()
-    inner = condition.copy()
-    return exp.Not(this=exp.Paren(this=inner) if isinstance(inner, exp.Connector) else inner)
-
-
 def bare(node: Node) -> Node:
     while isinstance(node, exp.Paren):
         node = node.this
@@ -92,21 +51,12 @@ def conjuncts(condition: Node | None) -> list[Node]:
     return [inner]
 
 
-def all_of(conditions: list[Node]) -> Node | None:
-    """The AND of conditions; None of none."""
-    made: Node | None = None
-    for condition in conditions:
-        part = condition.copy()
-        if isinstance(part, exp.Or):
-            part = exp.Paren(this=part)
-        made = part if made is None else exp.And(this=made, expression=part)
-    return made
-
-
 def regrouped(tree: Node) -> Node:
-    """The tree with its set operators grouped as SQL does: INTERSECT first, the others from the left.
+    """The tree with its operators grouped as SQL does: INTERSECT before the other set operators, which go
+    from the left, and AND before OR.
 
-    sqlglot groups a chain of them from the right, which it writes back as it was.
+    sqlglot groups a chain of set operators from the right, and one of AND and OR from the left, which it
+    writes back as it was.
     """
     for part in list(tree.args.values()):
         for child in part if isinstance(part, list) else [part]:
@@ -114,13 +64,15 @@ def regrouped(tree: Node) -> Node:
                 new = regrouped(child)
                 if new is not child:
                     child.replace(new)
+    if isinstance(tree, exp.Connector) and not isinstance(tree.parent, exp.Connector):
+        return of_conditions(tree)
     if not isinstance(tree, SETS) or isinstance(tree.parent, SETS) and tree.arg_key == "expression":
         return tree
     operands, kinds = chain(tree)
     at = 0
     while at < len(kinds):
-        if kinds[at] is exp.Intersect:
-            operands[at:at + 2] = [combined(exp.Intersect, operands[at], operands[at + 1])]
+        if kinds[at][0] is exp.Intersect:
+            operands[at:at + 2] = [combined(kinds[at], operands[at], operands[at + 1])]
             del kinds[at]
         else:
             at += 1
@@ -130,17 +82,46 @@ def regrouped(tree: Node) -> Node:
     return made
 
 
-def chain(tree: Node) -> tuple[list[Node], list[type[Node]]]:
+# A set operator, and whether equal rows are one, as without ALL.
+Operator = tuple[type[Node], bool]
+
+
+def chain(tree: Node) -> tuple[list[Node], list[Operator]]:
     operands: list[Node] = []
-    kinds: list[type[Node]] = []
+    kinds: list[Operator] = []
     while isinstance(tree, SETS):
         operands.append(tree.this)
-        kinds.append(type(tree))
+        kinds.append((type(tree), tree.args.get("distinct") is not False))
         tree = tree.expression
     return [operand.copy() for operand in [*operands, tree]], kinds
 
 
-def combined(kind: type[Node], left: Node, right: Node) -> Node:
+def combined(operator: Operator, left: Node, right: Node) -> Node:
     """Two queries by a set operator, which themselves stand in parentheses if they are such."""
     parts = [exp.Subquery(this=part.copy()) if isinstance(part, SETS) else part.copy() for part in (left, right)]
-    return kind(this=parts[0], distinct=True, expression=parts[1])
+    kind, is_distinct = operator
+    return kind(this=parts[0], distinct=is_distinct, expression=parts[1])
+
+
+def of_conditions(tree: Node) -> Node:
+    """A chain of AND and OR, regrouped where an AND stands behind an OR."""
+    operands: list[Node] = []
+    kinds: list[type[Node]] = []
+    at = tree
+    while isinstance(at, exp.Connector):
+        operands.append(at.expression)
+        kinds.append(type(at))
+        at = at.this
+    operands, kinds = [at, *reversed(operands)], kinds[::-1]
+    if exp.Or not in kinds or exp.And not in kinds[kinds.index(exp.Or):]:
+        return tree
+    sums = [operands[0].copy()]
+    for kind, operand in zip(kinds, operands[1:]):
+        if kind is exp.And:
+            sums[-1] = exp.And(this=sums[-1], expression=operand.copy())
+        else:
+            sums.append(operand.copy())
+    made = sums[0]
+    for operand in sums[1:]:
+        made = exp.Or(this=made, expression=operand)
+    return made

@@ -1,15 +1,12 @@
 """Asks `ratest` over some rows, many queries at once or one after another, and keeps what it printed."""
 from __future__ import annotations
 
-import tempfile
-from collections.abc import Collection, Iterator, Mapping, Sequence
-from concurrent.futures import ThreadPoolExecutor
-from dataclasses import dataclass
+from collections.abc import Collection, Mapping, Sequence
+from dataclasses import dataclass, replace
 from pathlib import Path
 
-from classroom import parallel, program, witness
+from classroom import parallel, witness
 from classroom.exercise import digest
-from classroom.limited import Ran
 from classroom.mutation.questions import Question
 from classroom.picking.pool import Pool, Row
 from classroom.results import Results
@@ -30,7 +27,6 @@ class Asking:
     work: Path
     options: tuple[str, ...]
     ratest: Path
-    threads: ThreadPoolExecutor
     used: set[str]      # the keys of the records that this run needed
 
     def key(self, common: str, of: Question) -> str:
@@ -41,8 +37,7 @@ class Asking:
             part for name, text in files.items() for part in (name.encode("utf-8", "surrogateescape"), text)))
 
     def over(self, rows: Collection[Row], asked: Sequence[Question]) -> dict[Question, Outcome]:
-        """The outcomes over some rows. Many calls are spread as those of `classroom grade` are; few or short
-        ones end before GNU parallel would have begun."""
+        """The outcomes over some rows."""
         files = self.pool.files(rows)
         options = FEW_OPTIONS if len(rows) <= FEW_ROWS else self.options
         common = self.common(files, options)
@@ -55,22 +50,11 @@ class Asking:
         for key, of in left.items():
             names = (f"{digest(of.reference)}.reference", f"{key}.answer")
             jobs.append(parallel.Job(key, ("schema.sql", ".", *names, *options), names))
-        is_short = len(rows) <= FEW_ROWS or len(jobs) <= FEW_CALLS
-        runs = self.directly(jobs, {**files, **texts}) if is_short else parallel.run(
-            jobs, {"ratest": self.ratest}, files, texts, self.means, self.work)
-        for key, ran in runs:
+        is_long = len(rows) > FEW_ROWS and len(jobs) > FEW_CALLS
+        means = replace(self.means, shows_progress=self.means.shows_progress and is_long)
+        for key, ran in parallel.run(jobs, {"ratest": self.ratest}, files, texts, means, self.work):
             self.results.keep(key, ran, self.means.limits)
         return {of: self.outcome(self.key(common, of)) for of in asked}
-
-    def directly(self, jobs: Sequence[parallel.Job], files: Mapping[str, bytes]) -> Iterator[tuple[str, Ran]]:
-        with tempfile.TemporaryDirectory(dir=self.work) as name:
-            for file, text in files.items():
-                (Path(name) / file).write_bytes(text)
-
-            def one(job: parallel.Job) -> tuple[str, Ran]:
-                return job.key, program.run(self.ratest, job.words, self.means.limits, Path(name))
-
-            yield from self.threads.map(one, jobs)
 
     def outcome(self, key: str) -> Outcome:
         ran = self.results.run(key)

@@ -5,8 +5,10 @@ import random
 from collections.abc import Iterator
 
 from classroom.picking.pool import Pool, Row
+from classroom.schema import MOST_ROWS
 
-MOST_ROWS = 2000
+__all__ = ["MOST_ROWS", "chosen", "filled", "first"]
+
 # Of the rows that refer to a chosen one so many come with it, so that related rows stand together.
 MOST_RELATED = 3
 

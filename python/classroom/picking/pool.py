@@ -6,7 +6,7 @@ from dataclasses import dataclass, field
 from typing import NamedTuple, Union
 
 from ratest.tables import csv_line
-from classroom.schema import Table
+from classroom.schema import Table, marked
 from classroom.witness import Kept
 
 Cell = Union[None, int, str]
@@ -103,8 +103,7 @@ class Pool:
             lines: list[Sequence[Cell]] = [[column.name for column in held.table.columns]]
             lines += [held.rows[row.number] for row in sorted(rows) if row.table == at]
             text = "".join(map(csv_line, lines))
-            # One mark of byte order is dropped at the start of a file.
-            texts[f"{held.table.name}.csv"] = (f"\ufeff{text}" if text.startswith("\ufeff") else text).encode()
+            texts[f"{held.table.name}.csv"] = marked(text).encode()
         return texts
 
     def named(self, kept: Iterable[Kept], rows: Collection[Row]) -> frozenset[Row]:

@@ -1,10 +1,9 @@
 """The keys and foreign keys of a `schema.sql`, by which parts of its rows are lawful."""
 from __future__ import annotations
 
-from collections.abc import Iterator
 from dataclasses import dataclass, field
 
-from classroom.schema import Token, tokens
+from classroom.schema import Token, items_of
 
 
 @dataclass
@@ -19,7 +18,7 @@ class Rules:
 def rules_of(text: str) -> list[Rules]:
     """The rules of each table, in the schema's order. The text is one that `ratest` reads."""
     found: dict[str, Rules] = {}
-    for name, items in tables(list(tokens(text.removeprefix("\ufeff")))):
+    for name, items in items_of(text):
         found[name] = rules = Rules()
         for item in items:
             add(rules, item)
@@ -27,29 +26,6 @@ def rules_of(text: str) -> list[Rules]:
         for _, table, to in rules.foreigns:
             to[:] = to or found[table].primary
     return list(found.values())
-
-
-def tables(found: list[Token]) -> Iterator[tuple[str, list[list[Token]]]]:
-    """Each table with the tokens of its items."""
-    at = 0
-    while at < len(found):
-        if found[at] != Token("word", "table"):
-            at += 1
-            continue
-        while found[at + 1] != Token("other", "("):
-            at += 1
-        name, items, depth = found[at].text, [[]], 0    # type: tuple[str, list[list[Token]], int]
-        while True:
-            at += 1
-            sign = found[at].text if found[at].kind == "other" else ""
-            depth += (sign == "(") - (sign == ")")
-            if depth == 0:
-                break
-            if depth == 1 and sign == ",":
-                items.append([])
-            elif depth > 1 or sign != "(":
-                items[-1].append(found[at])
-        yield name, items
 
 
 def add(rules: Rules, item: list[Token]) -> None:

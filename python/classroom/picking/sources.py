@@ -7,12 +7,12 @@ import re
 from pathlib import Path
 
 from classroom import exercise
-from classroom.commands.import_ import opened
 from classroom.database import export
+from classroom.database.named import opened
 from classroom.fault import Fault, shown
 from classroom.picking.pool import Cell, Foreign, Held, Pool
 from classroom.picking.rules import rules_of
-from classroom.schema import Column, Table, tables_of
+from classroom.schema import Column, Table, tables_of, unmarked
 
 
 def read(source: str) -> tuple[Pool, list[str]]:
@@ -67,10 +67,10 @@ def of_exercise(folder: Path) -> Pool:
 def rows_of(path: Path, table: Table) -> list[tuple[Cell, ...]]:
     """The rows of a CSV file of any length."""
     try:
-        text = path.read_bytes().decode("utf-8").removeprefix("\ufeff")
+        text = path.read_bytes().decode("utf-8")
     except UnicodeDecodeError:
         raise Fault(f"{shown(str(path))}: not UTF-8") from None
-    lines = [line for line in csv.reader(io.StringIO(text, newline="")) if line]
+    lines = [line for line in csv.reader(io.StringIO(unmarked(text), newline="")) if line]
     rows: list[tuple[Cell, ...]] = []
     for number, line in enumerate(lines[1:], 1):
         if len(line) != len(table.columns):

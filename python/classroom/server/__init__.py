@@ -4,7 +4,7 @@
     asker        one question: what is kept of it, else a call of `ratest`
     child        the words around that call: no environment, no network
     waiting      so many calls at once, and a queue of bounded length
-    kept         the outcomes that are kept in memory
+    recent       the outcomes that are kept in memory
     asked        what was asked, in SQLite
     visitors     who asks, and how many counterexamples an hour are shown
     places       the line and the column of a byte

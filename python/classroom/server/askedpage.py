@@ -6,14 +6,15 @@ from collections.abc import Sequence
 from dataclasses import dataclass
 from pathlib import Path
 
-from classroom import classpage, draw, witness
+from classroom import classpage, draw
+from classroom.classpage import Showing
 from classroom.draw import Drawing, counted
-from classroom.exercise import Answer, Exercise, Task, digest, read
-from classroom.grades import AGREES, Graded
-from classroom.results import shared_digest
+from classroom.exercise import Answer, Exercise, Task, digest
+from classroom.grades import Grade, Graded, graded, with_trial
 from classroom.schema import Table
 from classroom.server import asked
 from classroom.server.asked import Text
+from classroom.texts import Text as Submitted
 
 # Of the texts of one mistake.
 MOST_TEXTS = 20
@@ -56,43 +57,40 @@ class Page:
     tasks: tuple[TaskPart, ...]
 
 
-def page_of(given: Exercise, log: Path, shows_reference: bool) -> bytes:
+def page_of(given: Exercise, log: Path, showing: Showing) -> bytes:
     """The page as HTML, of the questions in a file."""
     found = list(asked.texts(log))
-    shared, tables = shared_digest(given), given.tables()
     parts = []
     for task in given.tasks:
-        reference = read(task.reference)
-        own = [text for text in found if text.task == task.label
-               and text.key == asked.key_of(shared, task.label, digest(reference), text.text)]
-        parts.append(TaskPart(task.label, classpage.text_of(reference) if shows_reference else None,
-                              sum(text.count for text in own), mistakes(task, own, tables)))
+        own = [text for text in found if (text.task, text.exercise, text.reference) == (
+            task.label, given.digest, digest(task.reference))]
+        parts.append(TaskPart(task.title, classpage.text_of(task.reference) if showing.solutions else None,
+                              sum(text.count for text in own), mistakes(task, own, given, showing)))
     known = sum(part.count for part in parts)
     page = Page(given.title, counted(known, "question"), sum(text.count for text in found) - known, tuple(parts))
     return draw.environment().get_template("asked.html").render(page=page).encode("utf-8", "replace")
 
 
-def mistakes(task: Task, texts: Sequence[Text], tables: Sequence[Table]) -> tuple[Mistake, ...]:
+def mistakes(task: Task, texts: Sequence[Text], given: Exercise, showing: Showing) -> tuple[Mistake, ...]:
     """By their outcomes, the most frequent first and what agrees last."""
     groups: dict[object, list[tuple[Text, Graded]]] = {}
     for text in texts:
-        graded = Graded(task, Answer("", task.reference), text.text.encode("utf-8", "replace"), text.ran,
-                        witness.read(text.ran, tables))
-        same = (graded.grade, None if graded.grade == AGREES else graded.outcome)
-        groups.setdefault(same, []).append((text, graded))
-    made = [mistake(members, tables) for members in groups.values()]
-    return tuple(sorted(made, key=lambda of: (of.kind == AGREES, -of.count)))
+        query = text.text.encode("utf-8", "replace")
+        one = graded(task, Answer("", Submitted(query, query)), given.tables, text.ran)
+        if text.trial:
+            one = with_trial(one, text.trial, given.settings)
+        same = (one.grade, None if one.grade == Grade.AGREES else one.trial.outcome if one.trial and one.is_tried else one.outcome)
+        groups.setdefault(same, []).append((text, one))
+    made = [mistake(members, given.tables, showing) for members in groups.values()]
+    return tuple(sorted(made, key=lambda of: (of.kind == Grade.AGREES.css, -of.count)))
 
 
-def mistake(members: Sequence[tuple[Text, Graded]], tables: Sequence[Table]) -> Mistake:
-    graded = members[0][1]
-    outcome = graded.outcome
-    drawn = None
-    if isinstance(outcome, witness.Witness) or isinstance(outcome, witness.Undecided) and outcome.best:
-        drawn = draw.drawing(outcome, tables)
+def mistake(members: Sequence[tuple[Text, Graded]], tables: Sequence[Table], showing: Showing) -> Mistake:
+    first = members[0][1]
+    shown = members[:MOST_TEXTS] if classpage.shows_text(first, showing) else []
     return Mistake(
-        graded.grade.replace(" ", "-"), classpage.words(graded),
-        graded.fault if isinstance(outcome, witness.NoVerdict) else "",
+        classpage.css(first), classpage.words(first, showing.solutions),
+        first.fault if classpage.is_unreadable(first) and showing.solutions else "",
         sum(text.count for text, _ in members), len(members),
-        tuple(Shown(f"Asked {counted(text.count, 'time')}", classpage.text_of(of.text)) for text, of in members[:MOST_TEXTS]),
-        drawn)
+        tuple(Shown(f"Asked {counted(text.count, 'time')}", classpage.text_of(of.answer.text.whole)) for text, of in shown),
+        classpage.drawing_of(first, tables))

@@ -1,9 +1,8 @@
-"""Who asks, where the number of counterexamples an hour is bounded.
+"""Who asks, as far as counting needs it, and how many counterexamples each was shown within the last hour.
 
-Nobody is known by name. A visitor is a random cookie that this server has signed; or, behind a web server
-that asks for a login, the digest of the name that it sends. Every digest is made with a secret that is drawn
-at the start and never written. Who drops the cookie is a new visitor, so an address may in all see no
-more than so many visitors would.
+Nobody is known by name. A visitor is a random cookie that this server has signed; or, behind a web server that asks
+for a login, the digest of the name that it sends. Every digest is made with a secret that is drawn at the start and
+never written. Who drops the cookie is a new visitor, so a network may in all see no more than so many visitors would.
 """
 from __future__ import annotations
 
@@ -11,62 +10,72 @@ import hashlib
 import hmac
 import secrets
 import threading
-import time
-from collections import OrderedDict
 from dataclasses import dataclass
 
-HOUR = 3600.0
-# Visitors of one address: a room of computers behind one router.
+import itsdangerous
+import limits
+from limits.storage import MemoryStorage
+from limits.strategies import MovingWindowRateLimiter
+
+# Visitors of one network: a room of computers behind one router.
 SHARING = 30
-MOST_KNOWN = 50_000
 
 
 @dataclass(frozen=True)
 class Visitor:
-    """By what a visitor is counted: keys, each with how many visitors it may stand for."""
+    """By what a visitor is counted."""
 
-    keys: tuple[tuple[str, int], ...]
-    cookie: str | None    # one that has to be set
+    key: str                 # of the visitor, by whom one question is answered at a time
+    network: str             # of all behind one address; empty for a login
+    cookie: str | None       # one that has to be set
+    login: str = ""          # the name itself; empty where there is none
+
+    @property
+    def is_known(self) -> bool:
+        """Whether it showed who it is: by a login, or a cookie that this server gave."""
+        return self.cookie is None
 
 
 class Visitors:
-    """Counts the counterexamples that each visitor was shown within the last hour."""
+    """Knows visitors again, and counts what each was shown."""
 
-    def __init__(self, hourly: int) -> None:
+    def __init__(self, hourly: int | None) -> None:
+        """`hourly` counterexamples for each; None where their number is not bounded."""
         self.hourly = hourly
         self._secret = secrets.token_bytes(32)
-        self._shown: OrderedDict[str, dict[str, float]] = OrderedDict()
+        self._signer = itsdangerous.Signer(self._secret, salt="visitor", digest_method=hashlib.sha256)
+        # The limiter itself holds it by a weak reference.
+        self._storage = MemoryStorage()
+        self._limiter = MovingWindowRateLimiter(self._storage)
         self._lock = threading.Lock()
 
-    def visitor(self, cookie: str, address: str, user: str) -> Visitor:
-        """Who sent this cookie from this address; `user` is the name of a login, empty where there is none."""
-        if user:
-            return Visitor(((self._digest("user", user), 1),), None)
-        name, _, signature = cookie.partition(".")
-        new = None
-        if not hmac.compare_digest(signature.encode(), self._digest("cookie", name).encode()):
+    def visitor(self, cookie: str, network: str, login: str) -> Visitor:
+        """Who sent this cookie from this network; `login` is empty where there is none."""
+        if login:
+            return Visitor(self._digest("login", login), "", None, login)
+        try:
+            name, new = self._signer.unsign(cookie).decode("ascii"), None
+        except (itsdangerous.BadSignature, UnicodeError):
             name = secrets.token_hex(16)
-            new = f"{name}.{self._digest('cookie', name)}"
-        return Visitor(((self._digest("visitor", name), 1), (self._digest("address", address), SHARING)), new)
+            new = self._signer.sign(name).decode("ascii")
+        return Visitor(self._digest("visitor", name), self._digest("network", network), new)
 
-    def may_see(self, visitor: Visitor, counterexample: str, now: float | None = None) -> bool:
-        """Whether a visitor is shown this counterexample, which then counts; one that was shown within the
+    def may_see(self, visitor: Visitor, shown: str) -> bool:
+        """Whether a visitor is shown this counterexample, or hint, which then counts; one that was shown within the
         hour counts no second time."""
-        moment = time.monotonic() if now is None else now
-        with self._lock:
-            known = [(self._recent(key, moment), times * self.hourly) for key, times in visitor.keys]
-            if any(counterexample not in seen and len(seen) >= most for seen, most in known):
-                return False
-            for seen, _ in known:
-                seen.setdefault(counterexample, moment)
+        if self.hourly is None:
             return True
-
-    def _recent(self, key: str, now: float) -> dict[str, float]:
-        seen = {name: moment for name, moment in self._shown.pop(key, {}).items() if now - moment < HOUR}
-        self._shown[key] = seen
-        if len(self._shown) > MOST_KNOWN:
-            self._shown.popitem(last=False)
-        return seen
+        bounds = [(key, limits.RateLimitItemPerHour(times * self.hourly))
+                  for key, times in ((visitor.key, 1), (visitor.network, SHARING)) if key]
+        once = limits.RateLimitItemPerHour(1)
+        with self._lock:
+            new = [(key, most) for key, most in bounds if self._limiter.test(once, key, shown)]
+            if not all(self._limiter.test(most, key) for key, most in new):
+                return False
+            for key, most in new:
+                self._limiter.hit(once, key, shown)
+                self._limiter.hit(most, key)
+        return True
 
     def _digest(self, kind: str, text: str) -> str:
         return hmac.new(self._secret, f"{kind} {text}".encode("utf-8", "replace"), hashlib.sha256).hexdigest()[:32]

@@ -3,7 +3,7 @@ use Rattle.rt_clause.specs.Literal.{Literal, negated}
 use Rattle.rt_formula.specs.Shared.{val}
 use Rattle.rt_totalizer.specs.Outputs.{CountsRows, output_at}
 use Rattle.rt_cert.specs.Encodes.{Encodes}
-use Rattle.rt_cert.proofs.Encoded.{at-any, output_by, counter-encodes, formula-encodes}
+use Rattle.rt_cert.proofs.EncodedLemmas.{at-any, output_by, counter-encodes, formula-encodes}
 use Rattle.rt_cert.proofs.goal.encode_goal.Goals as goal
 
 pub returns-then-most-eq0 : goal.returns-then-most-eq0

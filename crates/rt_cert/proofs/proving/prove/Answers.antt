@@ -3,10 +3,10 @@ use Rattle.std.specs.Prelude.{Option, IfSome}
 use Rattle.std.specs.Option.{option_map}
 use Rattle.rt_recorder.specs.Certificate.{ArePlaces}
 use Rattle.rt_cert.specs.Encoding.{IsEncoding}
-use Rattle.rt_cert.specs.Certified.{IsToBeRefuted, rows_of}
+use Rattle.rt_cert.specs.Certified.{IsToBeRefuted, claim_fault, rows_of}
 use Rattle.rt_cert.specs.Least.{IsSmallestOrNone}
 use Rattle.rt_cert.specs.Places.{keep_of}
-use Rattle.rt_cert.proofs.ClaimLemmas.{kept-back, kept-fit}
+use Rattle.rt_cert.proofs.ClaimLemmas.{kept-back, kept-fit, verdict-stands}
 use Rattle.rt_cert.proofs.LeastLemmas.{verdict-long}
 use Rattle.rt_cert.proofs.proving.prove.Goals as goal
 
@@ -30,6 +30,7 @@ returns-clause-proof c =
         added = omega (arith, c.if-added-ge-MOST_LINES.false);
         steps = c.in_ok-steps.ensures.spelled;
       };
+      claim = ap (claim_fault input) c.in_ok-keep.ensures ∙ verdict-stands input c.args.keep.now c.requires;
       verdict = subst (IsSmallestOrNone input) (sym same) c.requires;
       encoding = subst (λ (k : Option (List Bool)). IsEncoding input k lines assume) (sym same) c.in_ok-encoded.ensures;
       added = sym c.len-added.ensures;

@@ -1,28 +1,10 @@
-use Rattle.std.proofs.Common.{List, Bool, Option, Some, subst, arith}
-use Rattle.rt_solver.specs.Answers.{IsReply}
-use Rattle.rt_solver.specs.Solving.{variables}
-use Rattle.rt_least.proofs.Attempts.{grown-on, reply-model}
+use Rattle.std.proofs.Common.{Some, subst}
+use Rattle.rt_least.specs.Attempts.{IsReply}
+use Rattle.rt_least.specs.declared.ask.Reply.{Reply}
+use Rattle.rt_least.proofs.Attempts.{denied-none}
 use Rattle.rt_least.proofs.ask.ask.Goals as goal
 
-pub rows_of-requires : goal.rows_of-requires
-rows_of-requires c =
-    let S : Option (List Bool) → Type 0 = λ o. IsReply c.seek.new.self.0.lines (Some c.args.held) c.args.asked (variables c.args.solver.now.0.lines (Some c.args.held) c.args.next) o in
-    let m = reply-model c.args.solver.now.0.lines c.seek.new.self.0.lines c.args.held c.args.asked c.args.next c.args.rows c.in-Some.model c.requires.rows (subst S c.in-Some.is c.in_ok-model.ensures.sought) in
-    m.0
-
-pub returns-in_ok-keep-in-Some-clause-grown : goal.returns-in_ok-keep-in-Some-clause-grown
-returns-in_ok-keep-in-Some-clause-grown c = grown-on _ _ _ _ (Some c.args.held) c.args.next c.args.next (omega arith) c.in_ok-model.ensures.searched
-
-pub returns-in_ok-keep-in-Some-clause-answered : goal.returns-in_ok-keep-in-Some-clause-answered
-returns-in_ok-keep-in-Some-clause-answered c =
-    let S : Option (List Bool) → Type 0 = λ o. IsReply c.seek.new.self.0.lines (Some c.args.held) c.args.asked (variables c.args.solver.now.0.lines (Some c.args.held) c.args.next) o in
-    let m = reply-model c.args.solver.now.0.lines c.seek.new.self.0.lines c.args.held c.args.asked c.args.next c.args.rows c.in-Some.model c.requires.rows (subst S c.in-Some.is c.in_ok-model.ensures.sought) in
-    (c.in-Some.model, m.0, m.1, m.2, c.in_ok-keep-in-Some.ensures)
-
-pub returns-in-None-clause-grown : goal.returns-in-None-clause-grown
-returns-in-None-clause-grown c = grown-on _ _ _ _ (Some c.args.held) c.args.next c.args.next (omega arith) c.in_ok-model.ensures.searched
-
-pub returns-in-None-clause-answered : goal.returns-in-None-clause-answered
-returns-in-None-clause-answered c =
-    let S : Option (List Bool) → Type 0 = λ o. IsReply c.seek.new.self.0.lines (Some c.args.held) c.args.asked (variables c.args.solver.now.0.lines (Some c.args.held) c.args.next) o in
-    subst S c.in-None.is c.in_ok-model.ensures.sought
+pub returns-in-Denied-clause-answered : goal.returns-in-Denied-clause-answered
+returns-in-Denied-clause-answered c =
+    let R : Reply → Type 0 = λ r. IsReply c.put_question.new.solver.0.lines c.args.held c.args.asked c.args.rows r in
+    denied-none c.put_question.new.solver.0.lines (Some c.args.held) c.args.asked c.in-Denied.field-0 (subst R c.in-Denied.is c.in_ok-keep.ensures.reply)

@@ -11,16 +11,17 @@ use Rattle.rt_solver.proofs.solver.find.Goals.{in-Whole+in_ok-values-in-Whole, i
 use Rattle.rt_solver.specs.Analysis.{IsRested}
 use Rattle.rt_solver.specs.Fixed.{AreSmallest, IsInOrder}
 use Rattle.rt_solver.proofs.Ordered.{greatest, if-fixed, read-true}
-use Rattle.rt_solver.proofs.Seeks.{if-some, asked-bound, denied-none}
+use Rattle.rt_solver.proofs.Seeks.{if-some, all-some, asked-bound}
+use Rattle.rt_solver.proofs.Denials.{refuted-denied}
 use Rattle.rt_solver.proofs.solver.find.Goals as goal
 
 pub returns-then-vars-gt-MOST_VARIABLES-clause-searched : goal.returns-then-vars-gt-MOST_VARIABLES-clause-searched
 returns-then-vars-gt-MOST_VARIABLES-clause-searched g c =
-    searched-none _ _ _ _ c.args.assume.now c.args.first _ refl refl
+    searched-none _ _ _ _ c.args.assume.now c.args.question.now c.args.first _ refl refl
 
 pub returns-in_err-trail-clause-searched : goal.returns-in_err-trail-clause-searched
 returns-in_err-trail-clause-searched g c =
-    searched-none _ _ _ _ c.args.assume.now c.args.first _ refl refl
+    searched-none _ _ _ _ c.args.assume.now c.args.question.now c.args.first _ refl refl
 
 pub run-requires-clause-ready : goal.run-requires-clause-ready
 run-requires-clause-ready g c = begun-ready (g.L.Adds.lines c.args.base.now.0) c.args.assume.now c.args.first _ _ c.in_ok-trail.trail c.vars.ensures.is c.variables_of-vars.ensures c.in_ok-trail.ensures
@@ -43,15 +44,15 @@ pub returns-clause-replied : goal.returns-clause-replied
 returns-clause-replied g c =
     let r = c.in_ok-run.ensures in
     let P : Option Found → Type 0 = λ o. IsReplied (g.L.Adds.lines c.run.new.base.0) c.args.assume.now c.args.question.now o in
-    let S : Ending → Type 0 = λ e. IsSettled c.args.question.now c.run.new.trail.steps e in
+    let S : Ending → Type 0 = λ e. IsSettled (g.L.Adds.lines c.run.new.base.0) c.args.assume.now c.args.question.now c.run.new.trail.steps e in
     let E : Ending → Type 0 = λ e. IsEnding (g.L.Adds.lines c.args.base.now.0) (g.L.Adds.lines c.run.new.base.0) c.args.assume.now c.args.first c.run.new.trail c.args.budget e in
     elim c.match-branch-5.branch [
       | in-Whole+in_ok-values-in-Whole w ↦ (let e = subst E w.in-Whole.is r.ending in subst P (sym w.found-is)
           (if-some _ _ c.args.question.now (λ a h. read-true c.run.new.trail.vars c.run.new.trail.steps _ e.0.apart w.in_ok-values-in-Whole.ensures.reads a h) (subst S w.in-Whole.is r.settled)))
-      | in-Refuted w ↦ subst P (sym w.found-is) tt
+      | in-Refuted w ↦ (let e = subst E w.in-Refuted.is r.ending in let d = refuted _ e.0 (g.L.Adds.lines c.run.new.base.0) c.args.assume.now refl e.1 in
+          subst P (sym w.found-is) (all-some _ c.args.question.now (λ a. refuted-denied (g.L.Adds.lines c.run.new.base.0) c.args.assume.now a d)))
       | in-Spent w ↦ subst P (sym w.found-is) tt
-      | in-Missed w ↦ (let e = subst E w.in-Missed.is r.ending in subst P (sym w.found-is)
-          (denied-none (g.L.Adds.lines c.run.new.base.0) c.args.assume.now c.args.question.now c.run.new.trail.steps e.founded (subst S w.in-Missed.is r.settled)))
+      | in-Missed w ↦ subst P (sym w.found-is) (subst S w.in-Missed.is r.settled)
     ]
 
 pub returns-clause-order : goal.returns-clause-order
@@ -71,7 +72,7 @@ returns-clause-order g c =
 
 pub returns-in_err-begin-clause-searched : goal.returns-in_err-begin-clause-searched
 returns-in_err-begin-clause-searched g c =
-    searched-none _ _ _ _ c.args.assume.now c.args.first _ refl refl
+    searched-none _ _ _ _ c.args.assume.now c.args.question.now c.args.first _ refl refl
 
 pub run-requires-clause-offered : goal.run-requires-clause-offered
 run-requires-clause-offered g c = c.in_ok-begin.ensures.offered c.in_ok-trail.trail.steps
@@ -89,17 +90,17 @@ returns-clause-unspent g c =
 
 pub returns-in_err-run-clause-searched : goal.returns-in_err-run-clause-searched
 returns-in_err-run-clause-searched g c =
-    let H : ℕ → Type 0 = λ n. HasSearched (g.L.Adds.lines c.args.base.now.0) (g.L.Adds.lines c.run.new.base.0) (g.L.Adds.derived c.args.base.now.0) (g.L.Adds.derived c.run.new.base.0) c.args.assume.now c.args.first n in
+    let H : ℕ → Type 0 = λ n. HasSearched (g.L.Adds.lines c.args.base.now.0) (g.L.Adds.lines c.run.new.base.0) (g.L.Adds.derived c.args.base.now.0) (g.L.Adds.derived c.run.new.base.0) c.args.assume.now c.args.question.now c.args.first n in
     subst H (c.in_ok-trail.ensures.vars ∙ c.variables_of-vars.ensures ∙ ap (λ n. reach (max c.args.first n) (option_to_list c.args.assume.now)) c.vars.ensures.is) c.in_err-run.ensures.searched
 
 pub returns-in_err-values-in-Whole-clause-searched : goal.returns-in_err-values-in-Whole-clause-searched
 returns-in_err-values-in-Whole-clause-searched g c =
-    let H : ℕ → Type 0 = λ n. HasSearched (g.L.Adds.lines c.args.base.now.0) (g.L.Adds.lines c.run.new.base.0) (g.L.Adds.derived c.args.base.now.0) (g.L.Adds.derived c.run.new.base.0) c.args.assume.now c.args.first n in
+    let H : ℕ → Type 0 = λ n. HasSearched (g.L.Adds.lines c.args.base.now.0) (g.L.Adds.lines c.run.new.base.0) (g.L.Adds.derived c.args.base.now.0) (g.L.Adds.derived c.run.new.base.0) c.args.assume.now c.args.question.now c.args.first n in
     subst H (c.in_ok-trail.ensures.vars ∙ c.variables_of-vars.ensures ∙ ap (λ n. reach (max c.args.first n) (option_to_list c.args.assume.now)) c.vars.ensures.is) c.in_ok-run.ensures.searched
 
 pub returns-clause-searched : goal.returns-clause-searched
 returns-clause-searched g c =
-    let H : ℕ → Type 0 = λ n. HasSearched (g.L.Adds.lines c.args.base.now.0) (g.L.Adds.lines c.run.new.base.0) (g.L.Adds.derived c.args.base.now.0) (g.L.Adds.derived c.run.new.base.0) c.args.assume.now c.args.first n in
+    let H : ℕ → Type 0 = λ n. HasSearched (g.L.Adds.lines c.args.base.now.0) (g.L.Adds.lines c.run.new.base.0) (g.L.Adds.derived c.args.base.now.0) (g.L.Adds.derived c.run.new.base.0) c.args.assume.now c.args.question.now c.args.first n in
     subst H (c.in_ok-trail.ensures.vars ∙ c.variables_of-vars.ensures ∙ ap (λ n. reach (max c.args.first n) (option_to_list c.args.assume.now)) c.vars.ensures.is) c.in_ok-run.ensures.searched
 
 pub begun-requires : goal.begun-requires
@@ -131,4 +132,4 @@ run-requires-clause-rested g c = let W : ℕ → Type 0 = λ n. IsRested n c.in_
 
 pub returns-in_err-walk-clause-searched : goal.returns-in_err-walk-clause-searched
 returns-in_err-walk-clause-searched g c =
-    searched-none _ _ _ _ c.args.assume.now c.args.first _ refl refl
+    searched-none _ _ _ _ c.args.assume.now c.args.question.now c.args.first _ refl refl

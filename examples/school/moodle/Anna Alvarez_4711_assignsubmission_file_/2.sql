@@ -1,0 +1,1 @@
+SELECT name, (SELECT COUNT(*) FROM reg WHERE student = id) FROM student

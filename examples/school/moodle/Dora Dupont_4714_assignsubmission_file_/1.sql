@@ -1,0 +1,1 @@
+SELECT name FROM student GROUP BY name HAVING max(grade) <= 4

@@ -1,0 +1,132 @@
+"""Collects the answers of a class from what a learning platform exports.
+
+SOURCE is a zip file or a folder. Its form is told by the names in it, or by --form:
+
+    moodle      Full Name_12345_assignsubmission_file_/FILE.sql, .._onlinetext_/onlinetext.html
+    canvas      lastfirst_123_45678_FILE.sql, lastfirst_LATE_123_45678_FILE.sql
+    nbgrader    submitted/ID/ASSIGNMENT/FILE.sql
+    folders     ID/FILE.sql
+
+With --asked there is no SOURCE: the last text that each login handed in at the page of `classroom serve` before the
+exercise closed is the answer.
+
+The answers go to EXERCISE/TASK/answers/ID.sql. The id is that of the class list (class/students.csv, or --students),
+which knows the numbers by its columns moodle and canvas; without it, the name in the archive. The task of a file is
+that of --task; else that of its name; else the file is split at comments `-- task T`. Of several submissions of one
+student Canvas's last one counts.
+
+Where each answer came from is written to EXERCISE/class/collected.csv. An answer that is there already with another
+text is kept, and named, unless --force is given. So the same command may be run again.
+
+Exit status: 0 where everything is placed, 1 where something could not be placed or was kept, which standard error
+tells, 2 for words that can't be read.
+"""
+from __future__ import annotations
+
+import argparse
+import logging
+import re
+from pathlib import Path
+
+from classroom import exercise, students
+from classroom.fault import Fault, shown
+from classroom.intake import archive, collecting, forms, placing
+from classroom.intake.archive import Member
+from classroom.intake.forms import Handed
+from classroom.server import handedin
+from classroom.server.asked import LOG
+from classroom.server.course import place_of_hand_ins
+
+SUMMARY = "collect answers from a platform's archive"
+log = logging.getLogger(__name__)
+
+
+def add_arguments(parser: argparse.ArgumentParser) -> None:
+    parser.add_argument("source", metavar="SOURCE", type=Path, nargs="?", help="the archive of the platform, or its folder")
+    parser.add_argument("exercise", metavar="EXERCISE", type=Path, help="the folder of the exercise")
+    parser.add_argument("--form", choices=sorted(forms.FORMS), help="the form of the archive, where its names don't tell it")
+    parser.add_argument("--task", metavar="T", help="all files are answers to this task")
+    parser.add_argument("--task-pattern", metavar="RE", type=pattern, default=re.compile(placing.SPLIT, re.M | re.I),
+                        help="what begins the answer to a task in a file with several: a regular expression, whose first group is the task")
+    parser.add_argument("--students", metavar="FILE", type=Path, help="the class list (what `students` of exercise.toml names, else EXERCISE/class/students.csv)")
+    parser.add_argument("--asked", action="store_true", help="what was handed in at the page of `classroom serve`")
+    parser.add_argument("--asked-file", metavar="FILE", type=Path, help="the --asked-file of the server (EXERCISE/results/asked.db)")
+    parser.add_argument("--force", action="store_true", help="write over answers that are there with another text")
+    parser.add_argument("--dry-run", action="store_true", help="write nothing, and tell what would be done")
+
+
+def pattern(word: str) -> re.Pattern[str]:
+    try:
+        made = re.compile(word, re.MULTILINE | re.IGNORECASE)
+    except re.error as fault:
+        raise argparse.ArgumentTypeError(f"no regular expression: {fault}") from None
+    if made.groups < 1:
+        raise argparse.ArgumentTypeError("it has no group, which would be the task")
+    return made
+
+
+def run(arguments: argparse.Namespace) -> int:
+    given = exercise.load(arguments.exercise)
+    tasks = {task.label: task for task in given.tasks}
+    if arguments.task is not None and arguments.task not in tasks:
+        raise Fault(f"there is no task {shown(arguments.task)}")
+    is_asked = bool(arguments.asked or arguments.asked_file)
+    if is_asked == (arguments.source is not None):
+        raise Fault("either SOURCE or --asked is wanted")
+    listed = students.read(arguments.students or given.folder / given.settings.students)
+    if is_asked:
+        log_file = arguments.asked_file or given.results / LOG
+        answers, rest = of_page(place_of_hand_ins(log_file), given, listed)
+        source = "the page"
+    else:
+        answers, rest = of_archive(arguments, tuple(tasks), listed)
+        source = arguments.source.name
+    done = collecting.collect(given.folder, {name: task.folder for name, task in tasks.items()}, answers, source, arguments.force,
+                              not arguments.dry_run)
+    return tell(answers, rest, done, listed)
+
+
+def of_archive(arguments: argparse.Namespace, tasks: tuple[str, ...],
+               listed: students.ClassList) -> tuple[list[placing.Placed], list[placing.NotPlaced]]:
+    """The answers in an archive, and what could not be placed."""
+    found = list(archive.members(arguments.source))
+    unread = [placing.NotPlaced(one.label, one.fault) for one in found if one.fault]
+    readable = [one for one in found if not one.fault]
+    handed, others = forms.handed(readable, arguments.form or forms.form_of(readable))
+    answers, rest = placing.placed(handed, placing.Rules(tasks, listed, arguments.task, arguments.task_pattern))
+    return answers, [*rest, *unread, *(placing.NotPlaced(one.label, "its name has not the form of the others") for one in others)]
+
+
+def of_page(path: Path, given: exercise.Exercise,
+            listed: students.ClassList) -> tuple[list[placing.Placed], list[placing.NotPlaced]]:
+    """What was handed in at the page in time."""
+    tasks = {task.label for task in given.tasks}
+    answers, rest = [], []
+    for one in handedin.last_before(path, given.settings.closes):
+        label = f"{one.login}, task {one.task}, {one.time.isoformat(' ')}"
+        student = listed.known("id", one.login)
+        name = student.id if student else one.login
+        why = students.fault_of_id(name) if one.task in tasks else "there is no such task"
+        if why:
+            rest.append(placing.NotPlaced(label, why))
+        else:
+            member = Member((label,), one.text.encode("utf-8", "replace"))
+            answers.append(placing.Placed(one.task, name, member.content, Handed(member, "id", name, name, label), student is not None))
+    return answers, rest
+
+
+def tell(answers: list[placing.Placed], rest: list[placing.NotPlaced], done: collecting.Collected,
+         listed: students.ClassList) -> int:
+    """Prints what was done; gives the exit status."""
+    for one in sorted(rest, key=lambda one: one.label):
+        log.warning("not placed: %s: %s", shown(one.label), one.why)
+    for answer in done.kept:
+        log.warning("kept: the answer of %s to task %s is there with another text; --force writes it over",
+                    shown(answer.student), shown(answer.task))
+    strangers = sorted({answer.student for answer in answers if not answer.listed}) if listed.students else []
+    if strangers:
+        log.warning("not in the class list: %s", shown(*strangers))
+    people = len({answer.student for answer in answers})
+    print(f"{people} students, {len(answers)} answers: {done.new} new, {done.replaced} replaced, {done.same} as they were, "
+          f"{len(done.kept)} kept")
+    return 1 if rest or done.kept or strangers else 0

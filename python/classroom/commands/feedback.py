@@ -1,0 +1,107 @@
+"""Writes for each student a page and a Markdown text: the own answers, their verdicts, and the rows on which they go
+wrong, as tables and as SQL to try. Nothing of another student is in them, and no text of a reference.
+
+The exercise has to be graded. The students are those of the class list (class/students.csv, or --students), and those
+who answered; without a list, the names of the answers. The files are EXERCISE/results/feedback/ID.html and ID.md.
+
+    --zip moodle      feedback/moodle.zip, with the folders of the submissions, to upload as feedback files
+    --zip nbgrader    feedback/nbgrader.zip, feedback/ID/ASSIGNMENT/feedback.html
+    --for moodle      feedback/moodle.csv: Identifier, Full name, Grade, Feedback comments
+    --for canvas      feedback/canvas.csv: Student, ID, SIS Login ID, Section, the assignment's column
+    --for gradescope  feedback/gradescope.json, the results.json of one student
+
+Where `classroom mistakes` has looked for them, hints say where the mistake is, up to the step that `hints` of
+exercise.toml names and from `hints_from` on; a page shows each when it is opened.
+
+--reference adds the references, for after the deadline: before `closes` of exercise.toml it is refused.
+
+Exit status: 0 where everything is written, 1 where something is missing, changed since it was graded, or somebody is
+not in a platform's file, which standard error tells, 2 for words that can't be read.
+"""
+from __future__ import annotations
+
+import argparse
+import hashlib
+import logging
+from datetime import datetime, timezone
+from pathlib import Path
+
+from classroom import draw, exercise, options, standing, students
+from classroom.exercise import Exercise
+from classroom.fault import Fault, shown
+from classroom.feedback import markdown, platforms, sheet
+from classroom.feedback.platforms import Back
+from classroom.intake import collecting
+from classroom.repair.whole import Mistakes
+from classroom.results import Results
+from classroom.written import Written
+
+SUMMARY = "write to each student what became of the answers"
+FOLDER = "feedback"
+log = logging.getLogger(__name__)
+
+
+def add_arguments(parser: argparse.ArgumentParser) -> None:
+    options.exercise(parser, ", graded")
+    parser.add_argument("--students", metavar="FILE", type=Path,
+                        help="the class list (what `students` of exercise.toml names, else EXERCISE/class/students.csv)")
+    parser.add_argument("--reference", action="store_true", help="with the references, for after the deadline")
+    parser.add_argument("--zip", choices=sorted(platforms.FOLDERS), action="append", default=[], help="the pages in an archive for this platform")
+    parser.add_argument("--for", choices=[*sorted(platforms.TABLES), platforms.GRADESCOPE], action="append", default=[], dest="tables",
+                        help="the points in the form of this platform")
+    parser.add_argument("--visibility", choices=platforms.VISIBILITIES, default="visible", help="of the tests at Gradescope (visible)")
+    parser.add_argument("--assignment", metavar="NAME", help="how the platform calls the exercise (its title)")
+
+
+def run(arguments: argparse.Namespace) -> int:
+    loaded = exercise.load(arguments.exercise)
+    if arguments.reference:
+        check_closed(loaded)
+    given, graded = Results(loaded.results).graded(loaded)
+    listed = students.read(arguments.students or given.folder / given.settings.students)
+    found = standing.standings(given, graded, listed)
+    template = draw.environment().get_template("feedback.html")
+    mistakes = Mistakes(given).of(graded)
+    members = members_of(given.folder)
+    backs = []
+    for of in found:
+        made = sheet.sheet(given, of, arguments.reference, mistakes)
+        backs.append(Back(of, made, template.render(page=made).encode("utf-8", "replace"), members.get(of.student.id, ())))
+    files = {f"{stem(back.sheet.id)}.html": back.page for back in backs}
+    files |= {f"{stem(back.sheet.id)}.md": markdown.text_of(back.sheet).encode("utf-8", "replace") for back in backs}
+    missing = add_platforms(files, backs, arguments, arguments.assignment or given.title)
+    Written(given.results / FOLDER).put(files)
+    print(f"{len(backs)} students: see {shown(str(given.results / FOLDER))}")
+    return 1 if missing else 0
+
+
+def stem(name: str) -> str:
+    """The name of a student's files, a digest where the own one is too long for a file."""
+    return name if len(name.encode()) <= students.MOST_ID else hashlib.sha256(name.encode()).hexdigest()
+
+
+def check_closed(given: Exercise) -> None:
+    closes = given.settings.closes
+    if closes and datetime.now(timezone.utc) < closes:
+        raise Fault(f"the exercise closes at {closes.isoformat(' ')}: --reference is for afterwards")
+
+
+def members_of(folder: Path) -> dict[str, tuple[str, ...]]:
+    """For each answer's name the files of the archive that its answers came from."""
+    found: dict[str, tuple[str, ...]] = {}
+    for line in collecting.read_list(folder).values():
+        found[line[1]] = (*found.get(line[1], ()), line[3])
+    return found
+
+
+def add_platforms(files: dict[str, bytes], backs: list[Back], arguments: argparse.Namespace, assignment: str) -> int:
+    """Adds the files for platforms; gives how many students are missing in one."""
+    made = {f"{name}.csv": platforms.TABLES[name](backs, assignment) for name in arguments.tables if name in platforms.TABLES}
+    if platforms.GRADESCOPE in arguments.tables:
+        made[f"{platforms.GRADESCOPE}.json"] = platforms.gradescope_json(backs, assignment, arguments.visibility)
+    made |= {f"{name}.zip": platforms.archive(backs, platforms.FOLDERS[name], assignment) for name in arguments.zip}
+    for name, one in made.items():
+        files[name] = one.content
+        if one.without:
+            log.warning("%s: without a number there, and left out: %s", name, shown(*(student.id for student in one.without)))
+    return sum(len(one.without) for one in made.values())

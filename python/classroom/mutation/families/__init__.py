@@ -1,0 +1,37 @@
+"""Families of changes, one module each.
+
+A family says in its head what it changes and why students make it. Its functions give for a node of a query's
+tree the changes there.
+"""
+from __future__ import annotations
+
+from collections.abc import Callable, Iterator
+
+from classroom.mutation.change import Change
+from classroom.mutation.families import (aggregates, columns, comparisons, conditions, constants, duplicates, empty,
+                                         grouping, joins, logic, nulls, operands, ordering, outer, projection, quantifiers,
+                                         sets, tables)
+from classroom.mutation.query import Query
+from classroom.mutation.tree import Node
+
+Family = Callable[[Node, Query], Iterator[Change]]
+
+# The usual mistakes in a right query.
+MISTAKES: tuple[Family, ...] = (
+    comparisons.changes, logic.changes, constants.changes, columns.changes, joins.changes, nulls.changes, sets.changes,
+    projection.changes)
+# What may make a wrong query right, the mistakes among it; they need a vocabulary.
+REPAIRS: tuple[Family, ...] = (
+    *(family for family in MISTAKES if family is not columns.changes), columns.related, columns.of_other_tables,
+    constants.others, nulls.allowed, logic.grouped, joins.as_exists,
+    conditions.changes, conditions.whole, tables.changes, quantifiers.changes, sets.operands, operands.changes,
+    projection.added)
+# What may make the reference the wrong query.
+CLASSES: tuple[Family, ...] = (*REPAIRS, empty.changes)
+# The usual mistakes beyond the proved language, whose queries a database tries; those of duplicates and of order
+# where these count.
+TRIED: tuple[Family, ...] = (aggregates.changes, grouping.changes, outer.changes, ordering.limited)
+# What may make a wrong one of these right.
+TRIED_REPAIRS: tuple[Family, ...] = (*TRIED, aggregates.counted)
+BAGS: tuple[Family, ...] = (duplicates.changes,)
+LISTS: tuple[Family, ...] = (ordering.changes,)

@@ -1,0 +1,91 @@
+"""Files of others, read without following links: each folder is opened below the one that has it.
+
+So no link, device or pipe that somebody put among the answers is ever opened, whatever happens meanwhile.
+"""
+from __future__ import annotations
+
+import os
+import stat
+from collections.abc import Iterator
+from contextlib import contextmanager
+
+from classroom.fault import Fault, told
+
+NO_FILE = "no plain file"
+FLAGS = os.O_RDONLY | os.O_CLOEXEC | os.O_NONBLOCK
+
+
+class NotRead(Fault):
+    """Why a file or a folder is not read, in a few words without its name."""
+
+
+class Folder:
+    """An open folder."""
+
+    def __init__(self, descriptor: int) -> None:
+        self._descriptor = descriptor
+
+    def names(self) -> list[str]:
+        return os.listdir(self._descriptor)
+
+    def holds(self, name: str) -> bool:
+        """Whether there is anything of this name, a link to nothing too."""
+        try:
+            os.stat(name, dir_fd=self._descriptor, follow_symlinks=False)
+        except OSError:
+            return False
+        return True
+
+    def is_link(self, name: str) -> bool:
+        return stat.S_ISLNK(self._mode(name, False))
+
+    def is_folder(self, name: str) -> bool:
+        """Whether it is a folder, or a link to one."""
+        return stat.S_ISDIR(self._mode(name, True))
+
+    def _mode(self, name: str, follows: bool) -> int:
+        try:
+            return os.stat(name, dir_fd=self._descriptor, follow_symlinks=follows).st_mode
+        except OSError:
+            return 0
+
+    @contextmanager
+    def folder(self, name: str) -> Iterator[Folder]:
+        """A folder in this one; NotRead where it is none, or a link."""
+        if self.is_link(name):
+            raise NotRead("a link, which is not followed")
+        try:
+            descriptor = os.open(name, FLAGS | os.O_DIRECTORY | os.O_NOFOLLOW, dir_fd=self._descriptor)
+        except OSError as fault:
+            raise NotRead(fault.strerror or str(fault)) from None
+        try:
+            yield Folder(descriptor)
+        finally:
+            os.close(descriptor)
+
+    def read(self, name: str, most: int) -> bytes:
+        """The first bytes of a plain file in this folder, at most so many; NotRead where it is none."""
+        # A device is not even opened.
+        if not stat.S_ISREG(self._mode(name, False)):
+            raise NotRead(NO_FILE)
+        try:
+            descriptor = os.open(name, FLAGS | os.O_NOFOLLOW, dir_fd=self._descriptor)
+            with os.fdopen(descriptor, "rb") as file:
+                if not stat.S_ISREG(os.fstat(descriptor).st_mode):
+                    raise NotRead(NO_FILE)
+                return file.read(most)
+        except OSError as fault:
+            raise NotRead(fault.strerror or str(fault)) from None
+
+
+@contextmanager
+def opened(path: str | os.PathLike[str]) -> Iterator[Folder]:
+    """The folder that the user named, which may be a link."""
+    try:
+        descriptor = os.open(path, FLAGS | os.O_DIRECTORY)
+    except OSError as fault:
+        raise Fault(told(fault)) from None
+    try:
+        yield Folder(descriptor)
+    finally:
+        os.close(descriptor)

@@ -1,0 +1,69 @@
+"""Asks child processes for mistakes, within limits of time and memory."""
+from __future__ import annotations
+
+import json
+import os
+import sys
+import tempfile
+from collections.abc import Mapping, Sequence
+from dataclasses import dataclass
+from pathlib import Path
+
+from classroom import limited, program
+from classroom.limited import Limits
+from classroom.repair import records
+from classroom.repair.records import Mistake
+
+CHILD = Path(__file__).with_name("child.py")
+MEGABYTES, OUTPUT = 1500, 64.0
+BEGIN, EACH = 20.0, 20.0    # seconds for a process, and for an answer
+SECONDS_DEEP = 25.0
+LATE, FAILED = "it took too long", "the search failed"
+
+
+@dataclass(frozen=True)
+class Means:
+    """What a question needs beside its texts."""
+
+    exercise: Path           # a folder with the schema and the rows
+    guard: Path | None
+    classes: bool = True
+    deep: bool = False
+    tried: bool = False      # where `ratest` doesn't read the queries
+
+
+def ask(means: Means, reference: str, answers: Mapping[str, str], seconds: float | None = None,
+        python: Sequence[str] = (sys.executable,)) -> dict[str, Mistake]:
+    """What is found for the answers, by their keys; of one that took too long, that. `python` are the words that
+    call an interpreter."""
+    most = seconds or BEGIN + len(answers) * (EACH + SECONDS_DEEP * means.deep)
+    with tempfile.TemporaryDirectory(prefix="repair-") as name:
+        work = Path(name) / "work"
+        work.mkdir()
+        question = Path(name) / "question.json"
+        question.write_text(json.dumps({
+            "exercise": os.fspath(means.exercise.absolute()),
+            "guard": os.fspath(means.guard.absolute()) if means.guard else None,
+            "program": os.fspath(program.find("ratest_plus")), "reference": reference, "answers": dict(answers),
+            "classes": means.classes, "tried": means.tried, "deep": SECONDS_DEEP if means.deep else 0}))
+        ran = limited.run([*python, "-I", os.fspath(CHILD), os.fspath(question), os.fspath(work)],
+                          Limits(most, MEGABYTES, OUTPUT), name)
+    found = {}
+    for line in ran.stdout.decode("utf-8", "replace").splitlines():
+        try:
+            key, read = json.loads(line)
+            found[str(key)] = records.from_json(read)
+        except (ValueError, KeyError, TypeError):
+            continue
+    failed = Mistake(fault=LATE if ran.passed else FAILED)
+    return {key: found.get(key, failed) for key in answers}
+
+
+def bare(text: str) -> str:
+    """A query as it is looked at: without what stands around it, and the sign at its end."""
+    return text[begins(text):].rstrip().removesuffix(";")
+
+
+def begins(text: str) -> int:
+    """Where it begins: behind a mark of byte order and white space."""
+    return len(text) - len(text.lstrip("\ufeff \t\r\n\f"))

@@ -1,0 +1,185 @@
+"""Rows of a schema in SQLite, as all of them and as random lawful parts, over which queries are tried.
+
+What is found here is tried and never proved: it rejects a change, and says of none that it is right.
+"""
+from __future__ import annotations
+
+import random
+import sqlite3
+from collections.abc import Callable, Collection, Iterator, Sequence
+from typing import Optional
+
+from classroom.only_reads import MOST_TEXT, barred, bound, in_memory
+from classroom.picking.pool import Cell, Pool, Row, picked
+from classroom.picking.rules import rules_of
+from classroom.repair.schema import for_sqlite as schema_for_sqlite
+from classroom.repair.texts import for_sqlite
+from classroom.schema import quoted
+
+PARTS = 40
+SHARES = (0.3, 0.5, 0.7, 0.85)
+# A query has this many times STEPS steps of SQLite's machine, and this many rows.
+MOST_STEPS, MOST_ROWS = 10_000, 20_000
+STEPS = 200
+FEW = 20    # changes that are looked at further where many steps were needed
+
+# How many columns, and the rows as a set; None where the query is refused or passes a limit.
+Answer = Optional[tuple[int, frozenset[tuple[Cell, ...]]]]
+
+
+class Base:
+    """The lawful rows of a pool, with random parts of them, the smallest first, of which one is loaded at a time."""
+
+    def __init__(self, pool: Pool, parts: int = PARTS, seed: str = "1") -> None:
+        self.pool = pool
+        self.rows = lawful(pool)
+        self.parts = sorted(set(drawn(pool, self.rows, parts, seed)), key=lambda part: (len(part), sorted(part)))
+        self.database = Database(pool)
+        # How many changes were asked on a part, and how many it rejected.
+        self.asked = [0] * len(self.parts)
+        self.rejected = [0] * len(self.parts)
+
+    def answers(self, query: str) -> list[Answer]:
+        """Over each part."""
+        text = for_sqlite(query)
+        return [self.answer(at, text) for at in range(len(self.parts))]
+
+    def answer(self, at: int, text: str) -> Answer:
+        """Over one part, of a text of SQLite."""
+        self.database.load(self.parts[at])
+        return self.database.answer(text)
+
+    def passes(self, query: str, wanted: Sequence[Answer]) -> bool:
+        """Whether a query has these answers on the parts; a part of which none is known says nothing."""
+        return bool(self.passing([query], wanted))
+
+    def passing(self, queries: Sequence[str], wanted: Sequence[Answer], steps: int | None = None) -> list[int]:
+        """The places of the queries with these answers. Where so many steps were needed, of those that are left
+        the first few alone are looked at further."""
+        texts = [for_sqlite(query) for query in queries]
+        return self.left(len(texts), wanted, lambda at, part: self.answer(part, texts[at]), steps)
+
+    def left(self, count: int, wanted: Sequence[Answer], answer: Callable[[int, int], Answer], steps: int | None = None) -> list[int]:
+        """Those of so many that have these answers, by what gives the answer of one on a part. The parts that
+        rejected most so far are asked first."""
+        most = None if steps is None else self.database.all_steps + steps
+        left = list(range(count))
+        order = sorted(range(len(self.parts)), key=lambda part: -(self.rejected[part] + 1) / (self.asked[part] + 2))
+        for part in order:
+            if wanted[part] is None or not left:
+                continue
+            if most is not None and self.database.all_steps > most:
+                left = left[:FEW]
+            right = [at for at in left if answer(at, part) == wanted[part]]
+            self.asked[part] += len(left)
+            self.rejected[part] += len(left) - len(right)
+            left = right
+        return left
+
+
+class Database:
+    """Some rows in SQLite, without the schema's rules, from which queries only read."""
+
+    def __init__(self, pool: Pool) -> None:
+        self.pool = pool
+        self.part: frozenset[Row] = frozenset()
+        self.steps = self.all_steps = 0    # of the last query, and of all, in STEPS
+        self.is_strict = False
+        self.connection = in_memory()
+        self.puts = []
+        for held in pool.held:
+            columns = ", ".join(f"{quoted(column.name)} {column.kind}" for column in held.table.columns)
+            self.connection.execute(f"CREATE TABLE {quoted(held.table.name)} ({columns})")
+            marks = ", ".join("?" * len(held.table.columns))
+            self.puts.append(f"INSERT INTO {quoted(held.table.name)} VALUES ({marks})")
+        bound(self.connection)
+        self.connection.set_authorizer(self.may)
+        self.connection.set_progress_handler(self.step, STEPS)
+
+    def may(self, action: int, one: str | None, two: str | None, base: str | None, inside: str | None) -> int:
+        return sqlite3.SQLITE_DENY if self.is_strict and barred(action, one, two) else sqlite3.SQLITE_OK
+
+    def load(self, part: frozenset[Row]) -> None:
+        """Makes these the rows."""
+        if part == self.part:
+            return
+        self.steps = -1 << 40
+        by_table: dict[int, list[int]] = {}
+        for table, number in sorted(part):
+            by_table.setdefault(table, []).append(number)
+        had = {row.table for row in self.part}
+        for at, (held, put) in enumerate(zip(self.pool.held, self.puts)):
+            if at in had:
+                self.connection.execute(f"DELETE FROM {quoted(held.table.name)}")
+            self.connection.executemany(put, [held.rows[number] for number in by_table.get(at, [])])
+        self.part = part
+
+    def step(self) -> int:
+        self.steps += 1
+        return self.steps > MOST_STEPS
+
+    def answer(self, text: str) -> Answer:
+        if len(text.encode("utf-8", "replace")) > MOST_TEXT:
+            return None
+        self.steps, self.is_strict = 0, True
+        try:
+            cursor = self.connection.execute(text)
+            rows = cursor.fetchmany(MOST_ROWS + 1)
+        except (sqlite3.Error, sqlite3.Warning, MemoryError, OverflowError, ValueError):
+            return None
+        finally:
+            self.is_strict = False
+            self.all_steps += self.steps
+        if cursor.description is None or len(rows) > MOST_ROWS:
+            cursor.close()
+            return None
+        return len(cursor.description), frozenset(rows)
+
+
+def lawful(pool: Pool) -> frozenset[Row]:
+    """The rows that meet all rules of the schema together, the earlier of two that don't."""
+    text, dependencies = schema_for_sqlite(pool.schema.decode("utf-8", "replace"))
+    connection = sqlite3.connect(":memory:", isolation_level=None)
+    try:
+        connection.executescript(text)
+    except sqlite3.Error:
+        connection = sqlite3.connect(":memory:")    # the rules of the pool alone are looked at
+    primary = [rules.primary for rules in rules_of(pool.schema.decode("utf-8", "replace"))]
+    kept: set[Row] = set()
+    seen: dict[tuple[object, ...], tuple[Cell, ...]] = {}
+    for row in sorted(pool.lawful):
+        table = pool.held[row.table].table
+        places = {column.name: place for place, column in enumerate(table.columns)}
+        cells = pool.held[row.table].rows[row.number]
+        if any(cells[places[name]] is None for name in primary[row.table]):
+            continue
+        broken = False
+        for number, rule in enumerate(dependencies):
+            if rule.table == table.name:
+                of = picked(cells, tuple(places[name] for name in rule.of))
+                to = picked(cells, tuple(places[name] for name in rule.to))
+                broken |= None not in of and seen.setdefault((number, *of), to) != to
+        marks = ", ".join("?" * len(cells))
+        try:
+            connection.execute(f"INSERT INTO {quoted(table.name)} VALUES ({marks})", cells)
+        except sqlite3.OperationalError:
+            pass
+        except (sqlite3.IntegrityError, OverflowError):
+            broken = True
+        if not broken:
+            kept.add(row)
+    connection.close()
+    return frozenset(kept - pool.with_sources(pool.lawful - kept))
+
+
+def drawn(pool: Pool, rows: frozenset[Row], parts: int, seed: str) -> Iterator[frozenset[Row]]:
+    """Lawful parts at random, and all rows."""
+    chance = random.Random(seed)
+    in_order = sorted(rows)
+    for _ in range(parts):
+        share = chance.choice(SHARES)
+        gone = [row for row in in_order if chance.random() >= share]
+        yield rows - pool.with_sources(gone)
+    yield rows
+
+

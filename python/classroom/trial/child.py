@@ -1,0 +1,94 @@
+"""One question in a process of its own: `child.py MATERIAL QUESTION`, two files of JSON, prints one of JSON.
+
+The material is what `classroom.trial.material` writes. A question has `reference`, `answer`, `seconds`,
+`duplicates`, `order`, `agrees`, and for PostgreSQL `engine` and `asker`, the two connections. What is printed is
+a verdict, as `classroom.trial.verdict` writes it, or `{"fault": TEXT}` where the engine can't be had.
+"""
+from __future__ import annotations
+
+import json
+import math
+import resource
+import sys
+from pathlib import Path
+from typing import Any
+
+if __name__ == "__main__" and not __package__:
+    sys.path[0] = str(Path(__file__).resolve().parents[2])
+
+from classroom.fault import Fault
+from classroom.trial import material as materials
+from classroom.trial import verdict
+from classroom.trial.engine import REFERENCE, Bars, Engine, Refused, Stopped, TooMuch
+from classroom.trial.material import POSTGRESQL, Material
+from classroom.trial.parts import Parts
+from classroom.trial.search import RANDOM_PARTS, SHRINKINGS, Search, Wanted
+from classroom.trial.verdict import Barred, Passed, Verdict, WrongSql
+
+# Of the processor beyond the time in which is tried: to begin, and to end a step.
+MORE_SECONDS = 10.0
+DEPTH = 20_000    # of calls, for trees of queries that are nested deep
+
+
+def main(words: list[str]) -> int:
+    sys.setrecursionlimit(DEPTH)
+    of, question = (json.loads(Path(word).read_bytes()) for word in words)
+    most = math.ceil(float(question.get("seconds", 10.0)) + MORE_SECONDS)
+    resource.setrlimit(resource.RLIMIT_CPU, (most, most + 1))
+    try:
+        answer = verdict.to_json(tried(materials.from_json(of), question))
+    except Fault as fault:
+        answer = {"fault": str(fault)}
+    sys.stdout.write(json.dumps(answer) + "\n")
+    return 0
+
+
+def tried(material: Material, question: dict[str, Any]) -> Verdict:
+    """The verdict of a question."""
+    parts = Parts(material.pool)
+    label, engine = label_of(material), None
+    try:
+        try:
+            engine = opened(material, parts, question)
+            label = engine.label
+            wanted = Wanted(
+                float(question.get("seconds", 10.0)), bool(question.get("duplicates")), bool(question.get("order")),
+                int(question.get("random_parts", RANDOM_PARTS)), int(question.get("shrinkings", SHRINKINGS)), bool(question.get("agrees")))
+            search = Search(engine, parts, material, (question["reference"], question["answer"]), wanted)
+            outcome = search.outcome()
+            return Verdict(label, outcome, search.remarks())
+        except Stopped as stopped:
+            return Verdict(stopped.engine or label, stopped_outcome(stopped))
+    finally:
+        if engine:
+            engine.close()
+
+
+def stopped_outcome(stopped: Stopped) -> verdict.Outcome:
+    is_reference = stopped.which == REFERENCE
+    if isinstance(stopped, Refused):
+        return WrongSql(is_reference, stopped.message, stopped.place)
+    if isinstance(stopped, TooMuch):
+        return Passed(is_reference, stopped.message)
+    assert isinstance(stopped, Bars)
+    return Barred(is_reference, stopped.message)
+
+
+def label_of(material: Material) -> str:
+    if material.product == POSTGRESQL:
+        return POSTGRESQL
+    import sqlite3
+    return f"sqlite {sqlite3.sqlite_version}"
+
+
+def opened(material: Material, parts: Parts, question: dict[str, Any]) -> Engine:
+    queries = question["reference"], question["answer"]
+    if material.product == POSTGRESQL:
+        from classroom.trial.postgres import Postgres
+        return Postgres(material, parts, *queries, question["engine"], question["asker"])
+    from classroom.trial.sqlite import Sqlite
+    return Sqlite(material, parts, *queries)
+
+
+if __name__ == "__main__":
+    sys.exit(main(sys.argv[1:]))

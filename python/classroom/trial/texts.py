@@ -1,0 +1,115 @@
+"""What is looked up in the text of a query before an engine gets it."""
+from __future__ import annotations
+
+import re
+from collections.abc import Collection
+from typing import NamedTuple
+
+TOKEN = re.compile(r"""(?P<gap>\s+|--[^\n]*|/\*.*?(?:\*/|\Z))
+    |(?P<text>'(?:[^']|'')*'?)
+    |(?P<quoted>"(?:[^"]|"")*"?|`(?:[^`]|``)*`?|\[[^\]]*\]?)
+    |(?P<word>[^\W\d][\w$]*)
+    |(?P<number>\d[\w.]*)
+    |(?P<other><>|<=|>=|!=|==|\|\||::|.)""", re.VERBOSE | re.DOTALL)
+CLOCKS = {"date": 0, "time": 0, "datetime": 0, "julianday": 0, "unixepoch": 0, "strftime": 1}
+
+
+class Token(NamedTuple):
+    kind: str     # text, quoted, word, number or other
+    text: str     # as it stands
+    start: int    # its first character, from 0
+
+    @property
+    def name(self) -> str:
+        """Of a quoted one what stands in its quotes; else its text."""
+        if self.kind not in ("quoted", "text"):
+            return self.text
+        end = {"[": "]"}.get(self.text[0], self.text[0])
+        return self.text[1:].removesuffix(end).replace(end * 2, end)
+
+
+def tokens(text: str) -> list[Token]:
+    """The tokens of a query, without white space and comments."""
+    return [Token(match.lastgroup or "other", match[0], match.start())
+            for match in TOKEN.finditer(text) if match.lastgroup != "gap"]
+
+
+def begins_as_query(text: str) -> bool:
+    """Whether the first word is SELECT, WITH or VALUES, in parentheses or not."""
+    first = next((token for token in tokens(text) if token.text != "("), None)
+    return first is not None and first.text.lower() in ("select", "with", "values")
+
+
+def clock(text: str) -> str:
+    """What asks for the time, which is another at each call; "" where nothing does."""
+    found = tokens(text)
+    for at, token in enumerate(found):
+        if token.kind == "text" and token.name.strip().lower() == "now":
+            return token.text
+        if token.kind == "word" and token.text.lower() in CLOCKS and [of.text for of in found[at + 1:at + 2]] == ["("]:
+            if arguments(found, at + 1) <= CLOCKS[token.text.lower()]:
+                return f"{token.text}()"
+    return ""
+
+
+def arguments(found: list[Token], at: int) -> int:
+    """How many arguments stand in the parentheses that begin at a token."""
+    depth, count = 0, 0
+    for number, token in enumerate(found[at:]):
+        depth += (token.text == "(") - (token.text == ")")
+        if depth == 0:
+            return count + (number > 1)
+        count += token.text == "," and depth == 1
+    return count + 1
+
+
+def unknown_name(text: str, names: Collection[str]) -> tuple[str, int] | None:
+    """A name in double quotes that neither the schema has nor the query gives, and its place.
+
+    SQLite takes such a one for a text.
+    """
+    found = tokens(text)
+    known = {name.lower() for name in names} | {"rowid", "_rowid_", "oid"}
+    for at, token in enumerate(found):
+        if at and token.kind in ("quoted", "word") and names_something(found, at):
+            known.add(token.name.lower())
+    known.update(name.lower() for name in columns_of_with(found))
+    for at, token in enumerate(found):
+        if token.kind == "quoted" and token.text[0] == '"' and token.name.lower() not in known:
+            return token.name, token.start
+    return None
+
+
+def names_something(found: list[Token], at: int) -> bool:
+    """Whether the token at a place gives a name: behind AS, before AS (of WITH) or behind a column or a table."""
+    before = found[at - 1]
+    after = found[at + 1] if at + 1 < len(found) else Token("other", "", 0)
+    if before.kind == "word" and before.text.lower() == "as":
+        return True
+    if after.kind == "word" and after.text.lower() == "as" and (
+            before.text == "," or before.text.lower() in ("with", "recursive")):
+        return True
+    if before.text == ")" or before.kind in ("quoted", "number"):
+        return True
+    return before.kind == "word" and before.text.lower() not in WORDS
+
+
+def columns_of_with(found: list[Token]) -> list[str]:
+    """The names in the lists of columns of WITH, which stand before AS and a parenthesis."""
+    names: list[str] = []
+    for at in range(len(found) - 2):
+        if found[at].text == ")" and found[at + 1].text.lower() == "as" and any(
+                token.text == "(" for token in found[at + 2:at + 5]):
+            begin = next((back for back in range(at, -1, -1) if found[back].text == "("), at)
+            inner = found[begin + 1:at]
+            if all(token.kind in ("word", "quoted") or token.text == "," for token in inner):
+                names += [token.name for token in (*found[begin - 1:begin], *inner) if token.text != ","]
+    return names
+
+
+# Behind these a name is one that is used and not one that is given.
+WORDS = frozenset(
+    "all and any as asc between by case cast check collate cross desc distinct else end escape except exists filter "
+    "from full glob group having in inner intersect is isnull join left like limit match natural not notnull null "
+    "offset on or order outer over partition recursive regexp right select some then union unique using values when "
+    "where window with".split())

@@ -1,0 +1,89 @@
+"""Mutants of references that a database tries."""
+from __future__ import annotations
+
+import csv
+import os
+import shutil
+from pathlib import Path
+
+import pytest
+import shop
+from products import TOP, classroom
+
+from classroom.mutation.families import BAGS, LISTS, TRIED
+from classroom.mutation.mutants import mutants
+
+TABLES = [held.table for held in shop.pool().held]
+
+# A query, and what a mistake makes of it.
+MADE = [
+    ("SELECT COUNT(o.no) FROM orders o", "COUNT(*) for COUNT(o.no)", "SELECT COUNT(*) FROM orders AS o"),
+    ("SELECT COUNT(DISTINCT customer) FROM orders", "DISTINCT in COUNT dropped", "SELECT COUNT(customer) FROM orders"),
+    ("SELECT COUNT(customer) FROM orders", "DISTINCT in COUNT added", "SELECT COUNT(DISTINCT customer) FROM orders"),
+    ("SELECT AVG(price) FROM product", "SUM for AVG", "SELECT SUM(price) FROM product"),
+    ("SELECT MIN(price) FROM product", "MAX for MIN", "SELECT MAX(price) FROM product"),
+    ("SELECT kind FROM product GROUP BY kind HAVING AVG(price) > 3", "HAVING dropped", "SELECT kind FROM product GROUP BY kind"),
+    ("SELECT kind FROM product GROUP BY kind HAVING AVG(price) > 3", "WHERE for HAVING", "SELECT kind FROM product WHERE price > 3 GROUP BY kind"),
+    ("SELECT kind FROM product WHERE sku > 'a' GROUP BY kind HAVING MAX(price) > 3", "WHERE for HAVING",
+     "SELECT kind FROM product WHERE sku > 'a' AND price > 3 GROUP BY kind"),
+    ("SELECT COUNT(*) FROM product GROUP BY kind, price", "GROUP BY without kind", "SELECT COUNT(*) FROM product GROUP BY price"),
+    ("SELECT COUNT(*) FROM product GROUP BY kind", "GROUP BY sku for kind", "SELECT COUNT(*) FROM product GROUP BY sku"),
+    ("SELECT c.id FROM customer c LEFT JOIN orders o ON o.customer = c.id", "JOIN for LEFT JOIN",
+     "SELECT c.id FROM customer AS c JOIN orders AS o ON o.customer = c.id"),
+    ("SELECT c.id FROM customer c JOIN orders o ON o.customer = c.id", "LEFT JOIN for JOIN",
+     "SELECT c.id FROM customer AS c LEFT JOIN orders AS o ON o.customer = c.id"),
+    ("SELECT sku FROM product ORDER BY price DESC, sku LIMIT 2", "ASC for DESC of price", "SELECT sku FROM product ORDER BY price, sku LIMIT 2"),
+    ("SELECT sku FROM product ORDER BY price DESC, sku LIMIT 2", "ORDER BY without sku", "SELECT sku FROM product ORDER BY price DESC LIMIT 2"),
+    ("SELECT sku FROM product ORDER BY price DESC, sku LIMIT 2", "LIMIT 3 for 2", "SELECT sku FROM product ORDER BY price DESC, sku LIMIT 3"),
+    ("SELECT sku FROM product ORDER BY sku", "DESC for ASC of sku", "SELECT sku FROM product ORDER BY sku DESC"),
+    ("SELECT DISTINCT kind FROM product", "DISTINCT dropped", "SELECT kind FROM product"),
+    ("SELECT kind FROM product", "DISTINCT added", "SELECT DISTINCT kind FROM product"),
+    ("SELECT sku FROM product UNION SELECT sku FROM item", "UNION ALL for UNION", "SELECT sku FROM product UNION ALL SELECT sku FROM item"),
+    ("SELECT sku FROM product UNION ALL SELECT sku FROM item", "UNION for UNION ALL", "SELECT sku FROM product UNION SELECT sku FROM item"),
+]
+
+
+@pytest.mark.parametrize("query, mistake, text", MADE)
+def test_each_mistake(query: str, mistake: str, text: str) -> None:
+    made = {mutant.mistake: mutant.text for mutant in mutants(query, TABLES, (*TRIED, *BAGS, *LISTS))}
+    assert made.get(mistake) == text, made
+
+
+@pytest.fixture
+def beers(ratest: Path, ratest_plus: Path, tmp_path: Path) -> Path:
+    os.environ["RATEST"], os.environ["RATEST_PLUS"] = str(ratest.absolute()), str(ratest_plus.absolute())
+    folder = Path(shutil.copytree(TOP / "examples/beers", tmp_path / "beers", ignore=shutil.ignore_patterns("results", "[1345]", "page.html")))
+    (folder / "6").mkdir()
+    (folder / "6/reference.sql").write_text("SELECT bar, COUNT(beer) FROM serves GROUP BY bar HAVING COUNT(beer) >= 2")
+    return folder
+
+
+def lines(folder: Path) -> list[dict[str, str]]:
+    with open(folder / "mutants/mutants.csv", newline="", encoding="utf-8") as file:
+        return list(csv.DictReader(file))
+
+
+def test_mutants_of_proved_and_tried_tasks(beers: Path) -> None:
+    ran = classroom("mutants", beers)
+    assert ran.returncode == 0, ran.stderr
+    assert ran.stdout.startswith("task 2: 13 of 14 mutants told\n") and "\ntask 6: " in ran.stdout
+    found = {line["mistake"]: (line["verdict"], line["rows"]) for line in lines(beers) if line["task"] == "6"}
+    # Two rows of a bar are asked for, and with what they refer to these are five.
+    assert found["> for >="] == ("told", "5") and found["HAVING dropped"][0] == "told"
+    # A bar serves a beer once.
+    assert found["COUNT(*) for COUNT(beer)"][0] == "no difference found"
+    kept = {path.name: path.stat().st_mtime_ns for path in (beers / "mutants/runs").glob("*.trial.json")}
+    assert kept and classroom("mutants", beers).stdout == ran.stdout
+    assert {path.name: path.stat().st_mtime_ns for path in (beers / "mutants/runs").glob("*.trial.json")} == kept
+
+
+def test_nothing_is_tried_where_only_proofs_are_wanted(beers: Path) -> None:
+    ran = classroom("mutants", beers, "--only-proved")
+    assert ran.returncode == 1 and {line["task"] for line in lines(beers)} == {"2"}
+
+
+def test_duplicates_where_they_count(beers: Path) -> None:
+    (beers / "6/reference.sql").write_text("SELECT DISTINCT bar FROM serves WHERE beer LIKE '%'")
+    (beers / "exercise.toml").write_text('duplicates = "wrong"\n')
+    assert classroom("mutants", beers, "--task", "6").returncode == 0
+    assert {line["mistake"]: line["verdict"] for line in lines(beers)}["DISTINCT dropped"] == "told"
