@@ -6,6 +6,7 @@
 //! The arguments are those of `ratest`, and so is the status if an input is refused. With the
 //! argument `clauses` before them it prints the clauses that a certificate of the verdict goes on
 //! from.
+
 #![tactic(auto)]
 
 mod encoding;

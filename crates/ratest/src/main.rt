@@ -1,4 +1,5 @@
 //! The program `ratest`: the command of `rt_top` over the files and sinks of the system.
+
 #![tactic(auto)]
 
 use rt_io::{RealFiles, RealSink, given_words, refuse};

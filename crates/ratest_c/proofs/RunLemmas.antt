@@ -14,7 +14,7 @@ use Rattle.ratest_c.specs.Services.{service_of}
 use Rattle.ratest_c.specs.declared.file.File.{File}
 use Rattle.ratest_c.specs.declared.request.Request.{Request}
 use Rattle.ratest_c.specs.declared.service.Service.{Service}
-use Rattle.ratest_c.specs.declared.told.Told.{Told}
+use Rattle.ratest_c.specs.declared.ended.Ended.{Ended}
 
 abbrev counts_of : (List ℕ → List ℕ) → List ℕ → ℕ
 counts_of held name = count_of (held name)
@@ -23,7 +23,7 @@ counts_of held name = count_of (held name)
 pub counts_stay : (old new : List File) → held_in new ≡ held_in old → counts_in new ≡ counts_in old
 counts_stay old new same = ap counts_of same
 
-pub answered_by : (r : Request) (s : Service) (c : Call) (t : Told) (old new : List File) → EndsIn s c t
+pub answered_by : (r : Request) (s : Service) (c : Call) (t : Ended) (old new : List File) → EndsIn s c t
     → s ≡ service_of c.words → c.words ≡ r.words → c.files.tells ≡ true → c.files.held ≡ held_in old
     → c.files.before ≡ counts_in old → c.files.after ≡ counts_in new → old ≡ r.files → held_in new ≡ held_in old
     → IsAnswer r t.status t.out.held.items t.err.held.items

@@ -1,4 +1,5 @@
 //! The files of a request, found by their names.
+
 ghost use Rattle.std.specs.Prelude.{◌≡◌, [], true, false, MatchOption};
 ghost use Rattle.ratest_c.specs.Files.{held_in, has_in};
 

@@ -1,4 +1,5 @@
 //! The files of a request, as those that a command reads. Nothing else can be read.
+
 ghost use Rattle.std.specs.Prelude.{◌≡◌, ◌≤◌, ℕ, List, [], true, length, drop, min, take};
 ghost use Rattle.std.specs.Option.{option_map, option_map_or, ForSome};
 ghost use Rattle.ratest_c.specs.Files.{held_in, has_in, counts_in};

@@ -1,11 +1,13 @@
 //! RATest as one call for C: a command and its files go in as bytes, and the status and both texts come
 //! back as bytes.
+
 #![tactic(auto)]
 
 ghost use Rattle.std.specs.Prelude.{◌≡◌, None, IfOk, IsErrOf};
 ghost use Rattle.ratest_c.specs.Answers.{IsReply, Says};
 ghost use Rattle.ratest_c.specs.Frames.{request_of};
 
+mod ended;
 mod fault;
 mod file;
 mod framed;
@@ -14,7 +16,6 @@ mod reply;
 mod request;
 mod run;
 mod service;
-mod told;
 
 use fault::Fault;
 use rt_value::Bytes;
@@ -33,8 +34,8 @@ fn answered(alloc: Global, request: &[u8]) -> Result<Bytes, Fault>
     ensures err { IsErrOf result Fault.Malformed → request_of request.now ≡ None }
 {
     let request = request::read_request(alloc, request)?;
-    let told = run::run(alloc, request);
-    reply::reply_of(alloc, &told)
+    let ended = run::run(alloc, request);
+    reply::reply_of(alloc, &ended)
 }
 
 /// Reads the request, runs its command, and writes the reply.

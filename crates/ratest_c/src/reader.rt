@@ -1,4 +1,5 @@
 //! The numbers and the fields of a request.
+
 ghost use Rattle.std.specs.Prelude.{◌≡◌, None, IfOk, IsErrOf};
 ghost use Rattle.ratest_c.specs.Frames.{Takes, number_at, field_at, text_at};
 

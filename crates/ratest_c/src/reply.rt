@@ -1,9 +1,10 @@
 //! The bytes of a reply.
+
 ghost use Rattle.std.specs.Prelude.{◌≡◌, ◌<◌, ◌≤◌, ◌^◌, length, take, drop, pos, neg_ℤ, IfOk, IsErrOf};
 ghost use Rattle.ratest_c.specs.Replies.{framed};
 
+use crate::ended::Ended;
 use crate::fault::Fault;
-use crate::told::Told;
 use rt_value::{Bytes, List};
 use std::alloc::Global;
 
@@ -23,11 +24,11 @@ fn framed(alloc: Global, status: u8, out: &[u8], err: &[u8]) -> Result<Bytes, Fa
 }
 
 /// The reply of what a command ended with.
-pub(crate) fn reply_of(alloc: Global, told: &Told) -> Result<Bytes, Fault>
-    ensures ok { IfOk result (λ bytes. bytes ≡ framed told.now.status told.now.out.held.items told.now.err.held.items) }
+pub(crate) fn reply_of(alloc: Global, ended: &Ended) -> Result<Bytes, Fault>
+    ensures ok { IfOk result (λ bytes. bytes ≡ framed ended.now.status ended.now.out.held.items ended.now.err.held.items) }
     ensures err { IsErrOf result Fault.Malformed → ⊥ }
 {
-    framed(alloc, told.status, told.out.bytes(), told.err.bytes())
+    framed(alloc, ended.status, ended.out.bytes(), ended.err.bytes())
 }
 
 /// Puts the bytes in front if there is room, and gives their length, or else minus that.

@@ -1,4 +1,5 @@
 //! The command of a request, and its files.
+
 ghost use Rattle.std.specs.Prelude.{◌≡◌, [], None, Some, IfOk, IsErrOf};
 ghost use Rattle.ratest_c.specs.Frames.{Takes, texts_at, file_at, files_at, request_of};
 

@@ -1,14 +1,15 @@
 //! The command of a request, run over its files.
+
 ghost use Rattle.std.specs.Prelude.{◌≡◌};
 ghost use Rattle.rt_input.specs.Reading.{call};
 ghost use Rattle.ratest_c.specs.Answers.{IsAnswer};
 ghost use Rattle.ratest_c.specs.Runs.{EndsIn};
 ghost use Rattle.ratest_c.specs.Files.{held_in};
 
+use crate::ended::Ended;
 use crate::framed::Framed;
 use crate::request::Request;
 use crate::service::{Service, service_of};
-use crate::told::Told;
 use rt_cert::cert_run;
 use rt_io::{Files, SureSink};
 use rt_ra_run::ra_run;
@@ -17,7 +18,7 @@ use rt_top::ratest;
 use rt_value::Txt;
 use std::alloc::Global;
 
-fn run_ratest(alloc: Global, words: &[Txt], files: &mut Framed) -> Told
+fn run_ratest(alloc: Global, words: &[Txt], files: &mut Framed) -> Ended
     ensures ends { EndsIn Service.Ratest (call ⟦<Framed as Files>⟧ words.now files.old files.new) result }
     ensures held { held_in files.new.files ≡ held_in files.old.files }
 {
@@ -26,10 +27,10 @@ fn run_ratest(alloc: Global, words: &[Txt], files: &mut Framed) -> Told
     let outcome = ratest(alloc, words, files, &mut out, &mut err);
     let status = outcome.status();
     drop(outcome);
-    Told { status, out, err }
+    Ended { status, out, err }
 }
 
-fn run_algebra(alloc: Global, words: &[Txt], files: &mut Framed) -> Told
+fn run_algebra(alloc: Global, words: &[Txt], files: &mut Framed) -> Ended
     ensures ends { EndsIn Service.Algebra (call ⟦<Framed as Files>⟧ words.now files.old files.new) result }
     ensures held { held_in files.new.files ≡ held_in files.old.files }
 {
@@ -38,10 +39,10 @@ fn run_algebra(alloc: Global, words: &[Txt], files: &mut Framed) -> Told
     let outcome = ra_run(alloc, words, files, &mut out, &mut err);
     let status = outcome.status();
     drop(outcome);
-    Told { status, out, err }
+    Ended { status, out, err }
 }
 
-fn run_tools(alloc: Global, words: &[Txt], files: &mut Framed) -> Told
+fn run_tools(alloc: Global, words: &[Txt], files: &mut Framed) -> Ended
     ensures ends { EndsIn Service.Tools (call ⟦<Framed as Files>⟧ words.now files.old files.new) result }
     ensures held { held_in files.new.files ≡ held_in files.old.files }
 {
@@ -50,10 +51,10 @@ fn run_tools(alloc: Global, words: &[Txt], files: &mut Framed) -> Told
     let outcome = tool_run(alloc, words, files, &mut out, &mut err);
     let status = outcome.status();
     drop(outcome);
-    Told { status, out, err }
+    Ended { status, out, err }
 }
 
-fn run_certificates(alloc: Global, words: &[Txt], files: &mut Framed) -> Told
+fn run_certificates(alloc: Global, words: &[Txt], files: &mut Framed) -> Ended
     ensures ends { EndsIn Service.Certificates (call ⟦<Framed as Files>⟧ words.now files.old files.new) result }
     ensures held { held_in files.new.files ≡ held_in files.old.files }
 {
@@ -62,11 +63,11 @@ fn run_certificates(alloc: Global, words: &[Txt], files: &mut Framed) -> Told
     let outcome = cert_run(alloc, words, files, &mut out, &mut err);
     let status = outcome.status();
     drop(outcome);
-    Told { status, out, err }
+    Ended { status, out, err }
 }
 
 /// Runs the command of a request over its files.
-pub(crate) fn run(alloc: Global, request: Request) -> Told
+pub(crate) fn run(alloc: Global, request: Request) -> Ended
     ensures { IsAnswer request result.status result.out.held.items result.err.held.items }
 {
     let Request { words, files } = request;

@@ -1,4 +1,5 @@
 //! Which of the four calls answers a command.
+
 ghost use Rattle.std.specs.Prelude.{◌≡◌};
 ghost use Rattle.ratest_c.specs.Services.{service_of};
 

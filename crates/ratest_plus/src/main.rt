@@ -1,5 +1,6 @@
 //! The program `ratest_plus`: five more commands, over the files and sinks of the system. The
 //! first argument says which (`plus_command`).
+
 #![tactic(auto)]
 
 use rt_cert::cert_run;

@@ -6,6 +6,7 @@
 //! Questions about queries wherever they come from are answered here too: whether two are the same,
 //! part for part, and whether one names a row outside of it. So is what SQL and relational algebra
 //! share on their way here: columns, set operators, and lists of parts.
+
 #![tactic(auto)]
 
 mod alone;

@@ -31,16 +31,16 @@ pub fn test<'q>(
     dag: &mut Dag,
     tables: &[List<Row>],
     known: &mut List<Subquery<'q>>,
-    p: &'q Pred,
+    condition: &'q Pred,
     env: &[&Row],
 ) -> Result<TruthNodes, NoMemory>
     requires places { dag.old.rows ≡ places tables.now }
     requires known { AreKnown dag.old tables.now known.old }
     ensures grown { IsGrown dag.old dag.new }
     ensures known { AreKnown dag.new tables.now known.new }
-    ensures gate { IfOk result (λ g. IsGate dag.new g (yes_when p.now tables.now (map (λ r. r.now) env.now), no_when p.now tables.now (map (λ r. r.now) env.now))) }
+    ensures gate { IfOk result (λ g. IsGate dag.new g (yes_when condition.now tables.now (map (λ r. r.now) env.now), no_when condition.now tables.now (map (λ r. r.now) env.now))) }
 {
-    match p {
+    match condition {
         Pred::Cmp(op, a, b) => comparison(alloc, dag, *op, a, b, env),
         Pred::IsNull(e) => missing(alloc, dag, e, env),
         Pred::OneOf(e, items) => listed(alloc, dag, e, items.as_slice(), env),
@@ -52,17 +52,17 @@ pub fn test<'q>(
             let any = &Junction::Any;
             together(alloc, dag, tables, known, any, ps.as_slice(), env)
         }
-        Pred::Not(p) => {
-            let gate = test(alloc, dag, tables, known, p.get(), env)?;
+        Pred::Not(condition) => {
+            let gate = test(alloc, dag, tables, known, condition.get(), env)?;
             Ok(TruthNodes {
                 yes: gate.no,
                 no: gate.yes,
             })
         }
-        Pred::Exists(q) => asked(alloc, dag, tables, known, None, q.get(), env),
-        Pred::Member(e, q) => {
+        Pred::Exists(query) => asked(alloc, dag, tables, known, None, query.get(), env),
+        Pred::Member(e, query) => {
             let x = value(alloc, e, env)?;
-            asked(alloc, dag, tables, known, Some(&x), q.get(), env)
+            asked(alloc, dag, tables, known, Some(&x), query.get(), env)
         }
     }
 }
@@ -113,25 +113,25 @@ fn asked<'q>(
     tables: &[List<Row>],
     known: &mut List<Subquery<'q>>,
     sought: Option<&Value>,
-    q: &'q Query,
+    query: &'q Query,
     env: &[&Row],
 ) -> Result<TruthNodes, NoMemory>
     requires places { dag.old.rows ≡ places tables.now }
     requires known { AreKnown dag.old tables.now known.old }
     ensures grown { IsGrown dag.old dag.new }
     ensures known { AreKnown dag.new tables.now known.new }
-    ensures gate { IfOk result (λ g. IsGate dag.new g (sought_test sought.entry (λ s. answer_by wrapped q.now (kept tables.now s) (map (λ r. r.now) env.now)))) }
+    ensures gate { IfOk result (λ g. IsGate dag.new g (sought_test sought.entry (λ s. answer_by wrapped query.now (kept tables.now s) (map (λ r. r.now) env.now)))) }
 {
-    if let Some(found) = found_of(known.as_slice(), q) {
+    if let Some(found) = found_of(known.as_slice(), query) {
         return found.gate(alloc, dag, sought);
     }
-    if query_is_closed(q, 0) {
-        return newly_asked(alloc, dag, tables, known, sought, q);
+    if query_is_closed(query, 0) {
+        return newly_asked(alloc, dag, tables, known, sought, query);
     }
     match sought {
-        None => some_row(alloc, dag, tables, known, q, env),
+        None => some_row(alloc, dag, tables, known, query, env),
         Some(_) => {
-            let rows = annotated(alloc, dag, tables, known, q, env)?;
+            let rows = annotated(alloc, dag, tables, known, query, env)?;
             among(alloc, dag, sought, rows.as_slice())
         }
     }
@@ -144,19 +144,19 @@ fn some_row<'q>(
     dag: &mut Dag,
     tables: &[List<Row>],
     known: &mut List<Subquery<'q>>,
-    q: &'q Query,
+    query: &'q Query,
     env: &[&Row],
 ) -> Result<TruthNodes, NoMemory>
     requires places { dag.old.rows ≡ places tables.now }
     requires known { AreKnown dag.old tables.now known.old }
     ensures grown { IsGrown dag.old dag.new }
     ensures known { AreKnown dag.new tables.now known.new }
-    ensures gate { IfOk result (λ g. IsGate dag.new g (exists_test (λ s. answer_by wrapped q.now (kept tables.now s) (map (λ r. r.now) env.now)))) }
+    ensures gate { IfOk result (λ g. IsGate dag.new g (exists_test (λ s. answer_by wrapped query.now (kept tables.now s) (map (λ r. r.now) env.now)))) }
 {
-    match q {
+    match query {
         Query::Project(a, _) => some_row(alloc, dag, tables, known, a.get(), env),
         _ => {
-            let rows = annotated(alloc, dag, tables, known, q, env)?;
+            let rows = annotated(alloc, dag, tables, known, query, env)?;
             among(alloc, dag, None, rows.as_slice())
         }
     }
@@ -171,19 +171,19 @@ fn newly_asked<'q>(
     tables: &[List<Row>],
     known: &mut List<Subquery<'q>>,
     sought: Option<&Value>,
-    q: &'q Query,
+    query: &'q Query,
 ) -> Result<TruthNodes, NoMemory>
     requires places { dag.old.rows ≡ places tables.now }
     requires known { AreKnown dag.old tables.now known.old }
-    requires closed { StaysQuery 0 q.now }
+    requires closed { StaysQuery 0 query.now }
     ensures grown { IsGrown dag.old dag.new }
     ensures known { AreKnown dag.new tables.now known.new }
-    ensures gate { IfOk result (λ g. (env : Env) → IsGate dag.new g (sought_test sought.entry (λ s. answer_by wrapped q.now (kept tables.now s) env))) }
+    ensures gate { IfOk result (λ g. (env : Env) → IsGate dag.new g (sought_test sought.entry (λ s. answer_by wrapped query.now (kept tables.now s) env))) }
 {
-    let found = newly(alloc, dag, tables, known, q)?;
+    let found = newly(alloc, dag, tables, known, query)?;
     let gate = found.gate(alloc, dag, sought)?;
     let memo = Memo::Tested(found);
-    known.push(Subquery { query: q, memo })?;
+    known.push(Subquery { query, memo })?;
     Ok(gate)
 }
 
@@ -194,15 +194,15 @@ fn newly<'q>(
     dag: &mut Dag,
     tables: &[List<Row>],
     known: &mut List<Subquery<'q>>,
-    q: &'q Query,
+    query: &'q Query,
 ) -> Result<Found, NoMemory>
     requires places { dag.old.rows ≡ places tables.now }
     requires known { AreKnown dag.old tables.now known.old }
     ensures grown { IsGrown dag.old dag.new }
     ensures known { AreKnown dag.new tables.now known.new }
-    ensures tells { IfOk result (λ f. Tells dag.new f (λ s. answer_by wrapped q.now (kept tables.now s) [])) }
+    ensures tells { IfOk result (λ f. Tells dag.new f (λ s. answer_by wrapped query.now (kept tables.now s) [])) }
 {
-    let rows = annotated(alloc, dag, tables, known, q, &[])?;
+    let rows = annotated(alloc, dag, tables, known, query, &[])?;
     Found::of(alloc, dag, rows.as_slice())
 }
 
@@ -228,8 +228,8 @@ fn together<'q>(
         yes: List::new(alloc),
         no: List::new(alloc),
     };
-    for p in ps {
-        let gate = test(alloc, dag, tables, known, p, env)?;
+    for condition in ps {
+        let gate = test(alloc, dag, tables, known, condition, env)?;
         if is_always(dag, junction.deciding(&gate)) {
             return Ok(gate);
         }
@@ -245,7 +245,7 @@ pub fn test_row<'q, 'a>(
     dag: &mut Dag,
     tables: &[List<Row>],
     known: &mut List<Subquery<'q>>,
-    p: &'q Pred,
+    condition: &'q Pred,
     row: &'a Row,
     env: &[&'a Row],
 ) -> Result<TruthNodes, NoMemory>
@@ -253,8 +253,8 @@ pub fn test_row<'q, 'a>(
     requires known { AreKnown dag.old tables.now known.old }
     ensures grown { IsGrown dag.old dag.new }
     ensures known { AreKnown dag.new tables.now known.new }
-    ensures gate { IfOk result (λ g. IsGate dag.new g (test_under p.now tables.now (map (λ r. r.now) env.now) row.now)) }
+    ensures gate { IfOk result (λ g. IsGate dag.new g (test_under condition.now tables.now (map (λ r. r.now) env.now) row.now)) }
 {
     let inner = scope(alloc, row, env)?;
-    test(alloc, dag, tables, known, p, inner.as_slice())
+    test(alloc, dag, tables, known, condition, inner.as_slice())
 }

@@ -35,7 +35,7 @@ fn chosen<'q>(
     dag: &mut Dag,
     tables: &[List<Row>],
     known: &mut List<Subquery<'q>>,
-    p: &'q Pred,
+    condition: &'q Pred,
     joints: &[Joint],
     env: &[&Row],
 ) -> Result<List<Noted>, NoMemory>
@@ -44,11 +44,11 @@ fn chosen<'q>(
     requires joints { AreJoints dag.old joints.now }
     ensures grown { IsGrown dag.old dag.new }
     ensures known { AreKnown dag.new tables.now known.new }
-    ensures chosen { IfOk result (λ out. Choosing dag.old dag.new out [] (selected (joint_entries dag.old joints.now) (test_under p.now tables.now (map (λ r. r.now) env.now)))) }
+    ensures chosen { IfOk result (λ out. Choosing dag.old dag.new out [] (selected (joint_entries dag.old joints.now) (test_under condition.now tables.now (map (λ r. r.now) env.now)))) }
 {
     let mut out = List::new(alloc);
     for joint in joints {
-        let gate = test_row(alloc, dag, tables, known, p, &joint.row, &*env)?;
+        let gate = test_row(alloc, dag, tables, known, condition, &joint.row, &*env)?;
         let node = meeting(alloc, dag, joint.nodes.as_slice(), gate.yes)?;
         if !is_never(dag, node) {
             note(alloc, &mut out, &joint.row, node)?;
@@ -67,14 +67,14 @@ fn table_selection<'q, 'a>(
     tables: &'a [List<Row>],
     known: &mut List<Subquery<'q>>,
     number: usize,
-    p: &'q Pred,
+    condition: &'q Pred,
     env: &[&'a Row],
 ) -> Result<List<Noted>, NoMemory>
     requires places { dag.old.rows ≡ places tables.now }
     requires known { AreKnown dag.old tables.now known.old }
     ensures grown { IsGrown dag.old dag.new }
     ensures known { AreKnown dag.new tables.now known.new }
-    ensures chosen { IfOk result (λ out. Choosing dag.old dag.new out [] (selected (placed (base_of number tables.now) (rows_at tables.now number)) (test_under p.now tables.now (map (λ r. r.now) env.now)))) }
+    ensures chosen { IfOk result (λ out. Choosing dag.old dag.new out [] (selected (placed (base_of number tables.now) (rows_at tables.now number)) (test_under condition.now tables.now (map (λ r. r.now) env.now)))) }
 {
     let _rows = dag.rows();
     let base = first_place(tables, number);
@@ -82,13 +82,21 @@ fn table_selection<'q, 'a>(
     let mut out = List::new(alloc);
     let no_row = Row::new(alloc);
     let mut inner = List::from_vec(scope(alloc, &no_row, env)?);
-    let probe = Probe::of(alloc, p, inner.as_slice())?;
+    let probe = Probe::of(alloc, condition, inner.as_slice())?;
     for (at, row) in rows.iter().enumerate() {
         if probe.refuses(row) {
             continue;
         }
         inner.set(0, row);
-        let node = row_where(alloc, dag, tables, known, p, base + at, inner.as_slice())?;
+        let node = row_where(
+            alloc,
+            dag,
+            tables,
+            known,
+            condition,
+            base + at,
+            inner.as_slice(),
+        )?;
         if !is_never(dag, node) {
             note(alloc, &mut out, row, node)?;
         }
@@ -104,7 +112,7 @@ fn row_where<'q>(
     dag: &mut Dag,
     tables: &[List<Row>],
     known: &mut List<Subquery<'q>>,
-    p: &'q Pred,
+    condition: &'q Pred,
     place: usize,
     env: &[&Row],
 ) -> Result<Node, NoMemory>
@@ -113,12 +121,12 @@ fn row_where<'q>(
     requires place { place < dag.old.rows }
     ensures grown { IsGrown dag.old dag.new }
     ensures known { AreKnown dag.new tables.now known.new }
-    ensures node { IfOk result (λ n. IsNode dag.new n (λ s. bool_at s place && yes_when p.now tables.now (map (λ r. r.now) env.now) s)) }
+    ensures node { IfOk result (λ n. IsNode dag.new n (λ s. bool_at s place && yes_when condition.now tables.now (map (λ r. r.now) env.now) s)) }
 {
-    if is_refused(alloc, p, env)? {
+    if is_refused(alloc, condition, env)? {
         return Ok(dag.no());
     }
-    let gate = test(alloc, dag, tables, known, p, env)?;
+    let gate = test(alloc, dag, tables, known, condition, env)?;
     row_meeting(dag, place, gate.yes)
 }
 
@@ -136,11 +144,11 @@ fn members<'q>(
     requires known { AreKnown dag.old tables.now known.old }
     ensures grown { IsGrown dag.old dag.new }
     ensures known { AreKnown dag.new tables.now known.new }
-    ensures give { IfOk result (λ out. GiveEach dag.new out (λ s. map (λ q. answer_by wrapped q (kept tables.now s) (map (λ r. r.now) env.now)) qs.now)) }
+    ensures give { IfOk result (λ out. GiveEach dag.new out (λ s. map (λ query. answer_by wrapped query (kept tables.now s) (map (λ r. r.now) env.now)) qs.now)) }
 {
     let mut out = List::new(alloc);
-    for q in qs {
-        let rows = annotated(alloc, dag, tables, known, q, env)?;
+    for query in qs {
+        let rows = annotated(alloc, dag, tables, known, query, env)?;
         out.push(rows)?;
     }
     Ok(out)
@@ -153,19 +161,19 @@ fn source<'q>(
     dag: &mut Dag,
     tables: &[List<Row>],
     known: &mut List<Subquery<'q>>,
-    q: &'q Query,
+    query: &'q Query,
     env: &[&Row],
 ) -> Result<List<List<Noted>>, NoMemory>
     requires places { dag.old.rows ≡ places tables.now }
     requires known { AreKnown dag.old tables.now known.old }
     ensures grown { IsGrown dag.old dag.new }
     ensures known { AreKnown dag.new tables.now known.new }
-    ensures makes { IfOk result (λ out. Makes dag.new out (λ s. answer_by wrapped q.now (kept tables.now s) (map (λ r. r.now) env.now))) }
+    ensures makes { IfOk result (λ out. Makes dag.new out (λ s. answer_by wrapped query.now (kept tables.now s) (map (λ r. r.now) env.now))) }
 {
-    match q {
+    match query {
         Query::Product(qs) => members(alloc, dag, tables, known, qs.as_slice(), env),
         _ => {
-            let rows = annotated(alloc, dag, tables, known, q, env)?;
+            let rows = annotated(alloc, dag, tables, known, query, env)?;
             alone(alloc, rows)
         }
     }
@@ -178,22 +186,22 @@ pub fn annotated<'q>(
     dag: &mut Dag,
     tables: &[List<Row>],
     known: &mut List<Subquery<'q>>,
-    q: &'q Query,
+    query: &'q Query,
     env: &[&Row],
 ) -> Result<List<Noted>, NoMemory>
     requires places { dag.old.rows ≡ places tables.now }
     requires known { AreKnown dag.old tables.now known.old }
     ensures grown { IsGrown dag.old dag.new }
     ensures known { AreKnown dag.new tables.now known.new }
-    ensures gives { IfOk result (λ out. Gives dag.new out (λ s. answer_by wrapped q.now (kept tables.now s) (map (λ r. r.now) env.now))) }
+    ensures gives { IfOk result (λ out. Gives dag.new out (λ s. answer_by wrapped query.now (kept tables.now s) (map (λ r. r.now) env.now))) }
 {
-    match q {
+    match query {
         Query::Table(t) => table(alloc, dag, tables, *t),
-        Query::Select(a, p) => match a.get() {
-            Query::Table(t) => table_selection(alloc, dag, tables, known, *t, p, &*env),
+        Query::Select(a, condition) => match a.get() {
+            Query::Table(t) => table_selection(alloc, dag, tables, known, *t, condition, &*env),
             source => {
-                let joints = joints(alloc, dag, tables, known, source, p, env)?;
-                chosen(alloc, dag, tables, known, p, joints.as_slice(), env)
+                let joints = joints(alloc, dag, tables, known, source, condition, env)?;
+                chosen(alloc, dag, tables, known, condition, joints.as_slice(), env)
             }
         },
         Query::Project(a, items) => {
@@ -215,7 +223,7 @@ pub fn annotated<'q>(
         }
         Query::Intersect(a, b) => {
             let first = operand(alloc, dag, tables, known, a.get(), env)?;
-            let side = Some(Side::Standing);
+            let side = Some(Side::Present);
             combined(alloc, dag, tables, known, first, side, b.get(), env)
         }
     }
@@ -228,8 +236,8 @@ fn joints<'q>(
     dag: &mut Dag,
     tables: &[List<Row>],
     known: &mut List<Subquery<'q>>,
-    q: &'q Query,
-    p: &Pred,
+    query: &'q Query,
+    condition: &Pred,
     env: &[&Row],
 ) -> Result<List<Joint>, NoMemory>
     requires places { dag.old.rows ≡ places tables.now }
@@ -237,10 +245,10 @@ fn joints<'q>(
     ensures grown { IsGrown dag.old dag.new }
     ensures known { AreKnown dag.new tables.now known.new }
     ensures below { IfOk result (λ out. AreJoints dag.new out) }
-    ensures selected { IfOk result (λ out. IsSelected dag.new p.now (map (λ r. r.now) env.now) out (λ s. answer_by wrapped q.now (kept tables.now s) (map (λ r. r.now) env.now))) }
+    ensures selected { IfOk result (λ out. IsSelected dag.new condition.now (map (λ r. r.now) env.now) out (λ s. answer_by wrapped query.now (kept tables.now s) (map (λ r. r.now) env.now))) }
 {
-    let parts = source(alloc, dag, tables, known, q, env)?;
-    narrowed(alloc, parts.as_slice(), p, env)
+    let parts = source(alloc, dag, tables, known, query, env)?;
+    narrowed(alloc, parts.as_slice(), condition, env)
 }
 
 // The rows, and those of a query, put together by a set operator.
@@ -252,7 +260,7 @@ fn combined<'q>(
     known: &mut List<Subquery<'q>>,
     first: List<Noted>,
     side: Option<Side>,
-    q: &'q Query,
+    query: &'q Query,
     env: &[&Row],
 ) -> Result<List<Noted>, NoMemory>
     requires places { dag.old.rows ≡ places tables.now }
@@ -260,8 +268,8 @@ fn combined<'q>(
     requires first { AreNoted dag.old first }
     ensures grown { IsGrown dag.old dag.new }
     ensures known { AreKnown dag.new tables.now known.new }
-    ensures gives { IfOk result (λ out. (rows : List Bool → Rows) → Gives dag.old first rows → Gives dag.new out (λ s. set_rows side (rows s) (answer_by wrapped q.now (kept tables.now s) (map (λ r. r.now) env.now)))) }
+    ensures gives { IfOk result (λ out. (rows : List Bool → Rows) → Gives dag.old first rows → Gives dag.new out (λ s. set_rows side (rows s) (answer_by wrapped query.now (kept tables.now s) (map (λ r. r.now) env.now)))) }
 {
-    let second = operand(alloc, dag, tables, known, q, env)?;
+    let second = operand(alloc, dag, tables, known, query, env)?;
     set_rows(alloc, dag, first, second.as_slice(), side)
 }

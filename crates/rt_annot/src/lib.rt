@@ -1,6 +1,7 @@
 //! Annotated evaluation: one evaluation over all given rows that answers for every choice of them
 //! at once. Each row that may come out gets a node of a `Dag`, true at just the choices at which
 //! the row is in the answer. (Provenance as Boolean formulas; Miao, Roy and Yang, SIGMOD 2019.)
+
 #![tactic(auto)]
 
 mod aim;

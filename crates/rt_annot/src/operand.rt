@@ -26,22 +26,22 @@ pub fn operand<'q>(
     dag: &mut Dag,
     tables: &[List<Row>],
     known: &mut List<Subquery<'q>>,
-    q: &'q Query,
+    query: &'q Query,
     env: &[&Row],
 ) -> Result<List<Noted>, NoMemory>
     requires places { dag.old.rows ≡ places tables.now }
     requires known { AreKnown dag.old tables.now known.old }
     ensures grown { IsGrown dag.old dag.new }
     ensures known { AreKnown dag.new tables.now known.new }
-    ensures gives { IfOk result (λ out. Gives dag.new out (λ s. answer_by wrapped q.now (kept tables.now s) (map (λ r. r.now) env.now))) }
+    ensures gives { IfOk result (λ out. Gives dag.new out (λ s. answer_by wrapped query.now (kept tables.now s) (map (λ r. r.now) env.now))) }
 {
-    if env.is_empty() || !query_is_closed(q, 0) {
-        return annotated(alloc, dag, tables, known, q, env);
+    if env.is_empty() || !query_is_closed(query, 0) {
+        return annotated(alloc, dag, tables, known, query, env);
     }
-    if let Some(rows) = rows_of(known.as_slice(), q) {
+    if let Some(rows) = rows_of(known.as_slice(), query) {
         return appended(alloc, List::new(alloc), rows);
     }
-    newly_listed(alloc, dag, tables, known, q)
+    newly_listed(alloc, dag, tables, known, query)
 }
 
 // The rows of a query that names no row outside of it. A copy of them is kept.
@@ -51,18 +51,18 @@ fn newly_listed<'q>(
     dag: &mut Dag,
     tables: &[List<Row>],
     known: &mut List<Subquery<'q>>,
-    q: &'q Query,
+    query: &'q Query,
 ) -> Result<List<Noted>, NoMemory>
     requires places { dag.old.rows ≡ places tables.now }
     requires known { AreKnown dag.old tables.now known.old }
-    requires closed { StaysQuery 0 q.now }
+    requires closed { StaysQuery 0 query.now }
     ensures grown { IsGrown dag.old dag.new }
     ensures known { AreKnown dag.new tables.now known.new }
-    ensures gives { IfOk result (λ out. GivesOf dag.new tables.now q.now out) }
+    ensures gives { IfOk result (λ out. GivesOf dag.new tables.now query.now out) }
 {
-    let rows = annotated(alloc, dag, tables, known, q, &[])?;
+    let rows = annotated(alloc, dag, tables, known, query, &[])?;
     let copy = appended(alloc, List::new(alloc), rows.as_slice())?;
     let memo = Memo::Listed(copy);
-    known.push(Subquery { query: q, memo })?;
+    known.push(Subquery { query, memo })?;
     Ok(rows)
 }

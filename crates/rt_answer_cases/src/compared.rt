@@ -83,7 +83,7 @@ fn differ(rt: &impl Abort, alloc: Global, input: &Input, keep: &Keep) -> bool
 }
 
 // Whether the kept rows are a counterexample.
-fn counters(rt: &impl Abort, alloc: Global, input: &Input, keep: &Keep) -> bool
+fn is_counterexample(rt: &impl Abort, alloc: Global, input: &Input, keep: &Keep) -> bool
     requires { places input.now.given.tables ≡ length keep.now }
 {
     lawful(input.schema(), input.given(), keep) && differ(rt, alloc, input, keep)
@@ -121,7 +121,7 @@ fn tried(rt: &impl Abort, alloc: Global, input: &Input) -> Option<Keep> {
     let mut best = None;
     for number in 0..choices(places) {
         let keep = choice(rt, alloc, places, number);
-        if is_better(&keep, &best) && counters(rt, alloc, input, &keep) {
+        if is_better(&keep, &best) && is_counterexample(rt, alloc, input, &keep) {
             best = Some(keep);
         }
     }

@@ -3,6 +3,7 @@
 //! read, what a text answers, what is refused, and the command on them.
 //!
 //! They are a crate of their own, since a crate with tests is proved twice.
+
 #![tactic(auto)]
 
 #[cfg(test)]

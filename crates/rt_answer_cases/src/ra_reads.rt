@@ -6,22 +6,22 @@ use std::alloc::Global;
 use std::process::Abort;
 
 #[derive(Clone, Copy, PartialEq, Eq)]
-enum Told {
+enum Reading {
     Formed,
     Deep,
     Syntax(usize),
     Other,
 }
 
-fn answer_of(rt: &impl Abort, alloc: Global, text: &str) -> Told {
+fn answer_of(rt: &impl Abort, alloc: Global, text: &str) -> Reading {
     let tokens = tokens(alloc, text.as_bytes()).expect(rt, "tokens");
     let parsed = parse_ra(alloc, tokens.as_slice());
     drop(tokens);
     let told = match &parsed {
-        Ok(_) => Told::Formed,
-        Err(RaFault::TooDeep) => Told::Deep,
-        Err(RaFault::Syntax(at)) => Told::Syntax(*at),
-        Err(_) => Told::Other,
+        Ok(_) => Reading::Formed,
+        Err(RaFault::TooDeep) => Reading::Deep,
+        Err(RaFault::Syntax(at)) => Reading::Syntax(*at),
+        Err(_) => Reading::Other,
     };
     drop(parsed);
     told
@@ -43,7 +43,10 @@ fn reads_each_rule(rt: HostRuntime) {
         "cross(anti(a, b), leftjoin(join(c, d), divide(e, f)))",
         "union(except(a, b), intersect(c, d));",
     ] {
-        assert!(rt; answer_of(&rt, rt.alloc(), text) == Told::Formed, "{text}");
+        assert!(rt;
+            answer_of(&rt, rt.alloc(), text) == Reading::Formed,
+            "{text}"
+        );
     }
 }
 
@@ -60,7 +63,7 @@ fn refuses_other_texts(rt: HostRuntime) {
         ("t;;", 2),
     ] {
         assert!(rt;
-            answer_of(&rt, rt.alloc(), text) == Told::Syntax(*at),
+            answer_of(&rt, rt.alloc(), text) == Reading::Syntax(*at),
             "{text}"
         );
     }
@@ -72,19 +75,19 @@ fn refuses_what_is_too_deep(rt: HostRuntime) {
     for (text, wanted) in &[
         (
             "((((((((((((((((((((((((((((((((((((((((((((((((((((((((((((((((",
-            Told::Syntax(0),
+            Reading::Syntax(0),
         ),
         (
             "(((((((((((((((((((((((((((((((((((((((((((((((((((((((((((((((((",
-            Told::Deep,
+            Reading::Deep,
         ),
         (
             "divide divide divide divide leftjoin leftjoin leftjoin leftjoin \"divide\" u",
-            Told::Syntax(7),
+            Reading::Syntax(7),
         ),
         (
             "divide divide divide divide leftjoin leftjoin leftjoin leftjoin divide u",
-            Told::Deep,
+            Reading::Deep,
         ),
     ] {
         assert!(rt; answer_of(&rt, rt.alloc(), text) == *wanted, "{text}");

@@ -1,5 +1,6 @@
 //! What tests of the top call share: commands and their files in memory, and how a call of them
 //! ends.
+
 #![tactic(auto)]
 
 mod call;

@@ -12,7 +12,7 @@ use Rattle.rt_recorder.specs.declared.check.Checked.TheVariants as checked
 use Rattle.rt_recorder.specs.declared.encoded.Encoded.{Encoded}
 use Rattle.rt_cert.specs.Encoding.{IsEncoding}
 use Rattle.rt_input.specs.Accepted.{Accepted}
-use Rattle.rt_top.specs.Smallest.{IsCounter, counters, differ_at, lawful_at}
+use Rattle.rt_top.specs.Smallest.{IsCounterexample, is_counterexample, differ_at, lawful_at}
 use Rattle.rt_cert.specs.Certified.{IsJudged, IsToBeRefuted, IsTried, IsWrong, choice_fault, claim_fault, places_fault, rows_of}
 use Rattle.rt_cert.specs.Claims.{Holds, IsJudgedOver, IsWrongOver}
 use Rattle.rt_cert.specs.Least.{IsLeastOrNone, IsSmallestOrNone}
@@ -56,9 +56,9 @@ find-end rows ps i h so_far = so_far ∙ ap (find (λ p. nat_le rows p)) (drop_a
 -- ---- a choice of rows
 
 -- a choice of which nothing is wrong is a counterexample
-pub choice-counters : (input : Accepted) (keep : List Bool) → choice_fault input keep ≡ None → counters input keep ≡ true
-unfolding counters
-choice-counters input keep h = by (lawful_at input keep) (differ_at input keep) h where
+pub choice-is_counterexample : (input : Accepted) (keep : List Bool) → choice_fault input keep ≡ None → is_counterexample input keep ≡ true
+unfolding is_counterexample
+choice-is_counterexample input keep h = by (lawful_at input keep) (differ_at input keep) h where
   by : (l d : Bool) → (if l then (if d then None else Some why.SameAnswers) else Some why.NotLawful) ≡ None → (l && d) ≡ true
   by true true h = refl
   by true false h = cc
@@ -75,7 +75,7 @@ pub claim-holds : (input : Accepted) (ps : List ℕ) (keep : List Bool) → find
 claim-holds input ps keep below is fault = record {
   fault = places-at input ps below ∙ ap (choice_fault input) (sym is) ∙ fault;
   is = ap Some is;
-  counter = λ other e. (let same : keep ≡ other = cc in subst (IsCounter input) same (ap length is ∙ keep-long (rows_of input) ps, choice-counters input keep fault));
+  counterexample = λ other e. (let same : keep ≡ other = cc in subst (IsCounterexample input) same (ap length is ∙ keep-long (rows_of input) ps, choice-is_counterexample input keep fault));
 }
 
 -- ---- back from a choice
@@ -99,8 +99,8 @@ none-past rows (p ∷ ps) h = by (nat_le rows p) (past rows p h.0) (none-past ro
   by false e r = r
 
 -- a counterexample has no fault
-counter-stands : (input : Accepted) (keep : List Bool) → counters input keep ≡ true → choice_fault input keep ≡ None
-unfolding counters
+counter-stands : (input : Accepted) (keep : List Bool) → is_counterexample input keep ≡ true → choice_fault input keep ≡ None
+unfolding is_counterexample
 counter-stands input keep h = by (lawful_at input keep) (differ_at input keep) h where
   by : (l d : Bool) → (l && d) ≡ true → (if l then (if d then None else Some why.SameAnswers) else Some why.NotLawful) ≡ None
   by true true h = refl
@@ -111,10 +111,10 @@ counter-stands input keep h = by (lawful_at input keep) (differ_at input keep) h
 pub verdict-stands : (input : Accepted) (keep : Option (List Bool)) → IsSmallestOrNone input keep → claim_fault input (option_map places_of keep) ≡ None
 verdict-stands input None h = refl
 verdict-stands input (Some keep) h =
-    let l = h.counter.0 in
+    let l = h.counterexample.0 in
     let below : Each (λ p. p < rows_of input) (places_of keep) = (let P : ℕ → Type 0 = λ n. Each (λ p. p < n) (places_of keep) in subst P l (places-below keep)) in
     let back : keep_of (rows_of input) (places_of keep) ≡ keep = ap (λ (n : ℕ). keep_of n (places_of keep)) (sym l) ∙ keep-back keep in
-    places-at input (places_of keep) (none-past (rows_of input) (places_of keep) below) ∙ ap (choice_fault input) back ∙ counter-stands input keep h.counter.1
+    places-at input (places_of keep) (none-past (rows_of input) (places_of keep) below) ∙ ap (choice_fault input) back ∙ counter-stands input keep h.counterexample.1
 
 -- ---- the check
 
@@ -146,7 +146,7 @@ judged-over : (input : Accepted) (cert : Cert) (keep : Option (List Bool)) (over
 judged-over input cert keep over (Valid k) holds encoding h = record {
   claim = holds.fault;
   is = h.0 ∙ holds.is;
-  least = subst (IsLeastOrNone input) (sym h.0) (refutation-least input keep over.lines over.assume encoding holds.counter h.1);
+  least = subst (IsLeastOrNone input) (sym h.0) (refutation-least input keep over.lines over.assume encoding holds.counterexample h.1);
 }
 judged-over input cert keep over (Wrong w) holds encoding h = wrong-over input cert keep over w holds encoding h
 

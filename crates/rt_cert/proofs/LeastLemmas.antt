@@ -14,7 +14,7 @@ use Rattle.rt_recorder.specs.Checking.{HasNoModel}
 use Rattle.rt_cert.specs.Encodes.{Encodes, IsAsked, KeepsFewer}
 use Rattle.rt_cert.specs.Encoding.{IsEncoding}
 use Rattle.rt_input.specs.Accepted.{Accepted}
-use Rattle.rt_top.specs.Smallest.{IsCounter, counters}
+use Rattle.rt_top.specs.Smallest.{IsCounterexample, is_counterexample}
 use Rattle.rt_cert.specs.Least.{IsLeastOrNone, IsSmallestOrNone}
 use Rattle.rt_cert.specs.Certified.{IsToBeRefuted}
 
@@ -58,25 +58,25 @@ pub verdict-refutes : (input : Accepted) (keep : Option (List Bool)) (lines : Li
     → HasNoModel lines assume
 verdict-refutes input None lines assume e agrees t = λ bools model assumed.
     let rows = places input.given.tables in
-    let w = model-wanted rows 0 (λ s. counters input s ≡ true) lines assume e bools model assumed in
-    let n : counters input (rows_in rows bools) ≡ false = agrees (rows_in rows bools) (rows-long rows bools) in
+    let w = model-wanted rows 0 (λ s. is_counterexample input s ≡ true) lines assume e bools model assumed in
+    let n : is_counterexample input (rows_in rows bools) ≡ false = agrees (rows_in rows bools) (rows-long rows bools) in
     clash w.0 n
 verdict-refutes input (Some keep) lines assume e smallest t = λ bools model assumed.
     let rows = places input.given.tables in
-    let w = model-wanted rows (size keep) (λ s. counters input s ≡ true) lines assume e bools model assumed in
+    let w = model-wanted rows (size keep) (λ s. is_counterexample input s ≡ true) lines assume e bools model assumed in
     let fewer = asked-fewer assume (size keep) (rows_in rows bools) e.asked t w.1 in
     let least = smallest.smallest (rows_in rows bools) (rows-long rows bools, w.0) in
     omega (arith, fewer, least)
 
 -- where none does, the verdict holds but for the order of rows
-pub refutation-least : (input : Accepted) (keep : Option (List Bool)) (lines : List (List Literal)) (assume : Option Literal) → IsEncoding input keep lines assume → ForSome keep (IsCounter input)
+pub refutation-least : (input : Accepted) (keep : Option (List Bool)) (lines : List (List Literal)) (assume : Option Literal) → IsEncoding input keep lines assume → ForSome keep (IsCounterexample input)
     → (IsToBeRefuted keep → HasNoModel lines assume) → IsLeastOrNone input keep
-refutation-least input None lines assume e counter none = λ t long. elim (bool-cases (counters input t)) [
+refutation-least input None lines assume e counter none = λ t long. elim (bool-cases (is_counterexample input t)) [
   | inl y ↦ absurd (let m = (e.means t long).1 (y, unasked assume 0 e.asked refl t) in none tt m.0 m.2 m.3)
   | inr n ↦ n
 ]
 refutation-least input (Some keep) lines assume e counter none = record {
-  counter = counter keep refl;
+  counterexample = counter keep refl;
   fewest = λ t c. elim (bool-cases (nat_lt (size t) (size keep))) [
     | inl y ↦ absurd (let h : size t < size keep = search rules in
         let some : 0 < size keep = omega (arith, h) in
@@ -88,4 +88,4 @@ refutation-least input (Some keep) lines assume e counter none = record {
 -- a verdict's choice has a Bool for each row
 pub verdict-long : (input : Accepted) (keep : Option (List Bool)) → IsSmallestOrNone input keep → ForSome keep (λ k. length k ≡ places input.given.tables)
 verdict-long input None h = λ k e. cc
-verdict-long input (Some keep) h = λ k e. let same : keep ≡ k = cc in ap length (sym same) ∙ h.counter.0
+verdict-long input (Some keep) h = λ k e. let same : keep ≡ k = cc in ap length (sym same) ∙ h.counterexample.0

@@ -6,7 +6,7 @@ use Rattle.rt_recorder.specs.Checking.{HasNoModel, IsChecked}
 use Rattle.rt_recorder.specs.declared.check.Checked.TheVariants as checked
 use Rattle.rt_recorder.specs.declared.encoded.Encoded.{Encoded}
 use Rattle.rt_input.specs.Accepted.{Accepted}
-use Rattle.rt_top.specs.Smallest.{IsCounter}
+use Rattle.rt_top.specs.Smallest.{IsCounterexample}
 use Rattle.rt_cert.specs.Certified.{IsToBeRefuted, claim_fault, rows_of}
 use Rattle.rt_cert.specs.Places.{keep_of}
 use Rattle.rt_cert.specs.declared.claim.Claim.{Claim}
@@ -21,7 +21,7 @@ use Rattle.rt_cert.specs.declared.judgement.Why.TheVariants as why
 pub record Holds (input : Accepted) (places : Option (List ℕ)) (keep : Option (List Bool)) : Type 0 where
   pub fault : claim_fault input places ≡ None
   pub is : keep ≡ option_map (keep_of (rows_of input)) places
-  pub counter : ForSome keep (IsCounter input)
+  pub counterexample : ForSome keep (IsCounterexample input)
 
 abbrev pub IsClaim : Accepted → Option (List ℕ) → Claim → Type 0
 IsClaim input places (Stands keep) = Holds input places keep

@@ -1,11 +1,11 @@
 -- What a certificate may claim.
 use Rattle.std.specs.Prelude.{Bool, List, Option, None, Some}
 use Rattle.rt_input.specs.Accepted.{Accepted}
-use Rattle.rt_top.specs.Smallest.{Agrees, HasFewest, IsCounter, IsSmallest}
+use Rattle.rt_top.specs.Smallest.{Agrees, HasFewest, IsCounterexample, IsSmallest}
 
 -- a counterexample, and none keeps fewer rows
 pub record IsLeastSize (input : Accepted) (keep : List Bool) : Type 0 where
-  pub counter : IsCounter input keep
+  pub counterexample : IsCounterexample input keep
   pub fewest : HasFewest input keep
 
 -- a choice has the least size, or there is no counterexample

@@ -10,6 +10,7 @@
 //! same lines.
 //!
 //! The command of certificates does both: it writes one of an input, or checks one.
+
 #![tactic(auto)]
 
 mod check_told;

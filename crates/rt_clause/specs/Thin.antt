@@ -10,7 +10,7 @@ somes (None ∷ cs) = somes cs
 somes (Some l ∷ cs) = l ∷ somes cs
 
 -- the pointer, the places and the deed are of one block, and each place has its literal
-pub record IsWhole (c : Inside) : Type 0 where
+pub record IsOneBlock (c : Inside) : Type 0 where
   pub places_at : c.start.ptr ≡ c.places.at
   pub deed_at : c.deed.at ≡ c.start.ptr
   pub deed_len : c.deed.len ≡ length c.places.slots

@@ -30,11 +30,11 @@ impl Model for ThinClause {
 
     ghost Value = { List Literal };
 
-    ghost use Rattle.rt_clause.specs.Thin.{somes, IsWhole};
+    ghost use Rattle.rt_clause.specs.Thin.{somes, IsOneBlock};
 
     ghost view = { λ c. somes c.places.slots };
 
-    ghost invariant = { IsWhole };
+    ghost invariant = { IsOneBlock };
 }
 
 impl ThinClause {

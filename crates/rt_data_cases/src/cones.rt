@@ -1,4 +1,5 @@
 //! Which rows can matter to a formula at lawful choices.
+
 ghost use Rattle.rt_schema.specs.Given.{IsOf};
 
 use crate::data::{Data, read_data};

@@ -1,4 +1,5 @@
 //! A schema and its rows, as texts give them.
+
 ghost use Rattle.rt_schema.specs.Given.{IsOf};
 
 use rt_ddl::read_schema;

@@ -1,4 +1,5 @@
 //! The law of 2,000 rows as a formula: that it is true where it should be, and how large it is.
+
 ghost use Rattle.rt_schema.specs.Given.{IsOf};
 
 use crate::data::{Data, read_data};

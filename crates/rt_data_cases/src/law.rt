@@ -1,4 +1,5 @@
 //! The law of rows, by itself and as a formula: both have to refuse the same choices of rows.
+
 ghost use Rattle.rt_schema.specs.Given.{IsOf};
 
 use crate::data::{Data, choice, read_data};

@@ -1,6 +1,7 @@
 //! The tests of schemas and rows: the law and its formula, table files, work, and what is printed.
 //!
 //! They are a crate of their own, since a crate with tests is proved twice.
+
 #![tactic(auto)]
 
 #[cfg(test)]

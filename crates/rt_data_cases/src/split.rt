@@ -1,4 +1,5 @@
 //! Conditions taken apart, and rows matched by keys.
+
 use rt_algebra::{Expr, Pred, Query};
 use rt_split::{KeyPair, Split, matches, split};
 use rt_value::{Boxed, List, Op, Row, Value};

@@ -1,4 +1,5 @@
 //! Arithmetic of values.
+
 use rt_value::{Value, add, mul, sub};
 
 #[test]

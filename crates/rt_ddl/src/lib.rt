@@ -3,6 +3,7 @@
 //!
 //! The trees of texts are those of rt_ddl_tree; `specs/Meaning.antt` says which schema a text
 //! makes.
+
 #![tactic(auto)]
 
 mod build;

@@ -1,7 +1,7 @@
 //! What a table's text says, part by part in text order, without what has no effect. Later passes
 //! work on this, and no longer on the tree.
 
-use rt_ddl_tree::{Shared, Test};
+use rt_ddl_tree::{Counted, Test};
 use rt_schema::Column;
 use rt_value::{List, Txt};
 
@@ -34,7 +34,7 @@ pub enum RuleText {
     Unique(List<Txt>),
     /// The referencing columns, the referenced table, and its columns if they are given.
     Foreign(List<Txt>, Txt, Option<List<Txt>>),
-    Check(Shared<Test>),
+    Check(Counted<Test>),
     /// The determining columns, and those that they determine.
     Depend(List<Txt>, List<Txt>),
 }

@@ -46,7 +46,7 @@ names-law n = made-law (paren (both read_name (list_of name_step))) names_of (λ
 
 pub maybe-names-law : (n : ℕ) → Law read_maybe_names (maybe spelled_names) n 1
 unfolding read_maybe_names
-maybe-names-law n = optional-law (starts fixed.Left) read_names spelled_names n 0 (names-law n) (λ x rest. refl) 1 (omega arith) no-left
+maybe-names-law n = optional-law (starts fixed.OpenParen) read_names spelled_names n 0 (names-law n) (λ x rest. refl) 1 (omega arith) no-left
 
 -- ---- kinds
 
@@ -62,7 +62,7 @@ number-law n = loose read_number (λ (x : ℤ). terminal.Number x ∷ []) n 0 nu
 
 size-law : (n : ℕ) → Law read_size (maybe spelled_size) n 1
 unfolding read_size
-size-law n = optional-law (starts fixed.Left) (paren read_number) spelled_size n 0 (paren-any read_number (λ (x : ℤ). terminal.Number x ∷ []) n 0 (number-law n) (omega arith)) (λ x rest. refl) 1 (omega arith) no-left
+size-law n = optional-law (starts fixed.OpenParen) (paren read_number) spelled_size n 0 (paren-any read_number (λ (x : ℤ). terminal.Number x ∷ []) n 0 (number-law n) (omega arith)) (λ x rest. refl) 1 (omega arith) no-left
 
 kind-sound : Sound read_kind spelled_kind
 unfolding read_kind
@@ -93,8 +93,8 @@ spelled_references x = spelled_name x.0 ++ maybe (λ n. in_paren (spelled_name n
 
 references-law : (n : ℕ) → Law read_references spelled_references n 1
 unfolding read_references
-references-law n = both-law read_name (optional (starts fixed.Left) (paren read_name)) spelled_name (maybe (λ n. in_paren (spelled_name n))) n 0 1 (a-name n 0)
-    (optional-law (starts fixed.Left) (paren read_name) (λ n. in_paren (spelled_name n)) n 0 (paren-any read_name spelled_name n 0 (a-name n 0) (omega arith)) (λ x rest. refl) 1 (omega arith) no-left)
+references-law n = both-law read_name (optional (starts fixed.OpenParen) (paren read_name)) spelled_name (maybe (λ n. in_paren (spelled_name n))) n 0 1 (a-name n 0)
+    (optional-law (starts fixed.OpenParen) (paren read_name) (λ n. in_paren (spelled_name n)) n 0 (paren-any read_name spelled_name n 0 (a-name n 0) (omega arith)) (λ x rest. refl) 1 (omega arith) no-left)
     (λ y rest f. omega arith)
 
 column-rule-sound : Sound read_column_rule spelled_column_rule

@@ -15,9 +15,9 @@ pub a-name : (n low : ℕ) → Law read_name spelled_name n low
 a-name n low = name-law false n low (λ e. cc e)
 
 -- in parentheses, whatever its size
-pub paren-any : {A : Type 0} (p : Parser A) (sp : A → Kinds) (n low : ℕ) → Law p sp n low → low ≤ code fixed.Right → Law (paren p) (λ x. in_paren (sp x)) n 0
+pub paren-any : {A : Type 0} (p : Parser A) (sp : A → Kinds) (n low : ℕ) → Law p sp n low → low ≤ code fixed.CloseParen → Law (paren p) (λ x. in_paren (sp x)) n 0
 paren-any p sp n low l b = weaker (paren p) (λ x. in_paren (sp x)) (n + 2) 0 n 0 (paren-law p sp n low l b) (omega arith) (omega arith)
 
 -- an optional part in parentheses, before anything but a parenthesis
-pub no-left : (rest : Kinds) → 1 ≤ front rest → starts fixed.Left rest ≡ false
-no-left rest h = other-nat (front rest) (code fixed.Left) (λ e. omega arith)
+pub no-left : (rest : Kinds) → 1 ≤ front rest → starts fixed.OpenParen rest ≡ false
+no-left rest h = other-nat (front rest) (code fixed.OpenParen) (λ e. omega arith)

@@ -81,7 +81,7 @@ table-rule-law : (n : ℕ) → Law read_table_rule spelled_table_rule n 1
 table-rule-law n = loose read_table_rule spelled_table_rule n 1 table-rule-sound (table-rule-reads n)
 
 table-rule-holds : (P : Kinds → Type 0) → ((ks : Kinds) → P (terminal.Fixed fixed.Primary ∷ ks)) → ((ks : Kinds) → P (terminal.Fixed fixed.Unique ∷ ks)) → ((ks : Kinds) → P (terminal.Fixed fixed.Foreign ∷ ks))
-    → ((ks : Kinds) → P (terminal.Fixed fixed.Check ∷ ks)) → ((ks : Kinds) → P (plain_word (codes "dependency") ∷ (terminal.Fixed fixed.Left ∷ ks)))
+    → ((ks : Kinds) → P (terminal.Fixed fixed.Check ∷ ks)) → ((ks : Kinds) → P (plain_word (codes "dependency") ∷ (terminal.Fixed fixed.OpenParen ∷ ks)))
     → (x : TableRule) (rest : Kinds) → P (spelled_table_rule x ++ rest)
 table-rule-holds P a b c d e (table_rule.PrimaryKey ns) rest = a _
 table-rule-holds P a b c d e (table_rule.Unique ns) rest = b _
@@ -192,14 +192,14 @@ create-law n = lead-law fixed.Create (lead fixed.Table read_after_table) (λ c. 
 -- ---- the whole text
 
 abbrev next_create : Create → Kinds
-next_create c = terminal.Fixed fixed.Semi ∷ spelled_create c
+next_create c = terminal.Fixed fixed.Semicolon ∷ spelled_create c
 
 pub create-step-law : (n : ℕ) → StepLaw false create_step next_create n 0 35
-create-step-law n = when-law starts_more (lead fixed.Semi read_create) next_create n 0 35
-    (lead-law fixed.Semi read_create spelled_create n 0 (create-law n) (λ e. omega arith) (λ e. omega arith))
-    (λ x. omega arith) (λ x rest. omega arith) (λ x rest. refl) (λ rest f. rw (other-nat (front rest) (code fixed.Semi) (λ e. omega arith)) refl) (omega arith)
+create-step-law n = when-law starts_more (lead fixed.Semicolon read_create) next_create n 0 35
+    (lead-law fixed.Semicolon read_create spelled_create n 0 (create-law n) (λ e. omega arith) (λ e. omega arith))
+    (λ x. omega arith) (λ x rest. omega arith) (λ x rest. refl) (λ rest f. rw (other-nat (front rest) (code fixed.Semicolon) (λ e. omega arith)) refl) (omega arith)
 
-no-more : (b : Bool) → create_step (flag fixed.Semi b) ≡ None
+no-more : (b : Bool) → create_step (flag fixed.Semicolon b) ≡ None
 no-more false = refl
 no-more true = refl
 
@@ -225,10 +225,10 @@ pub text-reads : (t : SchemaText) → read_text (spelled t) ≡ Some t
 unfolding read_text
 text-reads schema_text.Empty = refl
 text-reads (schema_text.Creates c cs b) =
-    let tail = flat_map next_create cs ++ flag fixed.Semi b in
+    let tail = flat_map next_create cs ++ flag fixed.Semicolon b in
     let n = length (spelled_create c ++ tail) + 1 in
     let l = length-append (spelled_create c) tail in
-    let m = length-append (flat_map next_create cs) (flag fixed.Semi b) in
+    let m = length-append (flat_map next_create cs) (flag fixed.Semicolon b) in
     let one = (create-law n).reads c tail (omega arith) (omega arith) in
-    let more = list-reads create_step next_create n 0 35 (create-step-law n) cs (flag fixed.Semi b) (omega arith) (no-more b) (omega arith) in
+    let more = list-reads create_step next_create n 0 35 (create-step-law n) cs (flag fixed.Semicolon b) (omega arith) (no-more b) (omega arith) in
     rw (one, more, end-reads b) refl

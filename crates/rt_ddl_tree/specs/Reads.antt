@@ -36,7 +36,7 @@ unfoldable pub read_names : Parser Names
 read_names = made names_of (paren (both read_name (list_of name_step)))
 
 unfoldable pub read_maybe_names : Parser (Option Names)
-read_maybe_names = optional (starts fixed.Left) read_names
+read_maybe_names = optional (starts fixed.OpenParen) read_names
 
 -- ---- kinds
 
@@ -46,7 +46,7 @@ read_number (terminal.Number n ∷ ks) = Some (n, ks)
 read_number (k ∷ ks) = None
 
 unfoldable pub read_size : Parser (Option ℤ)
-read_size = optional (starts fixed.Left) (paren read_number)
+read_size = optional (starts fixed.OpenParen) (paren read_number)
 
 abbrev pub read_sized_kind : Parser KindWord
 read_sized_kind = word_alternative (codes "char") (made kind.Char read_size) (word_alternative (codes "varchar") (made kind.VarChar read_size) no_other)
@@ -64,7 +64,7 @@ abbrev pub references_of : Name × Option Name → ColumnRule
 references_of x = column_rule.References x.0 x.1
 
 unfoldable pub read_references : Parser (Name × Option Name)
-read_references = both read_name (optional (starts fixed.Left) (paren read_name))
+read_references = both read_name (optional (starts fixed.OpenParen) (paren read_name))
 
 abbrev pub read_other_column_rule : Parser ColumnRule
 read_other_column_rule =
@@ -127,7 +127,7 @@ read_table_rule =
 
 -- whether DEPENDENCY comes next as a keyword, and not as a column's name
 abbrev pub is_dependency : Kinds → Bool
-is_dependency ks = starts fixed.Left (tail_of ks) && is_some (after_word (codes "dependency") ks)
+is_dependency ks = starts fixed.OpenParen (tail_of ks) && is_some (after_word (codes "dependency") ks)
 
 -- whether a rule of a table begins there
 abbrev pub is_table_rule : Kinds → Bool
@@ -164,10 +164,10 @@ read_create = lead fixed.Create (lead fixed.Table (either is_if
 
 -- whether another table follows a semicolon
 abbrev pub starts_more : Kinds → Bool
-starts_more ks = starts fixed.Semi ks && starts fixed.Create (tail_of ks)
+starts_more ks = starts fixed.Semicolon ks && starts fixed.Create (tail_of ks)
 
 abbrev pub create_step : Step Create
-create_step = step_when starts_more (lead fixed.Semi read_create)
+create_step = step_when starts_more (lead fixed.Semicolon read_create)
 
 -- ---- all the terminals
 

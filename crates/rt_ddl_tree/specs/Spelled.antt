@@ -96,7 +96,7 @@ spelled_create c = the fixed.Create ∷ the fixed.Table ∷ (if_not_exists c.if_
 -- the terminals of a text
 abbrev pub spelled : SchemaText → Kinds
 spelled schema_text.Empty = []
-spelled (schema_text.Creates c cs semi) = spelled_create c ++ (flat_map (λ d. the fixed.Semi ∷ spelled_create d) cs ++ flag fixed.Semi semi)
+spelled (schema_text.Creates c cs semi) = spelled_create c ++ (flat_map (λ d. the fixed.Semicolon ∷ spelled_create d) cs ++ flag fixed.Semicolon semi)
 
 -- the kinds of its tokens
 abbrev pub spelled_kinds : SchemaText → List TokenKind

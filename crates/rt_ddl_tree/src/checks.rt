@@ -6,8 +6,8 @@ ghost use Rattle.rt_token.specs.Readers.{lead};
 ghost use Rattle.rt_token.specs.Reads.{Reads};
 ghost use Rattle.rt_token.specs.declared.fixed.Fixed.TheVariants as fixed;
 
+use crate::counted::Counted;
 use crate::member::{Member, in_parentheses, list};
-use crate::shared::Shared;
 use crate::test_tree::{Test, TestForm, TestLeaf, TestPart, TestSide};
 use rt_token::{
     Fixed, ReadFault, Terminal, after, expect, flag, front, name_of, op_at, starts, tail,
@@ -227,11 +227,11 @@ impl Member for TestPart {
 fn test<'t>(
     alloc: Global,
     terminals: &'t [Terminal],
-) -> Result<(Shared<Test>, &'t [Terminal]), ReadFault>
+) -> Result<(Counted<Test>, &'t [Terminal]), ReadFault>
     ensures { Reads result (spec.read_test terminals.now) }
 {
     let ((head, tail), rest) = list(alloc, terminals, Fixed::Or)?;
-    let test = Shared::new(alloc, Test { head, tail })?;
+    let test = Counted::new(alloc, Test { head, tail })?;
     Ok((test, rest))
 }
 
@@ -240,11 +240,11 @@ fn test<'t>(
 pub fn condition<'t>(
     alloc: Global,
     terminals: &'t [Terminal],
-) -> Result<(Shared<Test>, &'t [Terminal]), ReadFault>
+) -> Result<(Counted<Test>, &'t [Terminal]), ReadFault>
     ensures { Reads result (spec.read_condition terminals.now) }
 {
-    let rest = expect(terminals, Fixed::Left)?;
+    let rest = expect(terminals, Fixed::OpenParen)?;
     let (test, rest) = test(alloc, rest)?;
-    let rest = expect(rest, Fixed::Right)?;
+    let rest = expect(rest, Fixed::CloseParen)?;
     Ok((test, rest))
 }

@@ -46,7 +46,7 @@ pub fn maybe_names<'t>(
 ) -> Result<(Option<Names>, &'t [Terminal]), ReadFault>
     ensures { Reads result (spec.read_maybe_names terminals.now) }
 {
-    if !starts(terminals, Fixed::Left) {
+    if !starts(terminals, Fixed::OpenParen) {
         return Ok((None, terminals));
     }
     let (names, rest) = names(alloc, terminals)?;
@@ -58,12 +58,12 @@ pub fn maybe_names<'t>(
 fn size(terminals: &[Terminal]) -> Result<(Option<i128>, &[Terminal]), ReadFault>
     ensures { Reads result (spec.read_size terminals.now) }
 {
-    if !starts(terminals, Fixed::Left) {
+    if !starts(terminals, Fixed::OpenParen) {
         return Ok((None, terminals));
     }
-    match expect(terminals, Fixed::Left)? {
+    match expect(terminals, Fixed::OpenParen)? {
         [Terminal::Number(number), rest @ ..] => {
-            Ok((Some(*number), expect(rest, Fixed::Right)?))
+            Ok((Some(*number), expect(rest, Fixed::CloseParen)?))
         }
         rest => Err(ReadFault::Syntax(rest.len())),
     }
@@ -106,14 +106,14 @@ fn maybe_name<'t>(
     alloc: Global,
     terminals: &'t [Terminal],
 ) -> Result<(Option<Name>, &'t [Terminal]), ReadFault>
-    ensures { Reads result (optional (starts_spec fixed.Left) (paren read_name) terminals.now) }
+    ensures { Reads result (optional (starts_spec fixed.OpenParen) (paren read_name) terminals.now) }
 {
-    if !starts(terminals, Fixed::Left) {
+    if !starts(terminals, Fixed::OpenParen) {
         return Ok((None, terminals));
     }
-    let rest = expect(terminals, Fixed::Left)?;
+    let rest = expect(terminals, Fixed::OpenParen)?;
     let (name, rest) = name(alloc, rest)?;
-    Ok((Some(name), expect(rest, Fixed::Right)?))
+    Ok((Some(name), expect(rest, Fixed::CloseParen)?))
 }
 
 #[tactic(auto, unfolding(crate::specs::Reads::read_references))]

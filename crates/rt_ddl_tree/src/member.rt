@@ -60,8 +60,8 @@ pub fn in_parentheses<'t, T: Member>(
     requires { IsShort T.parser }
     ensures { Reads result (paren (both T.parser (list_of (step_after fixed.Comma T.parser))) terminals.now) }
 {
-    let rest = expect(terminals, Fixed::Left)?;
+    let rest = expect(terminals, Fixed::OpenParen)?;
     let (members, rest) = list(alloc, rest, Fixed::Comma)?;
-    let rest = expect(rest, Fixed::Right)?;
+    let rest = expect(rest, Fixed::CloseParen)?;
     Ok((members, rest))
 }

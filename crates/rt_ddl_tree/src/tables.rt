@@ -128,7 +128,7 @@ fn table_rule<'t>(
 fn is_dependency(terminals: &[Terminal]) -> bool
     ensures { result ≡ spec.is_dependency terminals.now }
 {
-    starts(tail(terminals), Fixed::Left) && after_word(terminals, "dependency").is_some()
+    starts(tail(terminals), Fixed::OpenParen) && after_word(terminals, "dependency").is_some()
 }
 
 fn is_table_rule(terminals: &[Terminal]) -> bool
@@ -224,7 +224,7 @@ fn starts_more(terminals: &[Terminal]) -> bool
     ensures { result ≡ spec.starts_more terminals.now }
 {
     match terminals {
-        [_, rest @ ..] => starts(terminals, Fixed::Semi) && starts(rest, Fixed::Create),
+        [_, rest @ ..] => starts(terminals, Fixed::Semicolon) && starts(rest, Fixed::Create),
         _ => false,
     }
 }
@@ -233,9 +233,9 @@ fn next_create<'t>(
     alloc: Global,
     terminals: &'t [Terminal],
 ) -> Result<(Create, &'t [Terminal]), ReadFault>
-    ensures { Reads result (lead fixed.Semi spec.read_create terminals.now) }
+    ensures { Reads result (lead fixed.Semicolon spec.read_create terminals.now) }
 {
-    create(alloc, expect(terminals, Fixed::Semi)?)
+    create(alloc, expect(terminals, Fixed::Semicolon)?)
 }
 
 fn more_creates<'t>(

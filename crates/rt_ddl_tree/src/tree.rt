@@ -3,7 +3,7 @@
 //! A type with forms or trees in it has a `drop` of its own, which is one call wherever a value
 //! goes. A derived one would be written out there, in each crate, with all forms.
 
-use crate::shared::Shared;
+use crate::counted::Counted;
 use crate::test_tree::Test;
 use rt_token::Name;
 use rt_value::List;
@@ -93,7 +93,7 @@ pub enum ColumnRule {
     PrimaryKey,
     Unique,
     References(Name, Option<Name>),
-    Check(Shared<Test>),
+    Check(Counted<Test>),
 }
 
 /// `PRIMARY KEY names | UNIQUE names | FOREIGN KEY names REFERENCES name [ names ]
@@ -102,7 +102,7 @@ pub enum TableRule {
     PrimaryKey(Names),
     Unique(Names),
     Foreign(Names, Name, Option<Names>),
-    Check(Shared<Test>),
+    Check(Counted<Test>),
     Depend(Names, Names),
 }
 

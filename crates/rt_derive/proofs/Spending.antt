@@ -9,7 +9,7 @@ use Rattle.rt_clause.specs.Lists.{has, is_false, left, line_at, propagates}
 use Rattle.rt_clause.proofs.Bools.{bool-cases, and-both}
 use Rattle.rt_clause.proofs.Literals.{has-cases, has-head, has-tail, lit_eq-same, lit_eq-refl, negated-twice}
 use Rattle.rt_derive.proofs.Left.{step-put}
-use Rattle.rt_derive.specs.Spent.{AreSpent, IsSpent}
+use Rattle.rt_derive.specs.Spent.{AreUsedUp, IsUsedUp}
 
 left-true : (set c : List Literal) (x : Literal) → has (left set c) x ≡ true → is_false set x ≡ false
 left-true set [] x h = cc
@@ -51,7 +51,7 @@ module _ (set new : List Literal) (l : Literal) (n : (k : Literal) → has new k
       n (negated x) ∙ ap (λ j. lit_eq (negated j) l || is_false set j) is ∙ ap (λ b. b || is_false set k) o
       ∙ left-true set c k (subst (λ (xs : List Literal). has xs k ≡ true) (sym e) (has-head k more))) ∙ e
 
-  pub stays : (lines : List (List Literal)) (h : ℕ) → is_false set l ≡ false → IsSpent lines set h → IsSpent lines new h
+  pub stays : (lines : List (List Literal)) (h : ℕ) → is_false set l ≡ false → IsUsedUp lines set h → IsUsedUp lines new h
   stays lines h f s = record {
     unit = s.unit;
     more = s.more;
@@ -69,7 +69,7 @@ module _ (set new : List Literal) (l : Literal) (n : (k : Literal) → has new k
       | inr g ↦ g
     ]
 
-  pub spent-now : (lines : List (List Literal)) (h : ℕ) (more : List Literal) → left set (line_at lines h) ≡ l ∷ more → list_all (lit_eq l) more ≡ true → IsSpent lines new h
+  pub spent-now : (lines : List (List Literal)) (h : ℕ) (more : List Literal) → left set (line_at lines h) ≡ l ∷ more → list_all (lit_eq l) more ≡ true → IsUsedUp lines new h
   spent-now lines h more e a = record {
     unit = l;
     more = more;
@@ -79,22 +79,22 @@ module _ (set new : List Literal) (l : Literal) (n : (k : Literal) → has new k
   }
 
   -- the lines that were used before stay spent
-  pub all-stay : (lines : List (List Literal)) (used : List ℕ) (h : ℕ) (more : List Literal) → left set (line_at lines h) ≡ l ∷ more → AreSpent lines set used → AreSpent lines new used
+  pub all-stay : (lines : List (List Literal)) (used : List ℕ) (h : ℕ) (more : List Literal) → left set (line_at lines h) ≡ l ∷ more → AreUsedUp lines set used → AreUsedUp lines new used
   all-stay lines used h more e s q u = stays lines q (left-true set (line_at lines h) l (subst (λ (xs : List Literal). has xs l ≡ true) (sym e) (has-head l more))) (s q u)
 
   -- and the line that was used is
-  pub one-more : (lines : List (List Literal)) (old used : List ℕ) (h : ℕ) (more : List Literal) → left set (line_at lines h) ≡ l ∷ more → list_all (lit_eq l) more ≡ true → AreSpent lines set old
+  pub one-more : (lines : List (List Literal)) (old used : List ℕ) (h : ℕ) (more : List Literal) → left set (line_at lines h) ≡ l ∷ more → list_all (lit_eq l) more ≡ true → AreUsedUp lines set old
       → ((q : ℕ) → list_any (is_at (nat_cmp q)) used ≡ cond (is_at (nat_cmp h) q) true (list_any (is_at (nat_cmp q)) old))
-      → AreSpent lines new used
+      → AreUsedUp lines new used
   one-more lines old used h more e a s inserted q u = elim (bool-cases (is_at (nat_cmp h) q)) [
-    | inl t ↦ let is : h ≡ q = at-is h q t in subst (λ i. IsSpent lines new i) is (spent-now lines h more e a)
+    | inl t ↦ let is : h ≡ q = at-is h q t in subst (λ i. IsUsedUp lines new i) is (spent-now lines h more e a)
     | inr f ↦ all-stay lines old h more e s q
         (ap (λ b. cond b true (list_any (is_at (nat_cmp q)) old)) (sym f) ∙ sym (inserted q) ∙ u)
   ] where
     at-is : (i j : ℕ) → is_at (nat_cmp i) j ≡ true → i ≡ j
     at-is i j t = grind (arith, nat_tests, t)
 
-pub skip : (lines : List (List Literal)) (set : List Literal) (h : ℕ) → IsSpent lines set h → (hints : List ℕ) → propagates lines set (h ∷ hints) ≡ propagates lines set hints
+pub skip : (lines : List (List Literal)) (set : List Literal) (h : ℕ) → IsUsedUp lines set h → (hints : List ℕ) → propagates lines set (h ∷ hints) ≡ propagates lines set hints
 skip lines set h s hints = step-put lines set set h hints s.unit (s.more, s.parts, s.same) known where
   known : (k : Literal) → has set k ≡ (lit_eq k s.unit || has set k)
   known k = elim (bool-cases (lit_eq k s.unit)) [
@@ -102,5 +102,5 @@ skip lines set h s hints = step-put lines set set h hints s.unit (s.more, s.part
     | inr f ↦ ap (λ b. b || has set k) (sym f)
   ]
 
-pub none-spent : (lines : List (List Literal)) (set : List Literal) (used : List ℕ) → used ≡ [] → AreSpent lines set used
+pub none-spent : (lines : List (List Literal)) (set : List Literal) (used : List ℕ) → used ≡ [] → AreUsedUp lines set used
 none-spent lines set used e h t = absurd (let f : list_any (is_at (nat_cmp h)) [] ≡ true = subst (λ (xs : List ℕ). list_any (is_at (nat_cmp h)) xs ≡ true) e t in cc)

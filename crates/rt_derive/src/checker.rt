@@ -9,7 +9,7 @@ ghost use Rattle.rt_clause.specs.Lists.{follows, left, line_at};
 ghost use Rattle.rt_clause.specs.Refuting.{IsDenial, IsDenied, IsRefuted, Refutes, is_negation};
 ghost use Rattle.rt_derive.specs.Alike.{Alike};
 ghost use Rattle.rt_derive.specs.Remaining.{IsRest};
-ghost use Rattle.rt_derive.specs.Spent.{AreSpent, Takes};
+ghost use Rattle.rt_derive.specs.Spent.{AreUsedUp, Takes};
 
 use crate::held::Held;
 use crate::store::Store;
@@ -71,9 +71,9 @@ fn take(
     h: usize,
 ) -> Result<Option<bool>, NoMemory>
     requires known { h < length lines.now }
-    requires spent { AreSpent lines.now held.old used.old.keys }
+    requires spent { AreUsedUp lines.now held.old used.old.keys }
     ensures takes { IfOk result (λ answer. Takes lines.now held.old held.new h answer) }
-    ensures spent { OnOk result (AreSpent lines.now held.new used.new.keys) }
+    ensures spent { OnOk result (AreUsedUp lines.now held.new used.new.keys) }
 {
     let is_long = lines.brief_at(h).len() >= LONG;
     if is_long && used.contains(&h) {

@@ -1,5 +1,6 @@
 //! The truth of conditions, subqueries included (ISO/IEC 9075-2, search condition). The innermost
 //! row in scope comes first in `env`.
+
 ghost use Rattle.std.specs.Prelude.{◌≡◌, map, IfOk};
 ghost use Rattle.rt_algebra.specs.Expression.{wrapped};
 ghost use Rattle.rt_algebra.specs.Answer.{pred_by, is_yes, all_of, any_of};

@@ -1,5 +1,6 @@
 //! Projections. A row of a selection is projected as soon as it is tested, so that the selection is
 //! never there as a whole.
+
 ghost use Rattle.std.specs.Prelude.{◌≡◌, ◌∷◌, ◌++◌, [], map, IfOk};
 ghost use Rattle.rt_algebra.specs.Answer.{answer_by};
 ghost use Rattle.rt_algebra.specs.Expression.{wrapped, row_by};

@@ -1,4 +1,5 @@
 //! Products, and what the parts of a condition choose from them, member by member.
+
 ghost use Rattle.std.specs.Prelude.{◌≡◌, ◌∷◌, [], length, map, nat_eq, slice_index_or, IfOk};
 ghost use Rattle.std.specs.List.{filter, list_all, list_any};
 ghost use Rattle.rt_algebra.specs.Expression.{wrapped};

@@ -1,5 +1,6 @@
 //! Plain evaluation: the answer of a query on the kept rows, computed row by row. What an answer is
 //! is defined in rt_algebra (`specs/Answer.antt`).
+
 #![tactic(auto)]
 
 mod answer;

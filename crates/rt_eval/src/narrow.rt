@@ -1,4 +1,5 @@
 //! Selections from products, narrowed by the parts of the condition before rows are joined.
+
 ghost use Rattle.std.specs.Prelude.{◌≡◌, ◌∷◌, [], map, IfOk, IfSome, IsTrue};
 ghost use Rattle.rt_algebra.specs.Expression.{Env, wrapped};
 ghost use Rattle.rt_split.specs.Join.{joined_rows};

@@ -1,4 +1,5 @@
 //! A join that is worked out and not yet written out: which rows match, without joined copies.
+
 ghost use Rattle.std.specs.Prelude.{◌≡◌, ◌++◌, [], drop, length, map, slice_get, IfOk};
 ghost use Rattle.std.specs.List.{cons_option, filter_map};
 ghost use Rattle.rt_algebra.specs.Answer.{join_each};

@@ -3,6 +3,7 @@
 //! A `Dag` holds one entry for each formula that was asked for, and no two equal ones. A node is
 //! the number of its entry, and every entry is over older nodes. So each formula has a value at
 //! every choice of rows, which never changes as entries are added.
+
 #![tactic(auto)]
 
 mod dag;

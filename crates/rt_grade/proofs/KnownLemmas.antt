@@ -15,7 +15,7 @@ use Rattle.rt_input.specs.declared.outcome.Outcome.{Outcome}
 use Rattle.rt_input.specs.declared.outcome.Outcome.TheVariants as outcome
 use Rattle.rt_input.specs.Accepted.{Accepted, IsAccepted}
 use Rattle.rt_input.specs.Judged.{total_work, within_limit}
-use Rattle.rt_top.specs.Smallest.{Agrees, IsFirst, IsGivenUp, IsSmallest, counters}
+use Rattle.rt_top.specs.Smallest.{Agrees, IsFirst, IsGivenUp, IsSmallest, is_counterexample}
 use Rattle.rt_grade.specs.declared.grade.Grade.{Grade}
 use Rattle.rt_grade.specs.declared.grade.Grade.TheVariants.{Agree, Witness, Undecided, Refused, Work, TooLong}
 use Rattle.rt_grade.specs.declared.known.Known.{Known}
@@ -37,16 +37,16 @@ module _ (c : Command) (first : First) (query : Query) (before after : Typed)
   other = beside c first (record after { query = query })
 
   smallest : (keep : List Bool) → IsSmallest one keep → IsSmallest other keep
-  unfolding counters IsFirst
-  smallest keep s = record { counter = s.counter; smallest = s.smallest; first = s.first }
+  unfolding is_counterexample IsFirst
+  smallest keep s = record { counterexample = s.counterexample; smallest = s.smallest; first = s.first }
 
   agrees : Agrees one → Agrees other
-  unfolding counters
+  unfolding is_counterexample
   agrees a = a
 
   given_up : (budget : ℕ) (best : Option (List Bool)) (least : Bool) (nogoods : List (List Literal)) → IsGivenUp one budget best least nogoods
       → IsGivenUp other budget best least nogoods
-  unfolding counters
+  unfolding is_counterexample
   given_up budget best least nogoods g = record { small = g.small; best_is = g.best_is; least_is = g.least_is; spent = g.spent }
 
   decides : (grade : Grade) → Decides one grade → Decides other grade

@@ -3,6 +3,7 @@
 //! The grade of a candidate is what `ratest` says of the reference and the candidate over the
 //! same rows. The grades of many are those of a schema, its rows, a reference and a list of
 //! candidates' files.
+
 #![tactic(auto)]
 
 mod beside;

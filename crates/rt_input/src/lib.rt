@@ -1,5 +1,6 @@
 //! From the arguments and files of a command to an accepted input, or to the outcome that stops
 //! the reading. Also the text of each outcome that is no verdict.
+
 #![tactic(auto)]
 
 mod faults;

@@ -1,4 +1,5 @@
 //! Which command of the second program, `ratest_plus`, a command line means.
+
 ghost use Rattle.std.specs.Prelude.{◌≡◌};
 ghost use Rattle.rt_io.specs.Programs.{named, plus_command};
 

@@ -1,5 +1,6 @@
 //! How often the calls on each name failed. Entries in a vector are private to the files that
 //! keep them.
+
 ghost use Rattle.std.specs.Prelude.{◌≡◌, ◌≢◌, ◌+◌, ◌<◌, ◌≤◌, ◌++◌, ◌∷◌, ℕ, List, [], length, OnOk, OnErr, vec_len};
 ghost use Rattle.rt_io.specs.Edge.{Rose, OnlyRises};
 ghost use Rattle.rt_io.specs.Counts.{count_in, name_at, names_in};

@@ -1,4 +1,5 @@
 //! What both kinds of files in memory share: a list of named contents, the newest first.
+
 ghost use Rattle.std.specs.Prelude.{◌≡◌, ◌≢◌, ℕ, List, min, length, take, [], false, true, MatchOption, OnOk, OnErr};
 ghost use Rattle.rt_io.specs.Held.{held_in, has_in};
 

@@ -7,6 +7,7 @@
 //! Also here: the arguments of the command line, read with the crate `clap`, and what the programs
 //! answer to arguments that can't be read. What arguments mean is a definition that names nothing
 //! of `clap`.
+
 #![tactic(auto)]
 
 mod commands;

@@ -1,4 +1,5 @@
 //! The numbers of the options `--conflicts` and `--work`: their ranges and their defaults.
+
 ghost use Rattle.std.specs.Prelude.{◌≡◌, IfSome, map};
 ghost use Rattle.std.specs.Option.{ForSome};
 ghost use Rattle.clap.specs.Words.{found_of, rows_of};

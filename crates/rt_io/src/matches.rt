@@ -1,4 +1,5 @@
 //! The arguments as `clap` takes them apart: the one module that describes our options to it.
+
 ghost use Rattle.std.specs.Prelude.{◌≡◌, All, IfOk, IfErr, map, Some};
 ghost use Rattle.std.specs.Str.{IsUtf8};
 ghost use Rattle.clap.specs.Words.{app_of, found_of, rows_of};

@@ -1,4 +1,5 @@
 //! The pair of sinks that a command writes to: one for answers, one for refusals.
+
 ghost use Rattle.std.specs.Prelude.{◌≡◌, ◌≤◌, OnOk, OnErr, IsErrOf};
 ghost use Rattle.rt_io.specs.Logs.{log, at_place, other_place, Grew, GrewPartly, IsKept, Broke};
 

@@ -22,7 +22,7 @@ use Rattle.rt_solver.proofs.Widths.{reach-least}
 use Rattle.rt_totalizer.specs.Outputs.{output_at}
 use Rattle.rt_totalizer.proofs.Rows.{cell-has}
 use Rattle.rt_least.specs.Sought.{IsSought, IsWithin, left_out, not_kept}
-use Rattle.rt_least.specs.Aimed.{IsAimed, IsCounted, fewer_than}
+use Rattle.rt_least.specs.Aimed.{IsAimed, HasCounter, fewer_than}
 use Rattle.rt_least.proofs.LeftOut.{left_out-below, left_out-forces, left_out-met, left_out-true}
 use Rattle.rt_least.proofs.Taking.{take-index, take-length}
 
@@ -116,7 +116,7 @@ aimed-on d goal cone lines new fo fn assume question next first f h a b s =
       outside = λ v l o set c. (let C : List (List Literal) → Type 0 = λ ls. Closed ls set in h.outside v l o set (closed-front lines more set (subst C s.lines c)));
     }
 
-pub counted-on : (d : Shared) (lines new more : List (List Literal)) (next : ℕ) (outs : List Literal) → new ≡ lines ++ more → IsCounted d lines next outs → IsCounted d new next outs
+pub counted-on : (d : Shared) (lines new more : List (List Literal)) (next : ℕ) (outs : List Literal) → new ≡ lines ++ more → HasCounter d lines next outs → HasCounter d new next outs
 counted-on d lines new more next outs e h = record {
   low = h.low;
   counts = λ keep bools k a m. (let M : List (List Literal) → Type 0 = λ ls. IsModel ls bools in h.counts keep bools k a (model-older lines more bools (subst M e m)));
@@ -152,7 +152,7 @@ not-le a b h = search rules
 pub lt-not-le : (a b : ℕ) → b < a → nat_le a b ≡ false
 lt-not-le a b h = search rules
 
-pub fewer-low : (d : Shared) (lines : List (List Literal)) (next : ℕ) (outs : List Literal) (most : ℕ) (a : Literal) → IsCounted d lines next outs → a ≡ fewer_than outs most → 0 < most → most ≤ length outs → a.var < next
+pub fewer-low : (d : Shared) (lines : List (List Literal)) (next : ℕ) (outs : List Literal) (most : ℕ) (a : Literal) → HasCounter d lines next outs → a ≡ fewer_than outs most → 0 < most → most ≤ length outs → a.var < next
 fewer-low d lines next outs most a h e z o =
     let P : ℕ → Type 0 = λ v. v < next in
     subst P (ap (λ (l : Literal). l.var) (sym e)) (h.low (output_at outs most) (cell-has outs (most - 1) (omega (arith, z, o))))
@@ -168,12 +168,12 @@ model-long lines assume rows bools e =
     let b = reach-least (max rows (width lines)) (option_to_list assume) in omega (arith, a, b, e)
 
 -- the assumption is true exactly where fewer rows are kept
-pub fewer-means : (d : Shared) (lines : List (List Literal)) (next : ℕ) (outs : List Literal) (most : ℕ) → IsCounted d lines next outs → 0 < most → most ≤ length outs → (keep bools : List Bool) → length keep ≡ d.rows → AgreeBelow d.rows keep bools → IsModel lines bools
+pub fewer-means : (d : Shared) (lines : List (List Literal)) (next : ℕ) (outs : List Literal) (most : ℕ) → HasCounter d lines next outs → 0 < most → most ≤ length outs → (keep bools : List Bool) → length keep ≡ d.rows → AgreeBelow d.rows keep bools → IsModel lines bools
     → lit_true bools (fewer_than outs most) ≡ not (nat_le most (size keep))
 fewer-means d lines next outs most h z w keep bools k a m =
     lit_true-negated bools (output_at outs most) ∙ ap not (h.counts keep bools k a m most (omega (arith, z)) w)
 
-pub model-fewer : (d : Shared) (lines : List (List Literal)) (a : Literal) (next m rows : ℕ) (outs : List Literal) (most : ℕ) (bools keep : List Bool) → rows ≡ d.rows → rows ≤ length bools → keep ≡ take rows bools → IsCounted d lines next outs
+pub model-fewer : (d : Shared) (lines : List (List Literal)) (a : Literal) (next m rows : ℕ) (outs : List Literal) (most : ℕ) (bools keep : List Bool) → rows ≡ d.rows → rows ≤ length bools → keep ≡ take rows bools → HasCounter d lines next outs
     → a ≡ fewer_than outs most → 0 < most → most ≤ length outs → IsModelled lines (Some a) m bools → size keep < most
 model-fewer d lines a next m rows outs most bools keep e w k h ae z o q =
     let S : List Bool → Type 0 = λ xs. size xs < most in
@@ -196,7 +196,7 @@ refuted-false lines assume bools r m a = by assume a r.2 (m r.0 r.1) where
       let f = ap (λ b. b || false) (sym n) ∙ g in cc
 
 -- the lines refute, so no choice has fewer rows
-pub refuted-least : (d : Shared) (goal : ℕ) (cone : List Bool) (lines : List (List Literal)) (a : Literal) (next : ℕ) (outs : List Literal) (most : ℕ) (best : List Bool) → IsAimed d goal cone lines next → IsCounted d lines next outs
+pub refuted-least : (d : Shared) (goal : ℕ) (cone : List Bool) (lines : List (List Literal)) (a : Literal) (next : ℕ) (outs : List Literal) (most : ℕ) (best : List Bool) → IsAimed d goal cone lines next → HasCounter d lines next outs
     → a ≡ fewer_than outs most → most ≡ size best → 0 < most → most ≤ length outs → IsRefuted lines (Some a) → (other : List Bool) → IsSought d goal cone other → size best ≤ size other
 refuted-least d goal cone lines a next outs most best h q ae me z o r other g = elim (bool-cases (nat_lt (size other) (size best))) [
   | inl y ↦ absurd (

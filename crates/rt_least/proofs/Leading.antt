@@ -15,7 +15,7 @@ use Rattle.rt_least.specs.Least.{HasFewest, IsLeast}
 use Rattle.rt_least.specs.Sought.{IsSought, not_kept_between}
 use Rattle.rt_least.specs.Order.{ComesBefore, IsBare, IsNext, keeps_some}
 use Rattle.rt_least.specs.Leading.{AllFew, HasValue, IsLeading}
-use Rattle.rt_least.specs.Aimed.{IsAimed, IsCounted, fewer_than}
+use Rattle.rt_least.specs.Aimed.{IsAimed, HasCounter, fewer_than}
 use Rattle.rt_least.proofs.Aiming.{fewer-means, lt-not-le}
 use Rattle.rt_least.proofs.Between.{all-none, none-bare, some-first, some-of}
 use Rattle.rt_least.proofs.Keeps.{HasFirst, kept-some, agree-bare, before-place, before-from, before-keeps, before-more, before-all, before-later}
@@ -66,7 +66,7 @@ least-none d goal cone best g z = record {
 }
 
 -- to begin with it is held that no more rows are kept
-pub leading-begun : (d : Shared) (goal : ℕ) (cone : List Bool) (lines : List (List Literal)) (next : ℕ) (outs : List Literal) (best : List Bool) (most : ℕ) (held : Literal) → IsSought d goal cone best → HasFewest (IsSought d goal cone) best → IsCounted d lines next outs
+pub leading-begun : (d : Shared) (goal : ℕ) (cone : List Bool) (lines : List (List Literal)) (next : ℕ) (outs : List Literal) (best : List Bool) (most : ℕ) (held : Literal) → IsSought d goal cone best → HasFewest (IsSought d goal cone) best → HasCounter d lines next outs
     → most ≡ size best + 1 → most ≤ length outs → held ≡ fewer_than outs most → IsLeading d goal cone lines best 0 held
 leading-begun d goal cone lines next outs best most held g f c m w h = record {
   best_is = g;
@@ -82,7 +82,7 @@ leading-begun d goal cone lines next outs best most held g f c m w h = record {
 }
 
 -- and each choice of no more rows makes it true
-pub all-few : (d : Shared) (goal : ℕ) (cone : List Bool) (lines : List (List Literal)) (next : ℕ) (outs : List Literal) (best : List Bool) (most : ℕ) (held : Literal) → IsSought d goal cone best → HasFewest (IsSought d goal cone) best → IsCounted d lines next outs
+pub all-few : (d : Shared) (goal : ℕ) (cone : List Bool) (lines : List (List Literal)) (next : ℕ) (outs : List Literal) (best : List Bool) (most : ℕ) (held : Literal) → IsSought d goal cone best → HasFewest (IsSought d goal cone) best → HasCounter d lines next outs
     → most ≡ size best + 1 → most ≤ length outs → held ≡ fewer_than outs most → AllFew d goal cone lines best held
 unfolding leading-begun
 all-few d goal cone lines next outs best most held g f c m w h =

@@ -16,7 +16,7 @@ use Rattle.rt_solver.specs.Search.{KeepsModels, line_of, AreFresh}
 use Rattle.rt_solver.specs.Solving.{variables, IsSpent}
 use Rattle.rt_least.specs.Sought.{AreInside, IsSought, IsSpentWithin, not_kept}
 use Rattle.rt_least.specs.Nogoods.{IsBetter, AreFreshAlone}
-use Rattle.rt_least.specs.Aimed.{IsAimed, IsCounted, fewer_than}
+use Rattle.rt_least.specs.Aimed.{IsAimed, HasCounter, fewer_than}
 use Rattle.rt_least.proofs.Apart.{fresh-apart}
 use Rattle.rt_least.proofs.Aiming.{variables-le, determined-less, fewer-means, lt-not-le}
 
@@ -155,7 +155,7 @@ pub spent-none : (d : Shared) (goal : ℕ) (cone : List Bool) (lines new : List 
 spent-none d goal cone lines new next rows None list e h k s = absurd s
 spent-none d goal cone lines new next rows (Some n) list e h k s = spent-best d goal cone lines new None next rows n None list e h tt k (λ keep bools g t a m. tt) tt s
 
-pub spent-some : (d : Shared) (goal : ℕ) (cone : List Bool) (lines new : List (List Literal)) (a : Literal) (next rows : ℕ) (budget : Option ℕ) (best : List Bool) (outs : List Literal) (most : ℕ) (list : List (List Literal)) → rows ≡ d.rows → IsAimed d goal cone lines next → IsCounted d lines next outs
+pub spent-some : (d : Shared) (goal : ℕ) (cone : List Bool) (lines new : List (List Literal)) (a : Literal) (next rows : ℕ) (budget : Option ℕ) (best : List Bool) (outs : List Literal) (most : ℕ) (list : List (List Literal)) → rows ≡ d.rows → IsAimed d goal cone lines next → HasCounter d lines next outs
     → a.var < next → a ≡ fewer_than outs most → most ≡ size best → 0 < most → most ≤ length outs → KeepsModels lines new → IsSought d goal cone best
     → IsSomeAnd budget (λ b. IsSpent lines new (Some a) rows (variables lines (Some a) rows) b list) → IsSomeAnd budget (λ b. IsSpentWithin d goal cone b (Some best) false list)
 spent-some d goal cone lines new a next rows None best outs most list e h c low ae me z o k b s = absurd s

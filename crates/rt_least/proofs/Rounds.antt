@@ -5,7 +5,7 @@ use Rattle.rt_clause.specs.Literal.{Literal}
 use Rattle.rt_clause.specs.Refuting.{IsRefuted}
 use Rattle.rt_formula.specs.Shared.{Shared}
 use Rattle.rt_solver.specs.Answers.{IsModelled}
-use Rattle.rt_least.specs.Aimed.{IsAimed, IsCounted, fewer_than}
+use Rattle.rt_least.specs.Aimed.{IsAimed, HasCounter, fewer_than}
 use Rattle.rt_least.specs.Least.{HasFewest}
 use Rattle.rt_least.specs.Sought.{IsSought, IsSpentWithin}
 use Rattle.rt_least.specs.Attempts.{IsGrown, IsGivenUp}
@@ -16,7 +16,7 @@ use Rattle.rt_least.proofs.Nogoods.{spent-some, spent-none}
 -- the literal says that fewer rows are kept than in the best choice
 pub record IsRound (d : Shared) (goal : ℕ) (cone : List Bool) (lines : List (List Literal)) (next : ℕ) (outs : List Literal) (best : List Bool) (most : ℕ) (a : Literal) : Type 0 where
   pub aimed : IsAimed d goal cone lines next
-  pub counted : IsCounted d lines next outs
+  pub counted : HasCounter d lines next outs
   pub best_is : IsSought d goal cone best
   pub assumed : a ≡ fewer_than outs most
   pub most_is : most ≡ size best
@@ -24,7 +24,7 @@ pub record IsRound (d : Shared) (goal : ℕ) (cone : List Bool) (lines : List (L
   pub within : most ≤ length outs
 
 -- what the code knows before its call of solve
-pub round-begun : (d : Shared) (goal : ℕ) (cone : List Bool) (lines : List (List Literal)) (next : ℕ) (outs : List Literal) (best : List Bool) (most : ℕ) (a : Literal) → IsAimed d goal cone lines next → IsCounted d lines next outs → IsSought d goal cone best
+pub round-begun : (d : Shared) (goal : ℕ) (cone : List Bool) (lines : List (List Literal)) (next : ℕ) (outs : List Literal) (best : List Bool) (most : ℕ) (a : Literal) → IsAimed d goal cone lines next → HasCounter d lines next outs → IsSought d goal cone best
     → a ≡ fewer_than outs most → most ≡ size best → (most ≡ 0 → ⊥) → size best ≤ length outs → IsRound d goal cone lines next outs best most a
 round-begun d goal cone lines next outs best most a h c g e m z w = record { aimed = h; counted = c; best_is = g; assumed = e; most_is = m; some = some-kept most z; within = omega (arith, m, w) }
 

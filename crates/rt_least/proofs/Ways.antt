@@ -6,7 +6,7 @@ use Rattle.rt_clause.specs.Models.{lit_true}
 use Rattle.rt_clause.proofs.Bools.{bool-cases}
 use Rattle.rt_formula.specs.Shared.{Shared}
 use Rattle.rt_totalizer.specs.declared.counter.Outputs.{Outputs}
-use Rattle.rt_least.specs.Aimed.{IsAimed, IsCounted, IsUnderWay, fewer_than}
+use Rattle.rt_least.specs.Aimed.{IsAimed, HasCounter, IsUnderWay, fewer_than}
 use Rattle.rt_least.specs.Alone.{AllowsFew}
 use Rattle.rt_least.specs.Attempts.{IsAnswered, HasNone}
 use Rattle.rt_least.specs.Least.{HasFewest}
@@ -29,12 +29,12 @@ way-on d goal cone lines new more next next' counter best keep e w a u s l r = r
 }
 
 -- what is assumed is true where no more rows are kept
-pub allows-few : (d : Shared) (lines : List (List Literal)) (next : ℕ) (outs : List Literal) (best : List Bool) (most : ℕ) (held : Literal) → IsCounted d lines next outs → most ≡ size best + 1 → most ≤ length outs → held ≡ fewer_than outs most → AllowsFew d lines best held
+pub allows-few : (d : Shared) (lines : List (List Literal)) (next : ℕ) (outs : List Literal) (best : List Bool) (most : ℕ) (held : Literal) → HasCounter d lines next outs → most ≡ size best + 1 → most ≤ length outs → held ≡ fewer_than outs most → AllowsFew d lines best held
 allows-few d lines next outs best most held c m w h keep bools k a q s =
     ap (lit_true bools) h ∙ fewer-means d lines next outs most c (omega (arith, m)) w keep bools k a q ∙ ap not (lt-not-le most (size keep) (omega (arith, s, m)))
 
 -- where no model makes the question for fewer rows true, no choice has fewer
-pub none-fewer : (d : Shared) (goal : ℕ) (cone : List Bool) (lines : List (List Literal)) (next : ℕ) (outs : List Literal) (best : List Bool) (most : ℕ) (held bound : Literal) → IsAimed d goal cone lines next → IsCounted d lines next outs → AllowsFew d lines best held
+pub none-fewer : (d : Shared) (goal : ℕ) (cone : List Bool) (lines : List (List Literal)) (next : ℕ) (outs : List Literal) (best : List Bool) (most : ℕ) (held bound : Literal) → IsAimed d goal cone lines next → HasCounter d lines next outs → AllowsFew d lines best held
     → most ≡ size best → 0 < most → most ≤ length outs → bound ≡ fewer_than outs most → HasNone lines (Some held) bound → HasFewest (IsSought d goal cone) best
 none-fewer d goal cone lines next outs best most held bound h q f me z o ae r other g = elim (bool-cases (nat_lt (size other) (size best))) [
   | inl y ↦ absurd (
@@ -45,7 +45,7 @@ none-fewer d goal cone lines next outs best most held bound h q f me z o ae r ot
 ]
 
 -- and a model keeps fewer
-pub found-fewer : (d : Shared) (lines : List (List Literal)) (next rows : ℕ) (outs : List Literal) (most : ℕ) (held bound : Literal) (keep : List Bool) → rows ≡ d.rows → IsCounted d lines next outs → 0 < most → most ≤ length outs → bound ≡ fewer_than outs most
+pub found-fewer : (d : Shared) (lines : List (List Literal)) (next rows : ℕ) (outs : List Literal) (most : ℕ) (held bound : Literal) (keep : List Bool) → rows ≡ d.rows → HasCounter d lines next outs → 0 < most → most ≤ length outs → bound ≡ fewer_than outs most
     → IsAnswered lines held bound rows (Some keep) → size keep < most
 found-fewer d lines next rows outs most held bound keep e c z o ae q =
     model-fewer d lines bound next (length q.0) rows outs most q.0 keep e q.1 q.4 c ae z o (record { each = q.2.each; model = q.2.model; assumed = q.3 })

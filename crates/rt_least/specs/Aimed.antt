@@ -21,7 +21,7 @@ pub record IsAimed (d : Shared) (goal : ℕ) (cone : List Bool) (lines : List (L
   pub outside : (v : ℕ) → v < d.rows → bool_at cone v ≡ false → (set : List Literal) → Closed lines set → has set (not_kept v) ≡ true
 
 -- under the lines the outputs count the kept rows
-pub record IsCounted (d : Shared) (lines : List (List Literal)) (next : ℕ) (outs : List Literal) : Type 0 where
+pub record HasCounter (d : Shared) (lines : List (List Literal)) (next : ℕ) (outs : List Literal) : Type 0 where
   pub low : IsBelow next outs
   pub counts : CountsRows d.rows lines outs
 
@@ -35,7 +35,7 @@ fewer_than outs most = negated (output_at outs most)
 pub record IsUnderWay (d : Shared) (goal : ℕ) (cone : List Bool) (lines : List (List Literal)) (next : ℕ) (counter : Outputs) (best : List Bool) : Type 0 where
   pub long : length cone ≡ d.rows
   pub aimed : IsAimed d goal cone lines next
-  pub counted : IsCounted d lines next counter.outs
+  pub counted : HasCounter d lines next counter.outs
   pub sought : IsSought d goal cone best
   pub within : size best ≤ length counter.outs
   pub room : size best < d.rows → size best < length counter.outs

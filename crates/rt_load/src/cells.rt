@@ -1,4 +1,5 @@
 //! The values of a record's fields: an empty field is NULL, blanks around a number don't count.
+
 ghost use Rattle.std.specs.Prelude.{◌≡◌, ◌==◌, length};
 ghost use Rattle.csv.specs.Records.{fields_of};
 ghost use Rattle.rt_value.specs.Gives.{Gives};

@@ -1,4 +1,5 @@
 //! The header of a table's file: the columns' names in order. A byte order mark is refused.
+
 ghost use Rattle.std.specs.Prelude.{◌≡◌, ◌==◌, ◌&&◌};
 ghost use Rattle.csv.specs.Records.{fields_of};
 ghost use Rattle.rt_load.specs.Loaded as spec;

@@ -1,5 +1,6 @@
 //! Whole numbers as the fields of INTEGER columns write them (ISO/IEC 9075-2, 5.3 <signed numeric
 //! literal>).
+
 ghost use Rattle.std.specs.Prelude.{◌≡◌, ◌<◌, ◌==◌, ◌||◌};
 ghost use Rattle.rt_load.specs.Integer as spec;
 

@@ -1,6 +1,7 @@
 //! The rows of a table's file. Records are those of the crate `csv` (RFC 4180); a file's header
 //! names the table's columns, and each further record is a row. Also here: the texts of a generated
 //! input for 1 to 400 students.
+
 #![tactic(auto)]
 
 mod cells;

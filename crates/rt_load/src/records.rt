@@ -1,5 +1,6 @@
 //! The records of a table's file, as the crate `csv` reads them: the only module that sets its
 //! options.
+
 ghost use Rattle.std.specs.Prelude.{◌≡◌, IfOk, IfErr};
 ghost use Rattle.csv.specs.Reading.{default_config, records, strip_bom};
 ghost use Rattle.csv.specs.Records.{fields_of};

@@ -24,7 +24,7 @@ use Rattle.rt_noted.specs.declared.gate.TruthLists.{TruthLists}
 use Rattle.rt_noted.specs.declared.gate.Junction.{Junction}
 use Rattle.rt_noted.specs.declared.gate.Junction.TheVariants.{All, Any}
 use Rattle.rt_noted.specs.declared.side.Side.{Side}
-use Rattle.rt_noted.specs.declared.side.Side.TheVariants.{Standing, Missing}
+use Rattle.rt_noted.specs.declared.side.Side.TheVariants.{Present, Missing}
 use Rattle.rt_noted.specs.Annotated.{formula, entry_of, entries_of, AreMerged, AreNodes, IsNode, IsGate, Mean, Reads, Gives, Choosing, yes_of, no_of, yes_when, no_when, test_joined, gates_joined, deciding, set_rows, side_test, side_node, projected_rows}
 use Rattle.rt_noted.specs.Known.{exists_test, among_test}
 use Rattle.rt_algebra.proofs.Equations.{at_and, at_or, at_exists, at_member}
@@ -173,8 +173,8 @@ module _ (given : Tables) (env : Env) where
 missing_rows : (s : List Bool) (es ds : List Entry) → rows_at s (selected es (side_test Missing ds)) ≡ filter (λ r. not (has_row (rows_at s ds) r)) (rows_at s es)
 missing_rows s es ds = select_exact s es (side_test Missing ds) (λ r. not (has_row (rows_at s ds) r)) (λ r. ap not (stands_exact s ds r))
 
-standing_rows : (s : List Bool) (es ds : List Entry) → rows_at s (selected es (side_test Standing ds)) ≡ filter (has_row (rows_at s ds)) (rows_at s es)
-standing_rows s es ds = select_exact s es (side_test Standing ds) (has_row (rows_at s ds)) (λ r. stands_exact s ds r)
+standing_rows : (s : List Bool) (es ds : List Entry) → rows_at s (selected es (side_test Present ds)) ≡ filter (has_row (rows_at s ds)) (rows_at s es)
+standing_rows s es ds = select_exact s es (side_test Present ds) (has_row (rows_at s ds)) (λ r. stands_exact s ds r)
 
 -- noted rows that give an answer
 pub gives_as : {d : Shared} {ns : List Noted} {f : List Bool → Rows} (h : List Bool → Rows) → ((s : List Bool) → f s ≡ h s) → Gives d ns f → Gives d ns h
@@ -219,7 +219,7 @@ gives_except {d} {now} {ms} {ns} {out} {f} {h} i j k = record {
       ∙ same_except (rows_at s (entries_of d ms)) (f s) (rows_at s (entries_of d ns)) (h s) (i.same s) (j.same s) r;
 }
 
-gives_intersect : {d now : Shared} {ms ns out : List Noted} {f h : List Bool → Rows} → Gives d ms f → Gives d ns h → Reads now out (selected (entries_of d ms) (side_test Standing (entries_of d ns)))
+gives_intersect : {d now : Shared} {ms ns out : List Noted} {f h : List Bool → Rows} → Gives d ms f → Gives d ns h → Reads now out (selected (entries_of d ms) (side_test Present (entries_of d ns)))
     → Gives now out (λ s. filter (has_row (h s)) (f s))
 gives_intersect {d} {now} {ms} {ns} {out} {f} {h} i j k = record {
   below = k.below;
@@ -229,12 +229,12 @@ gives_intersect {d} {now} {ms} {ns} {out} {f} {h} i j k = record {
 
 pub gives_sifted : (side : Side) {d now : Shared} {ms ns out : List Noted} {f h : List Bool → Rows} → Gives d ms f → Gives d ns h → Reads now out (selected (entries_of d ms) (side_test side (entries_of d ns)))
     → Gives now out (λ s. set_rows (Some side) (f s) (h s))
-gives_sifted Standing i j k = gives_intersect i j k
+gives_sifted Present i j k = gives_intersect i j k
 gives_sifted Missing i j k = gives_except i j k
 
 -- the node of a side, of a gate that says where a row is
 pub side_is : (side : Side) (es : List Entry) (r : List Value) {d : Shared} {g : TruthNodes} → IsGate d g (stands es r, λ s. not (stands es r s)) → IsNode d (side_node side g) (side_test side es r).0
-side_is Standing es r i = i.yes
+side_is Present es r i = i.yes
 side_is Missing es r i = i.no
 
 -- the next entry is chosen, or never comes

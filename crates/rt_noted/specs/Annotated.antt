@@ -18,7 +18,7 @@ use Rattle.rt_noted.specs.declared.gate.TruthLists.{TruthLists}
 use Rattle.rt_noted.specs.declared.gate.Junction.{Junction}
 use Rattle.rt_noted.specs.declared.gate.Junction.TheVariants.{All, Any}
 use Rattle.rt_noted.specs.declared.side.Side.{Side}
-use Rattle.rt_noted.specs.declared.side.Side.TheVariants.{Standing, Missing}
+use Rattle.rt_noted.specs.declared.side.Side.TheVariants.{Present, Missing}
 
 -- a node as a formula
 abbrev pub formula : Shared → ℕ → Formula
@@ -58,18 +58,18 @@ pub record Reads (d : Shared) (ns : List Noted) (es : List Entry) : Type 0 where
 
 -- whether a row is on this side of entries, as a condition on rows
 abbrev pub side_test : Side → List Entry → List Value → Test
-side_test Standing es r = (stands es r, λ s. false)
+side_test Present es r = (stands es r, λ s. false)
 side_test Missing es r = (λ s. not (stands es r s), λ s. false)
 
 -- the node of that, of a gate that says where a row is among them
 abbrev pub side_node : Side → TruthNodes → ℕ
-side_node Standing g = g.yes
+side_node Present g = g.yes
 side_node Missing g = g.no
 
 -- the rows of a set operator: those of the first on a side of the second, or all of both
 abbrev pub set_rows : Option Side → Rows → Rows → Rows
 set_rows None xs ys = xs ++ ys
-set_rows (Some Standing) xs ys = filter (has_row ys) xs
+set_rows (Some Present) xs ys = filter (has_row ys) xs
 set_rows (Some Missing) xs ys = filter (λ r. not (has_row ys r)) xs
 
 -- rows in order, each where its place is kept

@@ -1,6 +1,7 @@
 //! Rows with the nodes of a `Dag` that say at which choices of rows they are there: what an annotated
 //! evaluation makes of them. Products and joins, where a condition is true and where it is false, the
 //! rows of subqueries that are kept, and answers as maps from rows to nodes.
+
 #![tactic(auto)]
 
 mod ann;

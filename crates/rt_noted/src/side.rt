@@ -9,7 +9,7 @@ use rt_formula::Node;
 /// Which rows are taken: those that are among others (INTERSECT), or those that are not (EXCEPT).
 #[derive(Clone, Copy)]
 pub enum Side {
-    Standing,
+    Present,
     Missing,
 }
 
@@ -19,7 +19,7 @@ impl Side {
         ensures { result ≡ side_node self gate }
     {
         match self {
-            Side::Standing => gate.yes,
+            Side::Present => gate.yes,
             Side::Missing => gate.no,
         }
     }

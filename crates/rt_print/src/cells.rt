@@ -1,4 +1,5 @@
 //! How values, rows and counts are written; each call adds its bytes at the end of `text`.
+
 ghost use Rattle.std.specs.Prelude.{◌≡◌, ◌∷◌, ◌++◌, [], OnOk};
 ghost use Rattle.std.specs.Fmt.{decimal};
 ghost use Rattle.rt_print.specs.Texts as spec;

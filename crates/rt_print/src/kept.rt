@@ -1,4 +1,5 @@
 //! The lines of kept rows, shared by the texts of a witness and of a spent budget.
+
 ghost use Rattle.std.specs.Prelude.{◌≡◌, ◌≤◌, ◌++◌, ◌<◌, OnOk, length};
 ghost use Rattle.rt_schema.specs.Given.{places};
 ghost use Rattle.rt_print.specs.Texts as spec;

@@ -1,6 +1,7 @@
 //! The texts that are printed of an answer: the rows on which two queries differ, a search that
 //! ended at its budget, and the summary of a search over a generated input. Each byte is fixed by
 //! `specs/`.
+
 #![tactic(auto)]
 
 mod cells;

@@ -24,7 +24,7 @@ use Rattle.rt_ra.specs.OperatorAnswers as answers
 use Rattle.rt_relation.specs.Columns.{Text, column_at, has, names, place}
 use Rattle.rt_relation.specs.Fault.{◌>>=◌}
 use Rattle.rt_relation.specs.Operators.{matching}
-use Rattle.rt_ra.specs.Tests.{column_scalar, compared, negated, number, side, test, tests}
+use Rattle.rt_ra.specs.Conditions.{column_scalar, compared, negated, number, side, test, tests}
 use Rattle.rt_relation.specs.declared.column.Column.{Column}
 use Rattle.rt_ra.specs.declared.scalar.Scalar.{Scalar}
 use Rattle.rt_ra_tree.specs.declared.fault.RaFault.{RaFault}

@@ -13,7 +13,7 @@ use Rattle.rt_relation.specs.Columns.{Text, column_at, common_fit, further_colum
 use Rattle.rt_relation.specs.Fault.{◌>>=◌}
 use Rattle.rt_relation.specs.Operators.{anti, filled, if_further, joined, placed, product, quotient, semi, two, typed_of, united, unless_lacked}
 use Rattle.rt_ra.specs.Unary.{project, rename, select, table_columns, table_named}
-use Rattle.rt_ra.specs.Tests.{column_scalar, compared, negated, side, test, tests}
+use Rattle.rt_ra.specs.Conditions.{column_scalar, compared, negated, side, test, tests}
 use Rattle.rt_relation.specs.declared.column.Column.{Column}
 use Rattle.rt_relation.specs.declared.relation.Relation.{Relation}
 use Rattle.rt_ra.specs.declared.scalar.Scalar.{Scalar}

@@ -21,7 +21,7 @@ use Rattle.rt_relation.specs.Columns.{Text, column_at, common_fit, further_colum
 use Rattle.rt_relation.specs.Operators.{if_further, placed, product, quotient, two, united, unless_lacked}
 use Rattle.rt_ra.specs.Unary.{project, rename, select, table_columns, table_named}
 use Rattle.rt_ra.specs.OperatorMeaning.{Fit, Has, KeepsOne, Means, Wide}
-use Rattle.rt_ra.specs.Tests.{tests}
+use Rattle.rt_ra.specs.Conditions.{tests}
 use Rattle.rt_relation.specs.declared.column.Column.{Column}
 use Rattle.rt_relation.specs.declared.relation.Relation.{Relation}
 use Rattle.rt_ra_tree.specs.declared.fault.RaFault.{RaFault}

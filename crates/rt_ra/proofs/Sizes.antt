@@ -32,7 +32,7 @@ formed-end (k ∷ front) end h = formed-end front end (and-right (is_formed k) (
 pub formed-operands : (w : Terminal) (a b : Kinds) → Formed (applied w a b) → Formed a × Formed b
 formed-operands w a b h =
     let inside = a ++ terminal.Fixed fixed.Comma ∷ b in
-    let both = formed-front inside (terminal.Fixed fixed.Right ∷ []) (and-right (is_formed w) (all_formed (inside ++ terminal.Fixed fixed.Right ∷ [])) h) in
+    let both = formed-front inside (terminal.Fixed fixed.CloseParen ∷ []) (and-right (is_formed w) (all_formed (inside ++ terminal.Fixed fixed.CloseParen ∷ [])) h) in
     (formed-front a (terminal.Fixed fixed.Comma ∷ b) both, formed-end a (terminal.Fixed fixed.Comma ∷ b) both)
 
 number-fits : (n : ℤ) → is_formed (terminal.Number n) ≡ true → nat_le (unsigned_abs n) (2 ^ 127 - 1) ≡ true

@@ -107,7 +107,7 @@ relation-typed db r h = record {
 
 lowered-typed : (text : RaText) (db : List Table) → IsFormed text → IfOk (ra_lowered text db) (IsTypedOf db)
 lowered-typed text db f = then-ok (HasColumns (algebra.table_columns (schema_kinds db))) (IsTypedOf db) (relation text.of db) (λ r. Ok (typed_of r))
-    (ra-typed (algebra.table_columns (schema_kinds db)) db (schema-tables db [] 0 refl) text.of (formed-front (spelled_ra text.of) (flag fixed.Semi text.semi) f.0)) (λ r h. relation-typed db r h)
+    (ra-typed (algebra.table_columns (schema_kinds db)) db (schema-tables db [] 0 refl) text.of (formed-front (spelled_ra text.of) (flag fixed.Semicolon text.semi) f.0)) (λ r h. relation-typed db r h)
 
 pub given-typed : (text : RaText) (db : List Table) (r : Result Typed RaFault) → Gives is_memory r (ra_lowered text db) → IsFormed text → IfOk r (IsTypedOf db)
 given-typed text db (Ok q) g f = subst (λ (d : Result Typed RaFault). IfOk d (IsTypedOf db)) g (lowered-typed text db f)

@@ -21,7 +21,7 @@ use Rattle.rt_ra.specs.OperatorMeaning.{AreTables, HasColumns, column_as, column
 use Rattle.rt_relation.specs.Operators.{if_further, placed, quotient, two, united, unless_lacked}
 use Rattle.rt_ra.specs.Unary.{project, rename, select, table_columns, table_named}
 use Rattle.rt_ra.specs.Numbers.{side_fits, test_fits, tests_fit}
-use Rattle.rt_ra.specs.Tests.{column_scalar, compared, negated, number, side, test, tests}
+use Rattle.rt_ra.specs.Conditions.{column_scalar, compared, negated, number, side, test, tests}
 use Rattle.rt_relation.specs.declared.column.Column.{Column}
 use Rattle.rt_relation.specs.declared.relation.Relation.{Relation}
 use Rattle.rt_ra.specs.declared.scalar.Scalar.{Scalar}

@@ -5,5 +5,5 @@ pub mod Meaning
 pub mod OperatorAnswers
 pub mod OperatorMeaning
 pub mod Numbers
-pub mod Tests
+pub mod Conditions
 pub mod Unary

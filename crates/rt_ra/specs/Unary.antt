@@ -5,7 +5,7 @@ use Rattle.rt_algebra.specs.TextColumns as columns
 use Rattle.rt_algebra.specs.declared.query.Query.TheVariants as query
 use Rattle.rt_schema.specs.declared.table.Column.{Column as TableColumn}
 use Rattle.rt_schema.specs.declared.table.Table.{Table}
-use Rattle.rt_ra.specs.Tests.{tests}
+use Rattle.rt_ra.specs.Conditions.{tests}
 use Rattle.rt_relation.specs.Columns.{Text, called, picked, renamed, twice, unless_twice}
 use Rattle.rt_relation.specs.Fault.{◌>>=◌}
 use Rattle.rt_relation.specs.Operators.{Answer, placed}

@@ -9,8 +9,10 @@
 //! `specs/OperatorAnswers.antt` has what it answers, over plain lists. `specs/OperatorMeaning.antt`
 //! ties the two together: what an operator becomes answers just the rows that it means, and the laws
 //! say so of each.
+
 #![tactic(auto)]
 
+mod conditions;
 mod crosses;
 mod joins;
 mod laws;
@@ -24,7 +26,6 @@ mod selections;
 mod semijoins;
 mod set_operators;
 mod table;
-mod tests;
 mod walk;
 
 pub use laws::{project_law, rename_law, select_law, table_law, two_law};

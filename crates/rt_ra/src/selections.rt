@@ -4,7 +4,7 @@ ghost use Rattle.rt_ra.specs.Unary as spec;
 ghost use Rattle.rt_ra_tree.specs.Refusals.{is_memory};
 ghost use Rattle.rt_value.specs.Gives.{Gives};
 
-use crate::tests::tests as conditions;
+use crate::conditions::tests as conditions;
 use rt_algebra::selected;
 use rt_ra_tree::{RaFault, RaTests};
 use rt_relation::Relation;

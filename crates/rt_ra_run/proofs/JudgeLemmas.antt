@@ -18,7 +18,7 @@ use Rattle.rt_top.specs.Texts as texts
 use Rattle.rt_ra_run.specs.declared.asked.Asked.{Asked}
 use Rattle.rt_ra_run.specs.Answers.{Judges}
 use Rattle.rt_ra_run.specs.Asked.{IsAsked, IsMeant}
-use Rattle.rt_ra_run.specs.Smallest.{Agrees, IsCounter, IsGivenUp, IsSmallest, answer_at, counters}
+use Rattle.rt_ra_run.specs.Smallest.{Agrees, IsCounterexample, IsGivenUp, IsSmallest, answer_at, is_counterexample}
 use Rattle.rt_ra_run.specs.Texts.{agree_text, spent_of, witness_of}
 
 -- what the two texts mean: their queries answer their rows
@@ -32,41 +32,41 @@ same_of a is means = record {
   right = λ keep. means.right a.input.given keep is.sound.of_schema is.instance;
 }
 
-counters-same : (a : Asked) → Same a → (keep : List Bool) → top.counters a.input keep ≡ counters a keep
-unfolding top.counters counters
-counters-same a s keep = (λ i. lawful_at a.input keep && not (same_rows (s.left keep i) (s.right keep i)))
+is_counterexample-same : (a : Asked) → Same a → (keep : List Bool) → top.is_counterexample a.input keep ≡ is_counterexample a keep
+unfolding top.is_counterexample is_counterexample
+is_counterexample-same a s keep = (λ i. lawful_at a.input keep && not (same_rows (s.left keep i) (s.right keep i)))
 
-to_counter : (a : Asked) → Same a → (keep : List Bool) → top.IsCounter a.input keep → IsCounter a keep
-to_counter a s keep c = (c.0, sym (counters-same a s keep) ∙ c.1)
+to_counterexample : (a : Asked) → Same a → (keep : List Bool) → top.IsCounterexample a.input keep → IsCounterexample a keep
+to_counterexample a s keep c = (c.0, sym (is_counterexample-same a s keep) ∙ c.1)
 
-from_counter : (a : Asked) → Same a → (keep : List Bool) → IsCounter a keep → top.IsCounter a.input keep
-from_counter a s keep c = (c.0, counters-same a s keep ∙ c.1)
+from_counterexample : (a : Asked) → Same a → (keep : List Bool) → IsCounterexample a keep → top.IsCounterexample a.input keep
+from_counterexample a s keep c = (c.0, is_counterexample-same a s keep ∙ c.1)
 
 agrees : (a : Asked) → Same a → top.Agrees a.input → Agrees a
-agrees a s h keep c = sym (counters-same a s keep) ∙ h keep c
+agrees a s h keep c = sym (is_counterexample-same a s keep) ∙ h keep c
 
 smallest : (a : Asked) → Same a → (keep : List Bool) → top.IsSmallest a.input keep → IsSmallest a keep
 unfolding top.IsFirst
 smallest a s keep h = record {
-  is_target = to_counter a s keep h.counter;
-  least = λ t c. h.smallest t (from_counter a s t c);
-  first = λ t c. h.first t (from_counter a s t c);
+  is_target = to_counterexample a s keep h.counterexample;
+  least = λ t c. h.smallest t (from_counterexample a s t c);
+  first = λ t c. h.first t (from_counterexample a s t c);
 }
 
-best_counter : (a : Asked) → Same a → (best : Option (List Bool)) → IfSome best (top.IsCounter a.input) → IfSome best (IsCounter a)
-best_counter a s None h = tt
-best_counter a s (Some keep) h = to_counter a s keep h
+best_counterexample : (a : Asked) → Same a → (best : Option (List Bool)) → IfSome best (top.IsCounterexample a.input) → IfSome best (IsCounterexample a)
+best_counterexample a s None h = tt
+best_counterexample a s (Some keep) h = to_counterexample a s keep h
 
-fewest_counter : (a : Asked) → Same a → (best : Option (List Bool)) → IsSomeAnd best (top.HasFewest a.input) → IsSomeAnd best (HasFewest (IsCounter a))
-fewest_counter a s None h = h
-fewest_counter a s (Some keep) h = λ t c. h t (from_counter a s t c)
+fewest_counterexample : (a : Asked) → Same a → (best : Option (List Bool)) → IsSomeAnd best (top.HasFewest a.input) → IsSomeAnd best (HasFewest (IsCounterexample a))
+fewest_counterexample a s None h = h
+fewest_counterexample a s (Some keep) h = λ t c. h t (from_counterexample a s t c)
 
 given_up : (a : Asked) → Same a → (s : Spent) → top.IsGivenUp a.input s.budget s.best s.least s.nogoods → IsGivenUp a s
 given_up a same s h = record {
   small = h.small;
-  best_is = best_counter a same s.best h.best_is;
-  least_is = λ t. fewest_counter a same s.best (h.least_is t);
-  spent = spent-narrowed (places a.input.given.tables) (top.IsCounter a.input) (IsCounter a) s.best s.least s.budget s.nogoods (from_counter a same) h.spent;
+  best_is = best_counterexample a same s.best h.best_is;
+  least_is = λ t. fewest_counterexample a same s.best (h.least_is t);
+  spent = spent-narrowed (places a.input.given.tables) (top.IsCounterexample a.input) (IsCounterexample a) s.best s.least s.budget s.nogoods (from_counterexample a same) h.spent;
 }
 
 -- ---- texts over files

@@ -10,11 +10,11 @@ use Rattle.rt_ra_run.specs.declared.asked.Asked.{Asked}
 use Rattle.rt_ra_run.specs.Answers.{IsRead, IsVerdictText}
 use Rattle.rt_ra_run.specs.Judged.{ra_judged}
 use Rattle.rt_ra_run.specs.One.{AreAlike}
-use Rattle.rt_ra_run.specs.Smallest.{Agrees, IsCounter, IsSmallest}
+use Rattle.rt_ra_run.specs.Smallest.{Agrees, IsCounterexample, IsSmallest}
 use Rattle.rt_ra_run.specs.Texts.{witness_of}
 
 pub smallest-one : (asked : Asked) (s t : List Bool) → IsSmallest asked s → IsSmallest asked t → s ≡ t
-smallest-one asked s t a b = least-one (IsCounter asked) (places asked.input.given.tables) (λ keep h. h.0) s t a b
+smallest-one asked s t a b = least-one (IsCounterexample asked) (places asked.input.given.tables) (λ keep h. h.0) s t a b
 
 smallest-none : (asked : Asked) (s : List Bool) → IsSmallest asked s → Agrees asked → ⊥
 smallest-none asked s a n = clash a.is_target.1 (n s a.is_target.0) where

@@ -20,21 +20,21 @@ abbrev pub differ_at : Asked → List Bool → Bool
 differ_at a keep = not (same_rows (answer_at a a.left keep) (answer_at a a.right keep))
 
 -- the kept rows are a counterexample
-unfoldable pub counters : Asked → List Bool → Bool
-counters a keep = lawful_at a.input keep && differ_at a keep
+unfoldable pub is_counterexample : Asked → List Bool → Bool
+is_counterexample a keep = lawful_at a.input keep && differ_at a keep
 
 -- a choice at which the kept rows are a counterexample
-abbrev pub IsCounter : Asked → List Bool → Type 0
-IsCounter a keep = IsChoice a.input keep × (counters a keep ≡ true)
+abbrev pub IsCounterexample : Asked → List Bool → Type 0
+IsCounterexample a keep = IsChoice a.input keep × (is_counterexample a keep ≡ true)
 
 -- a counterexample; no other keeps fewer rows, and none that keeps as many comes before it
 abbrev pub IsSmallest : Asked → List Bool → Type 0
-IsSmallest a keep = IsLeast (IsCounter a) keep
+IsSmallest a keep = IsLeast (IsCounterexample a) keep
 
 -- there is no counterexample
 abbrev pub Agrees : Asked → Type 0
-Agrees a = (keep : List Bool) → IsChoice a.input keep → counters a keep ≡ false
+Agrees a = (keep : List Bool) → IsChoice a.input keep → is_counterexample a keep ≡ false
 
 -- the search for a counterexample was given up
 abbrev pub IsGivenUp : Asked → Spent → Type 0
-IsGivenUp a s = IsSpentBest (places a.input.given.tables) (IsCounter a) s.budget s.best s.least s.nogoods
+IsGivenUp a s = IsSpentBest (places a.input.given.tables) (IsCounterexample a) s.budget s.best s.least s.nogoods

@@ -1,4 +1,5 @@
 //! The arguments of `ratest_plus ra`: the keyword, then what `ratest` takes for files.
+
 ghost use Rattle.std.specs.Prelude.{◌≡◌, IfOk, IfErr, Some, option_and_then};
 ghost use Rattle.rt_io.specs.Command.{command};
 ghost use Rattle.rt_ra_run.specs.Words.{IsInRange, WordsStop, over_files, query_path, ra_command};

@@ -1,4 +1,5 @@
 //! The errors of an algebra text as outcomes: out of memory is an outcome of its own.
+
 ghost use Rattle.std.specs.Prelude.{◌≡◌};
 ghost use Rattle.rt_ra_run.specs.Faults.{fault_outcome, lex_outcome};
 

@@ -3,6 +3,7 @@
 //! `specs/Judged.antt` says what is asked or refused, and `specs/Smallest.antt` what a
 //! counterexample of two texts is. `specs/Answers.antt` says when each outcome comes and what is
 //! written.
+
 #![tactic(auto)]
 
 mod asked;

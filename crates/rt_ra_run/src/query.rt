@@ -1,4 +1,5 @@
 //! One algebra text, from its bytes to the query that it becomes: tokens, tree, names.
+
 ghost use Rattle.std.specs.Prelude.{◌≡◌, IfOk, IfErr, Ok};
 ghost use Rattle.rt_token.specs.Lexed.{lexed};
 ghost use Rattle.rt_ra_tree.specs.Formed.{IsFormed};

@@ -1,5 +1,6 @@
 //! Reading a command's files in their order: schema, tables, query 1, query 2. The first refusal
 //! ends the reading.
+
 ghost use Rattle.std.specs.Prelude.{◌≡◌, ◌≤◌, [], ◌∷◌, ◌++◌, IsTrue, IfOk, IfErr, OnOk, Ok};
 ghost use Rattle.rt_io.specs.Edge.{AddsPrefix, NoneFell};
 ghost use Rattle.rt_input.specs.Begun.{AddsAll, AddsSome, data_files, data_reached};

@@ -1,4 +1,5 @@
 //! The texts of refusals and errors. Each byte is fixed by `specs/Texts.antt`.
+
 ghost use Rattle.std.specs.Prelude.{◌≡◌, IfOk, string_bytes};
 ghost use Rattle.rt_ra_run.specs.Texts.{fault_text, refusal_text, refused_line};
 

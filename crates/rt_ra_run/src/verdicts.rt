@@ -1,4 +1,5 @@
 //! The verdict on what is asked: that of `ratest` on the queries that the two texts become.
+
 ghost use Rattle.std.specs.Prelude.{◌≡◌, IfOk, None};
 ghost use Rattle.rt_ra_run.specs.Answers.{Judged};
 ghost use Rattle.rt_ra_run.specs.Asked.{IsAsked, IsMeant};

@@ -57,7 +57,7 @@ opened-sound false k ks q e = cc e
 -- the operator that is found is there
 pub head-sound : (ks : Kinds) (q : Head × Kinds) → head_at ks ≡ Some q → ks ≡ head_terminal q.0 ∷ q.1
 head-sound [] q e = cc e
-head-sound (k ∷ ks) q e = opened-sound (starts fixed.Left ks) k ks q e
+head-sound (k ∷ ks) q e = opened-sound (starts fixed.OpenParen ks) k ks q e
 
 of-reads : (h : Head) → head_of (head_terminal h) ≡ Some h
 of-reads head.Select = refl
@@ -74,9 +74,9 @@ of-reads (head.Two two.Except) = refl
 of-reads (head.Two two.Intersect) = refl
 
 -- the operator that is there is found
-pub head-reads : (h : Head) (ks : Kinds) → head_at (head_terminal h ∷ (terminal.Fixed fixed.Left ∷ ks)) ≡ Some (h, terminal.Fixed fixed.Left ∷ ks)
+pub head-reads : (h : Head) (ks : Kinds) → head_at (head_terminal h ∷ (terminal.Fixed fixed.OpenParen ∷ ks)) ≡ Some (h, terminal.Fixed fixed.OpenParen ∷ ks)
 head-reads h ks = rw (of-reads h) refl
 
 -- a name before anything but an opening parenthesis is no operator
 pub head-none : (n : Name) (ks : Kinds) → 1 ≤ front ks → head_at (terminal.Name n ∷ ks) ≡ None
-head-none n ks f = rw (other-nat (front ks) (code fixed.Left) (λ e. omega arith)) refl
+head-none n ks f = rw (other-nat (front ks) (code fixed.OpenParen) (λ e. omega arith)) refl

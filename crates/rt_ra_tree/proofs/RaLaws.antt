@@ -81,7 +81,7 @@ abbrev with_last : {A : Type 0} → Parser A → Ra × Kinds → Option ((Ra × 
 with_last p a = last_operand p a.1 >>= paired a.0
 
 abbrev closed : {A : Type 0} → A × Kinds → Option (A × Kinds)
-closed c = after fixed.Right c.1 >>= with_rest c.0
+closed c = after fixed.CloseParen c.1 >>= with_rest c.0
 
 close : {A : Type 0} (x : Ra) (y : A) (o : Option Kinds) → (o >>= with_rest y) >>= paired x ≡ o >>= with_rest {A = Ra × A} (x, y)
 close x y None = refl
@@ -89,7 +89,7 @@ close x y (Some s) = refl
 
 last-part : {A : Type 0} (x : Ra) (o : Option (A × Kinds)) → (o >>= closed) >>= paired x ≡ (o >>= paired x) >>= closed {A = Ra × A}
 last-part x None = refl
-last-part x (Some b) = close x b.0 (after fixed.Right b.1)
+last-part x (Some b) = close x b.0 (after fixed.CloseParen b.1)
 
 comma-part : {A : Type 0} (p : Parser A) (x : Ra) (o : Option Kinds) → (o >>= with_rest x) >>= with_last p ≡ ((o >>= p) >>= paired x) >>= closed {A = Ra × A}
 comma-part p x None = refl
@@ -108,8 +108,8 @@ operands-law : {A : Type 0} (inner : Parser Ra) (p : Parser A) (sp : A → Kinds
 operands-law {A = A} inner p sp n low l m below =
     let law : Lawful false (at_once inner p) (pair_kinds sp) (n + 2) 0 = paren-law (both inner (lead fixed.Comma p)) (λ (x : Ra × A). spelled_ra x.0 ++ terminal.Fixed fixed.Comma ∷ sp x.1) n low
     (both-law inner (lead fixed.Comma p) spelled_ra (λ (x : A). terminal.Fixed fixed.Comma ∷ sp x) n 28 low l (lead-law fixed.Comma p sp n low m (λ e. omega arith) (λ e. omega arith)) (λ y rest f. omega arith)) below in
-    loose (operands inner p) (pair_kinds sp) (n + 2) 0 (λ ks q e. law.sound ks q (sym (in-parts inner p (after fixed.Left ks)) ∙ e))
-    (λ x rest h f. in-parts inner p (after fixed.Left (pair_kinds sp x ++ rest)) ∙ law.reads x rest h f)
+    loose (operands inner p) (pair_kinds sp) (n + 2) 0 (λ ks q e. law.sound ks q (sym (in-parts inner p (after fixed.OpenParen ks)) ∙ e))
+    (λ x rest h f. in-parts inner p (after fixed.OpenParen (pair_kinds sp x ++ rest)) ∙ law.reads x rest h f)
 
 module _ (inner : Parser Ra) (n : ℕ) (l : Lawful false inner spelled_ra n 28) where
   select-law : Lawful false (operands inner read_tests) (pair_kinds spelled_tests) (n + 2) 0
@@ -139,7 +139,7 @@ module _ (inner : Parser Ra) (n : ℕ) (l : Lawful false inner spelled_ra n 28) 
       → (rest : Kinds) → length (spelled_ra x) < suc n → read_from inner (spelled_ra x ++ rest) (head_at (spelled_ra x ++ rest)) ≡ Some (x, rest)
   applied-reads h a b x s r rest k =
       let one = r rest (omega (arith, k, ap length s)) in
-      let there = head-reads h ((a ++ terminal.Fixed fixed.Comma ∷ b) ++ (terminal.Fixed fixed.Right ∷ []) ++ rest) in
+      let there = head-reads h ((a ++ terminal.Fixed fixed.Comma ∷ b) ++ (terminal.Fixed fixed.CloseParen ∷ []) ++ rest) in
       rw s (rw there one)
 
   select-reads : (a : Ra) (ts : RaTests) → HeadReads head.Select (spelled_ra a ++ terminal.Fixed fixed.Comma ∷ spelled_tests ts) (ra.Select a ts)
@@ -193,12 +193,12 @@ text-sound ks t e =
     subst (λ (t : RaText). spelled_text t ≡ ks) h
     (ap (λ (r : Kinds). spelled_ra c.0.0 ++ r) (sym (end-sound c.0.1 b.0 b.1)) ∙ sym ((ra-law (length ks + 1)).sound ks c.0 c.1))
 
-front-of : (b : Bool) → 28 ≤ front (flag fixed.Semi b)
+front-of : (b : Bool) → 28 ≤ front (flag fixed.Semicolon b)
 front-of b = let f = end-front b in omega arith
 
 -- every tree is read from its terminals
 pub text-reads : (t : RaText) → read_text (spelled_text t) ≡ Some t
 unfolding read_text
 text-reads t =
-    let one = (ra-law (length (spelled_text t) + 1)).reads t.of (flag fixed.Semi t.semi) (omega (arith, length-append (spelled_ra t.of) (flag fixed.Semi t.semi))) (front-of t.semi) in
+    let one = (ra-law (length (spelled_text t) + 1)).reads t.of (flag fixed.Semicolon t.semi) (omega (arith, length-append (spelled_ra t.of) (flag fixed.Semicolon t.semi))) (front-of t.semi) in
     rw (one, end-reads t.semi) refl

@@ -47,4 +47,4 @@ before ks (Some h) = Some (h, ks)
 -- the operator at the front, where a parenthesis opens after it, and what follows it
 abbrev pub head_at : Kinds → Option (Head × Kinds)
 head_at [] = None
-head_at (k ∷ ks) = if starts fixed.Left ks then before ks (head_of k) else None
+head_at (k ∷ ks) = if starts fixed.OpenParen ks then before ks (head_of k) else None

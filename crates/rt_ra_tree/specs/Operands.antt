@@ -6,8 +6,8 @@ use Rattle.rt_token.specs.declared.fixed.Fixed.TheVariants as fixed
 
 -- between the parenthesis and the comma
 abbrev pub first_operand : {A : Type 0} → Parser A → Parser A
-first_operand p ks = after fixed.Left ks >>= λ r. p r >>= λ a. after fixed.Comma a.1 >>= λ s. Some (a.0, s)
+first_operand p ks = after fixed.OpenParen ks >>= λ r. p r >>= λ a. after fixed.Comma a.1 >>= λ s. Some (a.0, s)
 
 -- before the closing parenthesis
 abbrev pub last_operand : {A : Type 0} → Parser A → Parser A
-last_operand p ks = p ks >>= λ a. after fixed.Right a.1 >>= λ s. Some (a.0, s)
+last_operand p ks = p ks >>= λ a. after fixed.CloseParen a.1 >>= λ s. Some (a.0, s)

@@ -68,4 +68,4 @@ unfoldable pub spelled_ra : Ra → Kinds
 spelled_ra = fold-Ra Kinds ra_step
 
 abbrev pub spelled_text : RaText → Kinds
-spelled_text t = spelled_ra t.of ++ flag fixed.Semi t.semi
+spelled_text t = spelled_ra t.of ++ flag fixed.Semicolon t.semi

@@ -172,7 +172,7 @@ pub fn names<'t>(
 ) -> Result<(RaNames, &'t [Terminal]), ReadFault>
     ensures { Reads result (spec.read_names terminals.now) }
 {
-    let rest = expect(terminals, Fixed::Left)?;
+    let rest = expect(terminals, Fixed::OpenParen)?;
     let (names, rest) = name_list(alloc, rest)?;
-    before(names, rest, Fixed::Right)
+    before(names, rest, Fixed::CloseParen)
 }

@@ -84,7 +84,7 @@ pub fn head_at<'t>(terminals: &'t [Terminal]) -> Option<(Head, &'t [Terminal])>
 {
     match terminals {
         [first, rest @ ..] => {
-            if starts(rest, Fixed::Left) {
+            if starts(rest, Fixed::OpenParen) {
                 match head_of(first) {
                     Some(head) => Some((head, rest)),
                     None => None,

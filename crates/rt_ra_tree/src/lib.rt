@@ -17,6 +17,7 @@
 //!
 //! The keyword of an operator is the operator where an opening parenthesis follows it. Elsewhere it
 //! is a name, if it isn't reserved.
+
 #![tactic(auto)]
 
 mod conditions;

@@ -21,7 +21,7 @@ fn last_tests<'t>(
     ensures { Reads result (last_operand spec.read_tests terminals.now) }
 {
     let (tests, rest) = tests(alloc, terminals)?;
-    before(tests, rest, Fixed::Right)
+    before(tests, rest, Fixed::CloseParen)
 }
 
 // The names and the parenthesis after them.
@@ -32,7 +32,7 @@ fn last_names<'t>(
     ensures { Reads result (last_operand spec.read_names terminals.now) }
 {
     let (names, rest) = names(alloc, terminals)?;
-    before(names, rest, Fixed::Right)
+    before(names, rest, Fixed::CloseParen)
 }
 
 // The first operand, with the parenthesis before it and the comma after it.
@@ -44,7 +44,7 @@ fn first<'t>(
 ) -> Result<(Boxed<Ra>, &'t [Terminal]), ReadFault>
     ensures { Reads result (first_operand (spec.read_ra depth) terminals.now) }
 {
-    let rest = expect(terminals, Fixed::Left)?;
+    let rest = expect(terminals, Fixed::OpenParen)?;
     let (of, rest) = ra(alloc, depth, rest)?;
     boxed_before(alloc, of, rest, Fixed::Comma)
 }
@@ -59,7 +59,7 @@ fn last<'t>(
     ensures { Reads result (last_operand (spec.read_ra depth) terminals.now) }
 {
     let (of, rest) = ra(alloc, depth, terminals)?;
-    boxed_before(alloc, of, rest, Fixed::Right)
+    boxed_before(alloc, of, rest, Fixed::CloseParen)
 }
 
 #[cycle(ra_reader)]

@@ -2,6 +2,7 @@
 //!
 //! `specs/Operators.antt` says which query and which columns each operator of two operands becomes,
 //! or its first error. The other operators, and the laws of all, are in `rt_ra`.
+
 #![tactic(auto)]
 
 mod column;

@@ -2,6 +2,7 @@
 //! expression; set semantics).
 //!
 //! `specs/Chains.antt` says what each part of a query becomes, or its first error.
+
 #![tactic(auto)]
 
 mod chains;

@@ -3,6 +3,7 @@
 //! 2019.)
 //!
 //! The row is named by its cells as they are printed, with commas between them.
+
 #![tactic(auto)]
 
 mod aim;

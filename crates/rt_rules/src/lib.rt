@@ -5,6 +5,7 @@
 //! further row joins by one more. So the formula has a few gates a row, and takes time near the
 //! number of rows. Foreign keys also say which rows can matter to a formula at lawful choices: its
 //! cone.
+
 #![tactic(auto)]
 
 mod cells;

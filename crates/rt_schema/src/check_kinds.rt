@@ -1,4 +1,5 @@
 //! Whether a CHECK compares values of one kind: part of what makes a schema sound.
+
 ghost use Rattle.std.specs.Prelude.{◌≡◌};
 ghost use Rattle.std.specs.List.{list_all};
 ghost use Rattle.rt_schema.specs.Schema.{check_typed, kinds_match, leaf_typed, part_typed, side_kind, sides_fit};

@@ -1,4 +1,5 @@
 //! What a CHECK says of a row (ISO/IEC 9075-2, check constraint definition).
+
 ghost use Rattle.std.specs.Prelude.{◌≡◌, MatchOption, map};
 ghost use Rattle.rt_value.specs.Truth.{truth_any};
 ghost use Rattle.rt_value.specs.Value.{value_truth};

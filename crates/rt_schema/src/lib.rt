@@ -2,6 +2,7 @@
 //!
 //! Tables, columns, keys, foreign keys and checks are those of SQL (ISO/IEC 9075-2, table
 //! definition); `specs/` says when kept rows are lawful.
+
 #![tactic(auto)]
 
 mod capped;

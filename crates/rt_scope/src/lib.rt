@@ -5,6 +5,7 @@
 //!
 //! `specs/` says which column a name means, and what each part becomes in the algebra where its own
 //! parts are known, or which error it has.
+
 #![tactic(auto)]
 
 mod block;

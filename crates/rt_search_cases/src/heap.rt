@@ -1,4 +1,4 @@
-//! The solver's heap of variables: the order in which they come out, by their counters.
+//! The solver's heap of variables: the order in which they come out, by their activities.
 
 ghost use Rattle.std.specs.Prelude.{◌≡◌, ◌<◌, length};
 
@@ -56,14 +56,14 @@ fn come_as(rt: &impl Abort, alloc: Global, heap: &mut Heap, order: &[usize]) -> 
 }
 
 #[test]
-fn equal_counters_come_by_number(rt: HostRuntime) {
+fn equal_activities_come_by_number(rt: HostRuntime) {
     let mut heap = full(&rt, rt.alloc(), 5);
     let came = come_as(&rt, rt.alloc(), &mut heap, &[0, 1, 2, 3, 4]);
     assert!(rt; came);
 }
 
 #[test]
-fn the_greatest_counter_comes_first(rt: HostRuntime) {
+fn the_greatest_activity_comes_first(rt: HostRuntime) {
     let mut heap = full(&rt, rt.alloc(), 5);
     heap.raise(3);
     heap.raise(1);
@@ -86,7 +86,7 @@ fn later_raises_count_for_more(rt: HostRuntime) {
 }
 
 #[test]
-fn variables_outside_keep_their_counters(rt: HostRuntime) {
+fn variables_outside_keep_their_activities(rt: HostRuntime) {
     let mut heap = full(&rt, rt.alloc(), 4);
     heap.raise(1);
     heap.clear();
@@ -116,7 +116,7 @@ fn new_variables_are_outside(rt: HostRuntime) {
 
 // Variable v is raised 37 v mod 100 times, a number of its own, and 73 is the inverse of 37.
 #[test]
-fn a_hundred_variables_come_by_their_counters(rt: HostRuntime) {
+fn a_hundred_variables_come_by_their_activities(rt: HostRuntime) {
     let mut heap = full(&rt, rt.alloc(), 100);
     for var in 0..100 {
         raise(&mut heap, var, var * 37 % 100);
@@ -128,7 +128,7 @@ fn a_hundred_variables_come_by_their_counters(rt: HostRuntime) {
     assert!(rt; vars.len() == 100);
 }
 
-// Counters and step are halved many times on the way, and the latest raise still counts most.
+// Activities and step are halved many times on the way, and the latest raise still counts most.
 #[test]
 fn a_million_raises_that_grow(rt: HostRuntime) {
     let mut heap = full(&rt, rt.alloc(), 10);

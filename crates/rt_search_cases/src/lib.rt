@@ -2,6 +2,7 @@
 //! solver, the counter, the search for the least choice, and certificates.
 //!
 //! They are a crate of their own, since a crate with tests is proved twice.
+
 #![tactic(auto)]
 
 #[cfg(test)]

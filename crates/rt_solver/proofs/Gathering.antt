@@ -8,7 +8,7 @@ use Rattle.rt_store.specs.declared.trail.Why.{Why}
 use Rattle.rt_store.specs.declared.trail.Why.TheVariants.{Line, Decided, Assumed}
 use Rattle.rt_store.specs.Trail.{lits, value_in, IsApart, oldest, BeforeDecisions, IfDecided}
 use Rattle.rt_solver.specs.declared.walk.Walk.{Walk}
-use Rattle.rt_solver.specs.Analysis.{IsGathered, IsSought, IsWalked, IsChoice, AreChosen, Lacks, IsBeforeDecision, ArePlaced, IsOldest, IsGatheredBy, EachStep, IsPlain, IsStop, IsStopUnder, IsDecisionUnder, IsLead, IsWalkedBy}
+use Rattle.rt_solver.specs.Analysis.{IsGathered, FindsNone, IsWalked, IsChoice, AreChosen, Lacks, IsBeforeDecision, ArePlaced, IsOldest, IsGatheredBy, EachStep, IsPlain, IsStop, IsStopUnder, IsDecisionUnder, IsLead, IsWalkedBy}
 use Rattle.std.specs.Prelude.{MatchOption, IsTrue}
 use Rattle.rt_store.specs.Table.{Tracked}
 use Rattle.rt_solver.specs.Marking.{Marked, mark_at, marked_by}
@@ -221,7 +221,7 @@ gathered-decided lines assume first trail place cut walk s b e n h g =
     }
 
 pub sought-end : (lines : List (List Literal)) (assume : Option Literal) (trail : Tracked) (decisions : Bool) (place : ℕ) (walk : Walk) → place ≤ length trail.steps → EachStep (IsPlain (marked_by walk.marks) decisions) trail.steps 0 place → walk.found.items ≡ []
-    → IsWalked lines assume trail.vars (oldest place trail.steps) walk → IsSought lines assume trail walk
+    → IsWalked lines assume trail.vars (oldest place trail.steps) walk → FindsNone lines assume trail walk
 sought-end lines assume trail decisions place walk b h n w =
     let P : List Step → Type 0 = λ t. IsWalkedBy lines assume trail.vars t walk.marks walk.found.items walk.hints.items in
     record { none = n; walked = subst P (oldest-none trail.steps) (walk-passed lines assume trail.vars trail.steps 0 place walk.marks walk.found.items walk.hints.items (omega arith) b (λ k s x y e. (h k s x y e).0) w) }

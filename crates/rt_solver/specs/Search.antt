@@ -36,7 +36,7 @@ AreFresh lines assume [] = Unit {0}
 AreFresh lines assume (c ∷ cs) = Fresh lines assume c × AreFresh (lines ++ line_of assume c ∷ []) assume cs
 
 -- the clauses have variables below n alone, and are no more than the trail's number of n digits
-pub record IsCounted (n : ℕ) (learned : List (List Literal)) (steps : List Step) : Type 0 where
+pub record IsFew (n : ℕ) (learned : List (List Literal)) (steps : List Step) : Type 0 where
   pub decided : DecidesBelow n steps
   pub below : AreBelow n learned
   pub few : length learned ≤ number n steps
@@ -60,7 +60,7 @@ pub record HasLearned (old new : List (List Literal)) (flags_old flags_new : Lis
   pub lines : new ≡ old ++ map (line_of assume) learned
   pub derived : flags_new ≡ flags_old ++ flags assume learned
   pub sound : KeepsModels old new
-  pub counted : AtBounds old first trail.vars (λ n. IsCounted n learned trail.steps)
+  pub counted : AtBounds old first trail.vars (λ n. IsFew n learned trail.steps)
 
 -- the search goes on, nearer to its end
 pub record GoesOn (old new : List (List Literal)) (assume : Option Literal) (first : ℕ) (before after : Tracked) : Type 0 where

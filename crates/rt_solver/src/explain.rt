@@ -14,7 +14,7 @@ ghost use Rattle.rt_store.specs.declared.trail.Why.TheVariants.{Decided};
 ghost use Rattle.rt_solver.specs.Marking.{marked_by, marked_steps};
 ghost use Rattle.rt_store.specs.Trail.{lits, oldest, IsApart, IsFounded, RestsOn, IsLineWithin};
 ghost use Rattle.rt_solver.specs.Looking.{IsBelow, AreBelow, IsBroken};
-ghost use Rattle.rt_solver.specs.Analysis.{IsLearned, IsRested, IsWalked, IsChoice, IsFirstStop, IsStopAt, IsGathered, IsSought, IsTraced};
+ghost use Rattle.rt_solver.specs.Analysis.{IsLearned, IsRested, IsWalked, IsChoice, IsFirstStop, IsStopAt, IsGathered, FindsNone, IsTraced};
 
 use crate::base::Base;
 use crate::lead::{lead, look};
@@ -74,7 +74,7 @@ fn next_stop(trail: &Trail, walk: &Walk, place: usize) -> Option<usize>
 
 // Walks back to the latest literal of the clause, and says how many steps are left before the newest
 // decision there.
-fn seek<L: Lines + Drop>(
+fn walk_back<L: Lines + Drop>(
     base: &Base<L>,
     assume: &Option<Lit>,
     first: usize,
@@ -85,7 +85,7 @@ fn seek<L: Lines + Drop>(
     requires below { AreBelow trail.now.vars (L.lines base.now.0) }
     requires none { walk.old.found.items ≡ [] }
     requires walked { IsWalked (L.lines base.now.0) assume.now trail.now.vars trail.now.steps walk.old }
-    ensures { IfOk result (λ cut. MatchOption cut (IsSought (L.lines base.now.0) assume.now trail.now walk.new) (λ i. IsGathered (L.lines base.now.0) assume.now first trail.now i i walk.new)) }
+    ensures { IfOk result (λ cut. MatchOption cut (FindsNone (L.lines base.now.0) assume.now trail.now walk.new) (λ i. IsGathered (L.lines base.now.0) assume.now first trail.now i i walk.new)) }
 {
     let mut seen = trail.len();
     let mut i = trail.len();
@@ -266,7 +266,7 @@ fn trace<L: Lines + Drop>(
     requires walked { IsWalked (L.lines base.now.0) assume.now trail.now.vars trail.now.steps walk.old }
     ensures { IfOk result (λ cut. IsTraced (L.lines base.now.0) assume.now first trail.now cut walk.new) }
 {
-    match seek(base, assume, first, trail, walk)? {
+    match walk_back(base, assume, first, trail, walk)? {
         None => Ok(0),
         Some(start) => {
             let cut = gather(base, assume, first, trail, start, walk)?;

@@ -12,8 +12,8 @@ ghost use Rattle.rt_solver.specs.Search.{KeepsModels, IsReady, IsStep, IsFirst};
 
 use crate::back::back;
 use crate::base::Base;
+use crate::decider::Decider;
 use crate::explain::explain;
-use crate::pick::Pick;
 use crate::walk::Walk;
 use rt_clause::{Lines, Lit};
 use rt_store::{Clause, Step, Trail, Why};
@@ -75,7 +75,7 @@ pub(crate) fn learn<L: Lines + Drop>(
     assume: &Option<Lit>,
     first: usize,
     trail: &mut Trail,
-    pick: &mut Pick,
+    decider: &mut Decider,
     walk: &mut Walk,
     conflict: usize,
 ) -> Result<Option<Vec<Lit>>, NoMemory>
@@ -83,12 +83,12 @@ pub(crate) fn learn<L: Lines + Drop>(
     requires conflict { IsConflict (L.lines base.old.0) trail.old.steps conflict }
     requires before { AreWatchedBefore base.old.1 trail.old.steps }
     requires rested { IsRested trail.old.vars walk.old }
-    requires offered { IsOffered pick.old trail.old.steps }
+    requires offered { IsOffered decider.old trail.old.steps }
     ensures derived { IfOk result (λ _. L.derived base.new.0 ≡ L.derived base.old.0 ++ true ∷ []) }
     ensures sound { IfOk result (λ _. KeepsModels (L.lines base.old.0) (L.lines base.new.0)) }
     ensures vars { trail.new.vars ≡ trail.old.vars }
-    ensures bound { pick.new.bound ≡ pick.old.bound }
-    ensures offered { IfOk result (λ _. IsOffered pick.new trail.new.steps) }
+    ensures bound { decider.new.bound ≡ decider.old.bound }
+    ensures offered { IfOk result (λ _. IsOffered decider.new trail.new.steps) }
     ensures smallest { IfOk result (λ _. AreSmallest trail.old.steps → AreSmallest trail.new.steps) }
     ensures led { IfOk result (λ _. (a : Literal) → IsLed a trail.old.steps → IsLed a trail.new.steps) }
     ensures rested { IfOk result (λ _. IsRested trail.new.vars walk.new) }
@@ -101,11 +101,11 @@ pub(crate) fn learn<L: Lines + Drop>(
     let line = clause(alloc, walk.found.as_slice(), assume)?;
     let copy = copy(alloc, walk.found.as_slice(), assume)?;
     base.derive(copy, line.as_slice(), walk.hints.as_slice())?;
-    walk.rest(pick);
+    walk.rest(decider);
     match latest(walk.found.as_slice()) {
         None => Ok(None),
         Some(late) => {
-            back(trail, pick, cut);
+            back(trail, decider, cut);
             let why = Why::Line(base.len() - 1);
             trail.push(Step {
                 lit: late.negated(),

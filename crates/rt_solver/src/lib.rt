@@ -14,6 +14,7 @@
 
 mod back;
 mod base;
+mod decider;
 mod deny;
 mod explain;
 pub mod laws;
@@ -22,7 +23,6 @@ mod learn;
 mod marks;
 mod next;
 mod order;
-mod pick;
 mod propagate;
 mod search;
 mod solver;

@@ -5,8 +5,8 @@ ghost use Rattle.rt_solver.specs.declared.order.Order.TheVariants.{Fixed};
 ghost use Rattle.rt_solver.specs.Picking.{IsOffered};
 ghost use Rattle.rt_solver.specs.Seeking.{IsNext};
 
+use crate::decider::Decider;
 use crate::order::Order;
-use crate::pick::Pick;
 use rt_clause::Lit;
 use rt_store::Trail;
 
@@ -20,35 +20,40 @@ pub enum Next {
 }
 
 // What comes next where no question is open.
-fn picked(order: Order, pick: &mut Pick, trail: &Trail) -> Next
+fn picked(order: Order, decider: &mut Decider, trail: &Trail) -> Next
     requires few { trail.now.vars ≤ 2 ^ 62 }
-    requires bound { pick.old.bound ≤ trail.now.vars }
-    requires offered { IsOffered pick.old trail.now.steps }
-    ensures bound { pick.new.bound ≡ pick.old.bound }
-    ensures next { IsNext pick.new trail.now.vars order None trail.now.steps result }
+    requires bound { decider.old.bound ≤ trail.now.vars }
+    requires offered { IsOffered decider.old trail.now.steps }
+    ensures bound { decider.new.bound ≡ decider.old.bound }
+    ensures next { IsNext decider.new trail.now.vars order None trail.now.steps result }
 {
-    match pick.pick(trail) {
+    match decider.pick(trail) {
         None => Next::Whole,
         Some(v) => Next::Decide(order.decision(v)),
     }
 }
 
 /// What comes next: the question before all else, as long as it is open.
-pub(crate) fn choose(order: Order, question: &Option<Lit>, pick: &mut Pick, trail: &Trail) -> Next
+pub(crate) fn choose(
+    order: Order,
+    question: &Option<Lit>,
+    decider: &mut Decider,
+    trail: &Trail,
+) -> Next
     requires few { trail.now.vars ≤ 2 ^ 62 }
-    requires bound { pick.old.bound ≤ trail.now.vars }
-    requires asked { IfSome question.now (λ a. a.var < pick.old.bound) }
-    requires offered { IsOffered pick.old trail.now.steps }
-    requires fixed { order ≡ Fixed → pick.old.bound ≡ 0 }
-    ensures bound { pick.new.bound ≡ pick.old.bound }
-    ensures next { IsNext pick.new trail.now.vars order question.now trail.now.steps result }
+    requires bound { decider.old.bound ≤ trail.now.vars }
+    requires asked { IfSome question.now (λ a. a.var < decider.old.bound) }
+    requires offered { IsOffered decider.old trail.now.steps }
+    requires fixed { order ≡ Fixed → decider.old.bound ≡ 0 }
+    ensures bound { decider.new.bound ≡ decider.old.bound }
+    ensures next { IsNext decider.new trail.now.vars order question.now trail.now.steps result }
 {
     match question {
-        None => picked(order, pick, trail),
+        None => picked(order, decider, trail),
         Some(asked) => match trail.is(*asked) {
             None => Next::Decide(*asked),
             Some(false) => Next::Missed(*asked),
-            Some(true) => picked(order, pick, trail),
+            Some(true) => picked(order, decider, trail),
         },
     }
 }

@@ -11,11 +11,11 @@ ghost use Rattle.rt_solver.specs.Search.{line_of, IsReady};
 ghost use Rattle.rt_solver.specs.Solving.{HasSearched, IsEnding, IsSettled, IsUnspentEnding};
 
 use crate::base::Base;
+use crate::decider::Decider;
 use crate::deny::deny;
 use crate::learn::learn;
 use crate::next::{Next, choose};
 use crate::order::Order;
-use crate::pick::Pick;
 use crate::walk::Walk;
 use rt_clause::{Lines, Lit};
 use rt_store::{Step, Trail, Why};
@@ -79,7 +79,7 @@ pub(crate) fn run<L: Lines + Drop>(
     first: usize,
     budget: Option<u64>,
     order: Order,
-    pick: &mut Pick,
+    decider: &mut Decider,
     trail: &mut Trail,
     walk: &mut Walk,
     question: &Option<Lit>,
@@ -90,10 +90,10 @@ pub(crate) fn run<L: Lines + Drop>(
     requires first { first ≤ trail.old.vars }
     requires undecided { decisions trail.old.steps ≡ [] }
     requires budget { IfSome budget (λ b. 1 ≤ b) }
-    requires bound { pick.old.bound ≤ first }
-    requires fixed { order ≡ Fixed → pick.old.bound ≡ 0 }
-    requires offered { IsOffered pick.old trail.old.steps }
-    requires asked { IfSome question.now (λ a. a.var < pick.old.bound) }
+    requires bound { decider.old.bound ≤ first }
+    requires fixed { order ≡ Fixed → decider.old.bound ≡ 0 }
+    requires offered { IsOffered decider.old trail.old.steps }
+    requires asked { IfSome question.now (λ a. a.var < decider.old.bound) }
     ensures vars { trail.new.vars ≡ trail.old.vars }
     ensures ending { IfOk result (λ ending. IsEnding (L.lines base.old.0) (L.lines base.new.0) assume.now first trail.new budget ending) }
     ensures settled { IfOk result (IsSettled (L.lines base.new.0) assume.now question.now trail.new.steps) }
@@ -106,7 +106,7 @@ pub(crate) fn run<L: Lines + Drop>(
     let mut conflict = base.begin(trail)?;
     'search: loop {
         match conflict {
-            Some(number) => match learn(alloc, base, assume, first, trail, pick, walk, number)? {
+            Some(number) => match learn(alloc, base, assume, first, trail, decider, walk, number)? {
                 None => return Ok(Ending::Refuted),
                 Some(line) => {
                     keep(alloc, &mut kept, budget, line.as_slice(), assume)?;
@@ -117,7 +117,7 @@ pub(crate) fn run<L: Lines + Drop>(
                     conflict = base.propagate(trail, from)?;
                 }
             },
-            None => match choose(order, question, pick, trail) {
+            None => match choose(order, question, decider, trail) {
                 Next::Whole => return Ok(Ending::Whole),
                 Next::Missed(asked) => {
                     deny(alloc, base, assume, asked, trail, walk)?;

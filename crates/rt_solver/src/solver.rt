@@ -10,8 +10,8 @@ ghost use Rattle.rt_solver.specs.Answers.{Reads, IsFound, IsUnspent, IsBegun, Is
 ghost use Rattle.rt_solver.specs.declared.order.Order.TheVariants.{Fixed};
 
 use crate::base::Base;
+use crate::decider::Decider;
 use crate::order::Order;
-use crate::pick::Pick;
 use crate::search::{Ending, run};
 use crate::walk::Walk;
 use rt_clause::{Adds, Lines, Lit};
@@ -36,7 +36,7 @@ const MOST_VARIABLES: usize = 1 << 62;
 #[derive(Drop)]
 pub struct Solver<L: Lines + Drop> {
     base: Base<L>,
-    pick: Pick,
+    decider: Decider,
     failed: bool,
     added: u64,
     alloc: Global,
@@ -100,7 +100,7 @@ fn values(alloc: Global, trail: &Trail) -> Result<Keep, NoMemory>
 fn find<L: Lines + Drop>(
     alloc: Global,
     base: &mut Base<L>,
-    pick: &mut Pick,
+    decider: &mut Decider,
     assume: &Option<Lit>,
     first: usize,
     budget: Option<u64>,
@@ -121,10 +121,10 @@ fn find<L: Lines + Drop>(
         return Err(NoMemory);
     }
     let mut trail = begun(alloc, vars, assume)?;
-    pick.begin(vars, order.bound(first))?;
+    decider.begin(vars, order.bound(first))?;
     let mut walk = Walk::new(alloc, vars)?;
     let found = match run(
-        alloc, base, assume, first, budget, order, pick, &mut trail, &mut walk, question,
+        alloc, base, assume, first, budget, order, decider, &mut trail, &mut walk, question,
     )? {
         Ending::Whole => Some(Found::Model(values(alloc, &trail)?)),
         Ending::Refuted => Some(Found::Refuted),
@@ -142,7 +142,7 @@ impl<L: Lines + Drop> Solver<L> {
     {
         Ok(Solver {
             base: Base::new(alloc, lines),
-            pick: Pick::new(alloc),
+            decider: Decider::new(alloc),
             failed: false,
             added: 0,
             alloc,
@@ -156,7 +156,7 @@ impl<L: Lines + Drop> Solver<L> {
 
     /// How many clauses were learned, one in each conflict.
     pub fn conflicts(&self) -> u64 {
-        self.pick.conflicts()
+        self.decider.conflicts()
     }
 
     /// The lines, given and derived, oldest first.
@@ -193,7 +193,7 @@ impl<L: Lines + Drop> Solver<L> {
         let found = find(
             self.alloc,
             &mut self.base,
-            &mut self.pick,
+            &mut self.decider,
             &assume,
             first,
             budget,
@@ -231,7 +231,7 @@ impl<L: Lines + Drop> Solver<L> {
         let found = find(
             self.alloc,
             &mut self.base,
-            &mut self.pick,
+            &mut self.decider,
             &assume,
             first,
             None,

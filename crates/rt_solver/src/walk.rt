@@ -3,8 +3,8 @@
 ghost use Rattle.std.specs.Prelude.{◌≡◌, [], ◌∷◌, ◌++◌, ◌-◌, ◌<◌, length, reverse, IfOk, OnOk};
 ghost use Rattle.rt_solver.specs.Analysis.{IsRested};
 
+use crate::decider::Decider;
 use crate::marks::Marks;
-use crate::pick::Pick;
 use rt_clause::Lit;
 use rt_value::NoMemory;
 use std::alloc::Global;
@@ -64,14 +64,14 @@ impl Walk {
     }
 
     /// Takes all marks away. Each marked variable counts for more.
-    pub(crate) fn rest(&mut self, pick: &mut Pick)
+    pub(crate) fn rest(&mut self, decider: &mut Decider)
         ensures rested { IsRested (length self.old.marks.marks) self.new }
         ensures found { self.new.found.items ≡ self.old.found.items }
-        ensures picking { pick.new ≡ pick.old }
+        ensures picking { decider.new ≡ decider.old }
     {
         'marks: while let Some(v) = self.marks.take() {
-            pick.raise(v);
+            decider.raise(v);
         }
-        pick.age();
+        decider.age();
     }
 }

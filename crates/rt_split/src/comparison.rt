@@ -1,4 +1,5 @@
 //! Comparisons. Columns are compared in place, without copies.
+
 ghost use Rattle.std.specs.Prelude.{◌≡◌, map, IfOk, IfSome};
 ghost use Rattle.rt_value.specs.Value.{value_truth};
 ghost use Rattle.rt_algebra.specs.Expression.{wrapped, cell_of, value_by};

@@ -1,5 +1,6 @@
 //! The conjuncts of a condition over the members of a product, sorted into own conditions, keys and
 //! the rest.
+
 ghost use Rattle.std.specs.Prelude.{◌≡◌, ◌↔◌, ◌+◌, [], map, is_some, IfOk, IsTrue};
 ghost use Rattle.std.specs.List.{filter_map, list_all};
 ghost use Rattle.rt_split.specs.Join.{Joins, JoinsWhole};

@@ -1,6 +1,7 @@
 //! Conditions over the members of a product, taken apart: what each member's own rows have to meet,
 //! by which columns two members are joined, and the rows of a member that match a row before it. And
 //! what of a condition the rows in scope alone decide.
+
 #![tactic(auto)]
 
 mod comparison;

@@ -1,5 +1,6 @@
 //! Which rows of a member match the rows before it: an equi-join by an index. Another way to find
 //! the same places in the same order changes no proof of a crate above.
+
 ghost use Rattle.std.specs.Prelude.{◌≡◌, List, map, cond, [], slice_index_or, IfOk};
 ghost use Rattle.rt_value.specs.declared.value.Value.{Value};
 ghost use Rattle.rt_value.specs.declared.value.Value.TheVariants as v;

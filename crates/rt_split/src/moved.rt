@@ -1,5 +1,6 @@
 //! A condition on the whole row as one on the row of a single member, if it names no other
 //! member: columns move down by the place where the member begins.
+
 ghost use Rattle.std.specs.Prelude.{◌≡◌, [], map, nat_eq, IfOk};
 ghost use Rattle.rt_split.specs.Split.{names, names_term, names_pred, some_true, lies, moved, moved_column, moved_term, moved_pred, all_from, both, own_of};
 ghost use Rattle.rt_algebra.specs.declared.query.Pred.TheVariants as p;

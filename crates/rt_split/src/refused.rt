@@ -1,4 +1,5 @@
 //! Conditions that are not true whatever is in the tables, as the rows in scope alone show.
+
 ghost use Rattle.std.specs.Prelude.{◌≡◌, List, false, map, IfOk, IsTrue};
 ghost use Rattle.std.specs.List.{All as Each};
 ghost use Rattle.rt_schema.specs.Given.{Tables};

@@ -1,4 +1,5 @@
 //! The truth of conditions without subqueries: those that a member's rows are chosen by.
+
 ghost use Rattle.std.specs.Prelude.{◌≡◌, map, IfOk};
 ghost use Rattle.rt_algebra.specs.Expression.{wrapped};
 ghost use Rattle.rt_split.specs.Split.{simple_by, simple_all, simple_any, all_simple};

@@ -303,7 +303,7 @@ unfolding read_primary
 primary-law inner n l =
     let p = paren-law inner.chain spelled_chain n 33 l.chain (omega arith) in
     record {
-      sound = either-sound (starts fixed.Left) (made primary.Paren (paren inner.chain)) (made primary.One (read_pick inner)) spelled_primary
+      sound = either-sound (starts fixed.OpenParen) (made primary.Paren (paren inner.chain)) (made primary.One (read_pick inner)) spelled_primary
           (made-sound (paren inner.chain) primary.Paren (λ (c : Chain). in_paren (spelled_chain c)) spelled_primary p.sound spelled-ChainParen)
           (made-sound (read_pick inner) primary.One spelled_pick spelled_primary (pick-law inner n l).sound spelled-One);
       reads = primary-cases (PrimaryReads inner n) (one-reads inner n l) (paren-reads inner n l);
@@ -480,5 +480,5 @@ sql-sound ks t e =
 pub sql-reads : (t : Sql) → read_sql (spelled_sql t) ≡ Some t
 unfolding read_sql
 sql-reads t =
-    let one = (level-law (length (spelled_sql t) + 1)).chain.reads t.chain (flag fixed.Semi t.semi) (omega (arith, length-append (spelled_chain t.chain) (flag fixed.Semi t.semi))) (end-front t.semi) in
+    let one = (level-law (length (spelled_sql t) + 1)).chain.reads t.chain (flag fixed.Semicolon t.semi) (omega (arith, length-append (spelled_chain t.chain) (flag fixed.Semicolon t.semi))) (end-front t.semi) in
     rw (one, end-reads t.semi) refl

@@ -95,10 +95,10 @@ between-law n = lead-law fixed.Between (both sum_at (lead fixed.And sum_at)) (λ
     (λ e. omega arith) (λ e. omega arith)
 
 list-begins-not : (s : Sum) (ss : List Sum) (rest : Kinds) → begins_chain (in_paren (spelled_sums s ss) ++ rest) ≡ false
-list-begins-not s ss rest = rw (append_assoc (spelled_sums s ss) (terminal.Fixed fixed.Right ∷ []) rest, append_assoc (spelled_sum s) (flat_map comma_sum ss) (terminal.Fixed fixed.Right ∷ rest)) (sum-begins-not s (flat_map comma_sum ss ++ terminal.Fixed fixed.Right ∷ rest))
+list-begins-not s ss rest = rw (append_assoc (spelled_sums s ss) (terminal.Fixed fixed.CloseParen ∷ []) rest, append_assoc (spelled_sum s) (flat_map comma_sum ss) (terminal.Fixed fixed.CloseParen ∷ rest)) (sum-begins-not s (flat_map comma_sum ss ++ terminal.Fixed fixed.CloseParen ∷ rest))
 
 chain-in-paren-begins : (q : Chain) (rest : Kinds) → begins_chain (in_paren (spelled_chain q) ++ rest) ≡ true
-chain-in-paren-begins q rest = rw (append_assoc (spelled_chain q) (terminal.Fixed fixed.Right ∷ []) rest) (chain-begins q (terminal.Fixed fixed.Right ∷ rest))
+chain-in-paren-begins q rest = rw (append_assoc (spelled_chain q) (terminal.Fixed fixed.CloseParen ∷ []) rest) (chain-begins q (terminal.Fixed fixed.CloseParen ∷ rest))
 
 range-reads : (inner : Inner) (n : ℕ) → InnerLaw inner n → (x : Range) (rest : Kinds) → length (spelled_range x) < n + 2 → 5 ≤ front rest → read_range inner (spelled_range x ++ rest) ≡ Some (x, rest)
 unfolding read_range
@@ -347,7 +347,7 @@ group-reads : (inner : Inner) (n : ℕ) → InnerLaw inner n → (c : Cond) → 
 unfolding read_atom
 group-reads inner n l c rest h f =
     let e = spelled-CondParen c in
-    let short : length (spelled_cond c) < n = omega (arith, h, ap length e, length-append (spelled_cond c) (terminal.Fixed fixed.Right ∷ [])) in
+    let short : length (spelled_cond c) < n = omega (arith, h, ap length e, length-append (spelled_cond c) (terminal.Fixed fixed.CloseParen ∷ [])) in
     let one = (group-law inner n l).reads c rest (omega (arith, h, ap length e)) (omega arith) in
     let y = cond-group (spelled_cond c) rest (l.cond.passed refl c short) f in
     rw (e, y, one) refl

@@ -24,13 +24,13 @@ use Rattle.rt_sql.proofs.ChainLaws.{level-law}
 use Rattle.rt_sql.proofs.RefusalLemmas.{calm-supported}
 use Rattle.rt_sql.proofs.TreeLemmas.{one-tree, spells}
 
-end-calm : (b : Bool) → IsCalm (flag fixed.Semi b)
+end-calm : (b : Bool) → IsCalm (flag fixed.Semicolon b)
 end-calm true = refl
 end-calm false = refl
 
 -- no query has a call
 sql-calm : (t : Sql) → IsCalm (spelled_sql t)
-sql-calm t = (level-law (length (spelled_chain t.chain) + 1)).chain.calm refl t.chain (flag fixed.Semi t.semi) (omega arith) (end-front t.semi) (end-calm t.semi)
+sql-calm t = (level-law (length (spelled_chain t.chain) + 1)).chain.calm refl t.chain (flag fixed.Semicolon t.semi) (omega arith) (end-front t.semi) (end-calm t.semi)
 
 -- the tokens of a tree have no word that is refused
 pub refused-by : (tokens : List Token) (u : Word × ℕ) → Some u ≡ unsupported tokens → (t : Sql) (P : Type 0) → IsTreeOf tokens t → P

@@ -45,7 +45,7 @@ unsupported-reserved w h = either-true (one_of unsupported_to_like w) (one_of un
 
 fixed-unrefused : (f : Fixed) (next : List Token) → refused_word (fixed_kind f) next ≡ None
 unfolding is_unsupported is_reserved
-fixed-unrefused fixed.Left next = refl
+fixed-unrefused fixed.OpenParen next = refl
 fixed-unrefused fixed.Dot next = refl
 fixed-unrefused fixed.Star next = refl
 fixed-unrefused fixed.Plus next = refl
@@ -77,8 +77,8 @@ fixed-unrefused fixed.Where next = refl
 fixed-unrefused fixed.Intersect next = refl
 fixed-unrefused fixed.Union next = refl
 fixed-unrefused fixed.Except next = refl
-fixed-unrefused fixed.Right next = refl
-fixed-unrefused fixed.Semi next = refl
+fixed-unrefused fixed.CloseParen next = refl
+fixed-unrefused fixed.Semicolon next = refl
 fixed-unrefused fixed.From next = refl
 fixed-unrefused fixed.On next = refl
 fixed-unrefused fixed.Select next = refl
@@ -88,8 +88,8 @@ fixed-unrefused fixed.Create next = refl
 fixed-unrefused fixed.Table next = refl
 fixed-unrefused fixed.Foreign next = refl
 
-fixed-left : (f : Fixed) → is_left (fixed_kind f) ≡ (code f == code fixed.Left)
-fixed-left fixed.Left = refl
+fixed-left : (f : Fixed) → is_left (fixed_kind f) ≡ (code f == code fixed.OpenParen)
+fixed-left fixed.OpenParen = refl
 fixed-left fixed.Dot = refl
 fixed-left fixed.Star = refl
 fixed-left fixed.Plus = refl
@@ -121,8 +121,8 @@ fixed-left fixed.Where = refl
 fixed-left fixed.Intersect = refl
 fixed-left fixed.Union = refl
 fixed-left fixed.Except = refl
-fixed-left fixed.Right = refl
-fixed-left fixed.Semi = refl
+fixed-left fixed.CloseParen = refl
+fixed-left fixed.Semicolon = refl
 fixed-left fixed.From = refl
 fixed-left fixed.On = refl
 fixed-left fixed.Select = refl
@@ -136,13 +136,13 @@ name-left : (q : Bool) (w : Word) → is_left (name_kind q w) ≡ false
 name-left true w = refl
 name-left false w = refl
 
-kind-left : (k : Terminal) → is_left (kind_of k) ≡ (code_of k == code fixed.Left)
+kind-left : (k : Terminal) → is_left (kind_of k) ≡ (code_of k == code fixed.OpenParen)
 kind-left (terminal.Fixed f) = fixed-left f
 kind-left (terminal.Name n) = name-left n.quoted n.text
 kind-left (terminal.Number n) = refl
 kind-left (terminal.Str t) = refl
 
-next-left : (next : List Token) (ks : Kinds) → kinds next ≡ map kind_of ks → begins_left next ≡ (front ks == code fixed.Left)
+next-left : (next : List Token) (ks : Kinds) → kinds next ≡ map kind_of ks → begins_left next ≡ (front ks == code fixed.OpenParen)
 next-left [] [] e = refl
 next-left [] (k ∷ ks) e = cc e
 next-left (t ∷ ts) [] e = cc e
@@ -170,9 +170,9 @@ and-right : (a b : Bool) → (a && b) ≡ true → b ≡ true
 and-right true b p = p
 and-right false b p = cc p
 
-kind-unrefused : (k : Terminal) (next : List Token) (ks : Kinds) → is_formed k ≡ true → not (is_call k ks) ≡ true → begins_left next ≡ (front ks == code fixed.Left) → refused_word (kind_of k) next ≡ None
+kind-unrefused : (k : Terminal) (next : List Token) (ks : Kinds) → is_formed k ≡ true → not (is_call k ks) ≡ true → begins_left next ≡ (front ks == code fixed.OpenParen) → refused_word (kind_of k) next ≡ None
 kind-unrefused (terminal.Fixed f) next ks p c e = fixed-unrefused f next
-kind-unrefused (terminal.Name n) next ks p c e = name-unrefused n.quoted n.text next p (e ∙ not-true (front ks == code fixed.Left) c)
+kind-unrefused (terminal.Name n) next ks p c e = name-unrefused n.quoted n.text next p (e ∙ not-true (front ks == code fixed.OpenParen) c)
 kind-unrefused (terminal.Number n) next ks p c e = refl
 kind-unrefused (terminal.Str t) next ks p c e = refl
 

@@ -52,8 +52,8 @@ primary-begins n b = primary-cases (λ x. (rest : Kinds) → length (spelled_pri
     (λ p rest h. rw spelled-One (pick-begins p rest))
     (λ c rest h.
     let e = spelled-ChainParen c in
-    let short : length (spelled_chain c) < n = omega (arith, h, ap length e, length-append (spelled_chain c) (terminal.Fixed fixed.Right ∷ [])) in
-    rw (e, append_assoc (spelled_chain c) (terminal.Fixed fixed.Right ∷ []) rest) (b c (terminal.Fixed fixed.Right ∷ rest) short))
+    let short : length (spelled_chain c) < n = omega (arith, h, ap length e, length-append (spelled_chain c) (terminal.Fixed fixed.CloseParen ∷ [])) in
+    rw (e, append_assoc (spelled_chain c) (terminal.Fixed fixed.CloseParen ∷ []) rest) (b c (terminal.Fixed fixed.CloseParen ∷ rest) short))
 
 meet-begins : (n : ℕ) → Begins n → (x : Meet) (rest : Kinds) → length (spelled_meet x) < n + 2 → begins_chain (spelled_meet x ++ rest) ≡ true
 meet-begins n b x rest = subst (λ (x : Meet). length (spelled_meet x) < n + 2 → begins_chain (spelled_meet x ++ rest) ≡ true) (roll-out-Meet x) (go (out-Meet x).head (out-Meet x).tail)
@@ -94,8 +94,8 @@ leaf-begins-not n b = leaf-cases (λ l. (more : Kinds) → length (spelled_leaf 
     (λ k more h. rw spelled-Number refl) (λ t more h. rw spelled-Str refl) (λ more h. rw spelled-Null refl) (λ q m more h. rw (spelled-Col q m) (col-begins-not q m more))
     (λ s more h.
     let e = spelled-SumParen s in
-    let short : length (spelled_sum s) < n = omega (arith, h, ap length e, length-append (spelled_sum s) (terminal.Fixed fixed.Right ∷ [])) in
-    rw (e, append_assoc (spelled_sum s) (terminal.Fixed fixed.Right ∷ []) more) (b s (terminal.Fixed fixed.Right ∷ more) short))
+    let short : length (spelled_sum s) < n = omega (arith, h, ap length e, length-append (spelled_sum s) (terminal.Fixed fixed.CloseParen ∷ [])) in
+    rw (e, append_assoc (spelled_sum s) (terminal.Fixed fixed.CloseParen ∷ []) more) (b s (terminal.Fixed fixed.CloseParen ∷ more) short))
 
 begins-not-below : (n : ℕ) → BeginsNot n
 begins-not-below zero x more h = absurd (omega arith)
@@ -112,7 +112,7 @@ sum-begins-not x more = begins-not-below (length (spelled_sum x) + 1) x more (om
 -- ---- what follows a parenthesis decides what it holds
 
 pub group-follows : (ks rest : Kinds) → Passed ks → is_group (in_paren ks ++ rest) ≡ nat_le 20 (front rest)
-group-follows ks rest p = rw (append_assoc ks (terminal.Fixed fixed.Right ∷ []) rest, p.passes 0 (terminal.Fixed fixed.Right ∷ rest)) refl
+group-follows ks rest p = rw (append_assoc ks (terminal.Fixed fixed.CloseParen ∷ []) rest, p.passes 0 (terminal.Fixed fixed.CloseParen ∷ rest)) refl
 
 at-least : (m n : ℕ) → m ≤ n → nat_le m n ≡ true
 at-least m n h = grind (arith, nat_tests)

@@ -55,12 +55,12 @@ atom_of a (Ranged n r) = ranged a n r
 -- whether SELECT is the first terminal after the opening parentheses
 abbrev pub begins_chain : Kinds → Bool
 begins_chain [] = false
-begins_chain (k ∷ ks) = if code_of k == code fixed.Left then begins_chain ks else code_of k == code fixed.Select
+begins_chain (k ∷ ks) = if code_of k == code fixed.OpenParen then begins_chain ks else code_of k == code fixed.Select
 
 -- whether the parenthesis at the front holds a condition: what follows it is no sign of a sum or of
 -- a test
 abbrev pub is_group : Kinds → Bool
-is_group ks = starts fixed.Left ks && nat_le (code fixed.And) (front (skip (tail_of ks) 0))
+is_group ks = starts fixed.OpenParen ks && nat_le (code fixed.And) (front (skip (tail_of ks) 0))
 
 abbrev pub comma_sum_step : Step Sum
 comma_sum_step = step_after fixed.Comma sum_at
@@ -215,7 +215,7 @@ unfoldable pub read_pick : Inner → Parser Pick
 read_pick inner = made pick_of (lead fixed.Select (flagged fixed.Distinct (both read_items (lead fixed.From (both (read_sources inner) (read_where inner))))))
 
 unfoldable pub read_primary : Inner → Parser Primary
-read_primary inner = either (starts fixed.Left) (made primary.Paren (paren inner.chain)) (made primary.One (read_pick inner))
+read_primary inner = either (starts fixed.OpenParen) (made primary.Paren (paren inner.chain)) (made primary.One (read_pick inner))
 
 abbrev pub meet_link_of : Bool × Primary → MeetLink
 meet_link_of x = roll-MeetLink (record { distinct = x.0; of = x.1 })

@@ -24,9 +24,9 @@ pub fn chain_in_parens<'t>(
 ) -> Result<(Boxed<Chain>, &'t [Terminal]), ReadFault>
     ensures { Reads result (paren (spec.level depth).chain terminals.now) }
 {
-    let rest = expect(terminals, Fixed::Left)?;
+    let rest = expect(terminals, Fixed::OpenParen)?;
     let (inner, rest) = inner_chain(alloc, depth, rest)?;
-    boxed_before(alloc, inner, rest, Fixed::Right)
+    boxed_before(alloc, inner, rest, Fixed::CloseParen)
 }
 
 // SELECT and the items, and FROM after them.
@@ -80,7 +80,7 @@ fn primary<'t>(
 ) -> Result<(Primary, &'t [Terminal]), ReadFault>
     ensures { Reads result (spec.read_primary (spec.level depth) terminals.now) }
 {
-    if starts(terminals, Fixed::Left) {
+    if starts(terminals, Fixed::OpenParen) {
         let (inner, rest) = chain_in_parens(alloc, depth, terminals)?;
         return Ok((Primary::Paren(inner), rest));
     }

@@ -75,9 +75,9 @@ fn cond_in_parens<'t>(
 ) -> Result<(Boxed<Cond>, &'t [Terminal]), ReadFault>
     ensures { Reads result (paren (spec.level depth).cond terminals.now) }
 {
-    let rest = expect(terminals, Fixed::Left)?;
+    let rest = expect(terminals, Fixed::OpenParen)?;
     let (inner, rest) = inner_cond(alloc, depth, rest)?;
-    boxed_before(alloc, inner, rest, Fixed::Right)
+    boxed_before(alloc, inner, rest, Fixed::CloseParen)
 }
 
 #[tactic(auto, unfolding(crate::specs::Reads::read_atom))]

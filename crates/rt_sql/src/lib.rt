@@ -2,6 +2,7 @@
 //!
 //! `specs/Formed.antt` says which trees are formed and which tokens a tree has, and
 //! `specs/Refusals.antt` when each error comes.
+
 #![tactic(auto)]
 
 mod chains;

@@ -34,7 +34,7 @@ fn begins_chain(terminals: &[Terminal]) -> bool
     ensures { result ≡ spec.begins_chain terminals.now }
 {
     let mut rest = terminals;
-    'open: while let Some(next) = after(rest, Fixed::Left) {
+    'open: while let Some(next) = after(rest, Fixed::OpenParen) {
         rest = next;
     }
     starts(rest, Fixed::Select)
@@ -55,9 +55,9 @@ fn skip<'t>(terminals: &'t [Terminal]) -> &'t [Terminal]
     let mut rest = terminals;
     'terminals: while let [first, next @ ..] = rest {
         let code_here = code_of(first);
-        if code_here == code(Fixed::Left) {
+        if code_here == code(Fixed::OpenParen) {
             open += 1;
-        } else if code_here == code(Fixed::Right) {
+        } else if code_here == code(Fixed::CloseParen) {
             if open == 0 {
                 return next;
             }
@@ -73,5 +73,5 @@ fn skip<'t>(terminals: &'t [Terminal]) -> &'t [Terminal]
 pub fn is_group(terminals: &[Terminal]) -> bool
     ensures { result ≡ spec.is_group terminals.now }
 {
-    starts(terminals, Fixed::Left) && code(Fixed::And) <= front(skip(tail(terminals)))
+    starts(terminals, Fixed::OpenParen) && code(Fixed::And) <= front(skip(tail(terminals)))
 }

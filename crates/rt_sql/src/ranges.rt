@@ -53,9 +53,9 @@ fn in_list<'t>(
     ensures { Reads result (spec.read_in_list terminals.now) }
 {
     let rest = expect(terminals, Fixed::In)?;
-    let rest = expect(rest, Fixed::Left)?;
+    let rest = expect(rest, Fixed::OpenParen)?;
     let (sums, rest) = sums(alloc, rest)?;
-    let ((head, tail), rest) = before(sums, rest, Fixed::Right)?;
+    let ((head, tail), rest) = before(sums, rest, Fixed::CloseParen)?;
     Ok((Range::OfList(head, tail), rest))
 }
 

@@ -1,4 +1,4 @@
-//! The heap of variables by their counters. The counters and the order are private: no contract above
+//! The heap of variables by their activities. The activities and the order are private: no contract above
 //! rests on which variable comes first.
 
 ghost use Rattle.std.specs.Prelude.{◌≡◌, [], ◌<◌, ◌-◌, ◌++◌, true, false, length, replicate, slice_set, slice_index_or, OnOk, OnErr, MatchOption};
@@ -10,13 +10,13 @@ use rt_value::NoMemory;
 use std::alloc::Global;
 use std::marker::Model;
 
-// What the first conflicts raise a counter by; each next step is greater by one at least.
+// What the first conflicts raise a activity by; each next step is greater by one at least.
 const FIRST_STEP: u64 = 64;
 
-// No counter and no step grows past this number.
+// No activity and no step grows past this number.
 const LIMIT: u64 = 1 << 62;
 
-/// A heap of variables: the one with the greatest counter first, of equal ones the smallest, where
+/// A heap of variables: the one with the greatest activity first, of equal ones the smallest, where
 /// they were not made equal by a halving. Contracts see for each variable whether it is in the heap.
 ///
 /// The first `count` variables of the order are in the heap, the others behind them, so that
@@ -26,7 +26,7 @@ pub struct Heap {
     order: HeapOrder,
     count: usize,
     // Perhaps more than variables: where `grow` lacks memory some may be there already.
-    counters: Vec<u64>,
+    activities: Vec<u64>,
     step: u64,
 }
 
@@ -38,7 +38,7 @@ impl Model for Heap {
 
     ghost view = { λ h. members h.count h.order };
 
-    ghost invariant = { λ h. (h.count ≤ length h.order) × (length h.order ≤ length h.counters.items) };
+    ghost invariant = { λ h. (h.count ≤ length h.order) × (length h.order ≤ length h.activities.items) };
 }
 
 impl Heap {
@@ -49,7 +49,7 @@ impl Heap {
         Heap {
             order: HeapOrder::new(alloc),
             count: 0,
-            counters: Vec::new(alloc),
+            activities: Vec::new(alloc),
             step: FIRST_STEP,
         }
     }
@@ -60,8 +60,8 @@ impl Heap {
         ensures ok { OnOk result (self.new ≡ self.old ++ replicate (count - length self.old) false) }
         ensures err { OnErr result (self.new ≡ self.old) }
     {
-        if self.counters.len() < count {
-            self.counters.resize(count, 0)?;
+        if self.activities.len() < count {
+            self.activities.resize(count, 0)?;
         }
         self.order.grow(count)?;
         Ok(())
@@ -93,7 +93,7 @@ impl Heap {
         }
         self.order.swap(place, self.count);
         self.count += 1;
-        sift_up(&mut self.order, &self.counters, self.count - 1);
+        sift_up(&mut self.order, &self.activities, self.count - 1);
     }
 
     /// Takes out the first variable.
@@ -106,7 +106,7 @@ impl Heap {
         let first = self.order.at(0);
         self.count -= 1;
         self.order.swap(0, self.count);
-        sift_down(&mut self.order, &self.counters, self.count);
+        sift_down(&mut self.order, &self.activities, self.count);
         Some(first)
     }
 
@@ -117,18 +117,18 @@ impl Heap {
         self.count = 0;
     }
 
-    /// Raises the variable's counter by the step.
+    /// Raises the variable's activity by the step.
     pub fn raise(&mut self, var: usize)
         requires { var < length self.old }
         ensures { self.new ≡ self.old }
     {
-        if self.counters[var].saturating_add(self.step) > LIMIT {
+        if self.activities[var].saturating_add(self.step) > LIMIT {
             self.halve();
         }
-        self.counters[var] = self.counters[var].saturating_add(self.step);
+        self.activities[var] = self.activities[var].saturating_add(self.step);
         let place = self.order.place(var);
         if place < self.count {
-            sift_up(&mut self.order, &self.counters, place);
+            sift_up(&mut self.order, &self.activities, place);
         }
     }
 
@@ -142,13 +142,13 @@ impl Heap {
         self.step = self.step.saturating_add(self.step / 80 + 1);
     }
 
-    // Halves the step and all counters. Where two counters become equal, the greater variable may
+    // Halves the step and all activities. Where two activities become equal, the greater variable may
     // stay before the smaller one until one of them moves: no answer rests on the order.
     fn halve(&mut self)
         ensures { self.new ≡ self.old }
     {
-        for counter in &mut self.counters {
-            *counter /= 2;
+        for activity in &mut self.activities {
+            *activity /= 2;
         }
         self.step /= 2;
     }

@@ -8,16 +8,16 @@ use crate::places::HeapOrder;
 use crate::rank::Rank;
 
 /// Moves the variable at a place up while it comes before the one above it.
-pub fn sift_up(order: &mut HeapOrder, counters: &[u64], start: usize)
+pub fn sift_up(order: &mut HeapOrder, activities: &[u64], start: usize)
     requires within { start < length order.old }
-    requires counted { length order.old ≤ length counters.now }
+    requires counted { length order.old ≤ length activities.now }
     ensures { (n : ℕ) → start < n → members n order.new ≡ members n order.old }
 {
-    let own = Rank::at(order, counters, start);
+    let own = Rank::at(order, activities, start);
     let mut place = start;
     while place > 0 {
         let above = (place - 1) / 4;
-        if !own.is_before(Rank::at(order, counters, above)) {
+        if !own.is_before(Rank::at(order, activities, above)) {
             break;
         }
         order.swap(place, above);
@@ -26,17 +26,17 @@ pub fn sift_up(order: &mut HeapOrder, counters: &[u64], start: usize)
 }
 
 // The place of the variable that comes first among those from one place on and before another.
-fn first_of(order: &HeapOrder, counters: &[u64], from: usize, to: usize) -> usize
+fn first_of(order: &HeapOrder, activities: &[u64], from: usize, to: usize) -> usize
     requires some { from < to }
     requires within { to ≤ length order.now }
-    requires counted { length order.now ≤ length counters.now }
+    requires counted { length order.now ≤ length activities.now }
     ensures low { from ≤ result }
     ensures within { result < to }
 {
     let mut first = from;
-    let mut best = Rank::at(order, counters, from);
+    let mut best = Rank::at(order, activities, from);
     for place in from + 1..to {
-        let rank = Rank::at(order, counters, place);
+        let rank = Rank::at(order, activities, place);
         if rank.is_before(best) {
             first = place;
             best = rank;
@@ -46,24 +46,24 @@ fn first_of(order: &HeapOrder, counters: &[u64], from: usize, to: usize) -> usiz
 }
 
 // The place below this one whose variable comes first.
-fn first_below(order: &HeapOrder, counters: &[u64], place: usize, count: usize) -> usize
+fn first_below(order: &HeapOrder, activities: &[u64], place: usize, count: usize) -> usize
     requires some { 2 ≤ count }
     requires below { place ≤ (count - 2) / 4 }
     requires within { count ≤ length order.now }
-    requires counted { length order.now ≤ length counters.now }
+    requires counted { length order.now ≤ length activities.now }
     ensures later { place < result }
     ensures within { result < count }
 {
     let start = 4 * place + 1;
     let end = start + (count - start).min(4);
-    first_of(order, counters, start, end)
+    first_of(order, activities, start, end)
 }
 
 /// Moves the first variable to where it belongs among those up to a count: down to the end of the
 /// path of those that come first, and from there up, since it mostly belongs near the end.
-pub fn sift_down(order: &mut HeapOrder, counters: &[u64], count: usize)
+pub fn sift_down(order: &mut HeapOrder, activities: &[u64], count: usize)
     requires within { count ≤ length order.old }
-    requires counted { length order.old ≤ length counters.now }
+    requires counted { length order.old ≤ length activities.now }
     ensures { members count order.new ≡ members count order.old }
 {
     if count < 2 {
@@ -72,11 +72,11 @@ pub fn sift_down(order: &mut HeapOrder, counters: &[u64], count: usize)
     let last = (count - 2) / 4;
     let mut place = 0;
     while place <= last {
-        let below = first_below(order, counters, place, count);
+        let below = first_below(order, activities, place, count);
         order.swap(place, below);
         place = below;
     }
     if place < count {
-        sift_up(order, counters, place);
+        sift_up(order, activities, place);
     }
 }

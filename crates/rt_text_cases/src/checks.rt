@@ -1,11 +1,11 @@
 //! The checks and dependencies of a table as a short text, for tests. Columns are given by their
 //! numbers and conditions in square brackets; `!` is NOT, `&` is AND and `|` is OR.
 
-use crate::told::Told;
+use crate::told::Report;
 use rt_schema::{Check, CheckAtom, CheckLeaf, CheckPart, Depend, Rule, Side};
 use rt_value::{Op, Value};
 
-fn side(out: &mut Told, side: &Side) {
+fn side(out: &mut Report, side: &Side) {
     match side {
         Side::Column(column) => {
             out.put("#");
@@ -29,20 +29,20 @@ fn sign(op: Op) -> &'static str {
 }
 
 // Two sides with the sign between them.
-fn pair(out: &mut Told, left: &Side, sign: &str, right: &Side) {
+fn pair(out: &mut Report, left: &Side, sign: &str, right: &Side) {
     side(out, left);
     out.put(sign);
     side(out, right);
 }
 
-fn sides(out: &mut Told, sides: &[Side]) {
+fn sides(out: &mut Report, sides: &[Side]) {
     for item in sides {
         out.put(" ");
         side(out, item);
     }
 }
 
-fn leaf(out: &mut Told, leaf: &CheckLeaf) {
+fn leaf(out: &mut Report, leaf: &CheckLeaf) {
     match leaf {
         CheckLeaf::Cmp(op, left, right) => pair(out, left, sign(*op), right),
         CheckLeaf::IsNull(left) => {
@@ -62,14 +62,14 @@ fn leaf(out: &mut Told, leaf: &CheckLeaf) {
     }
 }
 
-fn atom(out: &mut Told, atom: &CheckAtom) {
+fn atom(out: &mut Report, atom: &CheckAtom) {
     if atom.not {
         out.put("!");
     }
     leaf(out, &atom.of);
 }
 
-fn part(out: &mut Told, part: &CheckPart) {
+fn part(out: &mut Report, part: &CheckPart) {
     for (at, item) in part.all.as_slice().iter().enumerate() {
         if 0 < at {
             out.put(" & ");
@@ -78,7 +78,7 @@ fn part(out: &mut Told, part: &CheckPart) {
     }
 }
 
-fn check(out: &mut Told, check: &Check) {
+fn check(out: &mut Report, check: &Check) {
     out.put("[");
     for (at, item) in check.any.as_slice().iter().enumerate() {
         if 0 < at {
@@ -89,14 +89,14 @@ fn check(out: &mut Told, check: &Check) {
     out.put("]");
 }
 
-fn numbers(out: &mut Told, numbers: &[usize]) {
+fn numbers(out: &mut Report, numbers: &[usize]) {
     for number in numbers {
         out.put(" ");
         out.put_number(*number as i128);
     }
 }
 
-fn depend(out: &mut Told, depend: &Depend) {
+fn depend(out: &mut Report, depend: &Depend) {
     out.put("[");
     numbers(out, depend.from.as_slice());
     out.put(" ->");
@@ -105,7 +105,7 @@ fn depend(out: &mut Told, depend: &Depend) {
 }
 
 /// Puts the checks and dependencies at the end of the text, and a dot for each other rule.
-pub fn rules(out: &mut Told, rules: &[Rule]) {
+pub fn rules(out: &mut Report, rules: &[Rule]) {
     for rule in rules {
         match rule {
             Rule::Check(item) => check(out, item),

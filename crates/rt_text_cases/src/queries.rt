@@ -2,7 +2,7 @@
 //! of nesting.
 
 use crate::shape::shape;
-use crate::told::Told;
+use crate::told::Report;
 use rt_sql::{SqlFault, parse};
 use rt_token::tokens;
 use rt_tree::Sql;
@@ -16,7 +16,7 @@ fn parsed(rt: &impl Abort, alloc: Global, text: &str) -> Result<Sql, SqlFault> {
     parsed
 }
 
-fn put_fault(out: &mut Told, fault: &SqlFault) {
+fn put_fault(out: &mut Report, fault: &SqlFault) {
     match fault {
         SqlFault::Unsupported(word, at) => {
             out.put("no ");
@@ -34,7 +34,7 @@ fn put_fault(out: &mut Told, fault: &SqlFault) {
 }
 
 // Puts the tree's short text, or the error.
-fn put_read(rt: &impl Abort, alloc: Global, out: &mut Told, text: &str) {
+fn put_read(rt: &impl Abort, alloc: Global, out: &mut Report, text: &str) {
     match parsed(rt, alloc, text) {
         Ok(sql) => {
             shape(out, &sql);
@@ -48,7 +48,7 @@ fn put_read(rt: &impl Abort, alloc: Global, out: &mut Told, text: &str) {
 }
 
 fn is_told(rt: &impl Abort, alloc: Global, text: &str, wanted: &str) -> bool {
-    let mut out = Told::new(alloc);
+    let mut out = Report::new(alloc);
     put_read(rt, alloc, &mut out, text);
     out.is(wanted)
 }

@@ -1,7 +1,7 @@
 //! Reading schemas: what a text makes, each error, and the order of the errors.
 
 use crate::checks::rules;
-use crate::told::Told;
+use crate::told::Report;
 use rt_ddl::{Excess, SchemaFault, read_schema};
 use rt_schema::{ColKind, Column, Foreign, Rule, Table};
 use rt_value::{List, Txt};
@@ -102,14 +102,14 @@ create table reg (constraint k primary key (name, course), name text constraint 
     }
 }
 
-fn put_named(out: &mut Told, word: &str, name: &Txt) {
+fn put_named(out: &mut Report, word: &str, name: &Txt) {
     out.put(word);
     out.put(" ");
     out.put(name.as_str());
 }
 
 // The error's kind and name, or its place.
-fn put_fault(out: &mut Told, fault: &SchemaFault) {
+fn put_fault(out: &mut Report, fault: &SchemaFault) {
     match fault {
         SchemaFault::Lex(_) => out.put("lex"),
         SchemaFault::Syntax(at) => {
@@ -128,7 +128,7 @@ fn put_fault(out: &mut Told, fault: &SchemaFault) {
 }
 
 // How many tables the text has, or its error.
-fn put_read(out: &mut Told, alloc: Global, text: &str) {
+fn put_read(out: &mut Report, alloc: Global, text: &str) {
     match read_schema(alloc, text.as_bytes()) {
         Ok(schema) => {
             out.put("tables ");
@@ -143,7 +143,7 @@ fn put_read(out: &mut Told, alloc: Global, text: &str) {
 }
 
 fn is_told(alloc: Global, text: &str, wanted: &str) -> bool {
-    let mut out = Told::new(alloc);
+    let mut out = Report::new(alloc);
     put_read(&mut out, alloc, text);
     out.is(wanted)
 }
@@ -178,7 +178,7 @@ fn tells_faults(rt: HostRuntime) {
 
 // Whether the rules of the first table are these.
 fn are_in(alloc: Global, tables: &[Table], wanted: &str) -> bool {
-    let mut out = Told::new(alloc);
+    let mut out = Report::new(alloc);
     if let [table, ..] = tables {
         rules(&mut out, table.rules.as_slice());
     }

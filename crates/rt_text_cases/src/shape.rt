@@ -1,35 +1,35 @@
 //! A tree as a short text, for tests: `<` and `>` around a chain, `{` and `}` around a condition.
 
-use crate::told::Told;
+use crate::told::Report;
 use rt_token::Name;
 use rt_tree::{
     Alias, Atom, Base, Chain, ChainLink, Cond, Conj, Factor, Item, Items, Join, Leaf, Meet,
     MeetLink, Mul, Neg, Op, Pick, Primary, Source, Sql, Sum, SumLink,
 };
 
-fn name(out: &mut Told, name: &Name) {
+fn name(out: &mut Report, name: &Name) {
     out.put(name.text.as_str());
 }
 
-fn flag(out: &mut Told, stands: bool, text: &str) {
+fn flag(out: &mut Report, stands: bool, text: &str) {
     if stands {
         out.put(text);
     }
 }
 
-fn alias(out: &mut Told, alias: &Alias) {
+fn alias(out: &mut Report, alias: &Alias) {
     out.put(if alias.as_word { ":as " } else { ":" });
     name(out, &alias.name);
 }
 
-fn maybe_alias(out: &mut Told, found: &Option<Alias>) {
+fn maybe_alias(out: &mut Report, found: &Option<Alias>) {
     if let Some(found) = found {
         alias(out, found);
     }
 }
 
 #[cycle(sum_shape)]
-fn leaf(out: &mut Told, leaf: &Leaf) {
+fn leaf(out: &mut Report, leaf: &Leaf) {
     match leaf {
         Leaf::Number(number) => out.put_number(*number),
         Leaf::Str(text) => out.put_quoted(text.as_str()),
@@ -49,7 +49,7 @@ fn leaf(out: &mut Told, leaf: &Leaf) {
 }
 
 #[cycle(sum_shape)]
-fn factor(out: &mut Told, factor: &Factor) {
+fn factor(out: &mut Report, factor: &Factor) {
     for _ in 0..factor.minuses {
         out.put("-");
     }
@@ -57,7 +57,7 @@ fn factor(out: &mut Told, factor: &Factor) {
 }
 
 #[cycle(sum_shape)]
-fn mul(out: &mut Told, mul: &Mul) {
+fn mul(out: &mut Report, mul: &Mul) {
     factor(out, &mul.head);
     for more in mul.tail.as_slice() {
         out.put("*");
@@ -66,20 +66,20 @@ fn mul(out: &mut Told, mul: &Mul) {
 }
 
 #[cycle(sum_shape)]
-fn sum_link(out: &mut Told, link: &SumLink) {
+fn sum_link(out: &mut Report, link: &SumLink) {
     out.put(if link.minus { "-" } else { "+" });
     mul(out, &link.of);
 }
 
 #[cycle(sum_shape)]
-fn sum(out: &mut Told, sum: &Sum) {
+fn sum(out: &mut Report, sum: &Sum) {
     mul(out, &sum.head);
     for link in sum.tail.as_slice() {
         sum_link(out, link);
     }
 }
 
-fn item(out: &mut Told, item: &Item) {
+fn item(out: &mut Report, item: &Item) {
     match item {
         Item::All(table) => {
             name(out, table);
@@ -92,7 +92,7 @@ fn item(out: &mut Told, item: &Item) {
     }
 }
 
-fn items(out: &mut Told, items: &Items) {
+fn items(out: &mut Report, items: &Items) {
     match items {
         Items::Star => out.put("*"),
         Items::Some(head, tail) => {
@@ -117,19 +117,19 @@ fn sign(op: Op) -> &'static str {
 }
 
 // A sum, `!` where it says so, and the sign.
-fn start(out: &mut Told, left: &Sum, not: bool, sign: &str) {
+fn start(out: &mut Report, left: &Sum, not: bool, sign: &str) {
     sum(out, left);
     flag(out, not, "!");
     out.put(sign);
 }
 
 // Two sums with the sign between them.
-fn pair(out: &mut Told, left: &Sum, sign: &str, right: &Sum) {
+fn pair(out: &mut Report, left: &Sum, sign: &str, right: &Sum) {
     start(out, left, false, sign);
     sum(out, right);
 }
 
-fn sums(out: &mut Told, head: &Sum, tail: &[Sum]) {
+fn sums(out: &mut Report, head: &Sum, tail: &[Sum]) {
     sum(out, head);
     for more in tail {
         out.put(",");
@@ -138,7 +138,7 @@ fn sums(out: &mut Told, head: &Sum, tail: &[Sum]) {
 }
 
 #[cycle(chain_shape)]
-fn atom(out: &mut Told, atom: &Atom) {
+fn atom(out: &mut Report, atom: &Atom) {
     match atom {
         Atom::Cmp(left, op, right) => pair(out, left, sign(*op), right),
         Atom::IsNull(left, not) => start(out, left, *not, "?"),
@@ -164,7 +164,7 @@ fn atom(out: &mut Told, atom: &Atom) {
 }
 
 #[cycle(chain_shape)]
-fn neg(out: &mut Told, neg: &Neg) {
+fn neg(out: &mut Report, neg: &Neg) {
     for _ in 0..neg.nots {
         out.put("!");
     }
@@ -172,7 +172,7 @@ fn neg(out: &mut Told, neg: &Neg) {
 }
 
 #[cycle(chain_shape)]
-fn conj(out: &mut Told, conj: &Conj) {
+fn conj(out: &mut Report, conj: &Conj) {
     neg(out, &conj.head);
     for more in conj.tail.as_slice() {
         out.put("&");
@@ -181,7 +181,7 @@ fn conj(out: &mut Told, conj: &Conj) {
 }
 
 #[cycle(chain_shape)]
-fn cond(out: &mut Told, cond: &Cond) {
+fn cond(out: &mut Report, cond: &Cond) {
     out.put("{");
     conj(out, &cond.head);
     for more in cond.tail.as_slice() {
@@ -192,7 +192,7 @@ fn cond(out: &mut Told, cond: &Cond) {
 }
 
 #[cycle(chain_shape)]
-fn base(out: &mut Told, base: &Base) {
+fn base(out: &mut Report, base: &Base) {
     match base {
         Base::Named(table, alias) => {
             name(out, table);
@@ -206,7 +206,7 @@ fn base(out: &mut Told, base: &Base) {
 }
 
 #[cycle(chain_shape)]
-fn join(out: &mut Told, join: &Join) {
+fn join(out: &mut Report, join: &Join) {
     match join {
         Join::Plain(table, on) => {
             out.put("J");
@@ -226,7 +226,7 @@ fn join(out: &mut Told, join: &Join) {
 }
 
 #[cycle(chain_shape)]
-fn source(out: &mut Told, source: &Source) {
+fn source(out: &mut Report, source: &Source) {
     base(out, &source.head);
     for more in source.joins.as_slice() {
         join(out, more);
@@ -234,7 +234,7 @@ fn source(out: &mut Told, source: &Source) {
 }
 
 #[cycle(chain_shape)]
-fn pick(out: &mut Told, pick: &Pick) {
+fn pick(out: &mut Report, pick: &Pick) {
     out.put(if pick.distinct { "Sd " } else { "S " });
     items(out, &pick.items);
     out.put(" F ");
@@ -249,7 +249,7 @@ fn pick(out: &mut Told, pick: &Pick) {
 }
 
 #[cycle(chain_shape)]
-fn primary(out: &mut Told, primary: &Primary) {
+fn primary(out: &mut Report, primary: &Primary) {
     match primary {
         Primary::One(one) => pick(out, one.get()),
         Primary::Paren(inner) => chain(out, inner.get()),
@@ -257,13 +257,13 @@ fn primary(out: &mut Told, primary: &Primary) {
 }
 
 #[cycle(chain_shape)]
-fn meet_link(out: &mut Told, link: &MeetLink) {
+fn meet_link(out: &mut Report, link: &MeetLink) {
     out.put(if link.distinct { " Id " } else { " I " });
     primary(out, &link.of);
 }
 
 #[cycle(chain_shape)]
-fn meet(out: &mut Told, meet: &Meet) {
+fn meet(out: &mut Report, meet: &Meet) {
     primary(out, &meet.head);
     for link in meet.tail.as_slice() {
         meet_link(out, link);
@@ -271,14 +271,14 @@ fn meet(out: &mut Told, meet: &Meet) {
 }
 
 #[cycle(chain_shape)]
-fn chain_link(out: &mut Told, link: &ChainLink) {
+fn chain_link(out: &mut Report, link: &ChainLink) {
     out.put(if link.except { " E" } else { " U" });
     out.put(if link.distinct { "d " } else { " " });
     meet(out, &link.of);
 }
 
 #[cycle(chain_shape)]
-fn chain(out: &mut Told, chain: &Chain) {
+fn chain(out: &mut Report, chain: &Chain) {
     out.put("<");
     meet(out, &chain.head);
     for link in chain.tail.as_slice() {
@@ -288,7 +288,7 @@ fn chain(out: &mut Told, chain: &Chain) {
 }
 
 /// Puts the short text of a tree at the end.
-pub fn shape(out: &mut Told, sql: &Sql) {
+pub fn shape(out: &mut Report, sql: &Sql) {
     chain(out, &sql.chain);
     flag(out, sql.semi, ";");
 }

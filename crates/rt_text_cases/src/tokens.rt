@@ -1,6 +1,6 @@
 //! The lexer: each kind of token with its place, and the leftmost error.
 
-use crate::told::Told;
+use crate::told::Report;
 use rt_token::{LexFault, Sym, Token, TokenKind, tokens};
 use std::alloc::Global;
 use std::process::Abort;
@@ -59,7 +59,7 @@ fn sign(sym: Sym) -> &'static str {
     }
 }
 
-fn put_kind(out: &mut Told, kind: &TokenKind) {
+fn put_kind(out: &mut Report, kind: &TokenKind) {
     match kind {
         TokenKind::Word(word) => out.put(word.as_str()),
         TokenKind::Quoted(name) => {
@@ -74,7 +74,7 @@ fn put_kind(out: &mut Told, kind: &TokenKind) {
 }
 
 // Each token, and the bytes that it was read from.
-fn put_tokens(out: &mut Told, tokens: &[Token]) {
+fn put_tokens(out: &mut Report, tokens: &[Token]) {
     for token in tokens {
         put_kind(out, &token.kind);
         out.put(" ");
@@ -87,7 +87,7 @@ fn put_tokens(out: &mut Told, tokens: &[Token]) {
 
 fn are_read(rt: &impl Abort, alloc: Global, text: &str, wanted: &str) -> bool {
     let tokens = tokens(alloc, text.as_bytes()).expect(rt, "tokens");
-    let mut out = Told::new(alloc);
+    let mut out = Report::new(alloc);
     put_tokens(&mut out, tokens.as_slice());
     drop(tokens);
     out.is(wanted)

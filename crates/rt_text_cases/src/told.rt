@@ -5,14 +5,14 @@ use std::fmt::Write;
 
 /// A text, and whether a part of it is missing since memory ran out.
 #[derive(Drop)]
-pub struct Told {
+pub struct Report {
     text: String,
     is_cut: bool,
 }
 
-impl Told {
-    pub fn new(alloc: Global) -> Told {
-        Told {
+impl Report {
+    pub fn new(alloc: Global) -> Report {
+        Report {
             text: String::new(alloc),
             is_cut: false,
         }

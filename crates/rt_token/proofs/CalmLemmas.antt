@@ -10,7 +10,7 @@ use Rattle.rt_token.specs.Terminals.{Kinds, code, front}
 use Rattle.rt_token.proofs.FrontLemmas.{other-nat}
 
 abbrev pub is_call : Terminal → Kinds → Bool
-is_call (terminal.Name n) ks = front ks == code fixed.Left
+is_call (terminal.Name n) ks = front ks == code fixed.OpenParen
 is_call (terminal.Fixed f) ks = false
 is_call (terminal.Number n) ks = false
 is_call (terminal.Str t) ks = false
@@ -24,7 +24,7 @@ abbrev pub IsCalm : Kinds → Type 0
 IsCalm ks = calm ks ≡ true
 
 pub calm-name : (n : Name) (ks : Kinds) → 1 ≤ front ks → IsCalm ks → IsCalm (terminal.Name n ∷ ks)
-calm-name n ks h k = rw (other-nat (front ks) (code fixed.Left) (λ e. omega arith)) k
+calm-name n ks h k = rw (other-nat (front ks) (code fixed.OpenParen) (λ e. omega arith)) k
 
 pub calm-replicate : (f : Fixed) (n : ℕ) (ks : Kinds) → IsCalm ks → IsCalm (replicate n (terminal.Fixed f) ++ ks)
 calm-replicate f zero ks k = k

@@ -19,11 +19,11 @@ fixed_at (f ∷ fs) (suc n) = fixed_at fs n
 
 -- by their codes; `Dot` fills in where a code is not that of a fixed terminal
 all_fixed : List Fixed
-all_fixed = fixed.Left ∷ fixed.Dot ∷ fixed.Star ∷ fixed.Plus ∷ fixed.Minus ∷ fixed.Constraint ∷ fixed.Null ∷ fixed.Primary ∷ fixed.Unique ∷ fixed.References ∷ fixed.Equal ∷ fixed.NotEqual ∷ fixed.Below ∷ fixed.AtMost ∷ fixed.Above ∷ fixed.AtLeast ∷ fixed.Is ∷ fixed.Not ∷ fixed.In ∷ fixed.Between ∷ fixed.And ∷ fixed.Or ∷ fixed.As ∷ fixed.Dot ∷ fixed.Inner ∷ fixed.Join ∷ fixed.Cross ∷ fixed.Check ∷ fixed.Comma ∷ fixed.Where ∷ fixed.Intersect ∷ fixed.Union ∷ fixed.Except ∷ fixed.Right ∷ fixed.Semi ∷ fixed.Dot ∷ fixed.From ∷ fixed.On ∷ fixed.Select ∷ fixed.Distinct ∷ fixed.Exists ∷ fixed.Create ∷ fixed.Table ∷ fixed.Foreign ∷ fixed.Dot ∷ fixed.Dot ∷ []
+all_fixed = fixed.OpenParen ∷ fixed.Dot ∷ fixed.Star ∷ fixed.Plus ∷ fixed.Minus ∷ fixed.Constraint ∷ fixed.Null ∷ fixed.Primary ∷ fixed.Unique ∷ fixed.References ∷ fixed.Equal ∷ fixed.NotEqual ∷ fixed.Below ∷ fixed.AtMost ∷ fixed.Above ∷ fixed.AtLeast ∷ fixed.Is ∷ fixed.Not ∷ fixed.In ∷ fixed.Between ∷ fixed.And ∷ fixed.Or ∷ fixed.As ∷ fixed.Dot ∷ fixed.Inner ∷ fixed.Join ∷ fixed.Cross ∷ fixed.Check ∷ fixed.Comma ∷ fixed.Where ∷ fixed.Intersect ∷ fixed.Union ∷ fixed.Except ∷ fixed.CloseParen ∷ fixed.Semicolon ∷ fixed.Dot ∷ fixed.From ∷ fixed.On ∷ fixed.Select ∷ fixed.Distinct ∷ fixed.Exists ∷ fixed.Create ∷ fixed.Table ∷ fixed.Foreign ∷ fixed.Dot ∷ fixed.Dot ∷ []
 
 at-code : (f : Fixed) → fixed_at all_fixed (code f) ≡ f
 unfolding fixed_at all_fixed
-at-code fixed.Left = refl
+at-code fixed.OpenParen = refl
 at-code fixed.Dot = refl
 at-code fixed.Star = refl
 at-code fixed.Plus = refl
@@ -55,8 +55,8 @@ at-code fixed.Where = refl
 at-code fixed.Intersect = refl
 at-code fixed.Union = refl
 at-code fixed.Except = refl
-at-code fixed.Right = refl
-at-code fixed.Semi = refl
+at-code fixed.CloseParen = refl
+at-code fixed.Semicolon = refl
 at-code fixed.From = refl
 at-code fixed.On = refl
 at-code fixed.Select = refl
@@ -146,16 +146,16 @@ pub record Passed (ks : Kinds) : Type 0 where
 pub passed-nil : Passed []
 passed-nil = record { passes = λ more rest. refl }
 
-pub passed-cons : (k : Terminal) (ks : Kinds) → (code_of k ≡ code fixed.Left → ⊥) → (code_of k ≡ code fixed.Right → ⊥) → Passed ks → Passed (k ∷ ks)
-passed-cons k ks l r p = record { passes = λ more rest. rw (other-nat (code_of k) (code fixed.Left) l, other-nat (code_of k) (code fixed.Right) r) (p.passes more rest) }
+pub passed-cons : (k : Terminal) (ks : Kinds) → (code_of k ≡ code fixed.OpenParen → ⊥) → (code_of k ≡ code fixed.CloseParen → ⊥) → Passed ks → Passed (k ∷ ks)
+passed-cons k ks l r p = record { passes = λ more rest. rw (other-nat (code_of k) (code fixed.OpenParen) l, other-nat (code_of k) (code fixed.CloseParen) r) (p.passes more rest) }
 
 pub passed-append : (a b : Kinds) → Passed a → Passed b → Passed (a ++ b)
 passed-append a b p q = record { passes = λ more rest. rw (append_assoc a b rest) (p.passes more (b ++ rest) ∙ q.passes more rest) }
 
-pub passed-paren : (a : Kinds) → Passed a → Passed (terminal.Fixed fixed.Left ∷ (a ++ terminal.Fixed fixed.Right ∷ []))
-passed-paren a p = record { passes = λ more rest. rw (append_assoc a (terminal.Fixed fixed.Right ∷ []) rest) (p.passes (suc more) (terminal.Fixed fixed.Right ∷ rest)) }
+pub passed-paren : (a : Kinds) → Passed a → Passed (terminal.Fixed fixed.OpenParen ∷ (a ++ terminal.Fixed fixed.CloseParen ∷ []))
+passed-paren a p = record { passes = λ more rest. rw (append_assoc a (terminal.Fixed fixed.CloseParen ∷ []) rest) (p.passes (suc more) (terminal.Fixed fixed.CloseParen ∷ rest)) }
 
-pub passed-replicate : (f : Fixed) (n : ℕ) → (code f ≡ code fixed.Left → ⊥) → (code f ≡ code fixed.Right → ⊥) → Passed (replicate n (terminal.Fixed f))
+pub passed-replicate : (f : Fixed) (n : ℕ) → (code f ≡ code fixed.OpenParen → ⊥) → (code f ≡ code fixed.CloseParen → ⊥) → Passed (replicate n (terminal.Fixed f))
 passed-replicate f zero l r = passed-nil
 passed-replicate f (suc n) l r = passed-cons (terminal.Fixed f) _ l r (passed-replicate f n l r)
 

@@ -97,7 +97,7 @@ made-law {A = A} {B = B} {c = c} p f back sp spell n low l inv same = record {
       (λ h g k. let one = l.calm s (back y) rest (omega (arith, ap length (same (back y)))) g k in rw (same (back y)) one);
 }
 
-pub lead-law : {A : Type 0} {c : Bool} (f : Fixed) (p : Parser A) (sp : A → Kinds) (n low : ℕ) → Lawful c p sp n low → (code f ≡ code fixed.Left → ⊥) → (code f ≡ code fixed.Right → ⊥)
+pub lead-law : {A : Type 0} {c : Bool} (f : Fixed) (p : Parser A) (sp : A → Kinds) (n low : ℕ) → Lawful c p sp n low → (code f ≡ code fixed.OpenParen → ⊥) → (code f ≡ code fixed.CloseParen → ⊥)
     → Lawful c (lead f p) (λ x. terminal.Fixed f ∷ sp x) n low
 lead-law f p sp n low l x y = record {
   sound = λ ks q e. let a = bind-some (after f ks) p q e in after-sound f ks a.0 a.1 ∙ ap (λ (t : Kinds). terminal.Fixed f ∷ t) (l.sound a.0 q a.2);
@@ -106,25 +106,25 @@ lead-law f p sp n low l x y = record {
   calm = λ s z rest h g k. l.calm s z rest (omega arith) g k;
 }
 
-pub paren-law : {A : Type 0} {c : Bool} (p : Parser A) (sp : A → Kinds) (n low : ℕ) → Lawful c p sp n low → low ≤ code fixed.Right → Lawful c (paren p) (λ x. in_paren (sp x)) (n + 2) 0
+pub paren-law : {A : Type 0} {c : Bool} (p : Parser A) (sp : A → Kinds) (n low : ℕ) → Lawful c p sp n low → low ≤ code fixed.CloseParen → Lawful c (paren p) (λ x. in_paren (sp x)) (n + 2) 0
 paren-law {A = A} {c = c} p sp n low l below = record {
   sound = λ ks q e.
-      let a = bind-some (after fixed.Left ks) _ q e in
+      let a = bind-some (after fixed.OpenParen ks) _ q e in
       let b = bind-some (p a.0) _ q a.2 in
-      let c = bind-some (after fixed.Right b.0.1) _ q b.2 in
+      let c = bind-some (after fixed.CloseParen b.0.1) _ q b.2 in
       let h : (b.0.0, c.0) ≡ q = some-is _ _ c.2 in
       subst (λ (q : A × Kinds). ks ≡ in_paren (sp q.0) ++ q.1) h
-      (after-sound fixed.Left ks a.0 a.1 ∙ ap (λ (t : Kinds). terminal.Fixed fixed.Left ∷ t) (l.sound a.0 b.0 b.1 ∙ ap (λ (t : Kinds). sp b.0.0 ++ t) (after-sound fixed.Right b.0.1 c.0 c.1) ∙ sym (append_assoc (sp b.0.0) (terminal.Fixed fixed.Right ∷ []) c.0)));
+      (after-sound fixed.OpenParen ks a.0 a.1 ∙ ap (λ (t : Kinds). terminal.Fixed fixed.OpenParen ∷ t) (l.sound a.0 b.0 b.1 ∙ ap (λ (t : Kinds). sp b.0.0 ++ t) (after-sound fixed.CloseParen b.0.1 c.0 c.1) ∙ sym (append_assoc (sp b.0.0) (terminal.Fixed fixed.CloseParen ∷ []) c.0)));
   reads = λ x rest h g.
-      let one = l.reads x (terminal.Fixed fixed.Right ∷ rest) (omega (arith, length-append (sp x) (terminal.Fixed fixed.Right ∷ []))) below in
-      rw (append_assoc (sp x) (terminal.Fixed fixed.Right ∷ []) rest, one) refl;
-  passed = λ s x h. passed-paren (sp x) (l.passed s x (omega (arith, length-append (sp x) (terminal.Fixed fixed.Right ∷ []))));
+      let one = l.reads x (terminal.Fixed fixed.CloseParen ∷ rest) (omega (arith, length-append (sp x) (terminal.Fixed fixed.CloseParen ∷ []))) below in
+      rw (append_assoc (sp x) (terminal.Fixed fixed.CloseParen ∷ []) rest, one) refl;
+  passed = λ s x h. passed-paren (sp x) (l.passed s x (omega (arith, length-append (sp x) (terminal.Fixed fixed.CloseParen ∷ []))));
   calm = λ s x rest h g k.
-      let one = l.calm s x (terminal.Fixed fixed.Right ∷ rest) (omega (arith, length-append (sp x) (terminal.Fixed fixed.Right ∷ []))) below k in
-      rw (append_assoc (sp x) (terminal.Fixed fixed.Right ∷ []) rest) one;
+      let one = l.calm s x (terminal.Fixed fixed.CloseParen ∷ rest) (omega (arith, length-append (sp x) (terminal.Fixed fixed.CloseParen ∷ []))) below k in
+      rw (append_assoc (sp x) (terminal.Fixed fixed.CloseParen ∷ []) rest) one;
 }
 
-pub flagged-law : {A : Type 0} {c : Bool} (f : Fixed) (p : Parser A) (sp : A → Kinds) (n low : ℕ) → Lawful c p sp n low → (code f ≡ code fixed.Left → ⊥) → (code f ≡ code fixed.Right → ⊥)
+pub flagged-law : {A : Type 0} {c : Bool} (f : Fixed) (p : Parser A) (sp : A → Kinds) (n low : ℕ) → Lawful c p sp n low → (code f ≡ code fixed.OpenParen → ⊥) → (code f ≡ code fixed.CloseParen → ⊥)
     → ((x : A) (rest : Kinds) → low ≤ front rest → front (sp x ++ rest) ≡ code f → ⊥) → Lawful c (flagged f p) (λ (x : Bool × A). flag f x.0 ++ sp x.1) n low
 flagged-law {A = A} {c = c} f p sp n low l x y other = record {
   sound = λ ks q e. sound-by (after f ks) ks q refl e;
@@ -155,7 +155,7 @@ flagged-law {A = A} {c = c} f p sp n low l x y other = record {
     calm-by s false z rest h g k = l.calm s z rest h g k
     calm-by s true z rest h g k = l.calm s z rest (omega arith) g k
 
-pub repeated-law : {A : Type 0} {c : Bool} (f : Fixed) (p : Parser A) (sp : A → Kinds) (n low : ℕ) → Lawful c p sp n low → (code f ≡ code fixed.Left → ⊥) → (code f ≡ code fixed.Right → ⊥)
+pub repeated-law : {A : Type 0} {c : Bool} (f : Fixed) (p : Parser A) (sp : A → Kinds) (n low : ℕ) → Lawful c p sp n low → (code f ≡ code fixed.OpenParen → ⊥) → (code f ≡ code fixed.CloseParen → ⊥)
     → ((x : A) (rest : Kinds) → low ≤ front rest → front (sp x ++ rest) ≡ code f → ⊥) → Lawful c (repeated f p) (λ (x : ℕ × A). replicate x.0 (terminal.Fixed f) ++ sp x.1) n low
 repeated-law {A = A} {c = c} f p sp n low l x y other = record {
   sound = λ ks q e.

@@ -66,7 +66,7 @@ list-law step spell n low high law = record {
   calm = λ s xs rest h f k. let above = law.above in list-calm s step spell n low high law xs rest h (omega arith) k;
 }
 
-pub after-law : {A : Type 0} {c : Bool} (f : Fixed) (p : Parser A) (sp : A → Kinds) (n low : ℕ) → Lawful c p sp n low → (code f ≡ code fixed.Left → ⊥) → (code f ≡ code fixed.Right → ⊥) → low ≤ code f
+pub after-law : {A : Type 0} {c : Bool} (f : Fixed) (p : Parser A) (sp : A → Kinds) (n low : ℕ) → Lawful c p sp n low → (code f ≡ code fixed.OpenParen → ⊥) → (code f ≡ code fixed.CloseParen → ⊥) → low ≤ code f
     → StepLaw c (step_after f p) (λ x. terminal.Fixed f ∷ sp x) n low (code f + 1)
 after-law {A = A} f p sp n low l x y above = record {
   sound = λ ks z rest e. sound-by (after f ks) ks z rest refl e;

@@ -86,7 +86,7 @@ mark-sound (kind.Sym s) t h = subst (Marks (kind.Sym s)) (some-is _ _ h) (sign-k
 
 fixed-mark : (f : Fixed) → mark (fixed_kind f) ≡ Some (terminal.Fixed f)
 unfolding word_of
-fixed-mark fixed.Left = refl
+fixed-mark fixed.OpenParen = refl
 fixed-mark fixed.Dot = refl
 fixed-mark fixed.Star = refl
 fixed-mark fixed.Plus = refl
@@ -118,8 +118,8 @@ fixed-mark fixed.Where = refl
 fixed-mark fixed.Intersect = refl
 fixed-mark fixed.Union = refl
 fixed-mark fixed.Except = refl
-fixed-mark fixed.Right = refl
-fixed-mark fixed.Semi = refl
+fixed-mark fixed.CloseParen = refl
+fixed-mark fixed.Semicolon = refl
 fixed-mark fixed.From = refl
 fixed-mark fixed.On = refl
 fixed-mark fixed.Select = refl
@@ -139,7 +139,7 @@ reserved_kind (kind.Sym s) = true
 
 fixed-reserved : (f : Fixed) → reserved_kind (fixed_kind f) ≡ true
 unfolding reserved_kind is_reserved
-fixed-reserved fixed.Left = refl
+fixed-reserved fixed.OpenParen = refl
 fixed-reserved fixed.Dot = refl
 fixed-reserved fixed.Star = refl
 fixed-reserved fixed.Plus = refl
@@ -171,8 +171,8 @@ fixed-reserved fixed.Where = refl
 fixed-reserved fixed.Intersect = refl
 fixed-reserved fixed.Union = refl
 fixed-reserved fixed.Except = refl
-fixed-reserved fixed.Right = refl
-fixed-reserved fixed.Semi = refl
+fixed-reserved fixed.CloseParen = refl
+fixed-reserved fixed.Semicolon = refl
 fixed-reserved fixed.From = refl
 fixed-reserved fixed.On = refl
 fixed-reserved fixed.Select = refl

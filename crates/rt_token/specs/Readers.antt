@@ -30,7 +30,7 @@ lead f p ks = after f ks >>= p
 
 -- in parentheses
 abbrev pub paren : {A : Type 0} → Parser A → Parser A
-paren p ks = after fixed.Left ks >>= λ r. p r >>= λ a. after fixed.Right a.1 >>= λ s. Some (a.0, s)
+paren p ks = after fixed.OpenParen ks >>= λ r. p r >>= λ a. after fixed.CloseParen a.1 >>= λ s. Some (a.0, s)
 
 abbrev pub flag_from : Kinds → Option Kinds → Bool × Kinds
 flag_from ks None = (false, ks)
@@ -80,7 +80,7 @@ no_other ks = None
 -- a semicolon or nothing, and then the end
 abbrev pub read_end : Kinds → Option Bool
 read_end [] = Some false
-read_end (k ∷ []) = if code_of k == code fixed.Semi then Some true else None
+read_end (k ∷ []) = if code_of k == code fixed.Semicolon then Some true else None
 read_end (k ∷ l ∷ ks) = None
 
 -- ---- names and words that aren't reserved

@@ -23,7 +23,7 @@ abbrev pub end_code : ℕ
 end_code = 35
 
 abbrev pub code : Fixed → ℕ
-code fixed.Left = 0
+code fixed.OpenParen = 0
 code fixed.Dot = 1
 code fixed.Star = 2
 code fixed.Plus = 3
@@ -55,8 +55,8 @@ code fixed.Where = 29
 code fixed.Intersect = 30
 code fixed.Union = 31
 code fixed.Except = 32
-code fixed.Right = 33
-code fixed.Semi = 34
+code fixed.CloseParen = 33
+code fixed.Semicolon = 34
 code fixed.From = 36
 code fixed.On = 37
 code fixed.Select = 38
@@ -99,12 +99,12 @@ one_less (suc n) a f = f n
 -- what follows the parenthesis that closes those which are open, one and `more`
 abbrev pub skip : Kinds → ℕ → Kinds
 skip [] more = []
-skip (k ∷ ks) more = if code_of k == code fixed.Left then skip ks (suc more) else (if code_of k == code fixed.Right then one_less more ks (λ m. skip ks m) else skip ks more)
+skip (k ∷ ks) more = if code_of k == code fixed.OpenParen then skip ks (suc more) else (if code_of k == code fixed.CloseParen then one_less more ks (λ m. skip ks m) else skip ks more)
 
 -- ---- parts of a spelling
 
 abbrev pub in_paren : Kinds → Kinds
-in_paren ks = terminal.Fixed fixed.Left ∷ (ks ++ terminal.Fixed fixed.Right ∷ [])
+in_paren ks = terminal.Fixed fixed.OpenParen ∷ (ks ++ terminal.Fixed fixed.CloseParen ∷ [])
 
 -- the terminal where the flag is true, and else nothing
 abbrev pub flag : Fixed → Bool → Kinds

@@ -40,7 +40,7 @@ word_of w = or_else (look_up words_to_exists w) (or_else (look_up words_to_null 
 -- ---- the token of a terminal
 
 abbrev pub fixed_kind : Fixed → TokenKind
-fixed_kind fixed.Left = kind.Sym sign.Left
+fixed_kind fixed.OpenParen = kind.Sym sign.Left
 fixed_kind fixed.Dot = kind.Sym sign.Dot
 fixed_kind fixed.Star = kind.Sym sign.Star
 fixed_kind fixed.Plus = kind.Sym sign.Plus
@@ -72,8 +72,8 @@ fixed_kind fixed.Where = kind.Word (codes "where")
 fixed_kind fixed.Intersect = kind.Word (codes "intersect")
 fixed_kind fixed.Union = kind.Word (codes "union")
 fixed_kind fixed.Except = kind.Word (codes "except")
-fixed_kind fixed.Right = kind.Sym sign.Right
-fixed_kind fixed.Semi = kind.Sym sign.Semi
+fixed_kind fixed.CloseParen = kind.Sym sign.Right
+fixed_kind fixed.Semicolon = kind.Sym sign.Semi
 fixed_kind fixed.From = kind.Word (codes "from")
 fixed_kind fixed.On = kind.Word (codes "on")
 fixed_kind fixed.Select = kind.Word (codes "select")
@@ -112,7 +112,7 @@ all_formed (t ∷ ts) = is_formed t && all_formed ts
 -- ---- the terminal of a token, if it has one
 
 abbrev pub sign_of : Sym → Fixed
-sign_of sign.Left = fixed.Left
+sign_of sign.Left = fixed.OpenParen
 sign_of sign.Dot = fixed.Dot
 sign_of sign.Star = fixed.Star
 sign_of sign.Plus = fixed.Plus
@@ -124,8 +124,8 @@ sign_of sign.Le = fixed.AtMost
 sign_of sign.Gt = fixed.Above
 sign_of sign.Ge = fixed.AtLeast
 sign_of sign.Comma = fixed.Comma
-sign_of sign.Right = fixed.Right
-sign_of sign.Semi = fixed.Semi
+sign_of sign.Right = fixed.CloseParen
+sign_of sign.Semi = fixed.Semicolon
 
 abbrev pub marked : Word → Option Fixed → Option Terminal
 marked w (Some f) = Some (terminal.Fixed f)

@@ -1,5 +1,6 @@
 //! Classes of bytes, and how many bytes of a class a text begins with. Loops are private to this
 //! module: `lexeme` knows them by their values alone.
+
 ghost use Rattle.std.specs.Prelude.{◌≡◌, ◌≤◌, ◌==◌, length, not, drop, slice_index, IfSome};
 ghost use Rattle.std.specs.Char.{is_ascii_digit};
 ghost use Rattle.std.specs.List.{prefix_len};

@@ -9,7 +9,7 @@ ghost use Rattle.rt_token.specs.Terminals as spec;
 /// The variants are in the order of their codes.
 #[derive(Clone, Copy, PartialEq, Eq, Debug)]
 pub enum Fixed {
-    Left,
+    OpenParen,
     Dot,
     Star,
     Plus,
@@ -41,8 +41,8 @@ pub enum Fixed {
     Intersect,
     Union,
     Except,
-    Right,
-    Semi,
+    CloseParen,
+    Semicolon,
     From,
     On,
     Select,
@@ -62,7 +62,7 @@ pub fn code(fixed: Fixed) -> u8
     ensures { result ≡ spec.code fixed }
 {
     match fixed {
-        Fixed::Left => 0,
+        Fixed::OpenParen => 0,
         Fixed::Dot => 1,
         Fixed::Star => 2,
         Fixed::Plus => 3,
@@ -94,8 +94,8 @@ pub fn code(fixed: Fixed) -> u8
         Fixed::Intersect => 30,
         Fixed::Union => 31,
         Fixed::Except => 32,
-        Fixed::Right => 33,
-        Fixed::Semi => 34,
+        Fixed::CloseParen => 33,
+        Fixed::Semicolon => 34,
         Fixed::From => 36,
         Fixed::On => 37,
         Fixed::Select => 38,

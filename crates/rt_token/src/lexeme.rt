@@ -1,5 +1,6 @@
 //! One step of the lexer: the token, white space or comment that begins at a place. The order of
 //! the tests is private; the value is that of `Lexed.front`.
+
 ghost use Rattle.std.specs.Prelude.{◌≡◌, ◌≤◌, ◌<◌, ◌+◌, ◌^◌, IsTrue, length, drop, [], ◌∷◌, IfOk, IfSome, IsSome, slice_index, if◌then◌else◌, ◌==◌};
 ghost use Rattle.std.specs.Char.{is_ascii_digit};
 ghost use Rattle.std.specs.List.{prefix_len};

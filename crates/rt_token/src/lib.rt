@@ -7,6 +7,7 @@
 //!
 //! A grammar is read both ways: what a reader accepts is spelled so, and what is spelled so is
 //! accepted. The laws of `proofs/` say this once for each way to put readers together.
+
 #![tactic(auto)]
 
 mod bytes;

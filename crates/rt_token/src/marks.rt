@@ -18,7 +18,7 @@ fn sign_of(sym: Sym) -> Fixed
     ensures { result ≡ spec.sign_of sym }
 {
     match sym {
-        Sym::Left => Fixed::Left,
+        Sym::Left => Fixed::OpenParen,
         Sym::Dot => Fixed::Dot,
         Sym::Star => Fixed::Star,
         Sym::Plus => Fixed::Plus,
@@ -30,8 +30,8 @@ fn sign_of(sym: Sym) -> Fixed
         Sym::Gt => Fixed::Above,
         Sym::Ge => Fixed::AtLeast,
         Sym::Comma => Fixed::Comma,
-        Sym::Right => Fixed::Right,
-        Sym::Semi => Fixed::Semi,
+        Sym::Right => Fixed::CloseParen,
+        Sym::Semi => Fixed::Semicolon,
     }
 }
 

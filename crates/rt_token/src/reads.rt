@@ -79,14 +79,14 @@ pub fn end(terminals: &[Terminal]) -> Result<bool, ReadFault>
     match terminals {
         [] => Ok(false),
         [first] => {
-            if code_of(first) == code(Fixed::Semi) {
+            if code_of(first) == code(Fixed::Semicolon) {
                 Ok(true)
             } else {
                 Err(ReadFault::Syntax(1))
             }
         }
         [first, rest @ ..] => {
-            if code_of(first) == code(Fixed::Semi) {
+            if code_of(first) == code(Fixed::Semicolon) {
                 Err(ReadFault::Syntax(rest.len()))
             } else {
                 Err(ReadFault::Syntax(terminals.len()))

@@ -1,6 +1,7 @@
 //! Two commands that answer further questions than `ratest`: `row`, on one named row, and
 //! `grade`, on many candidates. What they answer is found in `rt_row` and `rt_grade`; here are
 //! the outcomes of both, their texts, sinks and statuses.
+
 #![tactic(auto)]
 
 mod outcome;

@@ -2,6 +2,7 @@
 //! and certificates. Those on algebra texts alone are in `rt_answer_cases`.
 //!
 //! They are a crate of their own, since a crate with tests is proved twice.
+
 #![tactic(auto)]
 
 #[cfg(test)]

@@ -18,47 +18,47 @@ use Rattle.rt_least.proofs.Targets.{spent-narrowed}
 use Rattle.rt_least.specs.declared.best.Best.{Best}
 use Rattle.rt_least.specs.declared.best.Best.TheVariants.{Least, Never, Spent}
 use Rattle.rt_input.specs.Accepted.{Accepted}
-use Rattle.rt_top.specs.Smallest.{HasFewest, IsCounter, IsFirst, IsGivenUp, IsVerdict, counters, differ_at, lawful_at}
+use Rattle.rt_top.specs.Smallest.{HasFewest, IsCounterexample, IsFirst, IsGivenUp, IsVerdict, is_counterexample, differ_at, lawful_at}
 
 -- the node is true at just the counterexamples
 abbrev pub Means : Accepted → Shared → ℕ → Type 0
-Means input d goal = (keep : List Bool) → length keep ≡ d.rows → val d keep goal ≡ counters input keep
+Means input d goal = (keep : List Bool) → length keep ≡ d.rows → val d keep goal ≡ is_counterexample input keep
 
 pub means : (input : Accepted) (d : Shared) (goal rows : ℕ) → d.rows ≡ rows
     → ((keep : List Bool) → length keep ≡ rows → val d keep goal ≡ (lawful_at input keep && differ_at input keep)) → Means input d goal
-unfolding counters
+unfolding is_counterexample
 means input d goal rows same h keep l = h keep (l ∙ same)
 
 to_goal : (input : Accepted) (d : Shared) (goal : ℕ) → d.rows ≡ places input.given.tables → Means input d goal
-    → (keep : List Bool) → IsCounter input keep → IsGoal d goal keep
+    → (keep : List Bool) → IsCounterexample input keep → IsGoal d goal keep
 to_goal input d goal rows m keep c = let l : length keep ≡ d.rows = c.0 ∙ sym rows in (l, m keep l ∙ c.1)
 
-to_counter : (input : Accepted) (d : Shared) (goal : ℕ) → d.rows ≡ places input.given.tables → Means input d goal
-    → (keep : List Bool) → IsGoal d goal keep → IsCounter input keep
-to_counter input d goal rows m keep g = (g.0 ∙ rows, sym (m keep g.0) ∙ g.1)
+to_counterexample : (input : Accepted) (d : Shared) (goal : ℕ) → d.rows ≡ places input.given.tables → Means input d goal
+    → (keep : List Bool) → IsGoal d goal keep → IsCounterexample input keep
+to_counterexample input d goal rows m keep g = (g.0 ∙ rows, sym (m keep g.0) ∙ g.1)
 
 spent : (input : Accepted) (d : Shared) (goal budget : ℕ) (best : Option (List Bool)) (least : Bool) (nogoods : List (List Literal)) → d.rows ≡ places input.given.tables → Means input d goal
-    → IsSpentBy d.rows (IsGoal d goal) best least budget nogoods → IsSpentBy (places input.given.tables) (IsCounter input) best least budget nogoods
+    → IsSpentBy d.rows (IsGoal d goal) best least budget nogoods → IsSpentBy (places input.given.tables) (IsCounterexample input) best least budget nogoods
 spent input d goal budget best least nogoods rows m s =
-    subst (λ (r : ℕ). IsSpentBy r (IsCounter input) best least budget nogoods) rows
-    (spent-narrowed d.rows (IsGoal d goal) (IsCounter input) best least budget nogoods (to_goal input d goal rows m) s)
+    subst (λ (r : ℕ). IsSpentBy r (IsCounterexample input) best least budget nogoods) rows
+    (spent-narrowed d.rows (IsGoal d goal) (IsCounterexample input) best least budget nogoods (to_goal input d goal rows m) s)
 
-best_counter : (input : Accepted) (d : Shared) (goal : ℕ) (best : Option (List Bool)) → d.rows ≡ places input.given.tables → Means input d goal
-    → IfSome best (IsGoal d goal) → IfSome best (IsCounter input)
-best_counter input d goal None rows m h = tt
-best_counter input d goal (Some keep) rows m h = to_counter input d goal rows m keep h
+best_counterexample : (input : Accepted) (d : Shared) (goal : ℕ) (best : Option (List Bool)) → d.rows ≡ places input.given.tables → Means input d goal
+    → IfSome best (IsGoal d goal) → IfSome best (IsCounterexample input)
+best_counterexample input d goal None rows m h = tt
+best_counterexample input d goal (Some keep) rows m h = to_counterexample input d goal rows m keep h
 
-fewest_counter : (input : Accepted) (d : Shared) (goal : ℕ) (best : Option (List Bool)) → d.rows ≡ places input.given.tables → Means input d goal
+fewest_counterexample : (input : Accepted) (d : Shared) (goal : ℕ) (best : Option (List Bool)) → d.rows ≡ places input.given.tables → Means input d goal
     → IsSomeAnd best (HasFewestRows (IsGoal d goal)) → IsSomeAnd best (HasFewest input)
-fewest_counter input d goal None rows m h = h
-fewest_counter input d goal (Some keep) rows m h = λ t c. h t (to_goal input d goal rows m t c)
+fewest_counterexample input d goal None rows m h = h
+fewest_counterexample input d goal (Some keep) rows m h = λ t c. h t (to_goal input d goal rows m t c)
 
 given_up : (input : Accepted) (d : Shared) (goal budget : ℕ) (best : Option (List Bool)) (least : Bool) (nogoods : List (List Literal)) → d.rows ≡ places input.given.tables → Means input d goal
     → IsSpentBest d.rows (IsGoal d goal) budget best least nogoods → IsGivenUp input budget best least nogoods
 given_up input d goal budget best least nogoods rows m s = record {
   small = subst (λ (r : ℕ). budget < 2 ^ r) rows s.small;
-  best_is = best_counter input d goal best rows m s.best_is;
-  least_is = λ t. fewest_counter input d goal best rows m (s.least_is t);
+  best_is = best_counterexample input d goal best rows m s.best_is;
+  least_is = λ t. fewest_counterexample input d goal best rows m (s.least_is t);
   spent = spent input d goal budget best least nogoods rows m s.spent;
 }
 
@@ -72,7 +72,7 @@ pub verdict_from : (input : Accepted) (d : Shared) (goal : ℕ) (best : Best) �
     → IsBest d goal input.conflicts best → IsVerdict input best
 unfolding IsFirst
 verdict_from input d goal (Least keep) rows m l = record {
-  counter = to_counter input d goal rows m keep l.is_target;
+  counterexample = to_counterexample input d goal rows m keep l.is_target;
   smallest = λ t c. l.least t (to_goal input d goal rows m t c);
   first = λ t c. l.first t (to_goal input d goal rows m t c);
 }

@@ -17,13 +17,13 @@ use Rattle.rt_top.specs.Texts.{agree_of, witness_of}
 pub smallest-one : (input : Accepted) (s t : List Bool) → IsSmallest input s → IsSmallest input t → s ≡ t
 unfolding IsFirst
 smallest-one input s t a b =
-    let x = a.smallest t b.counter in
-    let y = b.smallest s a.counter in
-    elim (either-before s t (a.counter.0 ∙ sym b.counter.0)) [
+    let x = a.smallest t b.counterexample in
+    let y = b.smallest s a.counterexample in
+    elim (either-before s t (a.counterexample.0 ∙ sym b.counterexample.0)) [
       | inl e ↦ e
       | inr r ↦ elim r [
-        | inl f ↦ absurd (b.first s a.counter (omega (arith, x, y)) f)
-        | inr f ↦ absurd (a.first t b.counter (omega (arith, x, y)) f)
+        | inl f ↦ absurd (b.first s a.counterexample (omega (arith, x, y)) f)
+        | inr f ↦ absurd (a.first t b.counterexample (omega (arith, x, y)) f)
       ]
     ]
 
@@ -41,7 +41,7 @@ least-one IsTarget rows long s t a b =
     ]
 
 pub smallest-none : (input : Accepted) (s : List Bool) → IsSmallest input s → Agrees input → ⊥
-smallest-none input s a n = let t = a.counter.1 in let f = n s a.counter.0 in clash t f where
+smallest-none input s a n = let t = a.counterexample.1 in let f = n s a.counterexample.0 in clash t f where
   clash : {b : Bool} → b ≡ true → b ≡ false → ⊥
   clash p q = cc
 

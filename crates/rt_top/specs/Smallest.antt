@@ -31,30 +31,30 @@ abbrev pub differ_at : Accepted → List Bool → Bool
 differ_at input keep = not (same_rows (answer_at input input.left keep) (answer_at input input.right keep))
 
 -- the kept rows are a counterexample
-unfoldable pub counters : Accepted → List Bool → Bool
-counters input keep = lawful_at input keep && differ_at input keep
+unfoldable pub is_counterexample : Accepted → List Bool → Bool
+is_counterexample input keep = lawful_at input keep && differ_at input keep
 
 -- a choice at which the kept rows are a counterexample
-abbrev pub IsCounter : Accepted → List Bool → Type 0
-IsCounter input keep = IsChoice input keep × (counters input keep ≡ true)
+abbrev pub IsCounterexample : Accepted → List Bool → Type 0
+IsCounterexample input keep = IsChoice input keep × (is_counterexample input keep ≡ true)
 
 -- no counterexample keeps fewer rows
 abbrev pub HasFewest : Accepted → List Bool → Type 0
-HasFewest input keep = (t : List Bool) → IsCounter input t → size keep ≤ size t
+HasFewest input keep = (t : List Bool) → IsCounterexample input t → size keep ≤ size t
 
 -- no counterexample that keeps as many rows comes before it
 unfoldable pub IsFirst : Accepted → List Bool → Type 0
-IsFirst input keep = (t : List Bool) → IsCounter input t → size t ≡ size keep → ComesBefore t keep → ⊥
+IsFirst input keep = (t : List Bool) → IsCounterexample input t → size t ≡ size keep → ComesBefore t keep → ⊥
 
 -- a counterexample; no other keeps fewer rows, and none that keeps as many comes before it
 pub record IsSmallest (input : Accepted) (keep : List Bool) : Type 0 where
-  pub counter : IsCounter input keep
+  pub counterexample : IsCounterexample input keep
   pub smallest : HasFewest input keep
   pub first : IsFirst input keep
 
 -- there is no counterexample
 abbrev pub Agrees : Accepted → Type 0
-Agrees input = (t : List Bool) → IsChoice input t → counters input t ≡ false
+Agrees input = (t : List Bool) → IsChoice input t → is_counterexample input t ≡ false
 
 -- The search was given up. The budget is below the number of choices. The best choice so far, if
 -- there is one, is a counterexample. If it is said to keep the fewest rows, it is there and does.
@@ -62,9 +62,9 @@ Agrees input = (t : List Bool) → IsChoice input t → counters input t ≡ fal
 -- keeps as few.
 pub record IsGivenUp (input : Accepted) (budget : ℕ) (best : Option (List Bool)) (least : Bool) (nogoods : List (List Literal)) : Type 0 where
   pub small : budget < 2 ^ places input.given.tables
-  pub best_is : IfSome best (IsCounter input)
+  pub best_is : IfSome best (IsCounterexample input)
   pub least_is : IsTrue least → IsSomeAnd best (HasFewest input)
-  pub spent : IsSpentBy (places input.given.tables) (IsCounter input) best least budget nogoods
+  pub spent : IsSpentBy (places input.given.tables) (IsCounterexample input) best least budget nogoods
 
 abbrev pub IsVerdict : Accepted → Best → Type 0
 IsVerdict input (Least keep) = IsSmallest input keep

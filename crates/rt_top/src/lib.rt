@@ -1,5 +1,6 @@
 //! The verdict on an input, and the whole of the command `ratest`: what it reads, decides and
 //! prints.
+
 #![tactic(auto)]
 
 mod budget;

@@ -2,6 +2,7 @@
 //! refusals, errors of files and sinks, and the parts of a command by themselves.
 //!
 //! They are a crate of their own, since a crate with tests is proved twice.
+
 #![tactic(auto)]
 
 #[cfg(test)]

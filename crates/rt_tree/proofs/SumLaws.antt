@@ -128,7 +128,7 @@ col-calm (Some q) m rest f k = calm-name m rest (omega arith) k
 leaf-law : (inner : Parser Sum) (n : ℕ) → Lawful true inner spelled_sum n 5 → Lawful true (read_leaf inner) spelled_leaf (n + 2) 2
 unfolding read_leaf
 leaf-law inner n l = record {
-  sound = either-sound (starts fixed.Left) (made leaf.Paren (paren inner)) (either (starts fixed.Null) read_null_leaf read_col_or_literal) spelled_leaf
+  sound = either-sound (starts fixed.OpenParen) (made leaf.Paren (paren inner)) (either (starts fixed.Null) read_null_leaf read_col_or_literal) spelled_leaf
       (made-sound (paren inner) leaf.Paren (λ (s : Sum). in_paren (spelled_sum s)) spelled_leaf (paren-law inner spelled_sum n 5 l (omega arith)).sound spelled-SumParen)
       (either-sound (starts fixed.Null) read_null_leaf read_col_or_literal spelled_leaf null-sound (either-sound starts_name read_col read_literal spelled_leaf col-sound literal-sound));
   reads = leaf-cases (LeafReads inner n)

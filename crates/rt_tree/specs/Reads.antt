@@ -55,7 +55,7 @@ abbrev pub read_plain_leaf : Parser Leaf
 read_plain_leaf = either (starts fixed.Null) read_null_leaf read_col_or_literal
 
 unfoldable pub read_leaf : Parser Sum → Parser Leaf
-read_leaf inner = either (starts fixed.Left) (made leaf.Paren (paren inner)) read_plain_leaf
+read_leaf inner = either (starts fixed.OpenParen) (made leaf.Paren (paren inner)) read_plain_leaf
 
 abbrev pub factor_of : ℕ × Leaf → Factor
 factor_of x = roll-Factor (record { minuses = x.0; of = x.1 })

@@ -218,7 +218,7 @@ unfoldable pub spelled_source : Source → Kinds
 spelled_source = fold-Source Kinds Kinds Kinds Kinds Kinds Kinds Kinds Kinds Kinds Kinds Kinds Kinds Kinds atom_step base_step join_step primary_step chain_step chain_link_step cond_step conj_step meet_step meet_link_step neg_step pick_step source_step
 
 abbrev pub spelled_sql : Sql → Kinds
-spelled_sql t = spelled_chain t.chain ++ flag fixed.Semi t.semi
+spelled_sql t = spelled_chain t.chain ++ flag fixed.Semicolon t.semi
 
 abbrev pub spelled_where : Option Cond → Kinds
 spelled_where o = maybe (λ c. terminal.Fixed fixed.Where ∷ spelled_cond c) o

@@ -3,6 +3,7 @@
 //!
 //! `tree` has one type for each line of the grammar, and `specs/Spelled.antt` says which terminals
 //! a tree has. Lists that may not be empty are a first member and the others.
+
 #![tactic(auto)]
 
 mod ends;

@@ -66,12 +66,12 @@ fn leaf<'t>(
 ) -> Result<(Leaf, &'t [Terminal]), ReadFault>
     ensures { Reads result (spec.read_leaf (spec.read_sum depth) terminals.now) }
 {
-    if !starts(terminals, Fixed::Left) {
+    if !starts(terminals, Fixed::OpenParen) {
         return plain_leaf(alloc, terminals);
     }
-    let rest = expect(terminals, Fixed::Left)?;
+    let rest = expect(terminals, Fixed::OpenParen)?;
     let (inner, rest) = sum(alloc, depth, rest)?;
-    let (inner, rest) = boxed_before(alloc, inner, rest, Fixed::Right)?;
+    let (inner, rest) = boxed_before(alloc, inner, rest, Fixed::CloseParen)?;
     Ok((Leaf::Paren(inner), rest))
 }
 

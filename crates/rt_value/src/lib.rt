@@ -2,6 +2,7 @@
 //!
 //! The order of values, the three truth values and arithmetic are those of SQL (ISO/IEC 9075-2);
 //! `specs/` has their definitions. What allocates answers `NoMemory` when out of memory.
+
 #![tactic(auto)]
 
 mod arith;

@@ -18,7 +18,7 @@ use Rattle.rt_noted.specs.Entries.{rows_at, selected}
 use Rattle.rt_noted.specs.Annotated.{IsGate, IsNode, entries_of, placed, set_rows, test_under, yes_when, no_when, yes_of, no_of}
 use Rattle.rt_noted.specs.Joints.{GiveEach, joint_entries}
 use Rattle.rt_noted.proofs.Exact.{table_exact}
-use Rattle.rt_noted.specs.declared.side.Side.TheVariants.{Standing, Missing}
+use Rattle.rt_noted.specs.declared.side.Side.TheVariants.{Present, Missing}
 use Rattle.rt_noted.specs.declared.subquery.Memo.TheVariants.{Tested, Listed}
 use Rattle.rt_noted.specs.Known.{AreKnown}
 use Rattle.rt_noted.proofs.Knowing.{gives_under, known_more, known_stay, same_known, some_holds, tells_same, tells_stay, tells_under}
@@ -40,20 +40,20 @@ evaluate::annotated-returns-in_ok-rows-in-Project-clause-known t c = known_stay 
 
 pub conditions::together-returns-then-is_always-clause-gate : goal.conditions::together-returns-then-is_always-clause-gate
 conditions::together-returns-then-is_always-clause-gate t c =
-    joined_stops c.args.tables.now (scope_of c.args.env.now) c.args.junction.now c.args.ps.now c.loop-p.p-index c.p-item.result c.loop-p-test.true c.p-item.is c.in_ok-gate.ensures.gate
+    joined_stops c.args.tables.now (scope_of c.args.env.now) c.args.junction.now c.args.ps.now c.loop-condition.condition-index c.condition-item.result c.loop-condition-test.true c.condition-item.is c.in_ok-gate.ensures.gate
     (λ s. ap (val c.test.new.dag s) (sym c.deciding.ensures) ∙ c.is_always.ensures c.if-is_always.true s)
 
-pub conditions::together-loop-p-preserved : goal.conditions::together-loop-p-preserved
-conditions::together-loop-p-preserved t c =
+pub conditions::together-loop-condition-preserved : goal.conditions::together-loop-condition-preserved
+conditions::together-loop-condition-preserved t c =
     let g = c.args.tables.now in
     let e = scope_of c.args.env.now in
-    let i = c.loop-p.p-index in
-    let v = c.loop-p.invariant in
+    let i = c.loop-condition.condition-index in
+    let v = c.loop-condition.invariant in
     record {
       grown = grown_trans v.grown c.test.ensures.grown;
       known = c.test.ensures.known;
-      yes = mean_as (yes_more g e c.args.ps.now i c.p-item.result c.loop-p-test.true c.p-item.is) (mean_push (mean_stays c.test.ensures.grown v.yes) c.in_ok-gate.ensures.gate.yes c.in_ok-push.ensures.yes);
-      no = mean_as (no_more g e c.args.ps.now i c.p-item.result c.loop-p-test.true c.p-item.is) (mean_push (mean_stays c.test.ensures.grown v.no) c.in_ok-gate.ensures.gate.no c.in_ok-push.ensures.no);
+      yes = mean_as (yes_more g e c.args.ps.now i c.condition-item.result c.loop-condition-test.true c.condition-item.is) (mean_push (mean_stays c.test.ensures.grown v.yes) c.in_ok-gate.ensures.gate.yes c.in_ok-push.ensures.yes);
+      no = mean_as (no_more g e c.args.ps.now i c.condition-item.result c.loop-condition-test.true c.condition-item.is) (mean_push (mean_stays c.test.ensures.grown v.no) c.in_ok-gate.ensures.gate.no c.in_ok-push.ensures.no);
     }
 
 pub conditions::together-returns-clause-gate : goal.conditions::together-returns-clause-gate
@@ -61,9 +61,9 @@ conditions::together-returns-clause-gate t c =
     let g = c.args.tables.now in
     let e = scope_of c.args.env.now in
     let ps = c.args.ps.now in
-    let all = take_all c.loop-p.p-index ps c.loop-p-test.false in
+    let all = take_all c.loop-condition.condition-index ps c.loop-condition-test.false in
     IfOk-weaker c.of.result _ _
-    (λ x h. joined_gate g e c.args.junction.now c.loop-p.dag c.loop-p.gates ps (mean_as (ap (λ xs. yes_of xs g e) (sym all)) c.loop-p.invariant.yes) (mean_as (ap (λ xs. no_of xs g e) (sym all)) c.loop-p.invariant.no) h) c.of.ensures.gate
+    (λ x h. joined_gate g e c.args.junction.now c.loop-condition.dag c.loop-condition.gates ps (mean_as (ap (λ xs. yes_of xs g e) (sym all)) c.loop-condition.invariant.yes) (mean_as (ap (λ xs. no_of xs g e) (sym all)) c.loop-condition.invariant.no) h) c.of.ensures.gate
 
 pub evaluate::chosen-loop-joint-preserved : goal.evaluate::chosen-loop-joint-preserved
 evaluate::chosen-loop-joint-preserved t c =
@@ -71,7 +71,7 @@ evaluate::chosen-loop-joint-preserved t c =
     let i = c.loop-joint.joint-index in
     let j = c.joint-item.result in
     let v = c.loop-joint.invariant.choosing in
-    let u = test_under c.args.p.now c.args.tables.now (scope_of c.args.env.now) in
+    let u = test_under c.args.condition.now c.args.tables.now (scope_of c.args.env.now) in
     let f = λ (s : List Bool). list_all (val d s) j.nodes && (u j.row).0 s in
     let b = joint_below d c.args.joints.now i j c.loop-joint-test.true c.joint-item.is c.requires.joints in
     let tested = c.test_row.new.dag in
@@ -87,14 +87,14 @@ evaluate::chosen-loop-joint-preserved t c =
       | evaluate::chosen-else-not-is_never w ↦ record { choosing = choosing_at refl w.out-is (leave_out j.row f v next more (λ s. sym (node.same s) ∙ c.is_never.ensures w.if-not-is_never.false s)); known = known }
     ]
 
-pub evaluate::members-loop-q-preserved : goal.evaluate::members-loop-q-preserved
-evaluate::members-loop-q-preserved t c =
-    let v = c.loop-q.invariant in
+pub evaluate::members-loop-query-preserved : goal.evaluate::members-loop-query-preserved
+evaluate::members-loop-query-preserved t c =
+    let v = c.loop-query.invariant in
     record {
       grown = grown_trans v.grown c.annotated.ensures.grown;
       known = c.annotated.ensures.known;
       give = give_push c.annotated.ensures.grown v.give c.in_ok-rows.ensures.gives c.in_ok-push.ensures.ok
-          (answers_more c.args.tables.now (scope_of c.args.env.now) c.args.qs.now c.loop-q.q-index c.q-item.result c.loop-q-test.true c.q-item.is);
+          (answers_more c.args.tables.now (scope_of c.args.env.now) c.args.qs.now c.loop-query.query-index c.query-item.result c.loop-query-test.true c.query-item.is);
     }
 
 pub evaluate::annotated-returns-in-Table-clause-known : goal.evaluate::annotated-returns-in-Table-clause-known
@@ -112,14 +112,14 @@ evaluate::chosen-returns-in_err-note-clause-known t c = known_stay c.meeting.ens
 pub conditions::newly-returns-clause-tells : goal.conditions::newly-returns-clause-tells
 conditions::newly-returns-clause-tells t c =
     IfOk-weaker c.of.result _ _
-    (λ f h. tells_same (λ s. answer_by wrapped c.args.q.now (kept c.args.tables.now s) [])
+    (λ f h. tells_same (λ s. answer_by wrapped c.args.query.now (kept c.args.tables.now s) [])
     (λ s r. ap (λ ns. has_row (rows_at s (entries_of c.annotated.new.dag ns)) r) c.as_slice.ensures ∙ c.in_ok-rows.ensures.gives.same s r) h) c.of.ensures.tells
 
 pub conditions::newly-returns-clause-known : goal.conditions::newly-returns-clause-known
 conditions::newly-returns-clause-known t c = known_stay c.of.ensures.grown c.annotated.ensures.known
 
 pub conditions::together-returns-clause-known : goal.conditions::together-returns-clause-known
-conditions::together-returns-clause-known t c = known_stay c.of.ensures.grown c.loop-p.invariant.known
+conditions::together-returns-clause-known t c = known_stay c.of.ensures.grown c.loop-condition.invariant.known
 
 pub evaluate::chosen-returns-in_err-gate-clause-grown : goal.evaluate::chosen-returns-in_err-gate-clause-grown
 evaluate::chosen-returns-in_err-gate-clause-grown t c = grown_trans c.loop-joint.invariant.choosing.grown c.test_row.ensures.grown
@@ -131,10 +131,10 @@ pub evaluate::chosen-returns-in_err-note-clause-grown : goal.evaluate::chosen-re
 evaluate::chosen-returns-in_err-note-clause-grown t c = grown_trans (grown_trans c.loop-joint.invariant.choosing.grown c.test_row.ensures.grown) c.meeting.ensures.grown
 
 pub evaluate::members-returns-in_err-rows-clause-grown : goal.evaluate::members-returns-in_err-rows-clause-grown
-evaluate::members-returns-in_err-rows-clause-grown t c = grown_trans c.loop-q.invariant.grown c.annotated.ensures.grown
+evaluate::members-returns-in_err-rows-clause-grown t c = grown_trans c.loop-query.invariant.grown c.annotated.ensures.grown
 
 pub evaluate::members-returns-in_err-push-clause-grown : goal.evaluate::members-returns-in_err-push-clause-grown
-evaluate::members-returns-in_err-push-clause-grown t c = grown_trans c.loop-q.invariant.grown c.annotated.ensures.grown
+evaluate::members-returns-in_err-push-clause-grown t c = grown_trans c.loop-query.invariant.grown c.annotated.ensures.grown
 
 pub evaluate::annotated-returns-in_ok-rows-in-Project-clause-grown : goal.evaluate::annotated-returns-in_ok-rows-in-Project-clause-grown
 evaluate::annotated-returns-in_ok-rows-in-Project-clause-grown t c = grown_trans c.annotated.ensures.grown c.projection.ensures.grown
@@ -146,16 +146,16 @@ pub conditions::newly-returns-clause-grown : goal.conditions::newly-returns-clau
 conditions::newly-returns-clause-grown t c = grown_trans c.annotated.ensures.grown c.of.ensures.grown
 
 pub conditions::together-returns-in_err-gate-clause-grown : goal.conditions::together-returns-in_err-gate-clause-grown
-conditions::together-returns-in_err-gate-clause-grown t c = grown_trans c.loop-p.invariant.grown c.test.ensures.grown
+conditions::together-returns-in_err-gate-clause-grown t c = grown_trans c.loop-condition.invariant.grown c.test.ensures.grown
 
 pub conditions::together-returns-then-is_always-clause-grown : goal.conditions::together-returns-then-is_always-clause-grown
-conditions::together-returns-then-is_always-clause-grown t c = grown_trans c.loop-p.invariant.grown c.test.ensures.grown
+conditions::together-returns-then-is_always-clause-grown t c = grown_trans c.loop-condition.invariant.grown c.test.ensures.grown
 
 pub conditions::together-returns-in_err-push-clause-grown : goal.conditions::together-returns-in_err-push-clause-grown
-conditions::together-returns-in_err-push-clause-grown t c = grown_trans c.loop-p.invariant.grown c.test.ensures.grown
+conditions::together-returns-in_err-push-clause-grown t c = grown_trans c.loop-condition.invariant.grown c.test.ensures.grown
 
 pub conditions::together-returns-clause-grown : goal.conditions::together-returns-clause-grown
-conditions::together-returns-clause-grown t c = grown_trans c.loop-p.invariant.grown c.of.ensures.grown
+conditions::together-returns-clause-grown t c = grown_trans c.loop-condition.invariant.grown c.of.ensures.grown
 
 pub evaluate::chosen-meeting-requires-clause-nodes : goal.evaluate::chosen-meeting-requires-clause-nodes
 evaluate::chosen-meeting-requires-clause-nodes t c =
@@ -169,17 +169,17 @@ pub conditions::newly-of-requires : goal.conditions::newly-of-requires
 conditions::newly-of-requires t c = noted_at c.annotated.new.dag c.as_slice.ensures c.in_ok-rows.ensures.gives.below
 
 pub conditions::together-of-requires-clause-yes : goal.conditions::together-of-requires-clause-yes
-conditions::together-of-requires-clause-yes t c = c.loop-p.invariant.yes.below
+conditions::together-of-requires-clause-yes t c = c.loop-condition.invariant.yes.below
 
 pub conditions::together-of-requires-clause-no : goal.conditions::together-of-requires-clause-no
-conditions::together-of-requires-clause-no t c = c.loop-p.invariant.no.below
+conditions::together-of-requires-clause-no t c = c.loop-condition.invariant.no.below
 
 pub evaluate::annotated-returns-in-Table-clause-gives : goal.evaluate::annotated-returns-in-Table-clause-gives
 evaluate::annotated-returns-in-Table-clause-gives t c =
     let g = c.args.tables.now in
     let e = scope_of c.args.env.now in
     IfOk-weaker c.table.result _ _
-    (λ out h. gives_as (λ s. answer_by wrapped c.args.q.now (kept g s) e)
+    (λ out h. gives_as (λ s. answer_by wrapped c.args.query.now (kept g s) e)
     (λ s. ap (rows_at s) (table_entries g c.in-Table.t) ∙ table_exact s g (λ u. u) c.in-Table.t ∙ sym (at_table (kept g s) e c.in-Table.t c.in-Table.is))
     (gives_of _ h)) c.table.ensures.reads
 
@@ -193,7 +193,7 @@ evaluate::annotated-returns-in_ok-rows-in-Project-clause-gives t c =
     let a = c.in-Project.a in
     let rows = gives_same c.as_slice-in-Project.ensures (gives_as (λ s. answer_by wrapped a (kept g s) e) (λ s. ap (λ q. answer_by wrapped q (kept g s) e) c.get-in-Project.ensures) c.in_ok-rows-in-Project.ensures.gives) in
     IfOk-weaker c.projection.result _ _
-    (λ out h. gives_as (λ s. answer_by wrapped c.args.q.now (kept g s) e)
+    (λ out h. gives_as (λ s. answer_by wrapped c.args.query.now (kept g s) e)
     (λ s. ap (λ es. map (λ r. row_by wrapped es (r ∷ e)) (answer_by wrapped a (kept g s) e)) c.as_slice-in-Project-2.ensures ∙ sym (at_project (kept g s) e a c.in-Project.items c.in-Project.is))
     (gives_merged h (gives_projected c.as_slice-in-Project-2.result.now e rows))) c.projection.ensures.merged
 
@@ -206,12 +206,12 @@ evaluate::annotated-returns-in_ok-parts-in-Product-clause-gives t c =
     IfOk-weaker c.noted_product.result _ _
     (λ out h. whole_rows h refl
     (members_same c.as_slice-in-Product-2.ensures
-    (makes_product c.args.tables.now (scope_of c.args.env.now) c.args.q.now qs (c.in-Product.is ∙ ap v.Product (sym c.as_slice-in-Product.ensures)) c.in_ok-parts-in-Product.ensures.give))) c.noted_product.ensures.reads
+    (makes_product c.args.tables.now (scope_of c.args.env.now) c.args.query.now qs (c.in-Product.is ∙ ap v.Product (sym c.as_slice-in-Product.ensures)) c.in_ok-parts-in-Product.ensures.give))) c.noted_product.ensures.reads
 
 pub evaluate::source-returns-in-Product-clause-makes : goal.evaluate::source-returns-in-Product-clause-makes
 evaluate::source-returns-in-Product-clause-makes t c =
     IfOk-weaker c.members.result _ _
-    (λ out h. makes_product c.args.tables.now (scope_of c.args.env.now) c.args.q.now c.as_slice.result.now (c.in-Product.is ∙ ap v.Product (sym c.as_slice.ensures)) h) c.members.ensures.give
+    (λ out h. makes_product c.args.tables.now (scope_of c.args.env.now) c.args.query.now c.as_slice.result.now (c.in-Product.is ∙ ap v.Product (sym c.as_slice.ensures)) h) c.members.ensures.give
 
 pub evaluate::source-returns-in_ok-rows-in_default-clause-makes : goal.evaluate::source-returns-in_ok-rows-in_default-clause-makes
 evaluate::source-returns-in_ok-rows-in_default-clause-makes t c =
@@ -220,22 +220,22 @@ evaluate::source-returns-in_ok-rows-in_default-clause-makes t c =
 pub conditions::test-returns-in-And-clause-gate : goal.conditions::test-returns-in-And-clause-gate
 conditions::test-returns-in-And-clause-gate t c =
     IfOk-weaker c.together.result _ _
-    (λ g h. and_gate c.args.tables.now (scope_of c.args.env.now) c.args.p.now c.as_slice-in-And.result.now (c.in-And.is ∙ ap w.And (sym c.as_slice-in-And.ensures)) h) c.together.ensures.gate
+    (λ g h. and_gate c.args.tables.now (scope_of c.args.env.now) c.args.condition.now c.as_slice-in-And.result.now (c.in-And.is ∙ ap w.And (sym c.as_slice-in-And.ensures)) h) c.together.ensures.gate
 
 pub conditions::test-returns-in-Or-clause-gate : goal.conditions::test-returns-in-Or-clause-gate
 conditions::test-returns-in-Or-clause-gate t c =
     IfOk-weaker c.together-in-Or.result _ _
-    (λ g h. or_gate c.args.tables.now (scope_of c.args.env.now) c.args.p.now c.as_slice-in-Or.result.now (c.in-Or.is ∙ ap w.Or (sym c.as_slice-in-Or.ensures)) h) c.together-in-Or.ensures.gate
+    (λ g h. or_gate c.args.tables.now (scope_of c.args.env.now) c.args.condition.now c.as_slice-in-Or.result.now (c.in-Or.is ∙ ap w.Or (sym c.as_slice-in-Or.ensures)) h) c.together-in-Or.ensures.gate
 
 pub conditions::test-returns-in-Exists-clause-gate : goal.conditions::test-returns-in-Exists-clause-gate
 conditions::test-returns-in-Exists-clause-gate t c =
     IfOk-weaker c.asked.result _ _
-    (λ g h. exists_gate c.args.tables.now (scope_of c.args.env.now) c.args.p.now c.get-in-Exists.result.now (c.in-Exists.is ∙ ap w.Exists (sym c.get-in-Exists.ensures)) h) c.asked.ensures.gate
+    (λ g h. exists_gate c.args.tables.now (scope_of c.args.env.now) c.args.condition.now c.get-in-Exists.result.now (c.in-Exists.is ∙ ap w.Exists (sym c.get-in-Exists.ensures)) h) c.asked.ensures.gate
 
 pub conditions::test-returns-in_ok-x-in-Member-clause-gate : goal.conditions::test-returns-in_ok-x-in-Member-clause-gate
 conditions::test-returns-in_ok-x-in-Member-clause-gate t c =
     IfOk-weaker c.asked-in-Member.result _ _
-    (λ g h. member_gate c.args.tables.now (scope_of c.args.env.now) c.args.p.now c.in-Member.e c.get-in-Member.result.now (c.in-Member.is ∙ ap (w.Member c.in-Member.e) (sym c.get-in-Member.ensures))
+    (λ g h. member_gate c.args.tables.now (scope_of c.args.env.now) c.args.condition.now c.in-Member.e c.get-in-Member.result.now (c.in-Member.is ∙ ap (w.Member c.in-Member.e) (sym c.get-in-Member.ensures))
     c.in_ok-x-in-Member.x c.in_ok-x-in-Member.ensures h) c.asked-in-Member.ensures.gate
 
 pub conditions::test-returns-in-Cmp-clause-gate : goal.conditions::test-returns-in-Cmp-clause-gate
@@ -244,7 +244,7 @@ conditions::test-returns-in-Cmp-clause-gate t c =
     let e = scope_of c.args.env.now in
     let k = c.in-Cmp in
     IfOk-weaker c.comparison.result _ _
-    (λ x h. outcome g e c.args.p.now (λ s. value_truth k.op (value_by wrapped k.a e) (value_by wrapped k.b e)) (λ s. at_cmp (kept g s) e k.op k.a k.b k.is) (λ s. refl) (λ s. refl) h) c.comparison.ensures
+    (λ x h. outcome g e c.args.condition.now (λ s. value_truth k.op (value_by wrapped k.a e) (value_by wrapped k.b e)) (λ s. at_cmp (kept g s) e k.op k.a k.b k.is) (λ s. refl) (λ s. refl) h) c.comparison.ensures
 
 pub conditions::test-returns-in-IsNull-clause-gate : goal.conditions::test-returns-in-IsNull-clause-gate
 conditions::test-returns-in-IsNull-clause-gate t c =
@@ -252,7 +252,7 @@ conditions::test-returns-in-IsNull-clause-gate t c =
     let e = scope_of c.args.env.now in
     let k = c.in-IsNull in
     IfOk-weaker c.missing.result _ _
-    (λ x h. outcome g e c.args.p.now (λ s. null_truth (value_by wrapped k.e e)) (λ s. at_is_null (kept g s) e k.e k.is) (λ s. refl) (λ s. refl) h) c.missing.ensures
+    (λ x h. outcome g e c.args.condition.now (λ s. null_truth (value_by wrapped k.e e)) (λ s. at_is_null (kept g s) e k.e k.is) (λ s. refl) (λ s. refl) h) c.missing.ensures
 
 pub conditions::test-returns-in-OneOf-clause-gate : goal.conditions::test-returns-in-OneOf-clause-gate
 conditions::test-returns-in-OneOf-clause-gate t c =
@@ -261,12 +261,12 @@ conditions::test-returns-in-OneOf-clause-gate t c =
     let k = c.in-OneOf in
     let items = c.as_slice.result.now in
     IfOk-weaker c.listed.result _ _
-    (λ x h. outcome g e c.args.p.now (λ s. one_of_truth wrapped (value_by wrapped k.e e) items e) (λ s. at_one_of (kept g s) e k.e items (k.is ∙ ap (w.OneOf k.e) (sym c.as_slice.ensures))) (λ s. refl) (λ s. refl) h) c.listed.ensures
+    (λ x h. outcome g e c.args.condition.now (λ s. one_of_truth wrapped (value_by wrapped k.e e) items e) (λ s. at_one_of (kept g s) e k.e items (k.is ∙ ap (w.OneOf k.e) (sym c.as_slice.ensures))) (λ s. refl) (λ s. refl) h) c.listed.ensures
 
 pub conditions::test_row-returns-clause-gate : goal.conditions::test_row-returns-clause-gate
 conditions::test_row-returns-clause-gate t c =
     let g = c.args.tables.now in
-    let p = c.args.p.now in
+    let p = c.args.condition.now in
     let G : Env → Type 0 = λ e. IfOk c.test.result (λ x. IsGate c.test.new.dag x (yes_when p g e, no_when p g e)) in
     subst G (ap scope_of c.as_slice.ensures.value ∙ c.in_ok-inner.ensures) c.test.ensures.gate
 
@@ -274,7 +274,7 @@ pub evaluate::table_selection-loop-at-preserved : goal.evaluate::table_selection
 evaluate::table_selection-loop-at-preserved t c =
     let g = c.args.tables.now in
     let e = scope_of c.args.env.now in
-    let p = c.args.p.now in
+    let p = c.args.condition.now in
     let i = c.loop-at.at in
     let r = c.index-rows-at.result in
     let base = c.first_place-base.result in
@@ -296,7 +296,7 @@ pub evaluate::table_selection-loop-at-preserved-then-refuses : goal.evaluate::ta
 evaluate::table_selection-loop-at-preserved-then-refuses t c =
     let g = c.args.tables.now in
     let e = scope_of c.args.env.now in
-    let p = c.args.p.now in
+    let p = c.args.condition.now in
     let i = c.loop-at.at in
     let r = c.index-rows-at.result in
     let base = c.first_place-base.result in
@@ -331,7 +331,7 @@ evaluate::table_selection-row_where-requires t c =
 pub evaluate::table_selection-loop-at-init : goal.evaluate::table_selection-loop-at-init
 evaluate::table_selection-loop-at-init t c =
     let e = scope_of c.args.env.now in
-    let u = test_under c.args.p.now c.args.tables.now e in
+    let u = test_under c.args.condition.now c.args.tables.now e in
     record {
       choosing = choosing_start c.args.dag.now c.new-out.ensures (ap (λ k. selected (placed k c.rows_at-rows.result.now) u) (add-zero c.first_place-base.result));
       scope = scope_with c.from_vec-inner.result _ e (ap scope_of c.from_vec-inner.ensures ∙ c.in_ok-scope.ensures);
@@ -352,7 +352,7 @@ evaluate::table_selection-overflow_add-base t c =
 
 pub evaluate::row_where-returns-then-branch-clause-node : goal.evaluate::row_where-returns-then-branch-clause-node
 evaluate::row_where-returns-then-branch-clause-node t c =
-    node_never (λ s. bool_at s c.args.place) (λ s. yes_when c.args.p.now c.args.tables.now (scope_of c.args.env.now) s) c.no.ensures.node c.no.ensures.means (λ s. c.in_ok-is_refused.ensures c.if-branch.true (kept c.args.tables.now s))
+    node_never (λ s. bool_at s c.args.place) (λ s. yes_when c.args.condition.now c.args.tables.now (scope_of c.args.env.now) s) c.no.ensures.node c.no.ensures.means (λ s. c.in_ok-is_refused.ensures c.if-branch.true (kept c.args.tables.now s))
 
 pub evaluate::row_where-returns-clause-grown : goal.evaluate::row_where-returns-clause-grown
 evaluate::row_where-returns-clause-grown t c = grown_trans c.test.ensures.grown c.row_meeting.ensures.grown
@@ -362,9 +362,9 @@ evaluate::row_where-returns-clause-known t c = known_stay c.row_meeting.ensures.
 
 pub evaluate::row_where-returns-clause-node : goal.evaluate::row_where-returns-clause-node
 evaluate::row_where-returns-clause-node t c =
-    let gate : IsGate c.test.new.dag c.in_ok-gate.gate (yes_when c.args.p.now c.args.tables.now (scope_of c.args.env.now), no_when c.args.p.now c.args.tables.now (scope_of c.args.env.now)) = c.in_ok-gate.ensures.gate in
+    let gate : IsGate c.test.new.dag c.in_ok-gate.gate (yes_when c.args.condition.now c.args.tables.now (scope_of c.args.env.now), no_when c.args.condition.now c.args.tables.now (scope_of c.args.env.now)) = c.in_ok-gate.ensures.gate in
     IfOk-weaker c.row_meeting.result _ _
-    (λ n h. node_as (λ s. bool_at s c.args.place && yes_when c.args.p.now c.args.tables.now (scope_of c.args.env.now) s) (λ s. ap (λ b. bool_at s c.args.place && b) (gate.yes.same s)) h) c.row_meeting.ensures.node
+    (λ n h. node_as (λ s. bool_at s c.args.place && yes_when c.args.condition.now c.args.tables.now (scope_of c.args.env.now) s) (λ s. ap (λ b. bool_at s c.args.place && b) (gate.yes.same s)) h) c.row_meeting.ensures.node
 
 pub evaluate::annotated-returns-in_ok-first-in-Union-clause-grown : goal.evaluate::annotated-returns-in_ok-first-in-Union-clause-grown
 evaluate::annotated-returns-in_ok-first-in-Union-clause-grown t c = grown_trans c.operand.ensures.grown c.combined.ensures.grown
@@ -375,7 +375,7 @@ evaluate::annotated-returns-in_ok-first-in-Union-clause-gives t c =
     let e = scope_of c.args.env.now in
     let rows = λ (q : Query) (s : List Bool). answer_by wrapped q (kept g s) e in
     IfOk-weaker c.combined.result _ _
-    (λ out h. gives_as (rows c.args.q.now)
+    (λ out h. gives_as (rows c.args.query.now)
     (λ s. ap₂ (λ a b. set_rows None (rows a s) (rows b s)) c.get-in-Union.ensures c.get-in-Union-2.ensures ∙ sym (at_union (kept g s) e c.in-Union.a c.in-Union.b c.in-Union.is))
     (h (rows c.get-in-Union.result.now) c.in_ok-first-in-Union.ensures.gives)) c.combined.ensures.gives
 
@@ -388,7 +388,7 @@ evaluate::annotated-returns-in_ok-first-in-Except-clause-gives t c =
     let e = scope_of c.args.env.now in
     let rows = λ (q : Query) (s : List Bool). answer_by wrapped q (kept g s) e in
     IfOk-weaker c.combined-in-Except.result _ _
-    (λ out h. gives_as (rows c.args.q.now)
+    (λ out h. gives_as (rows c.args.query.now)
     (λ s. ap₂ (λ a b. set_rows (Some Missing) (rows a s) (rows b s)) c.get-in-Except.ensures c.get-in-Except-2.ensures ∙ sym (at_except (kept g s) e c.in-Except.a c.in-Except.b c.in-Except.is))
     (h (rows c.get-in-Except.result.now) c.in_ok-first-in-Except.ensures.gives)) c.combined-in-Except.ensures.gives
 
@@ -401,8 +401,8 @@ evaluate::annotated-returns-in_ok-first-in-Intersect-clause-gives t c =
     let e = scope_of c.args.env.now in
     let rows = λ (q : Query) (s : List Bool). answer_by wrapped q (kept g s) e in
     IfOk-weaker c.combined-in-Intersect.result _ _
-    (λ out h. gives_as (rows c.args.q.now)
-    (λ s. ap₂ (λ a b. set_rows (Some Standing) (rows a s) (rows b s)) c.get-in-Intersect.ensures c.get-in-Intersect-2.ensures ∙ sym (at_intersect (kept g s) e c.in-Intersect.a c.in-Intersect.b c.in-Intersect.is))
+    (λ out h. gives_as (rows c.args.query.now)
+    (λ s. ap₂ (λ a b. set_rows (Some Present) (rows a s) (rows b s)) c.get-in-Intersect.ensures c.get-in-Intersect-2.ensures ∙ sym (at_intersect (kept g s) e c.in-Intersect.a c.in-Intersect.b c.in-Intersect.is))
     (h (rows c.get-in-Intersect.result.now) c.in_ok-first-in-Intersect.ensures.gives)) c.combined-in-Intersect.ensures.gives
 
 pub evaluate::joints-returns-clause-below : goal.evaluate::joints-returns-clause-below
@@ -411,7 +411,7 @@ evaluate::joints-returns-clause-below t c =
 
 pub evaluate::joints-returns-clause-selected : goal.evaluate::joints-returns-clause-selected
 evaluate::joints-returns-clause-selected t c =
-    IfOk-weaker c.narrowed.result _ _ (λ out n. narrowed_rows c.args.p.now (scope_of c.args.env.now) n (members_same c.as_slice.ensures c.in_ok-parts.ensures.makes)) c.narrowed.ensures
+    IfOk-weaker c.narrowed.result _ _ (λ out n. narrowed_rows c.args.condition.now (scope_of c.args.env.now) n (members_same c.as_slice.ensures c.in_ok-parts.ensures.makes)) c.narrowed.ensures
 
 pub evaluate::combined-set_rows-requires-clause-first : goal.evaluate::combined-set_rows-requires-clause-first
 evaluate::combined-set_rows-requires-clause-first t c = noted_stay c.operand.ensures.grown _ c.requires.first
@@ -463,12 +463,12 @@ conditions::newly_asked-returns-clause-grown t c = grown_trans c.newly.ensures.g
 
 pub conditions::newly_asked-returns-clause-known : goal.conditions::newly_asked-returns-clause-known
 conditions::newly_asked-returns-clause-known t c =
-    let tells = tells_under c.args.tables.now c.args.q.now c.requires.closed c.in_ok-found.ensures.tells in
-    known_more (record { query = c.args.q; memo = Tested c.in_ok-found.found }) (known_stay c.gate.ensures.grown c.newly.ensures.known) (λ env. tells_stay c.gate.ensures.grown (tells env)) c.in_ok-push.ensures.ok
+    let tells = tells_under c.args.tables.now c.args.query.now c.requires.closed c.in_ok-found.ensures.tells in
+    known_more (record { query = c.args.query; memo = Tested c.in_ok-found.found }) (known_stay c.gate.ensures.grown c.newly.ensures.known) (λ env. tells_stay c.gate.ensures.grown (tells env)) c.in_ok-push.ensures.ok
 
 pub conditions::newly_asked-returns-clause-gate : goal.conditions::newly_asked-returns-clause-gate
 conditions::newly_asked-returns-clause-gate t c env =
-    c.in_ok-gate.ensures.gate (λ s. answer_by wrapped c.args.q.now (kept c.args.tables.now s) env) (tells_under c.args.tables.now c.args.q.now c.requires.closed c.in_ok-found.ensures.tells env)
+    c.in_ok-gate.ensures.gate (λ s. answer_by wrapped c.args.query.now (kept c.args.tables.now s) env) (tells_under c.args.tables.now c.args.query.now c.requires.closed c.in_ok-found.ensures.tells env)
 
 pub operand::operand-returns-in-Some-clause-gives : goal.operand::operand-returns-in-Some-clause-gives
 operand::operand-returns-in-Some-clause-gives t c =
@@ -481,11 +481,11 @@ operand::operand-returns-clause-gives t c = IfOk-weaker c.newly_listed.result _ 
 pub operand::newly_listed-returns-clause-known : goal.operand::newly_listed-returns-clause-known
 operand::newly_listed-returns-clause-known t c =
     let same = c.in_ok-copy.ensures ∙ ap₂ (λ xs ys. xs ++ ys) c.new.ensures c.as_slice.ensures in
-    known_more (record { query = c.args.q; memo = Listed c.in_ok-copy.copy }) c.annotated.ensures.known
-    (gives_under c.args.tables.now c.args.q.now c.requires.closed (gives_same same c.in_ok-rows.ensures.gives)) c.in_ok-push.ensures.ok
+    known_more (record { query = c.args.query; memo = Listed c.in_ok-copy.copy }) c.annotated.ensures.known
+    (gives_under c.args.tables.now c.args.query.now c.requires.closed (gives_same same c.in_ok-rows.ensures.gives)) c.in_ok-push.ensures.ok
 
 pub operand::newly_listed-returns-clause-gives : goal.operand::newly_listed-returns-clause-gives
-operand::newly_listed-returns-clause-gives t c = gives_under c.args.tables.now c.args.q.now c.requires.closed c.in_ok-rows.ensures.gives
+operand::newly_listed-returns-clause-gives t c = gives_under c.args.tables.now c.args.query.now c.requires.closed c.in_ok-rows.ensures.gives
 
 pub conditions::asked-among-requires : goal.conditions::asked-among-requires
 conditions::asked-among-requires t c = noted_at c.annotated.new.dag c.as_slice-in-Some-sought.ensures c.in_ok-rows-in-Some-sought.ensures.gives.below
@@ -493,8 +493,8 @@ conditions::asked-among-requires t c = noted_at c.annotated.new.dag c.as_slice-i
 pub evaluate::members-returns-clause-give : goal.evaluate::members-returns-clause-give
 evaluate::members-returns-clause-give t c =
     let rows = λ (q : Query) (s : List Bool). answer_by wrapped q (kept c.args.tables.now s) (scope_of c.args.env.now) in
-    let P : List Query → Type 0 = λ qs. GiveEach c.loop-q.dag c.loop-q.out (λ s. map (λ q. rows q s) qs) in
-    subst P (take_all c.loop-q.q-index c.args.qs.now c.loop-q-test.false) c.loop-q.invariant.give
+    let P : List Query → Type 0 = λ qs. GiveEach c.loop-query.dag c.loop-query.out (λ s. map (λ q. rows q s) qs) in
+    subst P (take_all c.loop-query.query-index c.args.qs.now c.loop-query-test.false) c.loop-query.invariant.give
 
 pub conditions::asked-returns-in_ok-rows-in-Some-sought-clause-known : goal.conditions::asked-returns-in_ok-rows-in-Some-sought-clause-known
 conditions::asked-returns-in_ok-rows-in-Some-sought-clause-known t c = known_stay c.among.ensures.grown c.annotated.ensures.known
@@ -517,10 +517,10 @@ pub evaluate::annotated-returns-in-Table-get-clause-gives : goal.evaluate::annot
 evaluate::annotated-returns-in-Table-get-clause-gives t c =
     let g = c.args.tables.now in
     let e = scope_of c.args.env.now in
-    let p = c.in-Select.p in
+    let p = c.in-Select.condition in
     let n = c.in-Table-get.t in
     IfOk-weaker c.table_selection.result _ _
-    (λ out h. gives_as (λ s. answer_by wrapped c.args.q.now (kept g s) e)
+    (λ out h. gives_as (λ s. answer_by wrapped c.args.query.now (kept g s) e)
     (λ s. ap (filter (λ r. yes_when p g (r ∷ e) s)) (ap (rows_at s) (table_entries g n) ∙ table_exact s g (λ u. u) n ∙ sym (at_table (kept g s) e n (sym c.get.ensures ∙ c.in-Table-get.is)))
     ∙ sym (at_select (kept g s) e c.in-Select.a p c.in-Select.is))
     (chosen_rows (placed (base_of n g) (get_or g n [])) p g e h)) c.table_selection.ensures.chosen
@@ -535,8 +535,8 @@ pub evaluate::annotated-returns-in_ok-joints-in_default-clause-gives : goal.eval
 evaluate::annotated-returns-in_ok-joints-in_default-clause-gives t c =
     let g = c.args.tables.now in
     let e = scope_of c.args.env.now in
-    let p = c.in-Select.p in
+    let p = c.in-Select.condition in
     IfOk-weaker c.chosen.result _ _
-    (λ out h. gives_as (λ s. answer_by wrapped c.args.q.now (kept g s) e)
+    (λ out h. gives_as (λ s. answer_by wrapped c.args.query.now (kept g s) e)
     (λ s. ap (λ x. filter (λ r. yes_when p g (r ∷ e) s) (answer_by wrapped x (kept g s) e)) c.get.ensures ∙ sym (at_select (kept g s) e c.in-Select.a p c.in-Select.is))
     (choosing_rows (λ s. answer_by wrapped c.get.result.now (kept g s) e) p g e c.as_slice.ensures h c.in_ok-joints-in_default.ensures.selected)) c.chosen.ensures.chosen

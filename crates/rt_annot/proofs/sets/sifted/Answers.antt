@@ -9,11 +9,11 @@ use Rattle.rt_noted.proofs.Walking.{along_push, next_selected, node_below, both_
 use Rattle.rt_formula.specs.Shared.{Shared}
 use Rattle.rt_noted.specs.declared.gate.TruthNodes.{TruthNodes}
 use Rattle.rt_noted.specs.declared.side.Side.{Side}
-use Rattle.rt_noted.specs.declared.side.Side.TheVariants.{Standing, Missing}
+use Rattle.rt_noted.specs.declared.side.Side.TheVariants.{Present, Missing}
 use Rattle.rt_annot.proofs.sets.sifted.Goals as goal
 
 side_below : (side : Side) {d : Shared} {g : TruthNodes} {t : Test} {n : ℕ} → IsGate d g t → n ≡ side_node side g → n < length d.entries
-side_below Standing {d} i e = let P : ℕ → Type 0 = λ k. k < length d.entries in subst P (sym e) i.yes.below
+side_below Present {d} i e = let P : ℕ → Type 0 = λ k. k < length d.entries in subst P (sym e) i.yes.below
 side_below Missing {d} i e = let P : ℕ → Type 0 = λ k. k < length d.entries in subst P (sym e) i.no.below
 
 pub either-requires : goal.either-requires

@@ -2,16 +2,16 @@ use Rattle.std.proofs.Common.{subst, List, ℕ, Option, arith}
 use Rattle.std.specs.Prelude.{MatchOption}
 use Rattle.rt_store.specs.declared.trail.Step.{Step}
 use Rattle.rt_store.specs.Trail.{oldest}
-use Rattle.rt_solver.specs.Analysis.{IsWalkedBy, IsSought, IsGathered}
+use Rattle.rt_solver.specs.Analysis.{IsWalkedBy, FindsNone, IsGathered}
 use Rattle.rt_solver.proofs.Walks.{oldest-none}
 use Rattle.rt_solver.proofs.Gathering.{gathered-all, placed-none}
 use Rattle.rt_solver.proofs.explain.trace.Goals as goal
 
 pub returns-in-None : goal.returns-in-None
 returns-in-None g c =
-    let O : Option ℕ → Type 0 = λ o. MatchOption o (IsSought (g.L.Adds.lines c.args.base.now.0) c.args.assume.now c.args.trail.now c.seek.new.walk) (λ i. IsGathered (g.L.Adds.lines c.args.base.now.0) c.args.assume.now c.args.first c.args.trail.now i i c.seek.new.walk) in
-    let h = subst O c.in-None.is c.in_ok-seek.ensures in
-    let p = placed-none c.args.first c.args.trail.now.steps (oldest 0 c.args.trail.now.steps) c.seek.new.walk.found.items h.none in
+    let O : Option ℕ → Type 0 = λ o. MatchOption o (FindsNone (g.L.Adds.lines c.args.base.now.0) c.args.assume.now c.args.trail.now c.walk_back.new.walk) (λ i. IsGathered (g.L.Adds.lines c.args.base.now.0) c.args.assume.now c.args.first c.args.trail.now i i c.walk_back.new.walk) in
+    let h = subst O c.in-None.is c.in_ok-walk_back.ensures in
+    let p = placed-none c.args.first c.args.trail.now.steps (oldest 0 c.args.trail.now.steps) c.walk_back.new.walk.found.items h.none in
     record { within = omega arith; walked = h.walked; chosen = p.0; placed = p.1 }
 
 pub returns-in_ok-cut-in-Some : goal.returns-in_ok-cut-in-Some

@@ -4,7 +4,7 @@ use Rattle.rt_solver.proofs.walk.Walk.rest.Given as goal
 abbrev pub invariant-marks : goal.invariant-marks
 invariant-marks l = record {
   len : length l.self.marks.marks ≡ length l.fn.self.marks.marks;
-  picking : l.pick ≡ l.fn.pick;
+  picking : l.decider ≡ l.fn.decider;
   found : l.self.found.items ≡ l.fn.self.found.items;
 }
 

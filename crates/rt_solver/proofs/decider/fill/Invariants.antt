@@ -1,6 +1,6 @@
 use Rattle.std.proofs.Common.{◌≡◌, ◌<◌, ℕ, true, length}
 use Rattle.rt_solver.specs.Picking.{holds}
-use Rattle.rt_solver.proofs.pick.fill.Given as goal
+use Rattle.rt_solver.proofs.decider.fill.Given as goal
 
 abbrev pub invariant-loop-v : goal.invariant-loop-v
 invariant-loop-v l = record {

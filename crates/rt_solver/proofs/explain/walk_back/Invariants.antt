@@ -1,7 +1,7 @@
 use Rattle.std.proofs.Common.{◌≡◌, ◌≤◌, length, []}
 use Rattle.rt_store.specs.Trail.{oldest}
 use Rattle.rt_solver.specs.Analysis.{IsWalked}
-use Rattle.rt_solver.proofs.explain.seek.Given as goal
+use Rattle.rt_solver.proofs.explain.walk_back.Given as goal
 
 abbrev pub invariant-seek : goal.invariant-seek
 invariant-seek g l = record {

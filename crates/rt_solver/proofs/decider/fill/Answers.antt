@@ -1,6 +1,6 @@
 use Rattle.std.proofs.Common.{◌∙◌, ap, length, true, length-set, arith}
 use Rattle.rt_solver.proofs.Picks.{fill-step}
-use Rattle.rt_solver.proofs.pick.fill.Goals as goal
+use Rattle.rt_solver.proofs.decider.fill.Goals as goal
 
 pub loop-v-preserved : goal.loop-v-preserved
 loop-v-preserved c =

@@ -4,7 +4,7 @@ use rt_io::SureSink;
 
 /// What a command ends with: its status, and what it wrote.
 #[derive(Drop)]
-pub(crate) struct Told {
+pub(crate) struct Ended {
     pub(crate) status: u8,
     pub(crate) out: SureSink,
     pub(crate) err: SureSink,

@@ -1,6 +1,6 @@
 use Rattle.std.proofs.Common.{◌≡◌, length}
 use Rattle.rt_solver.specs.Picking.{HasOpen, held_count}
-use Rattle.rt_solver.proofs.pick.take.Given as goal
+use Rattle.rt_solver.proofs.decider.take.Given as goal
 
 abbrev pub invariant-held : goal.invariant-held
 invariant-held l = record {

@@ -16,14 +16,14 @@ use std::marker::Model;
 /// finds, and then the smallest of the others. No call but `begin` takes memory. It counts how often it
 /// aged, which is once a conflict, up to its type's greatest value.
 #[derive(Drop)]
-pub(crate) struct Pick {
+pub(crate) struct Decider {
     heap: Heap,
     bound: usize,
     next: usize,
     conflicts: u64,
 }
 
-impl Model for Pick {
+impl Model for Decider {
     ghost use Rattle.std.specs.Prelude.{◌≤◌, length};
     ghost use Rattle.rt_solver.specs.Picking.{Picking};
 
@@ -88,11 +88,11 @@ fn smallest(trail: &Trail, from: usize) -> Option<usize>
     None
 }
 
-impl Pick {
-    pub(crate) fn new(alloc: Global) -> Pick
+impl Decider {
+    pub(crate) fn new(alloc: Global) -> Decider
         ensures { result.bound ≡ 0 }
     {
-        Pick {
+        Decider {
             heap: Heap::new(alloc),
             bound: 0,
             next: 0,

@@ -9,17 +9,17 @@ use std::marker::Model;
 use std::rc::Rc;
 
 /// A value with several owners, which contracts see as the value.
-pub struct Shared<T> {
+pub struct Counted<T> {
     owner: Rc<T>,
 }
 
-impl<T: Drop> Drop for Shared<T> {
+impl<T: Drop> Drop for Counted<T> {
     fn drop(self) {
-        let Shared { owner: _ } = self;
+        let Counted { owner: _ } = self;
     }
 }
 
-impl<T> Model for Shared<T> {
+impl<T> Model for Counted<T> {
     ghost Value = { T };
 
     ghost coded = { T.code };
@@ -27,7 +27,7 @@ impl<T> Model for Shared<T> {
     ghost view = { λ s. s.owner.value };
 }
 
-impl<T> Shared<T> {
+impl<T> Counted<T> {
     pub fn get(&self) -> &T
         ensures { result.now ≡ self.now }
     {
@@ -35,20 +35,20 @@ impl<T> Shared<T> {
     }
 }
 
-impl<T: Drop> Shared<T> {
+impl<T: Drop> Counted<T> {
     /// The value with one owner.
-    pub fn new(alloc: Global, value: T) -> Result<Shared<T>, NoMemory>
+    pub fn new(alloc: Global, value: T) -> Result<Counted<T>, NoMemory>
         ensures { IfOk result (λ s. s ≡ value) }
     {
         let owner = Rc::new(alloc, value)?;
-        Ok(Shared { owner })
+        Ok(Counted { owner })
     }
 
     /// One more owner of the value.
-    pub fn share(&self) -> Result<Shared<T>, NoMemory>
+    pub fn share(&self) -> Result<Counted<T>, NoMemory>
         ensures { IfOk result (λ s. s ≡ self.now) }
     {
         let owner = self.owner.clone()?;
-        Ok(Shared { owner })
+        Ok(Counted { owner })
     }
 }

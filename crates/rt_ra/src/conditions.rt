@@ -1,7 +1,7 @@
 //! Tests of rows, as conditions of the algebra.
 
 ghost use Rattle.std.specs.Prelude.{◌≡◌, [], ◌∷◌, IfOk};
-ghost use Rattle.rt_ra.specs.Tests as spec;
+ghost use Rattle.rt_ra.specs.Conditions as spec;
 ghost use Rattle.rt_ra_tree.specs.Refusals.{is_memory};
 ghost use Rattle.rt_value.specs.Gives.{Gives};
 

@@ -1,7 +1,7 @@
 use Rattle.std.proofs.Common.{◌∙◌, refl, sym, ap, subst, false, List, Bool, length, length-set, arith}
 use Rattle.rt_solver.specs.Picking.{HasOpenBut, held_count}
 use Rattle.rt_solver.proofs.Picks.{held-less, open-less, open-kept, open-none}
-use Rattle.rt_solver.proofs.pick.take.Goals as goal
+use Rattle.rt_solver.proofs.decider.take.Goals as goal
 
 pub returns-then-is_open-clause-taken : goal.returns-then-is_open-clause-taken
 returns-then-is_open-clause-taken c =
