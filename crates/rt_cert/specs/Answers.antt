@@ -14,7 +14,7 @@ use Rattle.rt_input.specs.Accepted.{Accepted}
 use Rattle.rt_input.specs.Reading.{Call, IsRead, IsTold, Stop, limit_of}
 use Rattle.rt_top.specs.Answers as top
 use Rattle.rt_input.specs.Judged.{judged}
-use Rattle.rt_top.specs.Smallest.{IsGivenUp}
+use Rattle.rt_top.specs.GivenUp.{IsGivenUp}
 use Rattle.rt_input.specs.Source.{Text}
 use Rattle.rt_input.specs.Steps.{Seen}
 use Rattle.rt_top.specs.Texts.{spent_of}

@@ -22,6 +22,6 @@ pub use clauses::Clauses;
 pub use denial::Denial;
 pub use gates::gate;
 pub use lines::{Adds, Lines};
-pub use lit::{Lit, LitList};
+pub use lit::{Lit, LitList, MOST_VARIABLES};
 pub use named::Named;
 pub use thin::ThinClause;

@@ -11,6 +11,10 @@ use rt_value::List;
 use std::fmt;
 use std::marker::Model;
 
+/// Who makes up variables stays below this number, so that each fits a literal; beyond it the answer is
+/// out of memory.
+pub const MOST_VARIABLES: usize = 1 << 61;
+
 /// A literal: a variable, and the Bool at which the literal is true. Both are packed into one
 /// machine word: twice the variable, and one more if the Bool is true.
 #[derive(Clone, Copy)]

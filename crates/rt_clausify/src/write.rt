@@ -10,13 +10,10 @@ ghost use Rattle.rt_formula.specs.Shared.{Fits, val};
 ghost use Rattle.rt_formula.specs.Under.{AreUnder};
 ghost use Rattle.rt_clausify.specs.Written.{name_at, named_by, with_entry, with_node, written};
 
-use rt_clause::{Adds, Lit, Named, gate};
+use rt_clause::{Adds, Lit, MOST_VARIABLES, Named, gate};
 use rt_formula::{Dag, Entry, Node, under};
 use rt_value::{Keep, List, NoMemory};
 use std::alloc::Global;
-
-// Variables stay below this, so that each fits a literal; beyond it the answer is out of memory.
-const MOST_VARIABLES: usize = 1 << 61;
 
 // The literals of some nodes, or their negations.
 fn literals(alloc: Global, of: &[Node], names: &List<Lit>, on: bool) -> Result<Vec<Lit>, NoMemory>

@@ -18,7 +18,7 @@ use Rattle.rt_input.specs.Accepted.{Accepted, IsAccepted}
 use Rattle.rt_input.specs.First.{IsFirst}
 use Rattle.rt_input.specs.Judged.{like_left, query_of, then_read, total_work, within_limit}
 use Rattle.rt_input.specs.Placed.{IsPlaceless, PlacedIn, Stands}
-use Rattle.rt_top.specs.Smallest.{IsGivenUp, IsVerdict}
+use Rattle.rt_top.specs.GivenUp.{IsGivenUp, IsVerdict}
 use Rattle.rt_input.specs.Source.{Text}
 use Rattle.rt_input.specs.Steps.{Refuses}
 use Rattle.rt_grade.specs.declared.grade.Grade.{Grade}

@@ -15,7 +15,8 @@ use Rattle.rt_input.specs.declared.outcome.Outcome.{Outcome}
 use Rattle.rt_input.specs.declared.outcome.Outcome.TheVariants as outcome
 use Rattle.rt_input.specs.Accepted.{Accepted, IsAccepted}
 use Rattle.rt_input.specs.Judged.{total_work, within_limit}
-use Rattle.rt_top.specs.Smallest.{Agrees, IsFirst, IsGivenUp, IsSmallest, is_counterexample}
+use Rattle.rt_top.specs.Smallest.{Agrees, IsFirst, IsSmallest, is_counterexample}
+use Rattle.rt_top.specs.GivenUp.{IsGivenUp}
 use Rattle.rt_grade.specs.declared.grade.Grade.{Grade}
 use Rattle.rt_grade.specs.declared.grade.Grade.TheVariants.{Agree, Witness, Undecided, Refused, Work, TooLong}
 use Rattle.rt_grade.specs.declared.known.Known.{Known}

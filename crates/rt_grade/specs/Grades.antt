@@ -11,7 +11,8 @@ use Rattle.rt_input.specs.Accepted.{Accepted, IsAccepted}
 use Rattle.rt_input.specs.Faults.{is_refusal, placeless}
 use Rattle.rt_input.specs.Judged.{Data, accepted, like_left, query_of, then_read, within_limit}
 use Rattle.rt_input.specs.Placed.{Parts, Placed}
-use Rattle.rt_top.specs.Smallest.{Agrees, IsGivenUp, IsSmallest}
+use Rattle.rt_top.specs.Smallest.{Agrees, IsSmallest}
+use Rattle.rt_top.specs.GivenUp.{IsGivenUp}
 use Rattle.rt_input.specs.Source.{Text}
 use Rattle.rt_grade.specs.declared.grade.Grade.{Grade}
 use Rattle.rt_grade.specs.declared.grade.Grade.TheVariants.{Agree, Witness, Undecided, Refused, Work, TooLong}

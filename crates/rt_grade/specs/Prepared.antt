@@ -5,7 +5,7 @@ use Rattle.rt_algebra.specs.declared.typed.Typed.{Typed}
 use Rattle.rt_annot.specs.Reference.{IsReference}
 use Rattle.rt_input.specs.declared.first.First.{First}
 use Rattle.rt_least.specs.declared.best.Best.{Best}
-use Rattle.rt_top.specs.Smallest.{IsVerdict}
+use Rattle.rt_top.specs.GivenUp.{IsVerdict}
 use Rattle.rt_grade.specs.declared.prepared.Prepared.{Prepared}
 
 -- the reference on the Dag is this one, over these rows

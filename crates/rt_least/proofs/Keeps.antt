@@ -1,11 +1,11 @@
 -- Which of two choices comes before the other, and how many of the first rows they keep.
 use Rattle.std.proofs.Common.{◌≡◌, ℕ, zero, suc, ◌+◌, ◌<◌, ◌≤◌, nat_lt, Bool, true, false, cond, ◌⊎◌, inl, inr, List, [], ◌∷◌, length, slice_index_or, refl, sym, ap, subst, ◌∙◌, arith, rules}
-use Rattle.rt_value.specs.Keep.{size}
+use Rattle.rt_value.specs.Keep.{size, ComesBefore}
 use Rattle.rt_clause.specs.Gates.{AgreeBelow}
 use Rattle.rt_clause.proofs.Bools.{bool-cases}
 use Rattle.rt_totalizer.specs.Cells.{kept_below}
 use Rattle.rt_totalizer.proofs.Totals.{kept-agrees, kept-size}
-use Rattle.rt_least.specs.Order.{ComesBefore, IsBare}
+use Rattle.rt_least.specs.Order.{IsBare}
 
 clash : {b : Bool} → b ≡ true → b ≡ false → ⊥
 clash p q = cc

@@ -1,7 +1,7 @@
 -- How far a choice of the fewest rows is known to be the first of them.
 use Rattle.std.proofs.Common.{◌≡◌, ℕ, ◌+◌, ◌<◌, ◌≤◌, nat_lt, nat_le, Bool, true, false, not, ◌&&◌, inl, inr, List, [], ◌∷◌, ◌++◌, take, length, slice_index_or, refl, sym, ap, subst, ◌∙◌, Some, arith, rules}
 use Rattle.std.specs.Bool.{beq}
-use Rattle.rt_value.specs.Keep.{size}
+use Rattle.rt_value.specs.Keep.{size, ComesBefore}
 use Rattle.rt_clause.specs.Literal.{Literal, negated}
 use Rattle.rt_clause.specs.Models.{lit_true, IsModel}
 use Rattle.rt_clause.specs.Gates.{gate, AgreeBelow}
@@ -13,7 +13,7 @@ use Rattle.rt_totalizer.proofs.Totals.{kept-size}
 use Rattle.rt_least.specs.Attempts.{HasNone}
 use Rattle.rt_least.specs.Least.{HasFewest, IsLeast}
 use Rattle.rt_least.specs.Sought.{IsSought, not_kept_between}
-use Rattle.rt_least.specs.Order.{ComesBefore, IsBare, IsNext, keeps_some}
+use Rattle.rt_least.specs.Order.{IsBare, IsNext, keeps_some}
 use Rattle.rt_least.specs.Leading.{AllFew, HasValue, IsLeading}
 use Rattle.rt_least.specs.Aimed.{IsAimed, HasCounter, fewer_than}
 use Rattle.rt_least.proofs.Aiming.{fewer-means, lt-not-le}

@@ -1,13 +1,12 @@
 -- How far a choice of the fewest rows is known to be the first of them.
 use Rattle.std.specs.Prelude.{◌≡◌, ℕ, ◌≤◌, Bool, true, List, length}
-use Rattle.rt_value.specs.Keep.{size}
+use Rattle.rt_value.specs.Keep.{size, ComesBefore}
 use Rattle.rt_clause.specs.Literal.{Literal}
 use Rattle.rt_clause.specs.Models.{lit_true, IsModel}
 use Rattle.rt_clause.specs.Gates.{AgreeBelow}
 use Rattle.rt_formula.specs.Shared.{Shared}
 use Rattle.rt_least.specs.Least.{HasFewest}
 use Rattle.rt_least.specs.Sought.{IsSought}
-use Rattle.rt_least.specs.Order.{ComesBefore}
 
 -- in each model over a choice of rows the literal has this value
 abbrev pub HasValue : Shared → List (List Literal) → Literal → (List Bool → Bool) → Type 0

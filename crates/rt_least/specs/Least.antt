@@ -1,11 +1,10 @@
 -- The least choice of rows at which a formula is true.
 use Rattle.std.specs.Prelude.{◌≡◌, ℕ, ◌<◌, ◌≤◌, ◌^◌, Bool, true, false, IsTrue, List, length, Option, IfSome, IsSomeAnd}
-use Rattle.rt_value.specs.Keep.{size}
+use Rattle.rt_value.specs.Keep.{size, ComesBefore}
 use Rattle.rt_clause.specs.Literal.{Literal}
 use Rattle.rt_formula.specs.Cut.{cut}
 use Rattle.rt_formula.specs.Shared.{Shared, val}
 use Rattle.rt_least.specs.Nogoods.{IsSpentBy}
-use Rattle.rt_least.specs.Order.{ComesBefore}
 use Rattle.rt_least.specs.declared.best.Best.{Best}
 use Rattle.rt_least.specs.declared.best.Best.TheVariants.{Least, Never, Spent}
 

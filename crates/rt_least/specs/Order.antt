@@ -1,13 +1,5 @@
--- The order of choices by the rows that they keep.
+-- The rows that a choice keeps from a place on.
 use Rattle.std.specs.Prelude.{◌≡◌, ℕ, zero, suc, ◌<◌, ◌≤◌, nat_le, Bool, true, false, ◌&&◌, ◌||◌, List, length, slice_index_or}
-use Rattle.rt_clause.specs.Gates.{AgreeBelow}
-
--- at the first place at which the two differ, this one keeps the row
-pub record ComesBefore (keep other : List Bool) : Type 0 where
-  pub place : ℕ
-  pub same : AgreeBelow place keep other
-  pub keeps : slice_index_or keep place false ≡ true
-  pub leaves : slice_index_or other place false ≡ false
 
 -- no row from one place to before another is kept
 abbrev pub IsBare : ℕ → ℕ → List Bool → Type 0

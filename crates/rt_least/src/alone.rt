@@ -7,8 +7,7 @@ ghost use Rattle.rt_least.specs.Alone.{AllowsFew, AreKept, HasMoreLines, IsOther
 ghost use Rattle.rt_least.specs.Sought.{IsSought};
 
 use crate::ask::ask;
-use crate::both::MOST_VARIABLES;
-use rt_clause::{Lit, LitList, Named, gate};
+use rt_clause::{Lit, LitList, MOST_VARIABLES, Named, gate};
 use rt_derive::Checker;
 use rt_formula::{Dag, Node};
 use rt_solver::Solver;

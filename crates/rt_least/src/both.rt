@@ -3,14 +3,11 @@
 ghost use Rattle.std.specs.Prelude.{◌≡◌, ◌<◌, ◌^◌, ◌∷◌, ◌++◌, [], IfOk};
 ghost use Rattle.rt_clause.specs.Gates.{gate};
 
-use rt_clause::{Lit, gate};
+use rt_clause::{Lit, MOST_VARIABLES, gate};
 use rt_derive::Checker;
 use rt_solver::Solver;
 use rt_value::NoMemory;
 use std::alloc::Global;
-
-/// Variables stay below this, so that each fits a literal; beyond it the answer is out of memory.
-pub const MOST_VARIABLES: usize = 1 << 61;
 
 /// Adds a literal of this variable that is true exactly where both of two are.
 pub fn both(

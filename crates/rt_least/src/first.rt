@@ -7,10 +7,9 @@ ghost use Rattle.rt_least.specs.Least.{HasFewest};
 ghost use Rattle.rt_least.specs.Sought.{IsBestWithin, IsSought};
 
 use crate::best::Best;
-use crate::both::MOST_VARIABLES;
 use crate::by_rows::by_rows;
 use crate::lowering::fewer;
-use rt_clause::Named;
+use rt_clause::{MOST_VARIABLES, Named};
 use rt_derive::Checker;
 use rt_formula::{Dag, Node};
 use rt_solver::Solver;

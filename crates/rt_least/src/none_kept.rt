@@ -4,8 +4,7 @@ ghost use Rattle.std.specs.Prelude.{◌≡◌, ◌≤◌, ◌<◌, ◌^◌, ◌+
 ghost use Rattle.rt_clause.specs.Gates.{gate};
 ghost use Rattle.rt_least.specs.Sought.{not_kept_between};
 
-use crate::both::MOST_VARIABLES;
-use rt_clause::{Lit, LitList, gate};
+use rt_clause::{Lit, LitList, MOST_VARIABLES, gate};
 use rt_derive::Checker;
 use rt_solver::Solver;
 use rt_value::{Keep, List, NoMemory};

@@ -2,7 +2,7 @@
 
 ghost use Rattle.std.specs.Prelude.{◌≡◌, ◌<◌, length};
 
-use rt_solver::Heap;
+use rt_store::Heap;
 use rt_value::List;
 use std::alloc::Global;
 use std::process::Abort;

@@ -30,5 +30,4 @@ mod turn;
 mod walk;
 
 pub use order::Order;
-pub use rt_store::Heap;
 pub use solver::{Found, Solver};

@@ -29,7 +29,7 @@ pub enum Found {
     Spent(List<List<Lit>>),
 }
 
-const MOST_VARIABLES: usize = 1 << 62;
+const MOST_SEARCHED: usize = 1 << 62;
 
 /// A solver over lines that check what it derives. Contracts see the lines, and whether an earlier
 /// call ran out of memory. It counts the clauses that were added, up to the type's greatest value.
@@ -117,7 +117,7 @@ fn find<L: Lines + Drop>(
     ensures unspent { IfOk result (λ found. IfSome found (IsUnspent (L.lines base.old.0) (L.lines base.new.0) budget)) }
 {
     let vars = variables_of(first, base.vars(), assume);
-    if vars > MOST_VARIABLES {
+    if vars > MOST_SEARCHED {
         return Err(NoMemory);
     }
     let mut trail = begun(alloc, vars, assume)?;

@@ -18,7 +18,8 @@ use Rattle.rt_least.proofs.Targets.{spent-narrowed}
 use Rattle.rt_least.specs.declared.best.Best.{Best}
 use Rattle.rt_least.specs.declared.best.Best.TheVariants.{Least, Never, Spent}
 use Rattle.rt_input.specs.Accepted.{Accepted}
-use Rattle.rt_top.specs.Smallest.{HasFewest, IsCounterexample, IsFirst, IsGivenUp, IsVerdict, is_counterexample, differ_at, lawful_at}
+use Rattle.rt_top.specs.Smallest.{HasFewest, IsCounterexample, IsFirst, is_counterexample, differ_at, lawful_at}
+use Rattle.rt_top.specs.GivenUp.{IsGivenUp, IsVerdict}
 
 -- the node is true at just the counterexamples
 abbrev pub Means : Accepted → Shared → ℕ → Type 0

@@ -11,7 +11,8 @@ use Rattle.rt_input.specs.Reading.{Call, IsRead}
 use Rattle.rt_top.specs.Answers.{IsTextOf}
 use Rattle.rt_input.specs.Judged.{judged}
 use Rattle.rt_top.specs.One.{AreAlike, IsDecided, IsFinal}
-use Rattle.rt_top.specs.Smallest.{Agrees, IsFirst, IsSmallest, IsVerdict}
+use Rattle.rt_top.specs.Smallest.{Agrees, IsFirst, IsSmallest}
+use Rattle.rt_top.specs.GivenUp.{IsVerdict}
 use Rattle.rt_top.specs.Texts.{agree_of, witness_of}
 
 pub smallest-one : (input : Accepted) (s t : List Bool) → IsSmallest input s → IsSmallest input t → s ≡ t

@@ -18,7 +18,8 @@ use Rattle.rt_input.specs.Reading.{Call, IsRead, LimitRow, ReadFaultRow, Refused
 use Rattle.rt_input.specs.Source.{file_of, source_of}
 use Rattle.rt_input.specs.Steps.{Failed}
 use Rattle.rt_input.specs.Texts.{place}
-use Rattle.rt_top.specs.Smallest.{IsSmallest, Agrees, IsGivenUp}
+use Rattle.rt_top.specs.Smallest.{IsSmallest, Agrees}
+use Rattle.rt_top.specs.GivenUp.{IsGivenUp}
 use Rattle.rt_top.specs.Texts.{agree_of, refusal_text, spent_of, witness_of}
 
 -- ---- when an outcome comes

@@ -1,4 +1,5 @@
 pub mod Answers
+pub mod GivenUp
 pub mod One
 pub mod Smallest
 pub mod Texts

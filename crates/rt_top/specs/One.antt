@@ -7,7 +7,8 @@ use Rattle.rt_input.specs.declared.outcome.Outcome.TheVariants as outcome
 use Rattle.rt_input.specs.Accepted.{Accepted}
 use Rattle.rt_input.specs.Reading.{Call, IsTold}
 use Rattle.rt_top.specs.Answers.{IsTextOf}
-use Rattle.rt_top.specs.Smallest.{Agrees, IsSmallest, IsVerdict}
+use Rattle.rt_top.specs.Smallest.{Agrees, IsSmallest}
+use Rattle.rt_top.specs.GivenUp.{IsVerdict}
 
 -- a smallest counterexample, or that there is none
 abbrev pub IsFinal : Best → Type 0

@@ -1,18 +1,13 @@
 -- Counterexamples, and the smallest of them (Miao, Roy and Yang, SIGMOD 2019): lawful
 -- sub-instances at which the answers of two queries differ.
-use Rattle.std.specs.Prelude.{◌≡◌, ℕ, ◌≤◌, ◌<◌, ◌^◌, Bool, true, false, not, ◌&&◌, IsTrue, List, length, Option, IfSome, IsSomeAnd}
-use Rattle.rt_value.specs.Keep.{size}
+use Rattle.std.specs.Prelude.{◌≡◌, ◌≤◌, Bool, true, false, not, ◌&&◌, List, length}
+use Rattle.rt_value.specs.Keep.{size, ComesBefore}
 use Rattle.rt_schema.specs.Given.{Rows, places}
 use Rattle.rt_schema.specs.Kept.{kept}
 use Rattle.rt_schema.specs.Law.{lawful}
 use Rattle.rt_algebra.specs.Answer.{plain, same_rows}
 use Rattle.rt_algebra.specs.declared.typed.Typed.{Typed}
 use Rattle.rt_input.specs.Accepted.{Accepted}
-use Rattle.rt_clause.specs.Literal.{Literal}
-use Rattle.rt_least.specs.Nogoods.{IsSpentBy}
-use Rattle.rt_least.specs.Order.{ComesBefore}
-use Rattle.rt_least.specs.declared.best.Best.{Best}
-use Rattle.rt_least.specs.declared.best.Best.TheVariants.{Least, Never, Spent}
 
 -- a choice has one Bool a place
 abbrev pub IsChoice : Accepted → List Bool → Type 0
@@ -55,18 +50,3 @@ pub record IsSmallest (input : Accepted) (keep : List Bool) : Type 0 where
 -- there is no counterexample
 abbrev pub Agrees : Accepted → Type 0
 Agrees input = (t : List Bool) → IsChoice input t → is_counterexample input t ≡ false
-
--- The search was given up. The budget is below the number of choices. The best choice so far, if
--- there is one, is a counterexample. If it is said to keep the fewest rows, it is there and does.
--- As many clauses as the budget says are true at each better counterexample, or then at each that
--- keeps as few.
-pub record IsGivenUp (input : Accepted) (budget : ℕ) (best : Option (List Bool)) (least : Bool) (nogoods : List (List Literal)) : Type 0 where
-  pub small : budget < 2 ^ places input.given.tables
-  pub best_is : IfSome best (IsCounterexample input)
-  pub least_is : IsTrue least → IsSomeAnd best (HasFewest input)
-  pub spent : IsSpentBy (places input.given.tables) (IsCounterexample input) best least budget nogoods
-
-abbrev pub IsVerdict : Accepted → Best → Type 0
-IsVerdict input (Least keep) = IsSmallest input keep
-IsVerdict input Never = Agrees input
-IsVerdict input (Spent s) = IsSomeAnd input.conflicts (λ budget. IsGivenUp input budget s.best s.least s.nogoods)

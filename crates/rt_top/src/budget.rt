@@ -2,7 +2,7 @@
 
 ghost use Rattle.std.specs.Prelude.{◌≡◌, IfOk, Some};
 ghost use Rattle.rt_top.specs.Answers.{Judges};
-ghost use Rattle.rt_top.specs.Smallest.{IsGivenUp};
+ghost use Rattle.rt_top.specs.GivenUp.{IsGivenUp};
 ghost use Rattle.rt_top.specs.Texts.{spent_of};
 ghost use Rattle.rt_input.specs.declared.outcome.Outcome.TheVariants as outcome;
 

@@ -4,7 +4,7 @@
 ghost use Rattle.std.specs.Prelude.{ℕ, ◌≤◌, Option, IfOk, IfSome};
 ghost use Rattle.rt_schema.specs.Given.{IsOf};
 ghost use Rattle.rt_algebra.specs.Typed.{IsTypedOf};
-ghost use Rattle.rt_top.specs.Smallest.{IsVerdict};
+ghost use Rattle.rt_top.specs.GivenUp.{IsVerdict};
 
 use rt_algebra::Typed;
 use rt_annot::goal;

@@ -2,7 +2,8 @@
 
 ghost use Rattle.std.specs.Prelude.{◌≡◌, IfOk, Some};
 ghost use Rattle.rt_top.specs.Answers.{Judges};
-ghost use Rattle.rt_top.specs.Smallest.{Agrees, IsGivenUp, IsSmallest};
+ghost use Rattle.rt_top.specs.Smallest.{Agrees, IsSmallest};
+ghost use Rattle.rt_top.specs.GivenUp.{IsGivenUp};
 ghost use Rattle.rt_top.specs.Texts.{agree_of, witness_of};
 
 use crate::budget::{GivenUp, given_up};

@@ -8,9 +8,6 @@ use rt_clause::{Lit, LitList};
 use rt_value::{List, NoMemory};
 use std::alloc::Global;
 
-/// The variables of a counter stay below.
-pub(crate) const MOST_VARIABLES: usize = 1 << 61;
-
 /// For each number of rows up to a bound, from no row on, the literal that is true where at least so
 /// many rows of the range are kept. At most `most` of them can be.
 #[derive(Drop)]

@@ -8,8 +8,7 @@ ghost use Rattle.rt_totalizer.specs.Cells.{IsLeftOut};
 ghost use Rattle.rt_totalizer.specs.Outputs.{CountsRows};
 
 use crate::blocks::all_rows;
-use crate::cells::MOST_VARIABLES;
-use rt_clause::{Adds, Lit, LitList, Named, gate};
+use rt_clause::{Adds, Lit, LitList, MOST_VARIABLES, Named, gate};
 use rt_value::{Keep, List, NoMemory};
 use std::alloc::Global;
 

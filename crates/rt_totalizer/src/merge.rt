@@ -4,9 +4,9 @@ ghost use Rattle.std.specs.Prelude.{◌≡◌, ◌<◌, ◌≤◌, ◌+◌, ◌^
 ghost use Rattle.rt_totalizer.specs.Cells.{IsNever};
 ghost use Rattle.rt_totalizer.specs.Sums.{IsSum};
 
-use crate::cells::{Cells, MOST_VARIABLES};
+use crate::cells::Cells;
 use crate::clauses::merging;
-use rt_clause::{Adds, Lit, LitList};
+use rt_clause::{Adds, Lit, LitList, MOST_VARIABLES};
 use rt_value::{List, NoMemory};
 use std::alloc::Global;
 

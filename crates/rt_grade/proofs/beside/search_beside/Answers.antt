@@ -3,7 +3,7 @@ use Rattle.rt_schema.specs.Given.{places}
 use Rattle.rt_schema.specs.Kept.{kept}
 use Rattle.rt_schema.specs.Law.{lawful}
 use Rattle.rt_annot.proofs.Referring.{goal_means, goal_parts}
-use Rattle.rt_top.specs.Smallest.{IsVerdict}
+use Rattle.rt_top.specs.GivenUp.{IsVerdict}
 use Rattle.rt_top.proofs.DecideLemmas.{enough, verdict_of, whatever_else}
 use Rattle.rt_grade.proofs.beside.search_beside.Goals as goal
 

@@ -1,6 +1,6 @@
 use Rattle.std.proofs.Common.{◌≡◌, ◌∙◌, sym, ap, subst}
 use Rattle.rt_io.specs.Ranges.{Command}
-use Rattle.rt_top.specs.Smallest.{IsVerdict}
+use Rattle.rt_top.specs.GivenUp.{IsVerdict}
 use Rattle.rt_grade.specs.Grades.{beside}
 use Rattle.rt_grade.proofs.JudgeLemmas.{no_budget, of_budget, of_parts}
 use Rattle.rt_grade.proofs.judge.decided.Goals as goal

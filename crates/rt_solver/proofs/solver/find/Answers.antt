@@ -15,8 +15,8 @@ use Rattle.rt_solver.proofs.Seeks.{if-some, all-some, asked-bound}
 use Rattle.rt_solver.proofs.Denials.{refuted-denied}
 use Rattle.rt_solver.proofs.solver.find.Goals as goal
 
-pub returns-then-vars-gt-MOST_VARIABLES-clause-searched : goal.returns-then-vars-gt-MOST_VARIABLES-clause-searched
-returns-then-vars-gt-MOST_VARIABLES-clause-searched g c =
+pub returns-then-vars-gt-MOST_SEARCHED-clause-searched : goal.returns-then-vars-gt-MOST_SEARCHED-clause-searched
+returns-then-vars-gt-MOST_SEARCHED-clause-searched g c =
     searched-none _ _ _ _ c.args.assume.now c.args.question.now c.args.first _ refl refl
 
 pub returns-in_err-trail-clause-searched : goal.returns-in_err-trail-clause-searched

@@ -1,7 +1,7 @@
 use Rattle.std.proofs.Common.{refl}
 use Rattle.rt_schema.specs.Kept.{kept}
 use Rattle.rt_schema.specs.Law.{lawful}
-use Rattle.rt_top.specs.Smallest.{IsVerdict}
+use Rattle.rt_top.specs.GivenUp.{IsVerdict}
 use Rattle.rt_top.proofs.DecideLemmas.{enough, verdict_of, whatever_else}
 use Rattle.rt_top.proofs.decision.decide_between.Goals as goal
 
