@@ -26,7 +26,7 @@ use std::alloc::Global;
 
 /// Where a condition is true and where it is false.
 #[cycle(annotate)]
-pub fn test<'q>(
+pub(crate) fn test<'q>(
     alloc: Global,
     dag: &mut Dag,
     tables: &[List<Row>],
@@ -240,7 +240,7 @@ fn together<'q>(
 
 /// The condition with the row as the innermost in scope.
 #[cycle(annotate)]
-pub fn test_row<'q, 'a>(
+pub(crate) fn test_row<'q, 'a>(
     alloc: Global,
     dag: &mut Dag,
     tables: &[List<Row>],

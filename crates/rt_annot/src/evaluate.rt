@@ -181,7 +181,7 @@ fn source<'q>(
 
 /// The rows that may come out, each with its node.
 #[cycle(annotate)]
-pub fn annotated<'q>(
+pub(crate) fn annotated<'q>(
     alloc: Global,
     dag: &mut Dag,
     tables: &[List<Row>],

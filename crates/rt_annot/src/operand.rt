@@ -21,7 +21,7 @@ use std::alloc::Global;
 /// The rows that may come out of an operand, each with its node. With no rows in scope an operand is
 /// used once, so nothing is kept.
 #[cycle(annotate)]
-pub fn operand<'q>(
+pub(crate) fn operand<'q>(
     alloc: Global,
     dag: &mut Dag,
     tables: &[List<Row>],

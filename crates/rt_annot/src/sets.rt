@@ -14,7 +14,7 @@ use std::alloc::Global;
 
 /// The rows of a set operator: those of `first` on a side of `second`, or all of both if there is
 /// no side (UNION).
-pub fn set_rows(
+pub(crate) fn set_rows(
     alloc: Global,
     dag: &mut Dag,
     first: List<Noted>,

@@ -157,7 +157,7 @@ fn table_of(alloc: Global, tables: &KnownTables, table: &KnownTable) -> Result<T
 
 /// The tables that the texts make, in text order; the rules of columns come before the others. An
 /// unknown name gets the number after the last one.
-pub fn tables_of(alloc: Global, texts: &KnownTables) -> Result<List<Table>, NoMemory>
+pub(crate) fn tables_of(alloc: Global, texts: &KnownTables) -> Result<List<Table>, NoMemory>
     ensures { IfOk result (λ tables. tables ≡ spec.tables_of texts.now) }
 {
     let mut tables = List::new(alloc);

@@ -125,7 +125,7 @@ impl Makes for TestPart {
 }
 
 /// The check over the table's columns, where no name is unknown.
-pub fn check_made(alloc: Global, table: &KnownTable, test: &Test) -> Result<Check, NoMemory>
+pub(crate) fn check_made(alloc: Global, table: &KnownTable, test: &Test) -> Result<Check, NoMemory>
     ensures { IfOk result (λ c. c ≡ spec.check_made (column_at (columns_of table.now.parts)) test.now) }
 {
     let any = all_made(alloc, table, &test.head, test.tail.as_slice())?;

@@ -44,7 +44,7 @@ impl Model for KnownTable {
 }
 
 /// The columns among the parts of a table.
-pub fn columns_of(alloc: Global, parts: &[Part]) -> Result<List<Column>, NoMemory>
+pub(crate) fn columns_of(alloc: Global, parts: &[Part]) -> Result<List<Column>, NoMemory>
     ensures { IfOk result (λ columns. columns ≡ spec.columns_of parts.now) }
 {
     let mut columns = List::new(alloc);
@@ -79,7 +79,7 @@ fn is_primary(part: &Part) -> bool
     }
 }
 
-pub fn has_primary(parts: &[Part]) -> bool
+pub(crate) fn has_primary(parts: &[Part]) -> bool
     ensures { result ≡ spec.has_primary parts.now }
 {
     parts.iter().any(|part| is_primary(part))

@@ -11,7 +11,7 @@ use std::alloc::Global;
 
 /// The most tables, the most columns of a table, and the most keys, foreign keys, checks and
 /// dependencies of a table together.
-pub const MOST: usize = 64;
+pub(crate) const MOST: usize = 64;
 
 fn is_counted(rule: &Rule) -> bool
     ensures { result ≡ spec.is_counted rule.now }
@@ -53,7 +53,7 @@ fn check_table(alloc: Global, table: &Table) -> Result<(), SchemaFault>
 }
 
 /// The first excess: too many tables, or else the first table with too many columns or rules.
-pub fn check_limits(alloc: Global, tables: &[Table]) -> Result<(), SchemaFault>
+pub(crate) fn check_limits(alloc: Global, tables: &[Table]) -> Result<(), SchemaFault>
     ensures { Gives is_memory result (spec.unless (spec.excess_of tables.now) tt) }
 {
     if MOST < tables.len() {

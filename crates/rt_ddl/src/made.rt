@@ -19,7 +19,7 @@ pub trait Makes {
 }
 
 /// What the head and the others make.
-pub fn all_made<T: Makes>(
+pub(crate) fn all_made<T: Makes>(
     alloc: Global,
     table: &KnownTable,
     head: &T,

@@ -106,7 +106,7 @@ fn mismatch<'t>(tables: &KnownTables, table: &'t KnownTable) -> Option<&'t Txt>
 }
 
 /// The first table with a foreign key whose columns do not match.
-pub fn mismatched(tables: &KnownTables) -> Option<&Txt>
+pub(crate) fn mismatched(tables: &KnownTables) -> Option<&Txt>
     ensures { option_map (λ name. name.now) result ≡ spec.mismatched (spec.tables_of tables.now) (spec.tables_of tables.now) }
 {
     for table in tables.as_slice() {

@@ -205,7 +205,7 @@ fn created(alloc: Global, head: &Create, tail: &[Create]) -> Result<KnownTables,
 }
 
 /// The tables of a text, in text order.
-pub fn table_texts(alloc: Global, text: &SchemaText) -> Result<KnownTables, NoMemory>
+pub(crate) fn table_texts(alloc: Global, text: &SchemaText) -> Result<KnownTables, NoMemory>
     ensures { IfOk result (λ ts. ts ≡ spec.table_texts text.now) }
 {
     match text {

@@ -131,7 +131,7 @@ fn parts_twice<'t>(
 }
 
 /// The first name that is given twice, or the table of the first primary key that is a second one.
-pub fn tables_twice(alloc: Global, tables: &[KnownTable]) -> Result<Option<&Txt>, NoMemory>
+pub(crate) fn tables_twice(alloc: Global, tables: &[KnownTable]) -> Result<Option<&Txt>, NoMemory>
     ensures { IfOk result (λ twice. option_map (λ name. name.now) twice ≡ spec.tables_twice [] tables.now) }
 {
     let mut names = NameList::new(alloc);

@@ -36,7 +36,7 @@ fn mistyped(table: &Table) -> Option<&Txt>
 }
 
 /// The first table with such a check.
-pub fn untyped(tables: &[Table]) -> Option<&Txt>
+pub(crate) fn untyped(tables: &[Table]) -> Option<&Txt>
     ensures { option_map (λ name. name.now) result ≡ spec.untyped tables.now }
 {
     for table in tables {

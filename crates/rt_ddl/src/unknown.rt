@@ -11,7 +11,7 @@ use rt_value::{List, Txt};
 
 /// The name, where no column has it.
 #[tactic(auto, unfolding(crate::specs::Meaning::unknown_column))]
-pub fn unknown_column<'t>(table: &KnownTable, name: &'t Txt) -> Option<&'t Txt>
+pub(crate) fn unknown_column<'t>(table: &KnownTable, name: &'t Txt) -> Option<&'t Txt>
     ensures { option_map (λ name. name.now) result ≡ spec.unknown_column table.now.parts name.now }
 {
     if table.has_column(name) {
@@ -89,7 +89,7 @@ fn parts_unknown<'t>(tables: &KnownTables, table: &'t KnownTable) -> Option<&'t 
 }
 
 /// The first name of a rule that is unknown, or the table without a primary key that is meant.
-pub fn tables_unknown(tables: &KnownTables) -> Option<&Txt>
+pub(crate) fn tables_unknown(tables: &KnownTables) -> Option<&Txt>
     ensures { option_map (λ name. name.now) result ≡ spec.tables_unknown tables.now tables.now }
 {
     for table in tables.as_slice() {

@@ -88,7 +88,7 @@ fn any_unknown<'t>(table: &KnownTable, parts: &'t [TestPart]) -> Option<&'t Txt>
 }
 
 /// The first name of a condition that no column has.
-pub fn test_unknown<'t>(table: &KnownTable, test: &'t Test) -> Option<&'t Txt>
+pub(crate) fn test_unknown<'t>(table: &KnownTable, test: &'t Test) -> Option<&'t Txt>
     ensures { option_map (λ name. name.now) result ≡ spec.test_unknown table.now.parts test.now }
 {
     match all_unknown(table, &test.head) {

@@ -237,7 +237,7 @@ fn test<'t>(
 
 /// A condition in parentheses.
 #[tactic(auto, unfolding(crate::specs::TestReads::read_condition))]
-pub fn condition<'t>(
+pub(crate) fn condition<'t>(
     alloc: Global,
     terminals: &'t [Terminal],
 ) -> Result<(Counted<Test>, &'t [Terminal]), ReadFault>

@@ -28,7 +28,7 @@ impl Member for Name {
 
 /// Names in parentheses.
 #[tactic(auto, unfolding(crate::specs::Reads::read_names))]
-pub fn names<'t>(
+pub(crate) fn names<'t>(
     alloc: Global,
     terminals: &'t [Terminal],
 ) -> Result<(Names, &'t [Terminal]), ReadFault>
@@ -40,7 +40,7 @@ pub fn names<'t>(
 
 /// Names in parentheses, or None where no parenthesis opens.
 #[tactic(auto, unfolding(crate::specs::Reads::read_maybe_names))]
-pub fn maybe_names<'t>(
+pub(crate) fn maybe_names<'t>(
     alloc: Global,
     terminals: &'t [Terminal],
 ) -> Result<(Option<Names>, &'t [Terminal]), ReadFault>
@@ -169,7 +169,7 @@ fn column_rule<'t>(
 
 /// The name after CONSTRAINT, if the terminals begin with that.
 #[tactic(auto, unfolding(crate::specs::Reads::read_constraint))]
-pub fn constraint<'t>(
+pub(crate) fn constraint<'t>(
     alloc: Global,
     terminals: &'t [Terminal],
 ) -> Result<(Option<Name>, &'t [Terminal]), ReadFault>
@@ -225,7 +225,7 @@ fn column_constraints<'t>(
 
 /// The column at the front, with its rules, and what follows it.
 #[tactic(auto, unfolding(crate::specs::Reads::read_column))]
-pub fn column<'t>(
+pub(crate) fn column<'t>(
     alloc: Global,
     terminals: &'t [Terminal],
 ) -> Result<(Column, &'t [Terminal]), ReadFault>

@@ -39,7 +39,7 @@ fn more<'t, T: Member>(
 }
 
 /// A member and those after it, each after a separator.
-pub fn list<'t, T: Member>(
+pub(crate) fn list<'t, T: Member>(
     alloc: Global,
     terminals: &'t [Terminal],
     separator: Fixed,
@@ -53,7 +53,7 @@ pub fn list<'t, T: Member>(
 }
 
 /// Members in parentheses, with commas between them.
-pub fn in_parentheses<'t, T: Member>(
+pub(crate) fn in_parentheses<'t, T: Member>(
     alloc: Global,
     terminals: &'t [Terminal],
 ) -> Result<((T, List<T>), &'t [Terminal]), ReadFault>

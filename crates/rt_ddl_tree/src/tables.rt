@@ -268,7 +268,7 @@ fn creates<'t>(
 
 /// The tree of all the terminals.
 #[tactic(auto, unfolding(crate::specs::Reads::read_text))]
-pub fn text(alloc: Global, terminals: &[Terminal]) -> Result<SchemaText, ReadFault>
+pub(crate) fn text(alloc: Global, terminals: &[Terminal]) -> Result<SchemaText, ReadFault>
     ensures { Answers result (spec.read_text terminals.now) }
 {
     if terminals.is_empty() {

@@ -14,7 +14,7 @@ use std::alloc::Global;
 
 /// The truth of a condition on the rows of the tables, under the rows in scope.
 #[cycle(answer)]
-pub fn pred(
+pub(crate) fn pred(
     alloc: Global,
     condition: &Pred,
     tables: &[List<Row>],
@@ -95,7 +95,7 @@ fn any(
 }
 
 /// Whether a condition of this truth keeps a row: neither false nor unknown does.
-pub fn is_yes(truth: Truth) -> bool
+pub(crate) fn is_yes(truth: Truth) -> bool
     ensures { result ≡ is_yes truth }
 {
     truth == Truth::Yes

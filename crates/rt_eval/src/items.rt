@@ -21,7 +21,7 @@ use std::alloc::Global;
 
 /// The values of the items for each row of the source, with repeats.
 #[cycle(answer)]
-pub fn projection(
+pub(crate) fn projection(
     alloc: Global,
     source: &Query,
     items: &[Expr],

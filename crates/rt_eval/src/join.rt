@@ -15,7 +15,7 @@ use rt_value::{List, NoMemory, Row};
 use std::alloc::Global;
 
 /// Each concatenation of a row of each member.
-pub fn product(alloc: Global, members: &[List<Row>]) -> Result<List<Row>, NoMemory>
+pub(crate) fn product(alloc: Global, members: &[List<Row>]) -> Result<List<Row>, NoMemory>
     ensures { IfOk result (λ out. out ≡ product_rows ([] ∷ []) members.now) }
 {
     if lacks_rows(members) {
@@ -29,7 +29,7 @@ pub fn product(alloc: Global, members: &[List<Row>]) -> Result<List<Row>, NoMemo
 }
 
 /// Whether a member has no rows, and so the product has none.
-pub fn lacks_rows(members: &[List<Row>]) -> bool
+pub(crate) fn lacks_rows(members: &[List<Row>]) -> bool
     ensures { result ≡ list_any (λ rows. nat_eq (length rows) 0) members.now }
 {
     members.iter().any(|rows| rows.len() == 0)
@@ -37,7 +37,7 @@ pub fn lacks_rows(members: &[List<Row>]) -> bool
 
 /// The concatenations on which each member's own conditions and keys hold, the last member not yet
 /// joined to the rows before it. Members are taken in their order.
-pub fn chosen(
+pub(crate) fn chosen(
     alloc: Global,
     members: &[List<Row>],
     parts: &Split,
@@ -77,7 +77,7 @@ fn joined_to(
 }
 
 /// The same as `chosen`, joined.
-pub fn chosen_rows(
+pub(crate) fn chosen_rows(
     alloc: Global,
     members: &[List<Row>],
     parts: &Split,
@@ -126,7 +126,7 @@ fn is_own(alloc: Global, row: &Row, conditions: &[Pred], env: &[&Row]) -> Result
 }
 
 /// How many values the first row of each member has, 0 where there is none.
-pub fn widths(alloc: Global, members: &[List<Row>]) -> Result<List<usize>, NoMemory>
+pub(crate) fn widths(alloc: Global, members: &[List<Row>]) -> Result<List<usize>, NoMemory>
     ensures { IfOk result (λ out. out ≡ map (λ rows. length (slice_index_or rows 0 [])) members.now) }
 {
     let mut out = List::new(alloc);
@@ -146,7 +146,7 @@ fn first_width(rows: &[Row]) -> usize
 }
 
 /// Whether each row of each member has as many values as the width says.
-pub fn are_wide(widths: &[usize], members: &[List<Row>]) -> bool
+pub(crate) fn are_wide(widths: &[usize], members: &[List<Row>]) -> bool
     ensures { result ≡ are_wide widths.now members.now }
 {
     if widths.len() != members.len() {

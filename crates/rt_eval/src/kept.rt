@@ -8,7 +8,7 @@ use rt_value::{Keep, List, NoMemory, Row};
 use std::alloc::Global;
 
 /// The kept rows of each table.
-pub fn kept_tables(
+pub(crate) fn kept_tables(
     alloc: Global,
     tables: &[List<Row>],
     keep: &Keep,

@@ -12,7 +12,7 @@ use rt_value::{List, NoMemory, Row, Truth, Value};
 use std::alloc::Global;
 
 /// EXISTS: whether there is a row.
-pub fn some_truth(rows: &[Row]) -> Truth
+pub(crate) fn some_truth(rows: &[Row]) -> Truth
     ensures { result ≡ some_truth rows.now }
 {
     match rows {
@@ -22,7 +22,7 @@ pub fn some_truth(rows: &[Row]) -> Truth
 }
 
 /// IN with a query: whether the value compares equal to one of the rows.
-pub fn member_truth(value: &Value, rows: &[Row]) -> Truth
+pub(crate) fn member_truth(value: &Value, rows: &[Row]) -> Truth
     ensures { result ≡ member_truth value.now rows.now }
 {
     let mut truth = Truth::No;
@@ -33,7 +33,7 @@ pub fn member_truth(value: &Value, rows: &[Row]) -> Truth
 }
 
 /// The rows, and copies of `more` after them.
-pub fn appended(alloc: Global, rows: List<Row>, more: &[Row]) -> Result<List<Row>, NoMemory>
+pub(crate) fn appended(alloc: Global, rows: List<Row>, more: &[Row]) -> Result<List<Row>, NoMemory>
     ensures { IfOk result (λ out. out ≡ rows ++ more.now) }
 {
     let mut out = rows;
@@ -44,7 +44,7 @@ pub fn appended(alloc: Global, rows: List<Row>, more: &[Row]) -> Result<List<Row
 }
 
 /// INTERSECT: those of the rows that are among the others.
-pub fn common(alloc: Global, rows: &[Row], others: List<Row>) -> Result<List<Row>, NoMemory>
+pub(crate) fn common(alloc: Global, rows: &[Row], others: List<Row>) -> Result<List<Row>, NoMemory>
     ensures { IfOk result (λ out. out ≡ filter (has_row others) rows.now) }
 {
     let set = Rows::of(others)?;
@@ -58,7 +58,11 @@ pub fn common(alloc: Global, rows: &[Row], others: List<Row>) -> Result<List<Row
 }
 
 /// EXCEPT: those of the rows that are not among the others.
-pub fn difference(alloc: Global, rows: &[Row], others: List<Row>) -> Result<List<Row>, NoMemory>
+pub(crate) fn difference(
+    alloc: Global,
+    rows: &[Row],
+    others: List<Row>,
+) -> Result<List<Row>, NoMemory>
     ensures { IfOk result (λ out. out ≡ filter (λ r. not (has_row others r)) rows.now) }
 {
     let set = Rows::of(others)?;
@@ -72,7 +76,7 @@ pub fn difference(alloc: Global, rows: &[Row], others: List<Row>) -> Result<List
 }
 
 /// The values of the items for each row as the innermost in scope.
-pub fn projected(
+pub(crate) fn projected(
     alloc: Global,
     rows: &[Row],
     items: &[Expr],
@@ -89,7 +93,7 @@ pub fn projected(
 }
 
 /// Each concatenation of one of the rows and one of the others.
-pub fn joined(alloc: Global, rows: &[Row], others: &[Row]) -> Result<List<Row>, NoMemory>
+pub(crate) fn joined(alloc: Global, rows: &[Row], others: &[Row]) -> Result<List<Row>, NoMemory>
     ensures { IfOk result (λ out. out ≡ pairs rows.now others.now) }
 {
     let mut out = List::new(alloc);

@@ -23,7 +23,7 @@ pub struct Narrowed {
 
 /// The rows that the members' own conditions and keys choose from the product. Most often these are
 /// all of the condition, and the rows need no further test.
-pub fn narrow(
+pub(crate) fn narrow(
     alloc: Global,
     members: &[List<Row>],
     condition: &Pred,
@@ -50,7 +50,7 @@ pub fn narrow(
 
 /// The same rows, the last member not yet joined to the rows before it; None where the condition
 /// cannot be taken apart.
-pub fn narrow_pairs(
+pub(crate) fn narrow_pairs(
     alloc: Global,
     members: &[List<Row>],
     condition: &Pred,

@@ -122,7 +122,7 @@ fn product_selected(
 
 /// The answer of each query, in their order.
 #[cycle(answer)]
-pub fn each_answer(
+pub(crate) fn each_answer(
     alloc: Global,
     queries: &[Query],
     tables: &[List<Row>],

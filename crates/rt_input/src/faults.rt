@@ -13,7 +13,7 @@ use rt_sql::SqlFault;
 use rt_token::LexFault;
 
 /// The outcome of an error of the lexer in the text of a part.
-pub fn lex_outcome(part: Part, fault: LexFault) -> Outcome
+pub(crate) fn lex_outcome(part: Part, fault: LexFault) -> Outcome
     ensures { result ≡ lex_outcome part fault }
 {
     match fault {

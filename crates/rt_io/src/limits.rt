@@ -21,7 +21,7 @@ pub struct Limits {
 const WORK: u64 = 16_000_000;
 
 /// The numbers of the options, if each comes once at most and in its range.
-pub fn limits_in(matches: &ArgMatches) -> Option<Limits>
+pub(crate) fn limits_in(matches: &ArgMatches) -> Option<Limits>
     ensures value { result ≡ limits (reading_in (rows_of (found_of matches.now))) }
     ensures in_range { IfSome result AreInRange }
 {
@@ -55,7 +55,7 @@ fn limit_of(most: u64, values: &[&str]) -> Option<Option<u64>>
 }
 
 /// The number that one to ten digits write, if it is from 1 to `most`.
-pub fn number_to(most: u64, text: &str) -> Option<u64>
+pub(crate) fn number_to(most: u64, text: &str) -> Option<u64>
     ensures value { result ≡ number_to most text.now }
     ensures in_range { IfSome result (IsWithin most) }
 {

@@ -12,7 +12,10 @@ use clap::{Arg, ArgAction, ArgMatches, Command};
 use std::alloc::{AllocError, Global};
 
 /// The plain arguments, and the values that each option was given.
-pub fn matches_of<'a>(alloc: Global, words: &'a [&'a str]) -> Result<ArgMatches<'a>, WordFault>
+pub(crate) fn matches_of<'a>(
+    alloc: Global,
+    words: &'a [&'a str],
+) -> Result<ArgMatches<'a>, WordFault>
     ensures ok { IfOk result (λ m. read (map (λ s. s.now) words.entry.now) ≡ Some (reading_in (rows_of (found_of m)))) }
     ensures err { IfErr result (IsRefused (map (λ s. s.now) words.entry.now)) }
 {

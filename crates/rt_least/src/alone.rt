@@ -30,7 +30,7 @@ fn kept_rows(alloc: Global, keep: &Keep) -> Result<LitList, NoMemory>
 
 /// Asks for another choice than the best one, of at most as many rows: for one that leaves out a
 /// row of the best. `held` says that no more rows are kept. `None` says that there is none.
-pub fn other(
+pub(crate) fn other(
     alloc: Global,
     solver: &mut Solver<Checker>,
     dag: &Dag,

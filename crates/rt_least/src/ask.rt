@@ -45,7 +45,7 @@ fn put_question(
 
 /// Asks for a choice of the rows at which two literals are true: one that is assumed, and the
 /// question. `None` says that there is none, since the checker's lines deny the question.
-pub fn ask(
+pub(crate) fn ask(
     alloc: Global,
     solver: &mut Solver<Checker>,
     held: Lit,

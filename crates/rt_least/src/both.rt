@@ -10,7 +10,7 @@ use rt_value::NoMemory;
 use std::alloc::Global;
 
 /// Adds a literal of this variable that is true exactly where both of two are.
-pub fn both(
+pub(crate) fn both(
     alloc: Global,
     a: Lit,
     b: Lit,

@@ -26,7 +26,7 @@ use std::alloc::Global;
 /// Each round asks for one that keeps the next row too. If it spends the budget, its clauses hold
 /// for such choices alone; with `left` and that row's negation added, for each choice of as few
 /// rows.
-pub fn by_rows(
+pub(crate) fn by_rows(
     alloc: Global,
     solver: &mut Solver<Checker>,
     dag: &Dag,

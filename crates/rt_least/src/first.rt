@@ -19,7 +19,7 @@ use std::alloc::Global;
 
 /// Goes on from a choice of the fewest rows to the first of them in the order of rows, or until
 /// the budget is spent. A choice of all rows is the only one of its size.
-pub fn first(
+pub(crate) fn first(
     alloc: Global,
     solver: &mut Solver<Checker>,
     dag: &Dag,

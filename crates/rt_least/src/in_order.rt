@@ -58,7 +58,7 @@ fn next_end(place: usize, row: usize, all: bool) -> usize
 ///     is row 0 or 1 kept?              yes, by {1, 4}, which is the best now
 ///     is row 0 kept?                   no: row 0 is left out, and row 1 is kept
 ///     is row 2 or 3 kept?              no: both are left out, and row 4 is kept
-pub fn in_order(
+pub(crate) fn in_order(
     alloc: Global,
     solver: &mut Solver<Checker>,
     dag: &Dag,

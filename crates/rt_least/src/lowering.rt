@@ -19,7 +19,7 @@ use rt_value::{Keep, NoMemory};
 use std::alloc::Global;
 
 /// The literal that says that fewer than `most` rows are kept.
-pub fn fewer(outs: &LitList, most: usize) -> Lit
+pub(crate) fn fewer(outs: &LitList, most: usize) -> Lit
     requires some { 0 < most }
     requires within { most ≤ length outs.now }
     ensures { result ≡ fewer_than outs.now most }

@@ -33,7 +33,7 @@ fn not_kept_between(
 
 /// Adds a literal of this variable that is true exactly where no row of the cone from `place` to
 /// before `end` is kept.
-pub fn none_kept(
+pub(crate) fn none_kept(
     alloc: Global,
     cone: &Keep,
     place: usize,

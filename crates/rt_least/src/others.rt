@@ -24,7 +24,7 @@ use std::alloc::Global;
 /// search is done. If there is one of as many, it asks for one of fewer. Both questions assume
 /// that no more rows are kept than in the best choice, and so what the first one teaches serves
 /// the second.
-pub fn others(
+pub(crate) fn others(
     alloc: Global,
     solver: &mut Solver<Checker>,
     dag: &Dag,

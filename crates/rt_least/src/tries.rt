@@ -10,7 +10,7 @@ use rt_value::NoMemory;
 
 /// Whether a search with clauses over the rows can spend the budget: there are more choices of the
 /// rows than clauses in the budget.
-pub fn is_small(budget: Option<u64>, rows: usize) -> bool {
+pub(crate) fn is_small(budget: Option<u64>, rows: usize) -> bool {
     match budget {
         None => false,
         Some(most) => rows >= 64 || most >> rows == 0,

@@ -29,7 +29,7 @@ fn widened(alloc: Global, lits: &LitList, clause: &LitList) -> Result<LitList, N
 }
 
 /// For each clause, those of the literals that it does not have, and then the clause.
-pub fn all_widened(
+pub(crate) fn all_widened(
     alloc: Global,
     lits: &LitList,
     clauses: &List<LitList>,

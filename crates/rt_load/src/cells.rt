@@ -47,7 +47,7 @@ fn cell_of(
 
 /// The values of record `n`, which has a field for each column; or the error of the first field,
 /// from the left, that is no value of its column.
-pub fn cells_of(
+pub(crate) fn cells_of(
     alloc: Global,
     columns: &[Column],
     n: usize,

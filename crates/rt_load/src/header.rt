@@ -10,7 +10,7 @@ use rt_schema::Column;
 use rt_value::Txt;
 
 /// Whether the bytes begin with a byte order mark.
-pub fn begins_with_mark(bytes: &[u8]) -> bool
+pub(crate) fn begins_with_mark(bytes: &[u8]) -> bool
     ensures { result ≡ spec.begins_with_mark bytes.now }
 {
     match bytes {
@@ -21,7 +21,7 @@ pub fn begins_with_mark(bytes: &[u8]) -> bool
 
 /// Whether the fields of a record are the columns' names, without the blanks around them and
 /// whatever the case of their letters.
-pub fn is_header(columns: &[Column], fields: &ByteRecord) -> bool
+pub(crate) fn is_header(columns: &[Column], fields: &ByteRecord) -> bool
     ensures { result ≡ spec.is_header columns.now (fields_of fields.now) }
 {
     if fields.len() != columns.len() {

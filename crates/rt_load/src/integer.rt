@@ -13,7 +13,7 @@ fn is_blank(b: u8) -> bool
 }
 
 /// The bytes without the spaces and tabs around them.
-pub fn trimmed(bytes: &[u8]) -> &[u8]
+pub(crate) fn trimmed(bytes: &[u8]) -> &[u8]
     ensures { result.now ≡ spec.trimmed bytes.now }
 {
     trimmed_end(trimmed_start(bytes))
@@ -43,7 +43,7 @@ fn trimmed_end(bytes: &[u8]) -> &[u8]
 
 /// The number that a field without blanks around it writes, or None where it writes none from
 /// -2^63 to 2^63 - 1.
-pub fn integer_of(field: &[u8]) -> Option<i128>
+pub(crate) fn integer_of(field: &[u8]) -> Option<i128>
     ensures { result ≡ spec.integer field.now }
 {
     match field {

@@ -11,7 +11,7 @@ use csv::{ByteRecord, ErrorKind, Reader, ReaderBuilder};
 use std::alloc::Global;
 
 /// A reader of each record of the bytes, whatever the number of its fields.
-pub fn reader_of(alloc: Global, bytes: &[u8]) -> Reader<&[u8]>
+pub(crate) fn reader_of(alloc: Global, bytes: &[u8]) -> Reader<&[u8]>
     ensures reading { IsReading result }
     ensures left { left_of result ≡ records default_config (strip_bom bytes.now) }
 {
@@ -22,7 +22,10 @@ pub fn reader_of(alloc: Global, bytes: &[u8]) -> Reader<&[u8]>
 }
 
 /// Reads the next record into `fields` and answers true, or answers false after the last one.
-pub fn read_next(reader: &mut Reader<&[u8]>, fields: &mut ByteRecord) -> Result<bool, LoadFault>
+pub(crate) fn read_next(
+    reader: &mut Reader<&[u8]>,
+    fields: &mut ByteRecord,
+) -> Result<bool, LoadFault>
     requires { IsReading reader.old }
     ensures next { IfOk result (λ found. ReadsNext reader.old reader.new found (fields_of fields.new)) }
     ensures err { IfErr result (λ e. e ≡ LoadFault.NoMemory) }

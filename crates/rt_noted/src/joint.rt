@@ -26,7 +26,7 @@ impl Drop for Joint {
 }
 
 /// The row without values alone, which is there at every choice.
-pub fn unit(alloc: Global) -> Result<List<Joint>, NoMemory>
+pub(crate) fn unit(alloc: Global) -> Result<List<Joint>, NoMemory>
     ensures { IfOk result (λ out. out ≡ unit_joints) }
 {
     let mut out = List::new(alloc);
@@ -46,7 +46,7 @@ fn with_node(alloc: Global, nodes: &[Node], node: Node) -> Result<List<Node>, No
 }
 
 /// The row `first` before the row `rest`.
-pub fn joined_one(alloc: Global, first: &Joint, rest: &Noted) -> Result<Joint, NoMemory>
+pub(crate) fn joined_one(alloc: Global, first: &Joint, rest: &Noted) -> Result<Joint, NoMemory>
     ensures { IfOk result (λ j. j ∷ [] ≡ join_joint first.now (rest.now ∷ [])) }
 {
     let row = first.row.join(alloc, &rest.row)?;
@@ -95,7 +95,7 @@ pub fn noted_product(
 }
 
 /// Each concatenation of a row of each member.
-pub fn product(alloc: Global, members: &[List<Noted>]) -> Result<List<Joint>, NoMemory>
+pub(crate) fn product(alloc: Global, members: &[List<Noted>]) -> Result<List<Joint>, NoMemory>
     ensures { IfOk result (λ out. out ≡ product_joints unit_joints members.now) }
 {
     if lacks_rows(members) {
@@ -109,7 +109,7 @@ pub fn product(alloc: Global, members: &[List<Noted>]) -> Result<List<Joint>, No
 }
 
 /// Whether a member has no rows, and so the product has none.
-pub fn lacks_rows(members: &[List<Noted>]) -> bool
+pub(crate) fn lacks_rows(members: &[List<Noted>]) -> bool
     ensures { result ≡ list_any (λ rows. nat_eq (length rows) 0) members.now }
 {
     members.iter().any(|rows| rows.len() == 0)

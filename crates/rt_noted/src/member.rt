@@ -25,7 +25,7 @@ fn nodes_of(alloc: Global, rows: &[Noted]) -> Result<List<Node>, NoMemory>
 }
 
 /// Whether there is a row.
-pub fn exists(alloc: Global, dag: &mut Dag, rows: &[Noted]) -> Result<TruthNodes, NoMemory>
+pub(crate) fn exists(alloc: Global, dag: &mut Dag, rows: &[Noted]) -> Result<TruthNodes, NoMemory>
     requires { AreNoted dag.old rows.now }
     ensures grown { IsGrown dag.old dag.new }
     ensures gate { IfOk result (λ g. IsGate dag.new g (any_entry (entries_of dag.old rows.now), λ s. not (any_entry (entries_of dag.old rows.now) s))) }

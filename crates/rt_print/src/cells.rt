@@ -8,7 +8,12 @@ use rt_value::{Bytes, NoMemory, Value};
 use std::alloc::Global;
 
 /// A line that counts something, such as `witness: 3`.
-pub fn put_count(alloc: Global, text: &mut Bytes, title: &str, n: usize) -> Result<(), NoMemory>
+pub(crate) fn put_count(
+    alloc: Global,
+    text: &mut Bytes,
+    title: &str,
+    n: usize,
+) -> Result<(), NoMemory>
     ensures { OnOk result (text.new ≡ text.old ++ spec.count_line title.now n) }
 {
     text.extend(title.as_bytes())?;
@@ -18,7 +23,7 @@ pub fn put_count(alloc: Global, text: &mut Bytes, title: &str, n: usize) -> Resu
 }
 
 /// The number in decimal digits, without leading zeros.
-pub fn put_number(alloc: Global, text: &mut Bytes, n: u64) -> Result<(), NoMemory>
+pub(crate) fn put_number(alloc: Global, text: &mut Bytes, n: u64) -> Result<(), NoMemory>
     ensures { OnOk result (text.new ≡ text.old ++ decimal n) }
 {
     let digits = format!(in alloc; "{n}")?;
@@ -26,7 +31,7 @@ pub fn put_number(alloc: Global, text: &mut Bytes, n: u64) -> Result<(), NoMemor
 }
 
 /// The values of a row, with a comma and a space between them, as in `1, 'O''Hara', NULL`.
-pub fn put_cells(alloc: Global, text: &mut Bytes, row: &[Value]) -> Result<(), NoMemory>
+pub(crate) fn put_cells(alloc: Global, text: &mut Bytes, row: &[Value]) -> Result<(), NoMemory>
     ensures { OnOk result (text.new ≡ text.old ++ spec.cells row.now) }
 {
     match row {

@@ -11,7 +11,7 @@ use std::alloc::Global;
 
 /// A line for each kept place, in order, such as `beers 2: 'Bud', 5`: the table, the number of the
 /// row in its table from 1, and its values.
-pub fn put_kept(
+pub(crate) fn put_kept(
     alloc: Global,
     text: &mut Bytes,
     schema: &Schema,

@@ -35,7 +35,7 @@ pub fn spent_text(
 }
 
 /// That the budget of conflicts was spent.
-pub fn put_budget(alloc: Global, text: &mut Bytes, budget: u64) -> Result<(), NoMemory>
+pub(crate) fn put_budget(alloc: Global, text: &mut Bytes, budget: u64) -> Result<(), NoMemory>
     ensures { OnOk result (text.new ≡ text.old ++ spec.budget_line budget) }
 {
     text.extend(b"undecided: ")?;

@@ -109,7 +109,7 @@ fn more_tests(
 }
 
 /// The conditions of the tests, in order.
-pub fn tests(alloc: Global, columns: &[Column], of: &RaTests) -> Result<List<Pred>, RaFault>
+pub(crate) fn tests(alloc: Global, columns: &[Column], of: &RaTests) -> Result<List<Pred>, RaFault>
     ensures { Gives is_memory result (spec.tests [] columns.now (of.now.head ∷ of.now.tail)) }
 {
     let first = test(alloc, columns, &of.head)?;

@@ -20,7 +20,7 @@ fn crossed(alloc: Global, left: Relation, right: Relation) -> Result<Relation, N
 }
 
 /// CROSS.
-pub fn cross(alloc: Global, left: Relation, right: Relation) -> Result<Relation, RaFault>
+pub(crate) fn cross(alloc: Global, left: Relation, right: Relation) -> Result<Relation, RaFault>
     ensures { Gives is_memory result (spec.two op.Cross left right) }
 {
     match shared_name(alloc, right.columns.as_slice(), left.columns.as_slice())? {

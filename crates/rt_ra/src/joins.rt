@@ -66,7 +66,7 @@ fn plan_of(alloc: Global, columns: &[Column], others: &[Column]) -> Result<Plan,
 }
 
 /// The rows of the first, each with each row that it meets.
-pub fn joined(alloc: Global, left: Relation, right: Relation) -> Result<Relation, NoMemory>
+pub(crate) fn joined(alloc: Global, left: Relation, right: Relation) -> Result<Relation, NoMemory>
     ensures { IfOk result (λ j. j ≡ spec.joined left right) }
 {
     let Plan {
@@ -79,7 +79,7 @@ pub fn joined(alloc: Global, left: Relation, right: Relation) -> Result<Relation
 }
 
 /// JOIN.
-pub fn join(alloc: Global, left: Relation, right: Relation) -> Result<Relation, RaFault>
+pub(crate) fn join(alloc: Global, left: Relation, right: Relation) -> Result<Relation, RaFault>
     ensures { Gives is_memory result (spec.two op.Join left right) }
 {
     check_fit(left.columns.as_slice(), right.columns.as_slice())?;

@@ -98,7 +98,7 @@ fn filled_join(alloc: Global, left: Doubled, right: Doubled) -> Result<Relation,
 }
 
 /// LEFTJOIN: the join, and the rows of the first that are in no pair.
-pub fn left_join(alloc: Global, left: Doubled, right: Doubled) -> Result<Relation, RaFault>
+pub(crate) fn left_join(alloc: Global, left: Doubled, right: Doubled) -> Result<Relation, RaFault>
     requires left { left.again ≡ left.relation.query }
     requires right { right.again ≡ right.relation.query }
     ensures { Gives is_memory result (spec.two op.LeftJoin left.relation right.relation) }

@@ -8,7 +8,7 @@ use rt_value::{List, NoMemory, Txt};
 use std::alloc::Global;
 
 /// The texts of the names.
-pub fn texts(alloc: Global, names: &RaNames) -> Result<List<Txt>, NoMemory>
+pub(crate) fn texts(alloc: Global, names: &RaNames) -> Result<List<Txt>, NoMemory>
     ensures { IfOk result (λ texts. texts ≡ spec.texts names.now) }
 {
     let mut texts = List::new(alloc);

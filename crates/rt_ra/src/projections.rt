@@ -11,7 +11,7 @@ use rt_value::{Boxed, List, Txt};
 use std::alloc::Global;
 
 /// The columns of these names.
-pub fn project(alloc: Global, of: Relation, names: &[Txt]) -> Result<Relation, RaFault>
+pub(crate) fn project(alloc: Global, of: Relation, names: &[Txt]) -> Result<Relation, RaFault>
     ensures { Gives is_memory result (spec.project of names.now) }
 {
     let Relation { query, columns } = of;

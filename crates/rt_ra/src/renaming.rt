@@ -40,7 +40,7 @@ fn renamed(alloc: Global, names: &[Txt], columns: &[Column]) -> Result<List<Colu
 }
 
 /// The columns under new names.
-pub fn rename(alloc: Global, of: Relation, names: &[Txt]) -> Result<Relation, RaFault>
+pub(crate) fn rename(alloc: Global, of: Relation, names: &[Txt]) -> Result<Relation, RaFault>
     ensures { Gives is_memory result (spec.rename of names.now) }
 {
     let Relation { query, columns } = of;

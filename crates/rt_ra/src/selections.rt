@@ -11,7 +11,7 @@ use rt_relation::Relation;
 use std::alloc::Global;
 
 /// The rows that meet the tests.
-pub fn select(alloc: Global, of: Relation, tests: &RaTests) -> Result<Relation, RaFault>
+pub(crate) fn select(alloc: Global, of: Relation, tests: &RaTests) -> Result<Relation, RaFault>
     ensures { Gives is_memory result (spec.select of tests.now) }
 {
     let Relation { query, columns } = of;

@@ -32,7 +32,7 @@ fn semi(alloc: Global, left: Relation, right: Relation) -> Result<Relation, NoMe
 }
 
 /// The rows of the first that meet no row.
-pub fn anti(alloc: Global, left: Relation, right: Relation) -> Result<Relation, NoMemory>
+pub(crate) fn anti(alloc: Global, left: Relation, right: Relation) -> Result<Relation, NoMemory>
     ensures { IfOk result (λ s. s ≡ spec.anti left right) }
 {
     let Relation { query, columns } = left;
@@ -42,7 +42,7 @@ pub fn anti(alloc: Global, left: Relation, right: Relation) -> Result<Relation, 
 }
 
 /// SEMI.
-pub fn semi_join(alloc: Global, left: Relation, right: Relation) -> Result<Relation, RaFault>
+pub(crate) fn semi_join(alloc: Global, left: Relation, right: Relation) -> Result<Relation, RaFault>
     ensures { Gives is_memory result (spec.two op.Semi left right) }
 {
     check_fit(left.columns.as_slice(), right.columns.as_slice())?;
@@ -50,7 +50,7 @@ pub fn semi_join(alloc: Global, left: Relation, right: Relation) -> Result<Relat
 }
 
 /// ANTI.
-pub fn anti_join(alloc: Global, left: Relation, right: Relation) -> Result<Relation, RaFault>
+pub(crate) fn anti_join(alloc: Global, left: Relation, right: Relation) -> Result<Relation, RaFault>
     ensures { Gives is_memory result (spec.two op.Anti left right) }
 {
     check_fit(left.columns.as_slice(), right.columns.as_slice())?;

@@ -29,7 +29,7 @@ fn united_columns(
 }
 
 /// The operator over operands whose columns fit.
-pub fn united(
+pub(crate) fn united(
     alloc: Global,
     op: SetOp,
     left: Relation,

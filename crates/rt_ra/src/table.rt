@@ -12,7 +12,7 @@ use rt_value::{Boxed, Txt};
 use std::alloc::Global;
 
 /// The table of this name.
-pub fn table_named(alloc: Global, name: &Txt, tables: &[Table]) -> Result<Relation, RaFault>
+pub(crate) fn table_named(alloc: Global, name: &Txt, tables: &[Table]) -> Result<Relation, RaFault>
     ensures { Gives is_memory result (spec.table_named name.now 0 tables.now) }
 {
     let mut at = 0;

@@ -115,7 +115,7 @@ fn renamed(alloc: Global, tables: &[Table], of: &Ra, names: &RaNames) -> Result<
 
 /// The query of the tree, with its columns, or its first error.
 #[cycle(walk)]
-pub fn relation(alloc: Global, tables: &[Table], of: &Ra) -> Result<Relation, RaFault>
+pub(crate) fn relation(alloc: Global, tables: &[Table], of: &Ra) -> Result<Relation, RaFault>
     ensures { Gives is_memory result (spec.relation of.now tables.now) }
 {
     match of {

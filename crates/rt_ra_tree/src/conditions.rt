@@ -115,7 +115,7 @@ fn more_tests<'t>(
 
 /// The tests at the front, joined by AND, and what follows them.
 #[tactic(auto, unfolding(crate::specs::Reads::read_tests))]
-pub fn tests<'t>(
+pub(crate) fn tests<'t>(
     alloc: Global,
     terminals: &'t [Terminal],
 ) -> Result<(RaTests, &'t [Terminal]), ReadFault>
@@ -166,7 +166,7 @@ fn name_list<'t>(
 
 /// The names in parentheses at the front, and what follows them.
 #[tactic(auto, unfolding(crate::specs::Reads::read_names))]
-pub fn names<'t>(
+pub(crate) fn names<'t>(
     alloc: Global,
     terminals: &'t [Terminal],
 ) -> Result<(RaNames, &'t [Terminal]), ReadFault>

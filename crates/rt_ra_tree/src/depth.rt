@@ -33,7 +33,7 @@ fn doubles_too_many(tokens: &[Token]) -> bool
 }
 
 /// Whether the tokens are nested too deep.
-pub fn is_deep(tokens: &[Token]) -> bool
+pub(crate) fn is_deep(tokens: &[Token]) -> bool
     ensures { result ≡ spec.is_deep (kinds tokens.now) }
 {
     opens_too_many(tokens) || doubles_too_many(tokens)

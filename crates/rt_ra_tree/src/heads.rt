@@ -79,7 +79,7 @@ fn head_of(terminal: &Terminal) -> Option<Head>
 }
 
 /// The operator at the front, where a parenthesis opens after it, and what follows it.
-pub fn head_at<'t>(terminals: &'t [Terminal]) -> Option<(Head, &'t [Terminal])>
+pub(crate) fn head_at<'t>(terminals: &'t [Terminal]) -> Option<(Head, &'t [Terminal])>
     ensures { option_map (λ h. (h.0, h.1.now)) result ≡ spec.head_at terminals.now }
 {
     match terminals {

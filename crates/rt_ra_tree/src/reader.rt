@@ -145,7 +145,7 @@ fn applied<'t>(
 /// The tree at the front, with fewer than `depth` operators in one another, and what follows it.
 #[tactic(auto, unfolding(crate::specs::Reads::read_ra))]
 #[cycle(ra_reader)]
-pub fn ra<'t>(
+pub(crate) fn ra<'t>(
     alloc: Global,
     depth: usize,
     terminals: &'t [Terminal],

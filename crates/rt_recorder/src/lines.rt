@@ -13,14 +13,14 @@ use rt_value::{List, NoMemory};
 use std::alloc::Global;
 
 /// Whether the line is this text, byte by byte.
-pub fn is(line: &[u8], text: &[u8]) -> bool
+pub(crate) fn is(line: &[u8], text: &[u8]) -> bool
     ensures { MatchBool result (line.now ≡ text.now) (line.now ≢ text.now) }
 {
     line == text
 }
 
 /// The claim of a line `verdict agree` or `verdict witness N`.
-pub fn claim(line: &[u8]) -> Option<Claim>
+pub(crate) fn claim(line: &[u8]) -> Option<Claim>
     ensures { Reads IsClaim claim_line line.now result }
 {
     if is(line, b"verdict agree") {
@@ -55,7 +55,7 @@ fn suit(places: &[u64], rows: u64) -> bool
 }
 
 /// The places of a line `keep ..`, which rise, of a witness of so many rows.
-pub fn places(alloc: Global, line: &[u8], rows: u64) -> Result<Option<List<u64>>, NoMemory>
+pub(crate) fn places(alloc: Global, line: &[u8], rows: u64) -> Result<Option<List<u64>>, NoMemory>
     requires { spec.IsNumber rows }
     ensures { IfOk result (Reads (λ ps. spec.ArePlaces ps × (length ps ≡ rows)) spec.keep_line line.now) }
 {
@@ -73,7 +73,7 @@ pub fn places(alloc: Global, line: &[u8], rows: u64) -> Result<Option<List<u64>>
 }
 
 /// The number of given lines that the steps go on from, of a line `added N`.
-pub fn added(line: &[u8]) -> Option<u64>
+pub(crate) fn added(line: &[u8]) -> Option<u64>
     ensures { Reads spec.IsNumber spec.added_line line.now result }
 {
     let Some(lines) = after(line, b"added ") else {
@@ -96,7 +96,7 @@ fn step_of(alloc: Global, lits: &[u8], hints: &[u8]) -> Result<Option<Step>, NoM
 
 /// The step of a line such as `d +3 -5 ; 0 12`: the literals x3 and not x5, by lines 0 and 12. Its
 /// literals come before the first semicolon, its hints after it.
-pub fn step(alloc: Global, line: &[u8]) -> Result<Option<Step>, NoMemory>
+pub(crate) fn step(alloc: Global, line: &[u8]) -> Result<Option<Step>, NoMemory>
     ensures { IfOk result (Reads spec.IsStep spec.step_line line.now) }
 {
     let Some(rest) = after(line, b"d") else {

@@ -11,7 +11,7 @@ use rt_value::{List, NoMemory, all_digits, decimal_up_to};
 use std::alloc::Global;
 
 /// The number of bytes before the first that is `at`: of all, if none is.
-pub fn span(text: &[u8], at: u8) -> usize
+pub(crate) fn span(text: &[u8], at: u8) -> usize
     ensures within { result ≤ length text.now }
     ensures cut { IsCut at text.now (take result text.now) (drop result text.now) }
 {
@@ -33,7 +33,7 @@ fn is_numeral(word: &[u8]) -> bool
 }
 
 /// A decimal number below 2^62 without leading zeros.
-pub fn number(word: &[u8]) -> Option<u64>
+pub(crate) fn number(word: &[u8]) -> Option<u64>
     ensures { Reads spec.IsNumber decimal word.now result }
 {
     if !is_numeral(word) {
@@ -65,14 +65,14 @@ fn literal_of(digits: &[u8], on: bool) -> Option<Lit>
 }
 
 /// What follows the front, if the text begins with it.
-pub fn after<'a>(text: &'a [u8], front: &[u8]) -> Option<&'a [u8]>
+pub(crate) fn after<'a>(text: &'a [u8], front: &[u8]) -> Option<&'a [u8]>
     ensures { MatchOption result ((rest : Seq ℕ) → text.entry.now ≡ front.entry.now ++ rest → ⊥) (λ rest. text.entry.now ≡ front.entry.now ++ rest.now) }
 {
     text.strip_prefix(front)
 }
 
 /// Numbers below 2^62, each after a space.
-pub fn numbers(alloc: Global, text: &[u8]) -> Result<Option<List<u64>>, NoMemory>
+pub(crate) fn numbers(alloc: Global, text: &[u8]) -> Result<Option<List<u64>>, NoMemory>
     ensures { IfOk result (Reads (Each spec.IsNumber) (spec.spaced decimal) text.now) }
 {
     let mut out = List::new(alloc);
@@ -92,7 +92,7 @@ pub fn numbers(alloc: Global, text: &[u8]) -> Result<Option<List<u64>>, NoMemory
 }
 
 /// Literals, each after a space: `+` or `-`, and the variable.
-pub fn literals(alloc: Global, text: &[u8]) -> Result<Option<LitList>, NoMemory>
+pub(crate) fn literals(alloc: Global, text: &[u8]) -> Result<Option<LitList>, NoMemory>
     ensures { IfOk result (Reads (Each (λ l. spec.IsNumber l.var)) (spec.spaced spec.literal) text.now) }
 {
     let mut out = List::new(alloc);
@@ -112,7 +112,7 @@ pub fn literals(alloc: Global, text: &[u8]) -> Result<Option<LitList>, NoMemory>
 }
 
 /// What comes before a space at the end, if there is one.
-pub fn before_space(text: &[u8]) -> Option<&[u8]>
+pub(crate) fn before_space(text: &[u8]) -> Option<&[u8]>
     ensures { MatchOption result ((front : Seq ℕ) → text.now ≡ front ++ 32 ∷ [] → ⊥) (λ front. text.now ≡ front.now ++ 32 ∷ []) }
 {
     text.strip_suffix(b" ")

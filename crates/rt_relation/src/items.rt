@@ -61,7 +61,7 @@ pub fn with_placed(
 }
 
 /// The items so far, and the columns of the names that the others have.
-pub fn with_named(
+pub(crate) fn with_named(
     so_far: List<Expr>,
     others: &[Column],
     columns: &[Column],

@@ -37,7 +37,7 @@ pub fn place_of(name: &Txt, columns: &[Column]) -> usize
 
 /// Whether a column has the name.
 #[tactic(auto, using(crate::proofs::More::names_length))]
-pub fn has(name: &Txt, columns: &[Column]) -> bool
+pub(crate) fn has(name: &Txt, columns: &[Column]) -> bool
     ensures { result ≡ spec.has name.now (spec.names columns.now) }
 {
     place_of(name, columns) < columns.len()
@@ -66,7 +66,7 @@ fn is_among(name: &Txt, names: &[Txt]) -> bool
 }
 
 /// The first name that is among those before it.
-pub fn twice(names: &[Txt]) -> Option<&Txt>
+pub(crate) fn twice(names: &[Txt]) -> Option<&Txt>
     ensures { option_map (λ n. n.now) result ≡ spec.twice names.now 0 names.now }
 {
     let mut at = 0_usize;
@@ -114,7 +114,7 @@ fn fits(column: &Column, others: &[Column]) -> bool
 }
 
 /// Whether columns of one name are of one kind.
-pub fn common_fit(columns: &[Column], others: &[Column]) -> bool
+pub(crate) fn common_fit(columns: &[Column], others: &[Column]) -> bool
     ensures { result ≡ spec.common_fit columns.now others.now }
 {
     for column in columns {
@@ -126,7 +126,7 @@ pub fn common_fit(columns: &[Column], others: &[Column]) -> bool
 }
 
 /// The columns that the others have not.
-pub fn further(
+pub(crate) fn further(
     alloc: Global,
     columns: &[Column],
     others: &[Column],
@@ -206,7 +206,7 @@ pub fn shared_name(
 }
 
 /// The first of the columns that the others lack.
-pub fn lacked_name(
+pub(crate) fn lacked_name(
     alloc: Global,
     columns: &[Column],
     others: &[Column],

@@ -354,7 +354,7 @@ fn chain_links(
 
 /// A chain of set operators over the tables, under the scopes around it.
 #[cycle(chains)]
-pub fn chain(
+pub(crate) fn chain(
     alloc: Global,
     tables: &[Table],
     of: &Chain,

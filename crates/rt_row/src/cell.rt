@@ -30,7 +30,7 @@ fn negative(sign: &TokenKind, number: &TokenKind) -> Option<Value>
 }
 
 /// The cell that these tokens are, if they are one.
-pub fn cell(alloc: Global, tokens: &[Token]) -> Result<Option<Value>, NoMemory>
+pub(crate) fn cell(alloc: Global, tokens: &[Token]) -> Result<Option<Value>, NoMemory>
     ensures { IfOk result (λ v. v ≡ spec.cell tokens.now) }
 {
     match tokens {

@@ -16,7 +16,7 @@ use rt_value::{Boxed, List, Op};
 use std::alloc::Global;
 
 /// The comparison of two expressions.
-pub fn compared(op: Op, a: Scalar, b: Scalar) -> Result<Pred, NameFault>
+pub(crate) fn compared(op: Op, a: Scalar, b: Scalar) -> Result<Pred, NameFault>
     ensures { Gives is_memory result (spec.compared op a b) }
 {
     if comparable(a.kind, b.kind) {
@@ -67,7 +67,7 @@ fn listed(
 }
 
 /// The members of a list, each of which is to be compared with an expression of this kind.
-pub fn list_items(
+pub(crate) fn list_items(
     alloc: Global,
     kind: Option<ColKind>,
     head: &Sum,

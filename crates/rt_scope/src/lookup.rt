@@ -35,7 +35,7 @@ pub enum Seen {
 
 /// The number after a place or a depth. No memory holds a row or a stack of scopes so long that
 /// there is none.
-pub fn after(at: usize) -> Result<usize, NameFault>
+pub(crate) fn after(at: usize) -> Result<usize, NameFault>
     ensures { Gives is_memory result (Ok (at + 1)) }
 {
     match at.checked_add(1) {
@@ -98,7 +98,7 @@ fn column_of(up: usize, found: Found) -> Scalar
 
 /// The column that a name without a qualifier means, where the innermost scope is `up` rows
 /// outward: that of the innermost scope that has one.
-pub fn find_column(
+pub(crate) fn find_column(
     alloc: Global,
     up: usize,
     name: &Txt,
@@ -130,7 +130,7 @@ fn column_in(alloc: Global, up: usize, name: &Txt, source: &Source) -> Result<Sc
 
 /// The column that a qualified name means, where the innermost scope is `up` rows outward: that of
 /// the innermost scope that has the source.
-pub fn find_qualified(
+pub(crate) fn find_qualified(
     alloc: Global,
     up: usize,
     qualifier: &Txt,

@@ -16,7 +16,7 @@ pub struct Source {
 }
 
 /// The source of this name.
-pub fn source_named<'s>(name: &Txt, sources: &'s [Source]) -> Option<&'s Source>
+pub(crate) fn source_named<'s>(name: &Txt, sources: &'s [Source]) -> Option<&'s Source>
     ensures { option_map (λ s. s.now) result ≡ spec.source_named name.now sources.entry.now }
 {
     for source in sources {

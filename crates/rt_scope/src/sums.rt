@@ -270,7 +270,7 @@ fn sum_of(sum: Terms) -> Scalar
 /// The expression of a sum, over the sources in scope.
 #[tactic(auto, using(crate::proofs::More::more_map))]
 #[cycle(sums)]
-pub fn sum(alloc: Global, of: &Sum, scopes: &[&[Source]]) -> Result<Scalar, NameFault>
+pub(crate) fn sum(alloc: Global, of: &Sum, scopes: &[&[Source]]) -> Result<Scalar, NameFault>
     ensures { Gives is_memory result (spec.sum of.now (map (λ s. s.now) scopes.now)) }
 {
     let x = mul(alloc, &of.head, scopes)?;

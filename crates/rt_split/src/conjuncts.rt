@@ -142,7 +142,7 @@ fn key_of(pred: &Pred, base: usize, width: usize) -> Option<KeyPair>
 }
 
 /// The place of an expression that is a column of the innermost row.
-pub fn place(expr: &Expr) -> Option<usize>
+pub(crate) fn place(expr: &Expr) -> Option<usize>
     ensures { result ≡ place expr.now }
 {
     match expr {

@@ -73,7 +73,7 @@ fn any_pred_names(preds: &[Pred]) -> bool
 }
 
 /// Whether a place in the whole row lies in the member of `width` columns that begins at `base`.
-pub fn lies(base: usize, width: usize, at: usize) -> bool
+pub(crate) fn lies(base: usize, width: usize, at: usize) -> bool
     ensures { result ≡ lies base width at }
 {
     base <= at && at - base < width
@@ -267,7 +267,7 @@ fn moved_preds(
 
 /// The condition over the member's row, or None where it isn't one of the member's own. It is one
 /// if it names a column, all columns are the member's, and it has no subquery.
-pub fn own_of(
+pub(crate) fn own_of(
     alloc: Global,
     pred: &Pred,
     base: usize,

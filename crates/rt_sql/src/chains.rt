@@ -17,7 +17,7 @@ use std::alloc::Global;
 
 /// A chain in parentheses.
 #[cycle(chain_reader)]
-pub fn chain_in_parens<'t>(
+pub(crate) fn chain_in_parens<'t>(
     alloc: Global,
     depth: usize,
     terminals: &'t [Terminal],
@@ -201,7 +201,7 @@ fn chain<'t>(
 
 /// A chain without the parentheses around it: the whole query, or what is inside parentheses.
 #[cycle(chain_reader)]
-pub fn inner_chain<'t>(
+pub(crate) fn inner_chain<'t>(
     alloc: Global,
     depth: usize,
     terminals: &'t [Terminal],

@@ -180,7 +180,7 @@ fn more_conjs<'t>(
 /// The condition at the front, and what follows it.
 #[tactic(auto, unfolding(crate::specs::Reads::read_cond))]
 #[cycle(chain_reader)]
-pub fn cond<'t>(
+pub(crate) fn cond<'t>(
     alloc: Global,
     depth: usize,
     terminals: &'t [Terminal],

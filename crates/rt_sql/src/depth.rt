@@ -78,7 +78,7 @@ fn repeats_minus(tokens: &[Token]) -> bool
 }
 
 /// Whether the tokens are nested too deep.
-pub fn is_deep(tokens: &[Token]) -> bool
+pub(crate) fn is_deep(tokens: &[Token]) -> bool
     ensures { result ≡ spec.is_deep (kinds tokens.now) }
 {
     opens_too_many(tokens)

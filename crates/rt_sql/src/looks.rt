@@ -8,14 +8,14 @@ ghost use Rattle.rt_sql.specs.Reads as spec;
 use rt_token::{Fixed, Terminal, after, code, code_of, front, starts, tail};
 
 /// Whether a sign of comparison is at the front.
-pub fn is_op(terminals: &[Terminal]) -> bool
+pub(crate) fn is_op(terminals: &[Terminal]) -> bool
     ensures { result ≡ spec.is_op terminals.now }
 {
     code(Fixed::Equal) <= front(terminals) && front(terminals) <= code(Fixed::AtLeast)
 }
 
 /// Whether JOIN, INNER or CROSS is at the front.
-pub fn is_join(terminals: &[Terminal]) -> bool
+pub(crate) fn is_join(terminals: &[Terminal]) -> bool
     ensures { result ≡ spec.is_join terminals.now }
 {
     starts(terminals, Fixed::Inner)
@@ -23,7 +23,7 @@ pub fn is_join(terminals: &[Terminal]) -> bool
 }
 
 /// Whether UNION or EXCEPT is at the front.
-pub fn is_union(terminals: &[Terminal]) -> bool
+pub(crate) fn is_union(terminals: &[Terminal]) -> bool
     ensures { result ≡ spec.is_union terminals.now }
 {
     starts(terminals, Fixed::Union) || starts(terminals, Fixed::Except)
@@ -41,7 +41,7 @@ fn begins_chain(terminals: &[Terminal]) -> bool
 }
 
 /// Whether IN and a chain after it are at the front.
-pub fn is_in_chain(terminals: &[Terminal]) -> bool
+pub(crate) fn is_in_chain(terminals: &[Terminal]) -> bool
     ensures { result ≡ spec.is_in_chain terminals.now }
 {
     starts(terminals, Fixed::In) && begins_chain(tail(terminals))
@@ -70,7 +70,7 @@ fn skip<'t>(terminals: &'t [Terminal]) -> &'t [Terminal]
 
 /// Whether the parenthesis at the front holds a condition, and not a sum. What follows its closing
 /// one decides: AND in `(a = b) AND c = d`, but `>` in `(a + b) > c`.
-pub fn is_group(terminals: &[Terminal]) -> bool
+pub(crate) fn is_group(terminals: &[Terminal]) -> bool
     ensures { result ≡ spec.is_group terminals.now }
 {
     starts(terminals, Fixed::OpenParen) && code(Fixed::And) <= front(skip(tail(terminals)))

@@ -79,7 +79,7 @@ fn between<'t>(
 }
 
 /// A range that holds no chain.
-pub fn plain_range<'t>(
+pub(crate) fn plain_range<'t>(
     alloc: Global,
     terminals: &'t [Terminal],
 ) -> Result<(Range, &'t [Terminal]), ReadFault>
@@ -113,7 +113,7 @@ fn op_at(place: u8) -> Option<Op>
 }
 
 /// A comparison and a sum.
-pub fn compared<'t>(
+pub(crate) fn compared<'t>(
     alloc: Global,
     terminals: &'t [Terminal],
 ) -> Result<(Test, &'t [Terminal]), ReadFault>
@@ -127,7 +127,7 @@ pub fn compared<'t>(
 }
 
 /// IS, perhaps NOT, and NULL.
-pub fn is_null<'t>(terminals: &'t [Terminal]) -> Result<(Test, &'t [Terminal]), ReadFault>
+pub(crate) fn is_null<'t>(terminals: &'t [Terminal]) -> Result<(Test, &'t [Terminal]), ReadFault>
     ensures { Reads result (spec.read_is_null terminals.now) }
 {
     let rest = expect(terminals, Fixed::Is)?;

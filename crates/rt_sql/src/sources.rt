@@ -194,7 +194,7 @@ fn maybe_where<'t>(
 
 /// What follows FROM: the sources and the condition after WHERE, if there is one.
 #[cycle(chain_reader)]
-pub fn sources_where<'t>(
+pub(crate) fn sources_where<'t>(
     alloc: Global,
     depth: usize,
     terminals: &'t [Terminal],

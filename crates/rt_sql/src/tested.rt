@@ -33,7 +33,7 @@ fn ranged(left: Sum, not: bool, range: Range) -> Atom
 }
 
 /// The atom of its first sum and what follows that.
-pub fn atom_of(left: Sum, test: Test) -> Atom
+pub(crate) fn atom_of(left: Sum, test: Test) -> Atom
     ensures { result ≡ spec.atom_of left test }
 {
     match test {

@@ -67,7 +67,7 @@ fn refused_word<'t>(kind: &'t TokenKind, next: &[Token]) -> Option<&'t Txt>
 }
 
 /// The first word that is refused, and the place of its first byte, from 0.
-pub fn unsupported(tokens: &[Token]) -> Option<(&Txt, usize)>
+pub(crate) fn unsupported(tokens: &[Token]) -> Option<(&Txt, usize)>
     ensures { option_map (λ u. (u.0.now, u.1)) result ≡ spec.unsupported tokens.now }
 {
     let mut rest = tokens;

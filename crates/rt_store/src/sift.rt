@@ -8,7 +8,7 @@ use crate::places::HeapOrder;
 use crate::rank::Rank;
 
 /// Moves the variable at a place up while it comes before the one above it.
-pub fn sift_up(order: &mut HeapOrder, activities: &[u64], start: usize)
+pub(crate) fn sift_up(order: &mut HeapOrder, activities: &[u64], start: usize)
     requires within { start < length order.old }
     requires counted { length order.old ≤ length activities.now }
     ensures { (n : ℕ) → start < n → members n order.new ≡ members n order.old }
@@ -61,7 +61,7 @@ fn first_below(order: &HeapOrder, activities: &[u64], place: usize, count: usize
 
 /// Moves the first variable to where it belongs among those up to a count: down to the end of the
 /// path of those that come first, and from there up, since it mostly belongs near the end.
-pub fn sift_down(order: &mut HeapOrder, activities: &[u64], count: usize)
+pub(crate) fn sift_down(order: &mut HeapOrder, activities: &[u64], count: usize)
     requires within { count ≤ length order.old }
     requires counted { length order.old ≤ length activities.now }
     ensures { members count order.new ≡ members count order.old }

@@ -105,7 +105,7 @@ fn depend(out: &mut Report, depend: &Depend) {
 }
 
 /// Puts the checks and dependencies at the end of the text, and a dot for each other rule.
-pub fn rules(out: &mut Report, rules: &[Rule]) {
+pub(crate) fn rules(out: &mut Report, rules: &[Rule]) {
     for rule in rules {
         match rule {
             Rule::Check(item) => check(out, item),

@@ -288,7 +288,7 @@ fn chain(out: &mut Report, chain: &Chain) {
 }
 
 /// Puts the short text of a tree at the end.
-pub fn shape(out: &mut Report, sql: &Sql) {
+pub(crate) fn shape(out: &mut Report, sql: &Sql) {
     chain(out, &sql.chain);
     flag(out, sql.semi, ";");
 }

@@ -7,14 +7,14 @@ ghost use Rattle.std.specs.List.{prefix_len};
 ghost use Rattle.rt_token.specs.Lexed as spec;
 
 /// Whether the byte is a space, a tab, LF, CR or a form feed.
-pub fn is_space(b: u8) -> bool
+pub(crate) fn is_space(b: u8) -> bool
     ensures { result ≡ spec.is_space b }
 {
     b == b' ' || b == b'\t' || b == b'\n' || b == b'\r' || b == 12
 }
 
 /// Whether the byte is a letter of ASCII or `_`.
-pub fn is_letter(b: u8) -> bool
+pub(crate) fn is_letter(b: u8) -> bool
     ensures { result ≡ spec.is_letter b }
 {
     b.is_ascii_alphabetic() || b == b'_'
@@ -27,14 +27,14 @@ fn is_word_byte(b: u8) -> bool
 }
 
 /// The byte at a place, or 0 past the end.
-pub fn byte_at(z: &[u8], at: usize) -> u8
+pub(crate) fn byte_at(z: &[u8], at: usize) -> u8
     ensures { result ≡ slice_index z.now at }
 {
     if at < z.len() { z[at] } else { 0 }
 }
 
 /// The bytes from a place on.
-pub fn rest(z: &[u8], at: usize) -> &[u8]
+pub(crate) fn rest(z: &[u8], at: usize) -> &[u8]
     requires { at ≤ length z.now }
     ensures { result.now ≡ drop at z.now }
 {
@@ -42,7 +42,7 @@ pub fn rest(z: &[u8], at: usize) -> &[u8]
 }
 
 /// How many letters, digits and `_` there are at the front.
-pub fn word_len(z: &[u8]) -> usize
+pub(crate) fn word_len(z: &[u8]) -> usize
     ensures value { result ≡ prefix_len spec.is_word_byte z.now }
     ensures within { result ≤ length z.now }
 {
@@ -54,7 +54,7 @@ pub fn word_len(z: &[u8]) -> usize
 }
 
 /// How many digits there are at the front.
-pub fn digits_len(z: &[u8]) -> usize
+pub(crate) fn digits_len(z: &[u8]) -> usize
     ensures value { result ≡ prefix_len is_ascii_digit z.now }
     ensures within { result ≤ length z.now }
 {
@@ -66,7 +66,7 @@ pub fn digits_len(z: &[u8]) -> usize
 }
 
 /// How many bytes there are before the line's end.
-pub fn line_len(z: &[u8]) -> usize
+pub(crate) fn line_len(z: &[u8]) -> usize
     ensures value { result ≡ prefix_len spec.is_before_line_end z.now }
     ensures within { result ≤ length z.now }
 {
@@ -78,7 +78,7 @@ pub fn line_len(z: &[u8]) -> usize
 }
 
 /// How many bytes there are before the first quote.
-pub fn plain_len(quote: u8, z: &[u8]) -> usize
+pub(crate) fn plain_len(quote: u8, z: &[u8]) -> usize
     ensures value { result ≡ prefix_len (λ c. not (c == quote)) z.now }
     ensures within { result ≤ length z.now }
 {
@@ -90,7 +90,7 @@ pub fn plain_len(quote: u8, z: &[u8]) -> usize
 }
 
 /// How many bytes there are up to and with the first `*/`.
-pub fn comment_end(text: &[u8]) -> Option<usize>
+pub(crate) fn comment_end(text: &[u8]) -> Option<usize>
     ensures value { result ≡ spec.comment_end text.now }
     ensures within { IfSome result (λ n. n ≤ length text.now) }
 {

@@ -11,7 +11,7 @@ use rt_value::{NoMemory, Txt};
 use std::alloc::Global;
 
 /// The bytes of a range, with the letters of ASCII in lower case.
-pub fn lower_case(alloc: Global, text: &str, from: usize, to: usize) -> Result<Txt, NoMemory>
+pub(crate) fn lower_case(alloc: Global, text: &str, from: usize, to: usize) -> Result<Txt, NoMemory>
     requires order { from ≤ to }
     requires start { IsCharBoundary text.now from }
     requires end { IsCharBoundary text.now to }
@@ -23,7 +23,7 @@ pub fn lower_case(alloc: Global, text: &str, from: usize, to: usize) -> Result<T
 
 /// The content from `from` up to the closing quote, each doubled quote read as one, and the number
 /// of bytes up to and with that quote. None: there is no closing quote.
-pub fn closing(
+pub(crate) fn closing(
     alloc: Global,
     quote: u8,
     text: &str,

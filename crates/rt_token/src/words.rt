@@ -94,7 +94,7 @@ fn word_to_where(word: &str) -> Option<Fixed>
 
 /// The terminal of a reserved word, if one of the grammars has it.
 #[tactic(auto, unfolding(crate::specs::Words::word_of))]
-pub fn word_of(word: &str) -> Option<Fixed>
+pub(crate) fn word_of(word: &str) -> Option<Fixed>
     ensures { result ≡ spec.word_of word.now }
 {
     match word_to_exists(word) {

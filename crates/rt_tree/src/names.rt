@@ -10,7 +10,7 @@ use rt_token::{Fixed, NAME, ReadFault, Terminal, code, flag, front, name};
 use std::alloc::Global;
 
 /// Whether an alias is at the front: AS or a name.
-pub fn is_alias(terminals: &[Terminal]) -> bool
+pub(crate) fn is_alias(terminals: &[Terminal]) -> bool
     ensures { result ≡ spec.is_alias terminals.now }
 {
     front(terminals) == code(Fixed::As) || front(terminals) == NAME
