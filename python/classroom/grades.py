@@ -283,11 +283,10 @@ def number(points: float) -> str:
 
 
 def results_json(graded: Sequence[Graded]) -> bytes:
-    """For an autograder, as Gradescope reads it: one test an answer that has a score."""
+    """For an autograder, as Gradescope reads it: one test an answer that has a score, with what decided it."""
     tests = [{
         "name": f"{of.task.label}/{of.answer.label}", "score": of.points, "max_score": of.most_points,
-        "status": "passed" if of.grade.share else "failed",
-        "output": output(of),
+        "status": "passed" if of.grade.share else "failed", "decided_by": of.decided_by, "output": output(of),
     } for of in graded if of.points is not None]
     return (json.dumps({"tests": tests}, indent=1) + "\n").encode("ascii")
 

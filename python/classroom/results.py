@@ -223,7 +223,8 @@ class Results:
     def prune(self, keys: Collection[str]) -> None:
         """Removes the records of runs but those of these keys."""
         for path in self.runs.iterdir():
-            if re.fullmatch("[0-9a-f]{64}", path.stem) and path.suffix == ".json" and path.stem not in keys:
+            key = path.name.removesuffix(".json").removesuffix(".trial")
+            if re.fullmatch("[0-9a-f]{64}", key) and path.suffix == ".json" and key not in keys:
                 path.unlink()
 
 

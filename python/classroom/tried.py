@@ -12,17 +12,21 @@ import json
 import logging
 import re
 import sqlite3
-from collections.abc import Iterator, Mapping
+from collections.abc import Callable, Iterator, Mapping
 from concurrent.futures import ThreadPoolExecutor, as_completed
-from dataclasses import dataclass
+from dataclasses import dataclass, replace
+from functools import cached_property
 from pathlib import Path
+from typing import NamedTuple
 
 from classroom import parallel, witness
 from classroom.database.full import DATABASE, SCRIPT
 from classroom.exercise import Answer, Exercise, Task, digest
 from classroom.fault import Fault, library, shown
 from classroom.limited import Ran
+from classroom.picking.pool import Pool
 from classroom.picking.sources import of_exercise
+from classroom.settings import Settings
 from classroom.trial import asking, full, material
 from classroom.trial.asking import Failed, Options
 from classroom.trial.material import POSTGRESQL, SQLITE, Material
@@ -49,8 +53,18 @@ class Trial:
 
     material: Material
     options: Options
-    digest: str              # of all that decides a verdict but the two queries
-    reports: bool            # whether what differs in duplicates or order is looked for
+    rest: tuple[object, ...]    # of what decides a verdict what is neither of the material nor of the two queries
+    reports: bool               # whether what differs in duplicates or order is looked for
+
+    @cached_property
+    def digest(self) -> str:
+        """Of all that decides a verdict but the two queries."""
+        whole = json.dumps([material.to_json(self.material), self.options.seconds, self.options.looks, *self.rest])
+        return digest(FORMAT, whole.encode("utf-8", "surrogatepass"))
+
+    def over(self, rows: Material) -> Trial:
+        """The same over other rows."""
+        return replace(self, material=rows)
 
     def key(self, task: Task, answer: Answer, agrees: bool) -> str:
         return digest(self.digest.encode(), task.reference, answer.text.query, b"agrees" if agrees else b"")
@@ -67,24 +81,28 @@ def has_full(folder: Path) -> bool:
 
 def trial_of(given: Exercise, seconds: float, engine: str | None = None) -> Trial:
     """How the answers of this exercise are tried; a Fault where that can't be."""
-    library("sqlglot", "python3-sqlglot")
-    said = given.settings
     held = full.read(given.folder)
     if held and given.tables and not is_same(held, given):
-        log.warning("full.db or full.sql has other rows than the CSV files, which are tried in its place: import makes it anew")
+        log.warning(full.OTHER_ROWS)
         held = None
+    return trial_over(held, lambda: of_exercise(given.folder), given.settings, seconds, engine)
+
+
+def trial_over(held: Material | None, plain: Callable[[], Pool], said: Settings, seconds: float, engine: str | None = None) -> Trial:
+    """How is tried over the rows as a database had them; where there are none of the engine's product, over the plain
+    rows of the CSV files."""
+    library("sqlglot", "python3-sqlglot")
     word = engine or said.engine or (held.product if held else SQLITE)
     product = product_of(word)
     if held is None or held.product != product:
-        held = material.of_schema(of_exercise(given.folder), product)
+        held = material.of_schema(plain(), product)
     if product == POSTGRESQL and (word == POSTGRESQL or not said.engine_asker):
         raise Fault("exercise.toml: engine and engine_asker: the connections of two roles of PostgreSQL are wanted, as docs/GUIDE.md tells")
     wants = [said.duplicates == "wrong", said.order == "wrong"]
     loader, asker = (word, said.engine_asker) if product == POSTGRESQL else ("", "")
     options = Options(max(LEAST_SECONDS, min(SECONDS, seconds)), wants[0], wants[1], loader, asker)
-    whole = json.dumps([material.to_json(held), options.seconds, wants, said.duplicates, said.order, word,
-                        sqlite3.sqlite_version if product == SQLITE else ""])
-    return Trial(held, options, digest(FORMAT, whole.encode("utf-8", "surrogatepass")), {said.duplicates, said.order} != {"ignore"})
+    rest = (*wants, said.duplicates, said.order, word, sqlite3.sqlite_version if product == SQLITE else "")
+    return Trial(held, options, rest, {said.duplicates, said.order} != {"ignore"})
 
 
 def wanted(arguments: argparse.Namespace, given: Exercise, seconds: float) -> Trial | None:
@@ -134,6 +152,20 @@ class Question:
     key: str
     agrees: bool
 
+    @property
+    def pair(self) -> Pair:
+        return Pair(self.task.reference, self.answer.text.query, f"task {shown(self.task.label)}: the answer {shown(self.answer.label)}",
+                    self.agrees)
+
+
+class Pair(NamedTuple):
+    """Two queries with the words by which they are told."""
+
+    reference: bytes
+    text: bytes
+    label: str
+    agrees: bool = False
+
 
 def question(trial: Trial, task: Task, answer: Answer, ran: Ran | None, given: Exercise) -> Question | None:
     """What is tried of an answer by its run; None where nothing is."""
@@ -151,15 +183,15 @@ def says_of_answer(found: Verdict | None) -> bool:
     return found is not None and not (isinstance(found.outcome, (WrongSql, Barred, Passed)) and found.outcome.is_reference)
 
 
-def verdicts(trial: Trial, asked: Mapping[str, Question], jobs: int | None) -> Iterator[tuple[str, Verdict]]:
-    """The verdicts by the keys of the questions, as they come. An engine that can't be had ends it with a Fault; a
+def verdicts(trial: Trial, asked: Mapping[str, Pair], jobs: int | None) -> Iterator[tuple[str, Verdict]]:
+    """The verdicts by the keys of the pairs, as they come. An engine that can't be had ends it with a Fault; a
     question whose process fails has no verdict, which is told."""
     running = parallel.Running()
     with asking.trier(trial.material, trial.options) as trier:
 
-        def one(key: str, of: Question) -> tuple[str, Verdict | Failed]:
+        def one(key: str, of: Pair) -> tuple[str, Verdict | Failed]:
             try:
-                return key, trier.ask(text_of(of.task.reference), text_of(of.answer.text.query), of.agrees, running.add)
+                return key, trier.ask(text_of(of.reference), text_of(of.text), of.agrees, running.add)
             except Failed as fault:
                 return key, fault
 
@@ -170,7 +202,7 @@ def verdicts(trial: Trial, asked: Mapping[str, Question], jobs: int | None) -> I
                 if isinstance(found, Verdict):
                     yield key, found
                 else:
-                    log.warning("task %s: the answer %s is not tried: %s", shown(asked[key].task.label), shown(asked[key].answer.label), found)
+                    log.warning("%s is not tried: %s", asked[key].label, found)
         finally:
             threads.shutdown(wait=False, cancel_futures=True)
             running.stop()

@@ -87,8 +87,8 @@ def test_each_grade(ratest: Path, tmp_path: Path) -> None:
     assert told[task, "large"][0] == "no verdict" and told[task, "large"][2].startswith("passes a limit: work ")
     tests = json.loads((exercise / "results/results.json").read_text())["tests"]
     assert tests[1:] == [
-        {"name": "one task/right", "score": 1, "max_score": 1, "status": "passed", "output": "agree\n"},
-        {"name": "one task/wrong", "score": 0, "max_score": 1, "status": "failed", "output":
+        {"name": "one task/right", "score": 1, "max_score": 1, "status": "passed", "decided_by": "proved", "output": "agree\n"},
+        {"name": "one task/wrong", "score": 0, "max_score": 1, "status": "failed", "decided_by": "proved", "output":
          "witness: 1\nt 2: 2, 20\nonly query 1: 1\n  2, 20\nonly query 2: 0\nboth: 0\n"}]
     assert [test["name"] for test in tests[:1]] == ["one task/refused"]
 

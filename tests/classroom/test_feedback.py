@@ -244,7 +244,7 @@ def test_gradescope(autograder: Path, ratest: Path, tmp_path: Path) -> None:
     first, second = made["tests"]
     assert first.pop("output").startswith("## Task 1") and first == {
         "name": "Task 1: A *first* one", "number": "1", "output_format": "md", "visibility": "visible", "score": 2.5,
-        "max_score": 2.5, "status": "passed"}
+        "max_score": 2.5, "status": "passed", "decided_by": "proved"}
     assert (second["score"], second["max_score"], second["status"]) == (0, 1, "failed")
     assert "| row | name |" in second["output"] and "anna" not in text and "passwd" not in text and "root:" not in text
 

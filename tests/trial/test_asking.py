@@ -39,13 +39,13 @@ def child(tmp_path: Path, monkeypatch: pytest.MonkeyPatch) -> None:
     monkeypatch.setattr(asking, "CHILD", tmp_path / "child.py")
 
 
-def questions(**answers: str) -> dict[str, tried.Question]:
+def questions(**answers: str) -> dict[str, tried.Pair]:
     task = Task("1", Path("1"), reference=b"SELECT 1")
-    return {name: tried.Question(task, Answer(name, Text(text.encode(), text.encode())), name, False) for name, text in answers.items()}
+    return {name: tried.Question(task, Answer(name, Text(text.encode(), text.encode())), name, False).pair for name, text in answers.items()}
 
 
 def trial() -> tried.Trial:
-    return tried.Trial(shop.material(), Options(seconds=3600.0), "", True)
+    return tried.Trial(shop.material(), Options(seconds=3600.0), (), True)
 
 
 def test_a_process_that_fails_takes_no_other_with_it(child: None, caplog: pytest.LogCaptureFixture) -> None:

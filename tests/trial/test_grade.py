@@ -69,6 +69,8 @@ def test_what_ratest_does_not_read_is_tried(beers: Path) -> None:
     assert "differs (tried) on 1 row: other rows" in page and f"A database found this by trying ({ENGINE}); it is not proved." in page
     assert "no difference found (tried)" in page and "grade differs tried" in page
     tests = {of["name"]: of for of in json.loads((beers / "results/results.json").read_text())["tests"]}
+    assert tests["6/right"]["decided_by"] == tests["6/star"]["decided_by"] == ENGINE
+    assert {of["decided_by"] for name, of in tests.items() if name[0] == "1"} == {"proved"}
     assert tests["6/right"]["score"] == 1 and tests["6/star"]["output"] == text and "6/clock" not in tests
 
 

@@ -1,6 +1,7 @@
 """Parts of the rows, against all of their subsets."""
 from __future__ import annotations
 
+import itertools
 import random
 
 import shop
@@ -62,3 +63,21 @@ def test_unions_are_all_unions() -> None:
             assert len(found) == len(set(found))
             assert set(found) == {mask for mask in wanted if mask.bit_count() < most}
     assert list(joins.unions([1 << at for at in range(20)], 21, 100))[-1] is None
+
+
+def test_of_unions_the_smallest_are_told_where_not_all_are_wanted() -> None:
+    chance = random.Random(3)
+    for _ in range(200):
+        masks = [chance.randrange(1, 1 << 10) & chance.randrange(1, 1 << 10) for _ in range(7)]
+        every = list(joins.unions(masks, 11, 10_000))
+        wanted = chance.randrange(1, 40)
+        found = list(joins.unions(masks, 11, 10_000, wanted))
+        parts = [part for part in found if part is not None]
+        assert found == every if None not in found else found.index(None) == len(found) - 1 and len(parts) >= wanted
+        assert len(parts) == len(set(parts)) and set(parts) <= set(every)
+        sizes = [part.bit_count() for part in parts[:wanted]]
+        assert sizes == [part.bit_count() for part in every[:wanted] if part is not None]
+    # Few of many are told without that the others are remembered.
+    pairs = [1 << one | 1 << other for one in range(60) for other in range(one)]
+    assert None not in list(itertools.islice(joins.unions(pairs, 61, 5_000, 3_000), 3_000))
+    assert None in list(itertools.islice(joins.unions(pairs, 61, 5_000), 3_000))

@@ -110,7 +110,7 @@ def try_all(trial: Trial, given: Exercise, entries: Sequence[Entry], results: Re
     questions = {id(of): tried.question(trial, of.task, of.answer, results.run(of.key) if of.key else None, given) for of in entries}
     asked = {of.key: of for of in questions.values() if of}
     results.will_write(trial_name(key) for key in asked)
-    left = {key: of for key, of in asked.items() if results.trial(key) is None}
+    left = {key: of.pair for key, of in asked.items() if results.trial(key) is None}
     if left:
         log.info("%d of the answers are tried", len(left))
     count = 0

@@ -8,7 +8,8 @@ are written over; where it has no tasks and SOURCE is an exercise, it gets that 
 The mutants of each reference (see `classroom mutants --help`) and the answers are run against it on lawful
 parts of at most 2,000 rows: the first ones by the primary key, then others at random with the rows that they
 refer to, until a whole pass tells no mutant that was not told before. Where a limit of work or conflicts is
-passed the parts are smaller. Of the union of the witnesses each row goes without which every mistake is still
+passed the parts are smaller. Queries that `ratest` doesn't read a database tries over the same parts, unless
+--only-proved is given. Of the union of the witnesses each row goes without which every mistake is still
 told by a witness as small. In the end all are graded once more on the picked rows.
 
 The same seed picks the same rows. What is stopped, or killed, goes on where it was.
@@ -21,7 +22,7 @@ from __future__ import annotations
 import argparse
 import sys
 
-from classroom import opening, options
+from classroom import opening, options, tried
 from classroom.fault import library
 
 SUMMARY = "pick the few rows that tell every mistake"
@@ -37,6 +38,7 @@ def add_arguments(parser: argparse.ArgumentParser) -> None:
     parser.add_argument("--work", metavar="N", type=options.count, default=2_000_000,
                         help="as `ratest` takes it: what passes it is asked over a smaller part (2000000)")
     parser.add_argument("--conflicts", metavar="N", type=options.count, default=1000, help="in the same way (1000)")
+    tried.add_arguments(parser)
 
 
 def run(arguments: argparse.Namespace) -> int:
@@ -44,5 +46,6 @@ def run(arguments: argparse.Namespace) -> int:
     from classroom.picking.pick import Wanted, pick
 
     limits = opening.options_of(arguments.work, arguments.conflicts)
-    wanted = Wanted(arguments.rows, str(arguments.seed), arguments.jobs, limits, sys.stderr.isatty())
+    wanted = Wanted(arguments.rows, str(arguments.seed), arguments.jobs, limits, sys.stderr.isatty(), arguments.only_proved,
+                    arguments.engine)
     return pick(arguments.source, arguments.exercise, wanted)

@@ -79,6 +79,8 @@ def gradescope_json(backs: Sequence[Back], assignment: str, visibility: str = "v
     for number, (part, of) in enumerate(zip(backs[0].sheet.parts, backs[0].of.answers), 1):
         test: dict[str, object] = {"name": f"Task {part.title}", "number": str(number), "output": markdown.part_of(part).lstrip(),
                                    "output_format": "md", "visibility": visibility}
+        if of:
+            test["decided_by"] = of.decided_by
         if of is None or of.points is not None:
             score = of.points if of else 0
             test |= {"score": score, "max_score": part.most, "status": "passed" if of and of.grade.share else "failed"}

@@ -20,6 +20,7 @@ class Question:
     text: bytes
     mistake: str       # empty of an answer
     name: str          # of an answer; of a mutant its number in its task, from 1
+    is_tried: bool = False    # by a database, since `ratest` doesn't read one of the two
 
     @property
     def label(self) -> str:

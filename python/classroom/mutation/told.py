@@ -42,9 +42,7 @@ def lines(tasks: Sequence[str], made: Sequence[Told]) -> Iterator[str]:
     """For each task how many are told, and those that aren't."""
     for task in tasks:
         group = [one for one in made if one.of.task == task]
-        engines = sorted({one.verdict.engine for one in group} - {""})
-        tried = f", tried by {', '.join(engines)} and not proved" if engines else ""
-        yield f"task {shown(task)}: {summary(group)}{tried}"
+        yield f"task {shown(task)}: {summary(group)}{by_whom(group)}"
         yield from untold(group)
 
 
@@ -58,13 +56,21 @@ def untold(made: Sequence[Told]) -> Iterator[str]:
 
 
 def summary(made: Sequence[Told], noun: str = "mutant") -> str:
-    """As `46 of 48 mutants told`."""
+    """As `46 of 48 mutants told, 9 of 11 mutants told (tried)`: what is proved and what is tried are never one count."""
     read = kept(made)
-    return f"{sum(one.verdict.kind == TOLD for one in read)} of {counted(len(read), noun)} told"
+    proved, tried = ([one for one in read if one.of.is_tried == is_tried] for is_tried in (False, True))
+    return ", ".join(f"{sum(one.verdict.kind == TOLD for one in group)} of {counted(len(group), noun)} told{label}"
+                     for group, label in ((proved, ""), (tried, " (tried)")) if group or not (tried or label))
+
+
+def by_whom(made: Sequence[Told]) -> str:
+    """As `, by sqlite 3.40.1 and not proved`, of what was tried."""
+    engines = sorted({one.verdict.engine for one in made} - {""})
+    return f", by {', '.join(engines)} and not proved" if engines else ""
 
 
 def kept(made: Sequence[Told]) -> list[Told]:
-    """Those that `ratest` reads."""
+    """Those that are read, by `ratest` or by the database that tries them."""
     return [one for one in made if one.verdict.kind != REFUSED]
 
 

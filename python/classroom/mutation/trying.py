@@ -1,9 +1,8 @@
 """Mutants of a reference that `ratest` doesn't read, told by a database."""
 from __future__ import annotations
 
-import json
-import os
-from concurrent.futures import ThreadPoolExecutor
+from collections.abc import Iterable, Mapping, Sequence
+from dataclasses import replace
 
 from classroom.exercise import Task, digest
 from classroom.fault import Fault, shown
@@ -12,44 +11,65 @@ from classroom.mutation.families import BAGS, LISTS, MISTAKES, TRIED
 from classroom.mutation.grading import NOT_DETERMINED, NOT_FOUND, OPEN, REFUSED, TOLD, Verdict
 from classroom.mutation.questions import Question
 from classroom.mutation.told import Told
-from classroom.results import Results, write
+from classroom.results import Results
+from classroom.schema import Table
 from classroom.settings import Settings
-from classroom.trial import asking, verdict, words
-from classroom.trial.asking import Trier
+from classroom.trial import verdict, words
 from classroom.trial.verdict import Differs, NoDifference, Passed
-from classroom.tried import Trial, text_of
+from classroom.tried import Pair, Trial, verdicts
 
 
 def mutants(trial: Trial, task: Task, said: Settings, results: Results, jobs: int | None) -> list[Told]:
-    """The mutants of a task with their verdicts; a Fault where they can't be made or tried. Those of duplicates and
-    of order are made where these count."""
+    """The mutants of a task with their verdicts; a Fault where they can't be made or tried."""
+    back, made = of_task(task, [held.table for held in trial.material.pool.held], said)
+    check_back(task, asked(trial, [back], results, jobs).get(back))
+    found = asked(trial, made, results, jobs)
+    return told(made, found)
+
+
+def of_task(task: Task, tables: Sequence[Table], said: Settings) -> tuple[Question, list[Question]]:
+    """A task's reference as it is written back, and its mutants; a Fault where they can't be made. Those of duplicates
+    and of order are made where these count."""
     families = (*MISTAKES, *TRIED, *(BAGS if said.duplicates == "wrong" else ()), *(LISTS if said.order == "wrong" else ()))
-    tables = [held.table for held in trial.material.pool.held]
     made = questions.of_mutants(task, tables, families)
-    with asking.trier(trial.material, trial.options) as trier, ThreadPoolExecutor(jobs or os.cpu_count()) as threads:
-        back = asked(trial, trier, results, questions.written_back(task))
-        if isinstance(back.outcome, Differs):
-            raise Fault(f"task {shown(task.name)}: sqlglot writes reference.sql back as another query")
-        if not isinstance(back.outcome, NoDifference):
-            raise Fault(f"task {shown(task.name)}: reference.sql: {told_of(back).why or told_of(back).kind}")
-        found = threads.map(lambda of: asked(trial, trier, results, of), made)
-        return [Told(of, told_of(one)) for of, one in zip(made, found, strict=True)]
+    return tried(questions.written_back(task)), [tried(of) for of in made]
 
 
-def asked(trial: Trial, trier: Trier, results: Results, of: Question) -> verdict.Verdict:
-    """A verdict that is kept, else one of the database."""
-    path = results.runs / f"{digest(trial.digest.encode(), of.reference, of.text)}.trial.json"
-    try:
-        return verdict.from_json(json.loads(path.read_bytes()))
-    except (OSError, ValueError, KeyError, TypeError):
-        pass
-    found = trier.ask(text_of(of.reference), text_of(of.text))
-    write(path, (json.dumps(verdict.to_json(found)) + "\n").encode("ascii"))
-    return found
+def tried(of: Question) -> Question:
+    return replace(of, is_tried=True)
 
 
-def told_of(found: verdict.Verdict) -> Verdict:
+def check_back(task: Task, found: verdict.Verdict | None) -> None:
+    """A Fault where the reference can't be tried, or sqlglot doesn't write it back as it means."""
+    if found and isinstance(found.outcome, Differs):
+        raise Fault(f"task {shown(task.name)}: sqlglot writes reference.sql back as another query")
+    if not found or not isinstance(found.outcome, NoDifference):
+        of = told_of(found)
+        raise Fault(f"task {shown(task.name)}: reference.sql: {of.why or of.kind}")
+
+
+def keys(trial: Trial, made: Iterable[Question]) -> dict[Question, str]:
+    """The keys of the records."""
+    return {of: digest(trial.digest.encode(), of.reference, of.text) for of in made}
+
+
+def asked(trial: Trial, made: Sequence[Question], results: Results, jobs: int | None) -> dict[Question, verdict.Verdict]:
+    """The verdicts that are kept, and those of the database; none where its process failed, which is told."""
+    known = keys(trial, made)
+    left = {key: Pair(of.reference, of.text, f"task {shown(of.label)}") for of, key in known.items() if results.trial(key) is None}
+    for key, new in verdicts(trial, left, jobs) if left else ():
+        results.keep_trial(key, new)
+    return {of: found for of, key in known.items() if (found := results.trial(key))}
+
+
+def told(made: Sequence[Question], found: Mapping[Question, verdict.Verdict]) -> list[Told]:
+    return [Told(of, told_of(found.get(of))) for of in made]
+
+
+def told_of(found: verdict.Verdict | None) -> Verdict:
     """A verdict of a database as one of a mutant."""
+    if found is None:
+        return Verdict(OPEN, why="its process failed")
     of = found.outcome
     if isinstance(of, Differs):
         return Verdict(TOLD, len(of.kept), engine=found.engine)

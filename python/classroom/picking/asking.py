@@ -1,4 +1,5 @@
-"""Asks `ratest` over some rows, many queries at once or one after another, and keeps what it printed."""
+"""Asks about queries over some rows, many at once or one after another, and keeps what comes of it: `ratest`, or where it
+doesn't read them a database."""
 from __future__ import annotations
 
 from collections.abc import Collection, Mapping, Sequence
@@ -8,6 +9,7 @@ from pathlib import Path
 from classroom import parallel, witness
 from classroom.exercise import digest
 from classroom.mutation.questions import Question
+from classroom.picking.finding import Asker, Finding, Kind
 from classroom.picking.pool import Pool, Row
 from classroom.results import Results
 from classroom.witness import Outcome
@@ -18,8 +20,8 @@ FEW_OPTIONS = ("--conflicts", "20000")
 
 
 @dataclass(frozen=True)
-class Asking:
-    """Over what and with what is asked."""
+class Proving:
+    """Over what and with what `ratest` is asked."""
 
     pool: Pool
     results: Results
@@ -36,7 +38,17 @@ class Asking:
         return digest(b"pick 1", self.ratest.read_bytes(), *(word.encode() for word in options), *(
             part for name, text in files.items() for part in (name.encode("utf-8", "surrogateescape"), text)))
 
-    def over(self, rows: Collection[Row], asked: Sequence[Question]) -> dict[Question, Outcome]:
+    def over(self, rows: Collection[Row], asked: Sequence[Question]) -> dict[Question, Finding]:
+        return {of: self.finding(outcome, rows) for of, outcome in self.outcomes(rows, asked).items()}
+
+    def finding(self, outcome: Outcome, rows: Collection[Row]) -> Finding:
+        if isinstance(outcome, witness.Witness):
+            return Finding(Kind.SHOWN, self.pool.named(outcome.kept, rows))
+        if isinstance(outcome, witness.Refused):
+            return Finding(Kind.REFUSED)
+        return Finding(Kind.SAME if isinstance(outcome, witness.Agree) else Kind.PASSED)
+
+    def outcomes(self, rows: Collection[Row], asked: Sequence[Question]) -> dict[Question, Outcome]:
         """The outcomes over some rows."""
         files = self.pool.files(rows)
         options = FEW_OPTIONS if len(rows) <= FEW_ROWS else self.options
@@ -59,3 +71,22 @@ class Asking:
     def outcome(self, key: str) -> Outcome:
         ran = self.results.run(key)
         return witness.read(ran, [held.table for held in self.pool.held]) if ran else witness.NoVerdict("it was not run")
+
+
+@dataclass(frozen=True)
+class Together:
+    """`ratest`, and what tries; None where nothing is tried."""
+
+    proving: Proving
+    trying: Asker | None
+
+    @property
+    def pool(self) -> Pool:
+        return self.proving.pool
+
+    def over(self, rows: Collection[Row], asked: Sequence[Question]) -> dict[Question, Finding]:
+        found = self.proving.over(rows, [of for of in asked if not of.is_tried])
+        tried = [of for of in asked if of.is_tried]
+        if self.trying and tried:
+            found.update(self.trying.over(rows, tried))
+        return found

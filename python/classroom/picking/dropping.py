@@ -3,12 +3,10 @@ from __future__ import annotations
 
 from collections.abc import Callable, Mapping, Sequence
 
-from classroom import witness
 from classroom.mutation.questions import Question
-from classroom.picking.asking import Asking
+from classroom.picking.finding import Asker, Rows
 from classroom.picking.pool import Row
 
-Rows = frozenset[Row]
 # Queries that are asked at once whether rows can go, since mostly one of the first says no.
 AT_ONCE = 4
 
@@ -27,7 +25,7 @@ def within(told: Mapping[Question, Rows], most: int) -> dict[Question, Rows]:
     return chosen
 
 
-def needed(asking: Asking, told: Mapping[Question, Rows], tell: Callable[[str], None]) -> Rows:
+def needed(asking: Asker, told: Mapping[Question, Rows], tell: Callable[[str], None]) -> Rows:
     """Rows of the union of which none can go, so that each query is told with a witness of the least size."""
     rows = frozenset(row for kept in told.values() for row in kept)
     search = Search(asking)
@@ -47,7 +45,7 @@ def needed(asking: Asking, told: Mapping[Question, Rows], tell: Callable[[str], 
 class Search:
     """The witnesses that are known of each query."""
 
-    def __init__(self, asking: Asking) -> None:
+    def __init__(self, asking: Asker) -> None:
         self.asking = asking
         self.known: dict[Question, list[Rows]] = {}
         self.now: dict[Question, Rows] = {}
@@ -55,7 +53,7 @@ class Search:
     def learn(self, rows: Rows, asked: Sequence[Question], told: Mapping[Question, Rows]) -> None:
         """Asks over all rows, where witnesses may be smaller than over the parts they come from."""
         for of, outcome in self.asking.over(rows, asked).items():
-            best = self.asking.pool.named(outcome.kept, rows) if isinstance(outcome, witness.Witness) else told[of]
+            best = outcome.rows if outcome.is_shown else told[of]
             self.known[of] = [best] + [kept for kept in [told[of]] if len(kept) == len(best)]
             self.now[of] = best
 
@@ -81,9 +79,9 @@ class Search:
         at = 0
         while at < len(unknown):
             for of, outcome in self.asking.over(rows, unknown[at:at + AT_ONCE]).items():
-                if not isinstance(outcome, witness.Witness) or len(outcome.kept) > len(self.now[of]):
+                if not outcome.is_shown or len(outcome.rows) > len(self.now[of]):
                     return False
-                taken[of] = self.asking.pool.named(outcome.kept, rows)
+                taken[of] = outcome.rows
                 self.known[of].append(taken[of])
             at += AT_ONCE
         self.now.update(taken)

@@ -4,11 +4,9 @@ from __future__ import annotations
 from collections.abc import Callable, Sequence
 from dataclasses import dataclass, field
 
-from classroom import witness
 from classroom.mutation.questions import Question
 from classroom.picking import parts
-from classroom.picking.asking import Asking
-from classroom.picking.pool import Row
+from classroom.picking.finding import Asker, Kind, Rows
 
 FEWEST_ROWS = 15    # no part gets smaller than this
 MOST_PARTS = 8      # in a pass
@@ -18,13 +16,13 @@ MOST_PARTS = 8      # in a pass
 class Found:
     """What the passes found."""
 
-    told: dict[Question, frozenset[Row]] = field(default_factory=dict)    # with a witness of the least size
+    told: dict[Question, Rows] = field(default_factory=dict)    # with a witness of the least size
     refused: set[Question] = field(default_factory=set)
     most: dict[Question, int] = field(default_factory=dict)               # rows over which a query can be asked
     agreed: set[Question] = field(default_factory=set)                    # on a part
 
 
-def search(asking: Asking, asked: Sequence[Question], seed: str, tell: Callable[[str], None]) -> Found:
+def search(asking: Asker, asked: Sequence[Question], seed: str, tell: Callable[[str], None]) -> Found:
     """Tells as many queries as it can, each with the rows of a witness."""
     found = Found(most={of: min(parts.MOST_ROWS, len(asking.pool.lawful)) for of in asked})
     step(asking, found, asked, "", tell)
@@ -41,21 +39,21 @@ def search(asking: Asking, asked: Sequence[Question], seed: str, tell: Callable[
             return found
 
 
-def step(asking: Asking, found: Found, asked: Sequence[Question], seed: str, tell: Callable[[str], None]) -> None:
+def step(asking: Asker, found: Found, asked: Sequence[Question], seed: str, tell: Callable[[str], None]) -> None:
     """Asks over one part; what passes a limit over smaller and smaller ones."""
     waiting = list(asked)
     size = max(found.most[of] for of in waiting)
-    while waiting and size >= FEWEST_ROWS:
+    while waiting and size >= min(FEWEST_ROWS, len(asking.pool.lawful)):
         at_once = [of for of in waiting if found.most[of] >= size]
         if at_once:
             rows = parts.chosen(asking.pool, size, seed) if seed else parts.first(asking.pool, size)
             tell(f"{len(at_once)} queries over {len(rows)} rows")
             for of, outcome in asking.over(rows, at_once).items():
-                if isinstance(outcome, witness.Witness):
-                    found.told[of] = asking.pool.named(outcome.kept, rows)
-                elif isinstance(outcome, witness.Refused):
+                if outcome.is_shown:
+                    found.told[of] = outcome.rows
+                elif outcome.kind == Kind.REFUSED:
                     found.refused.add(of)
-                elif isinstance(outcome, witness.Agree):
+                elif outcome.kind == Kind.SAME:
                     found.agreed.add(of)
                 else:
                     found.most[of] = size // 2

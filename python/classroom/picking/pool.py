@@ -3,14 +3,24 @@ from __future__ import annotations
 
 from collections.abc import Collection, Iterable, Sequence
 from dataclasses import dataclass, field
-from typing import NamedTuple, Union
+from typing import NamedTuple, Protocol, Union
 
 from ratest.tables import csv_line
 from classroom.schema import Table, marked
-from classroom.witness import Kept
 
 Cell = Union[None, int, str]
 Cells = tuple[Cell, ...]
+
+
+class Numbered(Protocol):
+    """A row of a witness."""
+
+    @property
+    def table(self) -> str: ...
+
+    @property
+    def number(self) -> int:
+        """In its table's file, from 1."""
 
 
 class Row(NamedTuple):
@@ -106,7 +116,7 @@ class Pool:
             texts[f"{held.table.name}.csv"] = marked(text).encode()
         return texts
 
-    def named(self, kept: Iterable[Kept], rows: Collection[Row]) -> frozenset[Row]:
+    def named(self, kept: Iterable[Numbered], rows: Collection[Row]) -> frozenset[Row]:
         """The rows of a witness over the files of these rows."""
         by_table = {held.table.name: [row for row in sorted(rows) if row.table == at]
                     for at, held in enumerate(self.held)}

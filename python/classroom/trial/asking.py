@@ -36,6 +36,7 @@ class Options:
     counts_order: bool = False
     engine: str = ""
     asker: str = ""
+    looks: int = 0    # at parts, that stand for the seconds, so that each run finds the same; 0: the clock counts
 
 
 class Failed(Fault):
@@ -58,7 +59,7 @@ class Trier:
         verdict. Of two queries that are known to agree as sets only duplicates and order are looked at. `started` gets
         the process."""
         question = {
-            "reference": reference, "answer": answer, "seconds": self.options.seconds,
+            "reference": reference, "answer": answer, "seconds": self.options.seconds, "looks": self.options.looks,
             "duplicates": self.options.counts_duplicates, "order": self.options.counts_order,
             "engine": self.options.engine, "asker": self.options.asker, "agrees": agrees}
         with tempfile.NamedTemporaryFile("w", dir=self.folder, prefix="question-", suffix=".json") as file:

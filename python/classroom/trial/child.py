@@ -1,7 +1,7 @@
 """One question in a process of its own: `child.py MATERIAL QUESTION`, two files of JSON, prints one of JSON.
 
 The material is what `classroom.trial.material` writes. A question has `reference`, `answer`, `seconds`,
-`duplicates`, `order`, `agrees`, and for PostgreSQL `engine` and `asker`, the two connections. What is printed is
+`looks`, `duplicates`, `order`, `agrees`, and for PostgreSQL `engine` and `asker`, the two connections. What is printed is
 a verdict, as `classroom.trial.verdict` writes it, or `{"fault": TEXT}` where the engine can't be had.
 """
 from __future__ import annotations
@@ -53,7 +53,8 @@ def tried(material: Material, question: dict[str, Any]) -> Verdict:
             label = engine.label
             wanted = Wanted(
                 float(question.get("seconds", 10.0)), bool(question.get("duplicates")), bool(question.get("order")),
-                int(question.get("random_parts", RANDOM_PARTS)), int(question.get("shrinkings", SHRINKINGS)), bool(question.get("agrees")))
+                int(question.get("random_parts", RANDOM_PARTS)), int(question.get("shrinkings", SHRINKINGS)), bool(question.get("agrees")),
+                int(question.get("looks", 0)))
             search = Search(engine, parts, material, (question["reference"], question["answer"]), wanted)
             outcome = search.outcome()
             return Verdict(label, outcome, search.remarks())

@@ -2,7 +2,7 @@
 from __future__ import annotations
 
 import sqlite3
-from collections.abc import Iterator, Sequence
+from collections.abc import Iterator, Mapping, Sequence
 from dataclasses import replace
 from pathlib import Path
 from typing import Any, cast
@@ -18,6 +18,7 @@ from classroom.trial.material import POSTGRESQL, SQLITE, Made, Material
 from classroom.trial.texts import Token, tokens
 
 MOST_BYTES = 67_108_864
+OTHER_ROWS = "full.db or full.sql has other rows than the CSV files, which are tried in its place: import makes it anew"
 # How a text of COPY writes what would end a field or a line.
 ESCAPES = {"b": "\b", "f": "\f", "n": "\n", "r": "\r", "t": "\t", "v": "\v"}
 
@@ -112,6 +113,19 @@ def of_script(script: bytes) -> Material:
     order = list(tables)
     return Material(POSTGRESQL, pool_of([(tables[name], columns.get(name, []), rows.get(name, [])) for name in order]),
                     tuple(";\n".join(statements[name]) for name in order), tuple(views), ";\n".join(before))
+
+
+def part_of(script: bytes, numbers: Mapping[str, Sequence[int]]) -> bytes:
+    """The script with the rows of these numbers alone, from 1, by the names of their tables."""
+    made = []
+    for statement, data in parts(script.decode("utf-8", "surrogateescape")):
+        made.append(f"{statement};\n")
+        if statement.startswith("COPY "):
+            wanted = set(numbers.get(written(tokens(unqualified(statement, tokens(statement)))[1].name), ()))
+            made += [f"{line}\n" for number, line in enumerate(data, 1) if number in wanted]
+            made.append("\\.\n")
+        made.append("\n")
+    return "".join(made).encode("utf-8", "surrogateescape")
 
 
 def parts(text: str) -> Iterator[tuple[str, list[str]]]:

@@ -344,9 +344,9 @@ def ordered_by_tokens(text: str) -> bool:
     return False
 
 
-def unions(masks: Sequence[int], less_than: int, most: int) -> Iterator[int | None]:
+def unions(masks: Sequence[int], less_than: int, most: int, wanted: int | None = None) -> Iterator[int | None]:
     """All unions of masks that have fewer rows than that, the smallest first, each once; None, and then no
-    more, where more than `most` would have to be remembered."""
+    more, where more than `most` would have to be remembered, or as many as are wanted were found."""
     own = sorted({mask for mask in masks if mask and mask.bit_count() < less_than}, key=lambda mask: (mask.bit_count(), mask))
     by_row: dict[int, list[int]] = {}
     for mask in own:
@@ -359,10 +359,14 @@ def unions(masks: Sequence[int], less_than: int, most: int) -> Iterator[int | No
     sizes: list[set[int]] = [set() for _ in range(max(less_than, 0))]
     if sizes:
         sizes[0].add(0)
-    held = 0
-    for size in range(less_than):
+    found = [len(of) for of in sizes]
+    held, total, is_cut, size = 0, 1, False, -1
+    while (size := size + 1) < less_than:
         for part in sorted(sizes[size]):
             yield part
+            if wanted is not None and total >= wanted and size + 1 >= less_than - 1:
+                is_cut = True    # what it would bring comes behind all that are wanted
+                continue
             near: Sequence[int] | set[int] = own
             if size and size + least >= less_than:
                 near = set()
@@ -375,10 +379,19 @@ def unions(masks: Sequence[int], less_than: int, most: int) -> Iterator[int | No
                 union = part | mask
                 count = union.bit_count()
                 if size < count < less_than and union not in sizes[count]:
+                    if wanted is not None and total >= wanted and count == less_than - 1:
+                        is_cut = True
+                        continue
                     sizes[count].add(union)
-                    held += 1
+                    found[count] += 1
+                    held, total = held + 1, total + 1
+                    while wanted is not None and count < less_than - 1 and total - found[less_than - 1] >= wanted:
+                        less_than, is_cut = less_than - 1, True
+                        held, total = held - len(sizes[less_than]), total - found[less_than]
             if held > most:
                 yield None
                 return
         held -= len(sizes[size])
         sizes[size] = set()
+    if is_cut:
+        yield None

@@ -3,7 +3,7 @@ from __future__ import annotations
 
 import sqlite3
 from collections.abc import Collection, Sequence
-from dataclasses import dataclass
+from dataclasses import dataclass, replace
 from typing import Any, cast
 
 from classroom.picking.pool import Cells, Foreign, Held, Pool, Row
@@ -15,7 +15,7 @@ SQLITE, POSTGRESQL = PRODUCTS = ("sqlite", "postgresql")
 SIGNS = frozenset("<>=!|")
 # Of no product: SQLite, in which no column fills itself.
 KINDS = {SQLITE: {"INTEGER": "INTEGER"}, POSTGRESQL: {"INTEGER": "bigint", "TEXT": 'text COLLATE "C"'}, "": {"INTEGER": "INT"}}
-__all__ = ["POSTGRESQL", "PRODUCTS", "SQLITE", "Made", "Material", "from_json", "of_schema", "to_json"]
+__all__ = ["POSTGRESQL", "PRODUCTS", "SQLITE", "Made", "Material", "from_json", "of_rows", "of_schema", "to_json"]
 
 
 @dataclass(frozen=True)
@@ -66,6 +66,17 @@ def of_schema(pool: Pool, product: str) -> Material:
     database.close()
     pool.lawful -= pool.with_sources(broken)
     return Material(product, pool, statements(product))
+
+
+def of_rows(whole: Material, rows: Collection[Row]) -> Material:
+    """The material of some rows, in their order."""
+    pool = whole.pool
+    kept = [[row.number for row in sorted(rows) if row.table == at] for at in range(len(pool.held))]
+    made = Pool(pool.schema, [replace(held, rows=[held.rows[number] for number in numbers])
+                              for held, numbers in zip(pool.held, kept, strict=True)])
+    made.lawful &= {Row(at, place) for at, numbers in enumerate(kept) for place, number in enumerate(numbers)
+                    if Row(at, number) in pool.lawful}
+    return replace(whole, pool=made)
 
 
 def statement(held: Held, primary: Sequence[str], checks: Sequence[str], filled: Collection[str], product: str) -> str:

@@ -30,6 +30,7 @@ class Parts:
         self.up = [self.mask(pool.with_targets(row)) for row in self.rows]        # with what it refers to
         # With what refers to it; rows that are in no part refer to it too.
         self.down = [self.mask(pool.with_sources([row]) & pool.lawful) for row in self.rows]
+        self.listed: tuple[Mask, list[int]] = (0, [])    # the places of the part that random ones were last taken of
 
     def mask(self, rows: Collection[Row]) -> Mask:
         return sum(1 << self.index[row] for row in set(rows))
@@ -94,8 +95,9 @@ class Parts:
 
     def random_part(self, whole: Mask, most: int, chance: random.Random) -> Mask:
         """A part of the rows of `whole`, of at most so many."""
-        rows = list(bits(whole))
-        part = 0
+        if self.listed[0] != whole:
+            self.listed = whole, list(bits(whole))
+        rows, part = self.listed[1], 0
         for _ in range(most if rows else 0):
             at = chance.choice(rows)
             if part and chance.random() < RELATED:

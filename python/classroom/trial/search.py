@@ -34,6 +34,7 @@ class Wanted:
     random_parts: int = RANDOM_PARTS
     shrinkings: int = SHRINKINGS
     agrees: bool = False    # the queries are known to agree as sets
+    looks: int = 0          # that stand for the seconds; 0: the engine's clock counts
 
     def kinds(self) -> frozenset[str]:
         return frozenset((set() if self.agrees else {COLUMNS, FAILURE, ROWS}) | ({DUPLICATES} if self.counts_duplicates else set())
@@ -61,9 +62,14 @@ class Search:
         self.dialect = "sqlite" if material.product == "sqlite" else "postgres"
         self.is_ordered = joins.is_ordered(queries[REFERENCE], self.dialect)
         self.looks = Looks()
-        self.until = self.engine.clock() + wanted.seconds
         self.few_parts, self.few_unions = (round(few * engine.pace) for few in (FEW_LAWFUL, FEW_UNIONS))
+        self.most_looks = wanted.looks * engine.pace
+        self.until = self.clock() + wanted.seconds
         self.few_random = round((FEW_RANDOM if wanted.agrees else wanted.random_parts) * engine.pace)
+
+    def clock(self) -> float:
+        """The seconds by which the time is told: the engine's, or as many as the looks at parts stand for."""
+        return self.looks.tried / self.most_looks * self.wanted.seconds if self.most_looks else self.engine.clock()
 
     def kind(self, part: Mask) -> str:
         """How the queries differ on a part; "" where they don't, or where it depends on the order in which the
@@ -99,7 +105,7 @@ class Search:
         return self.kind(part) in self.counts
 
     def is_late(self) -> bool:
-        return self.engine.clock() > self.until
+        return self.clock() > self.until
 
     def outcome(self) -> verdict.Outcome:
         """What all looks together say."""
@@ -192,7 +198,7 @@ class Search:
 
     def unions(self, units: list[Mask], is_joined: bool, less_than: int, most: int | None = None) -> Iterator[Mask | None]:
         """The parts of fewer rows than that by which all can be told; None where there are more than `most`."""
-        made: Iterator[Mask | None] = (joins.unions(units, less_than, MOST_UNIONS) if is_joined
+        made: Iterator[Mask | None] = (joins.unions(units, less_than, MOST_UNIONS, most and most + 1) if is_joined
                                        else self.parts.below(self.tables, less_than))
         for count, part in enumerate(made):
             if most is not None and count >= most:
@@ -202,11 +208,11 @@ class Search:
 
     def witness(self, part: Mask) -> Differs:
         """The smallest part that is found from one on which they differ."""
-        shrink_until = self.engine.clock() + (self.until - self.engine.clock()) / 2
-        best, is_least = self.shrunk(part, self.differs, None, max(shrink_until, self.engine.clock() + 0.2))
+        shrink_until = self.clock() + (self.until - self.clock()) / 2
+        best, is_least = self.shrunk(part, self.differs, None, max(shrink_until, self.clock() + 0.2))
         chance = random.Random(SEED)
         for _ in range(self.wanted.shrinkings - 1):
-            if self.engine.clock() > shrink_until or best.bit_count() <= 1:
+            if self.clock() > shrink_until or best.bit_count() <= 1:
                 break
             other, is_done = self.shrunk(part, self.differs, chance, shrink_until)
             if other.bit_count() < best.bit_count():
@@ -257,7 +263,7 @@ class Search:
                 less = self.parts.without(part, gone)
                 if holds(less):
                     part, is_changed = less, True
-                if self.engine.clock() > until:
+                if self.clock() > until:
                     return part, False
             if size == 1 and not is_changed:
                 return part, True
@@ -283,7 +289,7 @@ class Search:
         """What differs in duplicates or order alone, each with a part as small as one shrinking makes it."""
         made = []
         for kind, part in sorted(self.looks.slight.items()):
-            small, _ = self.shrunk(part, lambda less, kind=kind: self.kind(less) == kind, None, self.engine.clock() + 1.0)  # type: ignore[misc]
+            small, _ = self.shrunk(part, lambda less, kind=kind: self.kind(less) == kind, None, self.clock() + 1.0)  # type: ignore[misc]
             both = self.engine.answers(small)
             if not difference(*both, self.is_ordered):
                 both = self.engine.answers(small, backwards=True)
