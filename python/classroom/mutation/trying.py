@@ -2,8 +2,6 @@
 from __future__ import annotations
 
 import json
-import os
-from concurrent.futures import ThreadPoolExecutor
 
 from classroom.exercise import Task, digest
 from classroom.fault import Fault, shown
@@ -15,7 +13,7 @@ from classroom.mutation.told import Told
 from classroom.results import Results, write
 from classroom.settings import Settings
 from classroom.trial import asking, verdict, words
-from classroom.trial.asking import Trier
+from classroom.trial.asking import Failed, Trier
 from classroom.trial.verdict import Differs, NoDifference, Passed
 from classroom.tried import Trial, text_of
 
@@ -26,14 +24,22 @@ def mutants(trial: Trial, task: Task, said: Settings, results: Results, jobs: in
     families = (*MISTAKES, *TRIED, *(BAGS if said.duplicates == "wrong" else ()), *(LISTS if said.order == "wrong" else ()))
     tables = [held.table for held in trial.material.pool.held]
     made = questions.of_mutants(task, tables, families)
-    with asking.trier(trial.material, trial.options) as trier, ThreadPoolExecutor(jobs or os.cpu_count()) as threads:
+    with asking.trier(trial.material, trial.options) as trier, asking.threads(trier, jobs) as threads:
         back = asked(trial, trier, results, questions.written_back(task))
         if isinstance(back.outcome, Differs):
             raise Fault(f"task {shown(task.name)}: sqlglot writes reference.sql back as another query")
         if not isinstance(back.outcome, NoDifference):
             raise Fault(f"task {shown(task.name)}: reference.sql: {told_of(back).why or told_of(back).kind}")
-        found = threads.map(lambda of: asked(trial, trier, results, of), made)
-        return [Told(of, told_of(one)) for of, one in zip(made, found, strict=True)]
+        found = threads.map(lambda of: one(trial, trier, results, of), made)
+        return [Told(of, verdict) for of, verdict in zip(made, found, strict=True)]
+
+
+def one(trial: Trial, trier: Trier, results: Results, of: Question) -> Verdict:
+    """The verdict of a mutant; one whose process fails has none, and the next time is asked again."""
+    try:
+        return told_of(asked(trial, trier, results, of))
+    except Failed as fault:
+        return Verdict(OPEN, why=str(fault))
 
 
 def asked(trial: Trial, trier: Trier, results: Results, of: Question) -> verdict.Verdict:
