@@ -9,10 +9,11 @@ import signal
 import subprocess
 import tempfile
 import time
-from typing import Callable, NamedTuple, Optional, Sequence
+from typing import Callable, List, NamedTuple, Optional, Sequence
 
 OUT_OF_MEMORY = 7    # the exit status, as `ratest.printed` has it, which is not sent to hosts
 MEGABYTE = 1_000_000
+ENVIRONMENT = {"PATH": os.defpath, "LC_ALL": "C.UTF-8"}
 
 
 class Limits(NamedTuple):
@@ -37,6 +38,11 @@ class Ran(NamedTuple):
 GUARD = '[ "$PPID" = "$1" ] || exit 1; shift; exec "$@"'
 
 
+def bounded(limits: Limits) -> List[str]:
+    """The words of a call before those of a program that gets these limits of memory and of files."""
+    return ["prlimit", f"--as={limits.megabytes * MEGABYTE}", f"--fsize={round(limits.output * MEGABYTE) + 1}", "--core=0", "--"]
+
+
 def run(words: Sequence[str], limits: Limits, folder: Optional[str] = None,
         started: Callable[["subprocess.Popen[bytes]"], None] = lambda process: None) -> Ran:
     """Runs a program in a folder, with nothing on its standard input and no environment but a PATH.
@@ -47,13 +53,12 @@ def run(words: Sequence[str], limits: Limits, folder: Optional[str] = None,
     if not os.access(words[0], os.X_OK):
         raise FileNotFoundError(2, "no program", words[0])
     most = round(limits.output * MEGABYTE)
-    wrapped = ["setpriv", "--pdeathsig", "KILL", "sh", "-c", GUARD, "sh", str(os.getpid()), "prlimit", f"--as={limits.megabytes * MEGABYTE}",
-               f"--fsize={most + 1}", "--core=0", "--", *words]
+    wrapped = ["setpriv", "--pdeathsig", "KILL", "sh", "-c", GUARD, "sh", str(os.getpid()), *bounded(limits), *words]
     with tempfile.TemporaryFile() as out, tempfile.TemporaryFile() as err:
         begun = time.monotonic()
         process = subprocess.Popen(
             wrapped, stdin=subprocess.DEVNULL, stdout=out, stderr=err, cwd=folder,
-            env={"PATH": os.defpath, "LC_ALL": "C.UTF-8"}, start_new_session=True)
+            env=ENVIRONMENT, start_new_session=True)
         passed = ""
         try:
             started(process)

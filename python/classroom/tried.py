@@ -13,7 +13,7 @@ import logging
 import re
 import sqlite3
 from collections.abc import Callable, Iterator, Mapping
-from concurrent.futures import ThreadPoolExecutor, as_completed
+from concurrent.futures import as_completed
 from dataclasses import dataclass, replace
 from functools import cached_property
 from pathlib import Path
@@ -186,27 +186,20 @@ def says_of_answer(found: Verdict | None) -> bool:
 def verdicts(trial: Trial, asked: Mapping[str, Pair], jobs: int | None) -> Iterator[tuple[str, Verdict]]:
     """The verdicts by the keys of the pairs, as they come. An engine that can't be had ends it with a Fault; a
     question whose process fails has no verdict, which is told."""
-    running = parallel.Running()
-    with asking.trier(trial.material, trial.options) as trier:
+    with asking.trier(trial.material, trial.options) as trier, asking.threads(trier, jobs) as threads:
 
         def one(key: str, of: Pair) -> tuple[str, Verdict | Failed]:
             try:
-                return key, trier.ask(text_of(of.reference), text_of(of.text), of.agrees, running.add)
+                return key, trier.ask(text_of(of.reference), text_of(of.text), of.agrees)
             except Failed as fault:
                 return key, fault
 
-        threads = ThreadPoolExecutor(jobs or parallel.cores())
-        try:
-            for future in as_completed([threads.submit(one, *item) for item in asked.items()]):
-                key, found = future.result()
-                if isinstance(found, Verdict):
-                    yield key, found
-                else:
-                    log.warning("%s is not tried: %s", asked[key].label, found)
-        finally:
-            threads.shutdown(wait=False, cancel_futures=True)
-            running.stop()
-            threads.shutdown()
+        for future in as_completed([threads.submit(one, *item) for item in asked.items()]):
+            key, found = future.result()
+            if isinstance(found, Verdict):
+                yield key, found
+            else:
+                log.warning("%s is not tried: %s", asked[key].label, found)
 
 
 def text_of(query: bytes) -> str:

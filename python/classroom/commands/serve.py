@@ -21,18 +21,20 @@ can't be read.
 from __future__ import annotations
 
 import argparse
+import contextlib
 import logging
 import os
 import re
 import sys
 import tempfile
-from collections.abc import Sequence
+from collections.abc import Mapping, Sequence
 from concurrent.futures import ThreadPoolExecutor
 from pathlib import Path
 
 from classroom import opening, options, tried
 from classroom.exercise import Task, digest
 from classroom.fault import Fault, library, shown
+from classroom.forking import Forks
 from classroom.limited import Limits
 from classroom.repair import guard
 from classroom.server import child
@@ -43,9 +45,9 @@ from classroom.server.handedin import HandIns
 from classroom.server.recent import Recent
 from classroom.server.material import copied
 from classroom.server.waiting import Places
-from classroom.trial import words
+from classroom.trial import asking, words
 from classroom.trial.asking import Trier
-from classroom.trial.material import SQLITE
+from classroom.trial.material import POSTGRESQL, SQLITE
 from classroom.trial.verdict import Barred, Passed, WrongSql
 from classroom.tried import Trial
 
@@ -116,32 +118,33 @@ def run(arguments: argparse.Namespace) -> int:
         raise Fault("--user-header needs --socket or --proxy: from anybody else the header is not believed")
     front = Front(frozenset(peers), arguments.user_header or "")
     jobs = arguments.jobs or len(os.sched_getaffinity(0))
-    with tempfile.TemporaryDirectory(prefix="classroom-") as work:
-        course, watched = served(arguments, Path(work), jobs)
+    with contextlib.ExitStack() as stack:
+        work = Path(stack.enter_context(tempfile.TemporaryDirectory(prefix="classroom-")))
+        course, watched = served(arguments, work, jobs, stack)
         address = Address(arguments.host, arguments.port, arguments.socket, arguments.socket_mode)
-        try:
-            serve(Running(course, watched, front, address, jobs + arguments.queue, arguments.hourly or None, arguments.only_verdict,
-                          tuple(arguments.frame_ancestors), arguments.keep_days or None, arguments.teacher_port))
-        finally:
-            for one in course.served:
-                one.log.close()
-                if one.hand_ins:
-                    one.hand_ins.close()
+        serve(Running(course, watched, front, address, jobs + arguments.queue, arguments.hourly or None, arguments.only_verdict,
+                      tuple(arguments.frame_ancestors), arguments.keep_days or None, arguments.teacher_port))
     return 0
 
 
-def served(arguments: argparse.Namespace, work: Path, jobs: int) -> tuple[Course, dict[str, tuple[opening.Opened, Path]]]:
-    """The course, each exercise copied below `work`; and for the teacher each exercise with its file."""
+def served(arguments: argparse.Namespace, work: Path, jobs: int,
+           stack: contextlib.ExitStack) -> tuple[Course, dict[str, tuple[opening.Opened, Path]]]:
+    """The course, each exercise copied below `work`, with what has to be closed on the stack; and for the teacher each
+    exercise with its file."""
     from classroom.server.hinting import hinter    # with itsdangerous, which other commands do without
 
     places = Places(jobs, arguments.queue, WAITING_SECONDS)
     kept: Recent[Decided] = Recent(KEPT_BYTES)
     has_network = keeps_network()
+    # What tries with SQLite does so without the network; all exercises share it.
+    around: dict[str, list[str]] = {SQLITE: [] if has_network else [*child.namespace(), "--"], POSTGRESQL: []}
+    processes = {product: stack.enter_context(contextlib.closing(asking.forks(TRIAL_SECONDS, work, words)))
+                 for product, words in around.items()}
     made, watched = [], {}
     for number, (name, folder) in enumerate(folders(arguments.exercise)):
         found = opened(arguments, folder)
         trial = None if arguments.only_proved else trial_of(found, arguments.engine)
-        trier = trier_of(trial, work / f"{number}.trial", has_network) if trial else None
+        trier = trier_of(trial, work / f"{number}.trial", processes) if trial else None
         by_trying = tried_tasks(found.given.tasks, trier, jobs) if trier else frozenset()
         if all(task.fault and task.label not in by_trying for task in found.given.tasks):
             if name:
@@ -157,11 +160,12 @@ def served(arguments: argparse.Namespace, work: Path, jobs: int) -> tuple[Course
                       foundation(material.digest, found.ratest, limits, budget, trial.digest if trial else ""),
                       trial, trier)
         path = place_of_log(name, folder, arguments.asked_file)
-        hand_ins = HandIns(place_of_hand_ins(path)) if arguments.user_header else None
+        kept_in = stack.enter_context(contextlib.closing(Log(path, arguments.asked_size, arguments.keep_days or None)))
+        hand_ins = stack.enter_context(contextlib.closing(HandIns(place_of_hand_ins(path)))) if arguments.user_header else None
         other_rows = work / f"{number}-{guard.FOLDER}"
         other_rows.mkdir()
         hints = hinter(found.given, material, other_rows, child.around(Path(sys.executable), has_network), places)
-        made.append(Served(name, asker, Log(path, arguments.asked_size, arguments.keep_days or None), hand_ins, hints))
+        made.append(Served(name, asker, kept_in, hand_ins, hints))
         watched[name] = (found, path)
     if not made:
         raise Fault(f"{shown(str(arguments.exercise))}: no task of any exercise can be graded")
@@ -184,11 +188,9 @@ def trial_of(found: opening.Opened, engine: str | None) -> Trial | None:
         return None
 
 
-def trier_of(trial: Trial, folder: Path, has_network: bool) -> Trier:
-    """What tries, with SQLite without the network."""
+def trier_of(trial: Trial, folder: Path, processes: Mapping[str, Forks]) -> Trier:
     folder.mkdir()
-    alone = [] if has_network or trial.material.product != SQLITE else [*child.namespace(), "--"]
-    return Trier(trial.material, folder, trial.options, alone)
+    return Trier(trial.material, folder, trial.options, processes[trial.material.product])
 
 
 def tried_tasks(tasks: Sequence[Task], trier: Trier, jobs: int) -> frozenset[str]:

@@ -3,9 +3,10 @@ from __future__ import annotations
 
 import json
 import os
+import subprocess
 import sys
 import tempfile
-from collections.abc import Mapping, Sequence
+from collections.abc import Callable, Mapping, Sequence
 from dataclasses import dataclass
 from pathlib import Path
 
@@ -33,9 +34,10 @@ class Means:
 
 
 def ask(means: Means, reference: str, answers: Mapping[str, str], seconds: float | None = None,
-        python: Sequence[str] = (sys.executable,)) -> dict[str, Mistake]:
+        python: Sequence[str] = (sys.executable,),
+        started: Callable[[subprocess.Popen[bytes]], None] = lambda process: None) -> dict[str, Mistake]:
     """What is found for the answers, by their keys; of one that took too long, that. `python` are the words that
-    call an interpreter."""
+    call an interpreter. `started` gets the process."""
     most = seconds or BEGIN + len(answers) * (EACH + SECONDS_DEEP * means.deep)
     with tempfile.TemporaryDirectory(prefix="repair-") as name:
         work = Path(name) / "work"
@@ -47,7 +49,7 @@ def ask(means: Means, reference: str, answers: Mapping[str, str], seconds: float
             "program": os.fspath(program.find("ratest_plus")), "reference": reference, "answers": dict(answers),
             "classes": means.classes, "tried": means.tried, "deep": SECONDS_DEEP if means.deep else 0}))
         ran = limited.run([*python, "-I", os.fspath(CHILD), os.fspath(question), os.fspath(work)],
-                          Limits(most, MEGABYTES, OUTPUT), name)
+                          Limits(most, MEGABYTES, OUTPUT), name, started)
     found = {}
     for line in ran.stdout.decode("utf-8", "replace").splitlines():
         try:

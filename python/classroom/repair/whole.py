@@ -47,18 +47,21 @@ class Mistakes:
         left = {self.key(of): of for of in graded if is_asked(of) and not self.kept(of)}
         batches = list(self.batches(left))
         means = asking.Means(self.given.folder, self.guard, True, self.is_deep)
-        with ThreadPoolExecutor(jobs or parallel.cores()) as threads, tell.progress(len(left), shows_progress) as step:
-            waiting = [threads.submit(asking.ask, replace(means, tried=is_tried), reference, texts)
-                       for is_tried, reference, texts in batches]
-            try:
-                for done in as_completed(waiting):
+        running = parallel.Running()
+        threads = ThreadPoolExecutor(jobs or parallel.cores())
+        try:
+            with tell.progress(len(left), shows_progress) as step:
+                for done in as_completed([threads.submit(
+                        asking.ask, replace(means, tried=is_tried), reference, texts, started=running.add)
+                        for is_tried, reference, texts in batches]):
                     for key, found in done.result().items():
                         if found.fault not in TRIED_AGAIN:
                             write(self.folder / f"{key}.json", (json.dumps(records.to_json(found)) + "\n").encode("ascii"))
                         step()
-            finally:
-                for other in waiting:
-                    other.cancel()
+        finally:
+            threads.shutdown(wait=False, cancel_futures=True)
+            running.stop()
+            threads.shutdown()
 
     def batches(self, left: Mapping[str, Graded]) -> Iterator[tuple[bool, str, dict[str, str]]]:
         """Whether they are tried, and references with some answers each, those of one task in as many processes as

@@ -4,16 +4,17 @@ from __future__ import annotations
 import json
 import os
 import signal
-import subprocess
 import sys
 import tempfile
-from collections.abc import Callable, Iterator, Sequence
-from contextlib import contextmanager
+from collections.abc import Iterator, Sequence
+from concurrent.futures import ThreadPoolExecutor
+from contextlib import closing, contextmanager
 from dataclasses import dataclass
 from pathlib import Path
 
-from classroom import limited
+from classroom import parallel
 from classroom.fault import Fault, shown
+from classroom.forking import Ended, Forks
 from classroom.limited import Limits
 from classroom.trial import material as materials
 from classroom.trial import verdict
@@ -43,30 +44,34 @@ class Failed(Fault):
     """The process of one question failed; those of others may not."""
 
 
+def forks(seconds: float, folder: Path, around: Sequence[str] = ()) -> Forks:
+    """What makes the processes of questions that have so many seconds; `around` are the words before those of the
+    process that makes them."""
+    return Forks([*around, sys.executable, "-I", os.fspath(CHILD)], os.fspath(folder), Limits(
+        TIMES * seconds + MORE_SECONDS, MEGABYTES, OUTPUT))
+
+
 class Trier:
     """Tries answers over one material, from any number of threads."""
 
-    def __init__(self, material: Material, folder: Path, options: Options = Options(), around: Sequence[str] = ()) -> None:
-        """`around` are the words before those of the process."""
+    def __init__(self, material: Material, folder: Path, options: Options, processes: Forks) -> None:
+        """The folder is for the material, and stays as long as this is used."""
         self.product = material.product
-        self.folder, self.options, self.around = folder, options, tuple(around)
+        self.options, self.processes = options, processes
         self.material = folder / "material.json"
         self.material.write_text(json.dumps(materials.to_json(material)))
 
-    def ask(self, reference: str, answer: str, agrees: bool = False,
-            started: Callable[[subprocess.Popen[bytes]], None] = lambda process: None) -> Verdict:
+    def ask(self, reference: str, answer: str, agrees: bool = False) -> Verdict:
         """The verdict of one question; a Fault where the engine can't be had, Failed where its process ended without a
-        verdict. Of two queries that are known to agree as sets only duplicates and order are looked at. `started` gets
-        the process."""
+        verdict. Of two queries that are known to agree as sets only duplicates and order are looked at."""
         question = {
             "reference": reference, "answer": answer, "seconds": self.options.seconds, "looks": self.options.looks,
             "duplicates": self.options.counts_duplicates, "order": self.options.counts_order,
             "engine": self.options.engine, "asker": self.options.asker, "agrees": agrees}
-        with tempfile.NamedTemporaryFile("w", dir=self.folder, prefix="question-", suffix=".json") as file:
-            json.dump(question, file)
-            file.flush()
-            ran = limited.run([*self.around, sys.executable, "-I", os.fspath(CHILD), os.fspath(self.material), file.name], Limits(
-                TIMES * self.options.seconds + MORE_SECONDS, MEGABYTES, OUTPUT), os.fspath(self.folder), started)
+        try:
+            ran = self.processes.ask(os.fspath(self.material.absolute()), json.dumps(question).encode("ascii"))
+        except (Ended, OSError) as fault:
+            raise Failed(f"its process could not be begun: {shown(str(fault))}") from None
         if ran.passed or ran.status == -signal.SIGXCPU:
             return Verdict(self.product, Passed(False, ran.passed or "time"))
         try:
@@ -75,15 +80,30 @@ class Trier:
                 raise Fault(str(read["fault"]))
             return verdict.from_json(read)
         except (ValueError, KeyError, TypeError):
-            if b"MemoryError" in ran.stderr:
-                return Verdict(self.product, Passed(False, "memory"))
-            last = ran.stderr.decode("utf-8", "replace").strip().splitlines()[-1:]
+            last = [ran.stderr.decode("utf-8", "replace")] if ran.stderr else []
             why = f"signal {-ran.status}" if ran.status < 0 else f"status {ran.status}"
             raise Failed(": ".join([f"its process ended with {why}", *map(shown, last)])) from None
+
+    def close(self) -> None:
+        """Ends all questions at once."""
+        self.processes.close()
 
 
 @contextmanager
 def trier(material: Material, options: Options = Options()) -> Iterator[Trier]:
-    """A Trier with a folder of its own."""
-    with tempfile.TemporaryDirectory(prefix="trial-") as folder:
-        yield Trier(material, Path(folder), options)
+    """A Trier with a folder and processes of its own."""
+    with tempfile.TemporaryDirectory(prefix="trial-") as name:
+        with closing(Trier(material, Path(name), options, forks(options.seconds, Path(name)))) as made:
+            yield made
+
+
+@contextmanager
+def threads(of: Trier, jobs: int | None) -> Iterator[ThreadPoolExecutor]:
+    """So many threads that ask; at the end, however it comes, what they still ask ends at once."""
+    made = ThreadPoolExecutor(jobs or parallel.cores())
+    try:
+        yield made
+    finally:
+        made.shutdown(wait=False, cancel_futures=True)
+        of.close()
+        made.shutdown()

@@ -1,11 +1,13 @@
-"""One question in a process of its own: `child.py MATERIAL QUESTION`, two files of JSON, prints one of JSON.
+"""Questions in processes of their own, which `classroom.forking` makes: each about a material, a file of JSON.
 
-The material is what `classroom.trial.material` writes. A question has `reference`, `answer`, `seconds`,
-`looks`, `duplicates`, `order`, `agrees`, and for PostgreSQL `engine` and `asker`, the two connections. What is printed is
+The material is what `classroom.trial.material` writes. A question, JSON too, has `reference`, `answer`, `seconds`,
+`looks`, `duplicates`, `order`, `agrees`, and for PostgreSQL `engine` and `asker`, the two connections. What comes back is
 a verdict, as `classroom.trial.verdict` writes it, or `{"fault": TEXT}` where the engine can't be had.
 """
 from __future__ import annotations
 
+import contextlib
+import importlib
 import json
 import math
 import resource
@@ -16,36 +18,52 @@ from typing import Any
 if __name__ == "__main__" and not __package__:
     sys.path[0] = str(Path(__file__).resolve().parents[2])
 
+from classroom import forking
 from classroom.fault import Fault
 from classroom.trial import material as materials
 from classroom.trial import verdict
 from classroom.trial.engine import REFERENCE, Bars, Engine, Refused, Stopped, TooMuch
-from classroom.trial.material import POSTGRESQL, Material
+from classroom.trial.material import POSTGRESQL, SQLITE, Material
 from classroom.trial.parts import Parts
 from classroom.trial.search import RANDOM_PARTS, SHRINKINGS, Search, Wanted
 from classroom.trial.verdict import Barred, Passed, Verdict, WrongSql
 
 # Of the processor beyond the time in which is tried: to begin, and to end a step.
 MORE_SECONDS = 10.0
+ENGINES = {SQLITE: ("classroom.trial.sqlite",), POSTGRESQL: ("classroom.trial.postgres", "psycopg")}
 DEPTH = 20_000    # of calls, for trees of queries that are nested deep
 
 
-def main(words: list[str]) -> int:
+def main() -> int:
     sys.setrecursionlimit(DEPTH)
-    of, question = (json.loads(Path(word).read_bytes()) for word in words)
-    most = math.ceil(float(question.get("seconds", 10.0)) + MORE_SECONDS)
-    resource.setrlimit(resource.RLIMIT_CPU, (most, most + 1))
-    try:
-        answer = verdict.to_json(tried(materials.from_json(of), question))
-    except Fault as fault:
-        answer = {"fault": str(fault)}
-    sys.stdout.write(json.dumps(answer) + "\n")
+    forking.serve(ready, answer)
     return 0
 
 
-def tried(material: Material, question: dict[str, Any]) -> Verdict:
+def ready(path: str) -> tuple[Material, Parts]:
+    """A material with the parts of its rows, and its engine imported."""
+    material = materials.from_json(json.loads(Path(path).read_bytes()))
+    for name in ENGINES[material.product]:
+        # What is not there is told by the question that needs it.
+        with contextlib.suppress(ImportError):
+            importlib.import_module(name)
+    return material, Parts(material.pool)
+
+
+def answer(of: tuple[Material, Parts], text: bytes) -> bytes:
+    (material, parts), question = of, json.loads(text)
+    most = math.ceil(float(question.get("seconds", 10.0)) + MORE_SECONDS)
+    resource.setrlimit(resource.RLIMIT_CPU, (most, most + 1))
+    try:
+        found = verdict.to_json(tried(material, question, parts))
+    except Fault as fault:
+        found = {"fault": str(fault)}
+    return json.dumps(found).encode("ascii")
+
+
+def tried(material: Material, question: dict[str, Any], parts: Parts | None = None) -> Verdict:
     """The verdict of a question."""
-    parts = Parts(material.pool)
+    parts = parts or Parts(material.pool)
     label, engine = label_of(material), None
     try:
         try:
@@ -92,4 +110,4 @@ def opened(material: Material, parts: Parts, question: dict[str, Any]) -> Engine
 
 
 if __name__ == "__main__":
-    sys.exit(main(sys.argv[1:]))
+    sys.exit(main())
