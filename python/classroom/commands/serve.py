@@ -9,8 +9,9 @@ is shown above the query. What is asked is kept in an SQLite file with its hour 
 
 What `ratest` doesn't read a database tries, for three seconds in a process of its own; what comes of that is called
 tried. A question is one call of `ratest` without environment and network, with the limits below; a text that was
-asked before is answered from memory. At most --jobs calls run at once, one for each visitor; further ones wait for
-three seconds at most, --queue of them, and the others are told to ask again (status 503).
+asked before is answered from memory. At most --jobs calls run at once, one for each visitor, and beside them as many that
+take longer than a second; further ones wait for three seconds at most, --queue of them, and the others are told to ask
+again (status 503).
 
 Who asks is told by a random cookie and by the address, or by --user-header where a web server in front asks for a
 login; this is believed of --proxy and of --socket alone. With a login students may hand in.
@@ -122,7 +123,7 @@ def run(arguments: argparse.Namespace) -> int:
         work = Path(stack.enter_context(tempfile.TemporaryDirectory(prefix="classroom-")))
         course, watched = served(arguments, work, jobs, stack)
         address = Address(arguments.host, arguments.port, arguments.socket, arguments.socket_mode)
-        serve(Running(course, watched, front, address, jobs + arguments.queue, arguments.hourly or None, arguments.only_verdict,
+        serve(Running(course, watched, front, address, 2 * jobs + arguments.queue, arguments.hourly or None, arguments.only_verdict,
                       tuple(arguments.frame_ancestors), arguments.keep_days or None, arguments.teacher_port))
     return 0
 
