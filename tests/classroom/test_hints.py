@@ -4,7 +4,10 @@ from __future__ import annotations
 import csv
 import html
 import io
+import os
 import re
+import signal
+import threading
 import time
 from datetime import datetime, timedelta, timezone
 from pathlib import Path
@@ -17,6 +20,10 @@ from served import Reply, serving
 pytest.importorskip("sqlglot", reason="no sqlglot: apt-get install python3-sqlglot")
 pytest.importorskip("flask")
 pytest.importorskip("waitress")
+
+from classroom import exercise  # noqa: E402
+from classroom.repair import asking, whole  # noqa: E402
+from classroom.results import Results  # noqa: E402
 
 WRONG = (TOP / "examples/beers/5/answers/b.sql").read_text()
 REFERENCE = (TOP / "examples/beers/5/reference.sql").read_text()
@@ -253,3 +260,45 @@ def test_hints_by_keyboard(ratest: Path, beers: Path, browser: Any, has_script: 
             assert not [line for line in browser.get_log("browser") if line["level"] == "SEVERE"]
         finally:
             browser.execute_cdp_cmd("Emulation.setScriptExecutionDisabled", {"value": False})
+
+
+# In place of the search: the first process answers once another one has begun, and the others wait.
+WAITS = """
+import json, os, sys, time
+from pathlib import Path
+place = Path({place!r})
+question = json.loads(Path(sys.argv[1]).read_text())
+try:
+    os.close(os.open(place / "first", os.O_CREAT | os.O_EXCL))
+except FileExistsError:
+    (place / f"pid-{{os.getpid()}}").touch()
+    time.sleep(3600)
+while not list(place.glob("pid-*")):
+    time.sleep(0.01)
+for key in question["answers"]:
+    print(json.dumps([key, dict(repairs=[], classes=[], steps=[], pair=[], decided_by="proved", fault="")]))
+"""
+
+
+def test_what_is_stopped_ends_at_once(graded: Path, tmp_path: Path, monkeypatch: pytest.MonkeyPatch) -> None:
+    """As by Ctrl-C; what was found until then is kept."""
+    (tmp_path / "child.py").write_text(WAITS.format(place=str(tmp_path)))
+    monkeypatch.setattr(asking, "CHILD", tmp_path / "child.py")
+    given, found = Results(graded / "results").graded(exercise.load(graded))
+    kept = graded / "results" / whole.FOLDER
+
+    def interrupt() -> None:
+        while not list(kept.glob("*.json")):
+            time.sleep(0.01)
+        os.kill(os.getpid(), signal.SIGINT)
+
+    threading.Thread(target=interrupt).start()
+    begun = time.monotonic()
+    with pytest.raises(KeyboardInterrupt):
+        whole.Mistakes(given).look(found, 2, False)
+    assert time.monotonic() - begun < 60
+    waiting = [int(path.name[4:]) for path in tmp_path.glob("pid-*")]
+    assert waiting
+    for process in waiting:
+        with pytest.raises(ProcessLookupError):
+            os.kill(process, 0)

@@ -41,7 +41,7 @@ from classroom.repair import guard
 from classroom.server import child
 from classroom.server.asked import Log, foundation_of
 from classroom.server.asker import MOST_BYTES, Asker, Budget, Decided
-from classroom.server.course import Course, Served, folders, place_of_hand_ins, place_of_log
+from classroom.server.course import Course, Served, check_apart, folders, place_of_hand_ins, place_of_log
 from classroom.server.handedin import HandIns
 from classroom.server.recent import Recent
 from classroom.server.material import copied
@@ -142,7 +142,10 @@ def served(arguments: argparse.Namespace, work: Path, jobs: int,
     processes = {product: stack.enter_context(contextlib.closing(asking.forks(TRIAL_SECONDS, work, words)))
                  for product, words in around.items()}
     made, watched = [], {}
-    for number, (name, folder) in enumerate(folders(arguments.exercise)):
+    all_folders = folders(arguments.exercise)
+    if arguments.asked_file:
+        check_apart([name for name, _ in all_folders], arguments.asked_file)
+    for number, (name, folder) in enumerate(all_folders):
         found = opened(arguments, folder)
         trial = None if arguments.only_proved else trial_of(found, arguments.engine)
         trier = trier_of(trial, work / f"{number}.trial", processes) if trial else None
