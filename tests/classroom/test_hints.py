@@ -302,3 +302,54 @@ def test_what_is_stopped_ends_at_once(graded: Path, tmp_path: Path, monkeypatch:
     for process in waiting:
         with pytest.raises(ProcessLookupError):
             os.kill(process, 0)
+
+
+# What a database tries: the whole way through serve, mistakes and feedback.
+
+COUNT = "SELECT d.name, COUNT(l.beer) FROM drinker d LEFT JOIN likes l ON l.drinker = d.name GROUP BY d.name"
+OF_TRIED = f"{COUNT} HAVING COUNT(l.beer) < 4711"
+COUNTED = COUNT.replace("l.beer", "*")
+
+
+@pytest.fixture
+def tried(beers: Path) -> Path:
+    """With a task that `ratest` doesn't read, and a mark in its reference that no answer needs."""
+    (beers / "6/answers").mkdir(parents=True)
+    (beers / "6/reference.sql").write_text(OF_TRIED)
+    (beers / "6/answers/ann.sql").write_text(COUNTED)
+    (beers / "exercise.toml").write_text("hints = 3\n")
+    return beers
+
+
+def test_tried_hints_where_students_ask(ratest: Path, tried: Path) -> None:
+    with serving(tried, "--hourly", "0", tries=True) as server:
+        got = server.ask("6", COUNTED)
+        assert got.verdict.startswith("differs (tried) on ") and button(got) == "Where is the mistake?"
+        replies = [server.hint("6", COUNTED, step) for step in (1, 2, 3)]
+        assert button(replies[0]) == "Show the place" and button(replies[1]) == "What kind of mistake is it?" and button(replies[2]) == ""
+        first, here, kind = hints(replies[2])
+        assert re.fullmatch(r"One change in .* is enough, as far as was tried: with it your query answered rightly on \d+ parts of "
+                            r"these rows\.( There are other places where one change would do\.)?", first), first
+        assert "<mark>" not in replies[0].answer and "<mark>COUNT(*)</mark>" in replies[1].answer
+        assert (here, kind) == ("Here:", "Look at what is counted or computed.")
+        for reply in (got, *replies):
+            text = html.unescape(reply.body)
+            assert "4711" not in text and "COUNT(l.beer)" not in text and "HAVING" not in text
+        # Nothing is said to be proved.
+        assert not any("on every part of these rows" in text for text in hints(replies[2]))
+        # One that is right as far as was tried has no hints.
+        assert button(server.ask("6", COUNT)) == "" and hints(server.hint("6", COUNT, 1)) == []
+
+
+def test_tried_hints_in_the_feedback(ratest: Path, tried: Path) -> None:
+    classroom("grade", tried)
+    ran = classroom("mistakes", tried, "--task", "6")
+    assert ran.returncode == 0, ran.stderr
+    assert classroom("feedback", tried).returncode == 0
+    page = html.unescape((tried / "results/feedback/ann.html").read_text())
+    text = re.sub(r"\\(.)", r"\1", (tried / "results/feedback/ann.md").read_text())
+    assert page.count("<summary>Hint ") == 3 and "<mark>COUNT(*)</mark>" in page
+    for one in (page, text):
+        assert "is enough, as far as was tried: with it your query answered rightly on " in one
+        assert "Look at what is counted or computed." in one
+        assert "4711" not in one and "COUNT(l.beer)" not in one and "HAVING" not in one
