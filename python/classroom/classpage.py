@@ -112,7 +112,7 @@ def grouped(graded: Sequence[Graded], mistakes: Mapping[str, Mistake]) -> list[l
     what is shown, the most frequent first."""
     groups: dict[object, list[Graded]] = {}
     for of in graded:
-        mistake = mistakes[of.key].name if of.key in mistakes else ""
+        mistake = mistakes[of.record].name if of.record in mistakes else ""
         outcome = None if of.grade == Grade.AGREES else of.trial.outcome if of.trial and of.is_tried else of.outcome
         same = (of.grade, of.is_tried, mistake or outcome, of.fault)
         groups.setdefault(same, []).append(of)

@@ -92,6 +92,11 @@ class Graded:
             and not self.of_reference and not isinstance(self.trial.outcome, Passed)
 
     @property
+    def record(self) -> str:
+        """The key of the record that says most of it; empty where there is none."""
+        return self.trial_key or self.key
+
+    @property
     def decided_by(self) -> str:
         """Where the grade comes from: PROVED or an engine; empty where there is no verdict."""
         if self.trial and self.is_tried:

@@ -100,9 +100,27 @@ class Server:
                 found.append(int(path.parent.name))
         return found
 
-    def resident(self) -> int:
-        """Bytes of the server itself."""
-        return int(Path(f"/proc/{self.process.pid}/statm").read_text().split()[1]) * os.sysconf("SC_PAGE_SIZE")
+    def trials(self) -> list[int]:
+        """Of its processes those that fork what a database tries, and stay."""
+        found = []
+        for process in self.family():
+            try:
+                words = Path(f"/proc/{process}/cmdline").read_bytes().split(b"\0")
+            except OSError:
+                continue
+            if any(word.endswith(b"trial/child.py") for word in words):
+                found.append(process)
+        return found
+
+    def resident(self, process: int = 0) -> int:
+        """Bytes of the server itself, or of one of its processes."""
+        return int(Path(f"/proc/{process or self.process.pid}/statm").read_text().split()[1]) * os.sysconf("SC_PAGE_SIZE")
+
+    def processor(self, process: int = 0) -> tuple[float, float]:
+        """Seconds of the server itself, or of one of its processes, and of what it ran and waited for."""
+        parts = Path(f"/proc/{process or self.process.pid}/stat").read_text().rpartition(")")[2].split()
+        user, system, user_of_others, system_of_others = (int(part) / os.sysconf("SC_CLK_TCK") for part in parts[11:15])
+        return user + system, user_of_others + system_of_others
 
     def kill(self) -> None:
         self.process.kill()

@@ -58,6 +58,13 @@ def test_moodle_with_a_class_list(listed: Path, tmp_path: Path) -> None:
     assert found(listed) == ANSWERS
 
 
+def test_one_student_and_one_answer(exercise: Path, tmp_path: Path) -> None:
+    who = next(iter(ANSWERS))
+    task, text = next(iter(ANSWERS[who].items()))
+    ran = collect(made_archives.moodle(tmp_path / "m.zip", {who: {task: text}}), exercise)
+    assert ran.stdout == "1 student, 1 answer: 1 new, 0 replaced, 0 as they were, 0 kept\n", ran.stderr
+
+
 def test_moodle_without_one(exercise: Path, tmp_path: Path) -> None:
     """The full name is the id."""
     ran = collect(made_archives.moodle(tmp_path / "m.zip", ANSWERS), exercise)

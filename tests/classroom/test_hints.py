@@ -4,7 +4,10 @@ from __future__ import annotations
 import csv
 import html
 import io
+import os
 import re
+import signal
+import threading
 import time
 from datetime import datetime, timedelta, timezone
 from pathlib import Path
@@ -17,6 +20,10 @@ from served import Reply, serving
 pytest.importorskip("sqlglot", reason="no sqlglot: apt-get install python3-sqlglot")
 pytest.importorskip("flask")
 pytest.importorskip("waitress")
+
+from classroom import exercise  # noqa: E402
+from classroom.repair import asking, whole  # noqa: E402
+from classroom.results import Results  # noqa: E402
 
 WRONG = (TOP / "examples/beers/5/answers/b.sql").read_text()
 REFERENCE = (TOP / "examples/beers/5/reference.sql").read_text()
@@ -253,3 +260,96 @@ def test_hints_by_keyboard(ratest: Path, beers: Path, browser: Any, has_script: 
             assert not [line for line in browser.get_log("browser") if line["level"] == "SEVERE"]
         finally:
             browser.execute_cdp_cmd("Emulation.setScriptExecutionDisabled", {"value": False})
+
+
+# In place of the search: the first process answers once another one has begun, and the others wait.
+WAITS = """
+import json, os, sys, time
+from pathlib import Path
+place = Path({place!r})
+question = json.loads(Path(sys.argv[1]).read_text())
+try:
+    os.close(os.open(place / "first", os.O_CREAT | os.O_EXCL))
+except FileExistsError:
+    (place / f"pid-{{os.getpid()}}").touch()
+    time.sleep(3600)
+while not list(place.glob("pid-*")):
+    time.sleep(0.01)
+for key in question["answers"]:
+    print(json.dumps([key, dict(repairs=[], classes=[], steps=[], pair=[], decided_by="proved", fault="")]))
+"""
+
+
+def test_what_is_stopped_ends_at_once(graded: Path, tmp_path: Path, monkeypatch: pytest.MonkeyPatch) -> None:
+    """As by Ctrl-C; what was found until then is kept."""
+    (tmp_path / "child.py").write_text(WAITS.format(place=str(tmp_path)))
+    monkeypatch.setattr(asking, "CHILD", tmp_path / "child.py")
+    given, found = Results(graded / "results").graded(exercise.load(graded))
+    kept = graded / "results" / whole.FOLDER
+
+    def interrupt() -> None:
+        while not list(kept.glob("*.json")):
+            time.sleep(0.01)
+        os.kill(os.getpid(), signal.SIGINT)
+
+    threading.Thread(target=interrupt).start()
+    begun = time.monotonic()
+    with pytest.raises(KeyboardInterrupt):
+        whole.Mistakes(given).look(found, 2, False)
+    assert time.monotonic() - begun < 60
+    waiting = [int(path.name[4:]) for path in tmp_path.glob("pid-*")]
+    assert waiting
+    for process in waiting:
+        with pytest.raises(ProcessLookupError):
+            os.kill(process, 0)
+
+
+# What a database tries: the whole way through serve, mistakes and feedback.
+
+COUNT = "SELECT d.name, COUNT(l.beer) FROM drinker d LEFT JOIN likes l ON l.drinker = d.name GROUP BY d.name"
+OF_TRIED = f"{COUNT} HAVING COUNT(l.beer) < 4711"
+COUNTED = COUNT.replace("l.beer", "*")
+
+
+@pytest.fixture
+def tried(beers: Path) -> Path:
+    """With a task that `ratest` doesn't read, and a mark in its reference that no answer needs."""
+    (beers / "6/answers").mkdir(parents=True)
+    (beers / "6/reference.sql").write_text(OF_TRIED)
+    (beers / "6/answers/ann.sql").write_text(COUNTED)
+    (beers / "exercise.toml").write_text("hints = 3\n")
+    return beers
+
+
+def test_tried_hints_where_students_ask(ratest: Path, tried: Path) -> None:
+    with serving(tried, "--hourly", "0", tries=True) as server:
+        got = server.ask("6", COUNTED)
+        assert got.verdict.startswith("differs (tried) on ") and button(got) == "Where is the mistake?"
+        replies = [server.hint("6", COUNTED, step) for step in (1, 2, 3)]
+        assert button(replies[0]) == "Show the place" and button(replies[1]) == "What kind of mistake is it?" and button(replies[2]) == ""
+        first, here, kind = hints(replies[2])
+        assert re.fullmatch(r"One change in .* is enough, as far as was tried: with it your query answered rightly on \d+ parts of "
+                            r"these rows\.( There are other places where one change would do\.)?", first), first
+        assert "<mark>" not in replies[0].answer and "<mark>COUNT(*)</mark>" in replies[1].answer
+        assert (here, kind) == ("Here:", "Look at what is counted or computed.")
+        for reply in (got, *replies):
+            text = html.unescape(reply.body)
+            assert "4711" not in text and "COUNT(l.beer)" not in text and "HAVING" not in text
+        # Nothing is said to be proved.
+        assert not any("on every part of these rows" in text for text in hints(replies[2]))
+        # One that is right as far as was tried has no hints.
+        assert button(server.ask("6", COUNT)) == "" and hints(server.hint("6", COUNT, 1)) == []
+
+
+def test_tried_hints_in_the_feedback(ratest: Path, tried: Path) -> None:
+    classroom("grade", tried)
+    ran = classroom("mistakes", tried, "--task", "6")
+    assert ran.returncode == 0, ran.stderr
+    assert classroom("feedback", tried).returncode == 0
+    page = html.unescape((tried / "results/feedback/ann.html").read_text())
+    text = re.sub(r"\\(.)", r"\1", (tried / "results/feedback/ann.md").read_text())
+    assert page.count("<summary>Hint ") == 3 and "<mark>COUNT(*)</mark>" in page
+    for one in (page, text):
+        assert "is enough, as far as was tried: with it your query answered rightly on " in one
+        assert "Look at what is counted or computed." in one
+        assert "4711" not in one and "COUNT(l.beer)" not in one and "HAVING" not in one

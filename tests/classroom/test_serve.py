@@ -4,6 +4,7 @@ from __future__ import annotations
 import html
 import json
 import os
+import math
 import re
 import shutil
 import socket
@@ -347,7 +348,7 @@ def test_so_many_at_once(beers: Path, stand_in: Path) -> None:
 
 
 def test_places() -> None:
-    places = Places(1, 1, 0.05)
+    places = Places(1, 1, 0.05, math.inf)
     with places.one("anna"):
         assert places.state() == (1, 0)
         with pytest.raises(Busy):
@@ -360,7 +361,7 @@ def test_places() -> None:
 
 def test_a_second_question_waits_behind_everybodys_first() -> None:
     """Of one who asks ten times at once and three others: one at a time, and the others first."""
-    places, order, may_go = Places(1, 32, 60), [], threading.Event()
+    places, order, may_go = Places(1, 32, 60, math.inf), [], threading.Event()
 
     def ask(who: str) -> None:
         with places.one(who):
@@ -383,7 +384,7 @@ def test_a_second_question_waits_behind_everybodys_first() -> None:
 
 
 def test_one_takes_no_more_than_a_share_of_the_line() -> None:
-    places, may_go = Places(1, 16, 60), threading.Event()
+    places, may_go = Places(1, 16, 60, math.inf), threading.Event()
 
     def ask(who: str, network: str) -> None:
         with places.one(who, network):
@@ -410,6 +411,27 @@ def test_one_takes_no_more_than_a_share_of_the_line() -> None:
         time.sleep(0.001)
     may_go.set()
     for thread in (*threads, *others):
+        thread.join()
+    assert places.state() == (0, 0)
+
+
+def test_what_takes_long_leaves_its_place() -> None:
+    """To as many as there are places: what takes long then stays in one, as what comes behind it waits."""
+    places, may_go = Places(1, 16, 60, 0.1), threading.Event()
+
+    def ask(visitor: str) -> None:
+        with places.one(visitor):
+            may_go.wait()
+
+    threads = [threading.Thread(target=ask, args=(visitor,)) for visitor in "abc"]
+    for thread in threads:
+        thread.start()
+    while places.state() != (2, 1):
+        time.sleep(0.001)
+    time.sleep(1.0)
+    assert places.state() == (2, 1)
+    may_go.set()
+    for thread in threads:
         thread.join()
     assert places.state() == (0, 0)
 

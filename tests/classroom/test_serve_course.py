@@ -322,6 +322,16 @@ def test_what_is_asked_of_a_course_in_a_folder(ratest: Path, course: Path, tmp_p
     assert not (course / "1 first/results").exists()
 
 
+@pytest.mark.parametrize(("one", "other", "file"), [("a", "a-handed-in", "a-handed-in.db"), ("asked", "handed-in", "handed-in.db")])
+def test_exercises_that_would_share_a_file(ratest: Path, course: Path, tmp_path: Path, one: str, other: str, file: str) -> None:
+    (course / "1 first").rename(course / one)
+    (course / "2 second").rename(course / other)
+    ran = classroom("serve", course, "--port", "0", "--only-proved", "--asked-file", tmp_path / "kept")
+    assert (ran.returncode, ran.stdout) == (1, "")
+    assert ran.stderr == f"classroom: --asked-file: the exercises {one} and {other} would share {file}: rename one of them\n"
+    assert not list((tmp_path / "kept").iterdir())
+
+
 def moment(hours: float) -> str:
     return (datetime.now(timezone.utc) + timedelta(hours=hours)).isoformat(timespec="seconds")
 

@@ -4,14 +4,25 @@ from __future__ import annotations
 import csv
 import os
 import shutil
+import signal
+import threading
+import time
 from pathlib import Path
 
 import pytest
 import shop
 from products import TOP, classroom
 
+from classroom.exercise import Task
+from classroom.mutation import trying
 from classroom.mutation.families import BAGS, LISTS, TRIED
+from classroom.mutation.grading import OPEN, TOLD
 from classroom.mutation.mutants import mutants
+from classroom.results import Results
+from classroom.settings import Settings
+from classroom.trial import asking
+from classroom.trial.asking import Options
+from classroom.tried import Trial
 
 TABLES = [held.table for held in shop.pool().held]
 
@@ -87,3 +98,54 @@ def test_duplicates_where_they_count(beers: Path) -> None:
     (beers / "exercise.toml").write_text('duplicates = "wrong"\n')
     assert classroom("mutants", beers, "--task", "6").returncode == 0
     assert {line["mistake"]: line["verdict"] for line in lines(beers)}["DISTINCT dropped"] == "told"
+
+
+# What a process does where a mutant has MAX, before it tries the others as ever.
+CHILD = f"""
+import sys; sys.path.insert(0, {str(TOP / "python")!r})
+import os, signal, time
+import classroom.trial.child as child
+ever = child.tried
+def tried(material, question, parts):
+    if "MAX" in question["answer"]:
+        WHAT
+    return ever(material, question, parts)
+child.tried = tried
+child.main()
+"""
+
+
+def mutants_of(folder: Path, monkeypatch: pytest.MonkeyPatch, what: str) -> list[trying.Told]:
+    (folder / "child.py").write_text(CHILD.replace("WHAT", what))
+    monkeypatch.setattr(asking, "CHILD", folder / "child.py")
+    results = Results(folder / "mutants")
+    results.runs.mkdir(parents=True)
+    return trying.mutants(Trial(shop.material(), Options(), "", True), Task("1", Path("1"), reference=b"SELECT MIN(price) FROM product WHERE price > 1"),
+                          Settings(), results, 2)
+
+
+def test_a_crash_loses_one_mutant(tmp_path: Path, monkeypatch: pytest.MonkeyPatch) -> None:
+    found = {one.of.mistake: one.verdict for one in mutants_of(tmp_path, monkeypatch, "os.kill(os.getpid(), signal.SIGSEGV)")}
+    lost = found.pop("MAX for MIN")
+    assert (lost.kind, lost.why) == (OPEN, "its process ended with signal 11")
+    assert found and TOLD in {one.kind for one in found.values()} and OPEN not in {one.kind for one in found.values()}
+    # It is asked again the next time.
+    assert len(list((tmp_path / "mutants/runs").iterdir())) == len(found) + 1
+
+
+def test_what_is_stopped_ends_at_once(tmp_path: Path, monkeypatch: pytest.MonkeyPatch) -> None:
+    """As by Ctrl-C, which comes while a child has long to go."""
+    place = tmp_path / "pid"
+
+    def interrupt() -> None:
+        while not (place.exists() and place.read_text()):
+            time.sleep(0.01)
+        os.kill(os.getpid(), signal.SIGINT)
+
+    threading.Thread(target=interrupt).start()
+    begun = time.monotonic()
+    with pytest.raises(KeyboardInterrupt):
+        mutants_of(tmp_path, monkeypatch, f"open({str(place)!r}, 'w').write(str(os.getpid())); time.sleep(3600)")
+    assert time.monotonic() - begun < 60
+    with pytest.raises(ProcessLookupError):
+        os.kill(int(place.read_text()), 0)

@@ -1,14 +1,17 @@
 """The page where students ask, where a database answers what `ratest` doesn't read."""
 from __future__ import annotations
 
+import logging
 import shutil
 import sqlite3
 import threading
 import time
 from collections.abc import Iterator
 from pathlib import Path
+from typing import Any, cast
 
 import pytest
+import shop
 from products import TOP, classroom
 from served import Reply, Server, serving
 
@@ -16,7 +19,17 @@ pytest.importorskip("flask")
 pytest.importorskip("waitress")
 pytest.importorskip("limits")
 
+from classroom import witness  # noqa: E402
+from classroom.limited import Limits  # noqa: E402
 from classroom.server.asked import Log  # noqa: E402
+from classroom.server.asker import Asker, Budget  # noqa: E402
+from classroom.server.material import Material, Offered  # noqa: E402
+from classroom.server.recent import Recent  # noqa: E402
+from classroom.server.waiting import Places  # noqa: E402
+from classroom.server.window import Window  # noqa: E402
+from classroom.trial.asking import Failed, Options  # noqa: E402
+from classroom.trial.verdict import Passed, Verdict, WrongSql  # noqa: E402
+from classroom.tried import Trial  # noqa: E402
 
 ENGINE = f"sqlite {sqlite3.sqlite_version}"
 COUNT = "SELECT d.name, COUNT(l.beer) FROM drinker d LEFT JOIN likes l ON l.drinker = d.name GROUP BY d.name"
@@ -150,3 +163,32 @@ def test_a_task_whose_reference_nothing_answers_is_not_offered(ratest: Path, exe
         page = server.send("GET", "/").body
         assert '<option value="6">' in page and '<option value="8">' not in page
         assert server.ask("8", "SELECT name FROM bar").status == 404
+
+
+class Refuses:
+    """In place of what tries: it ends as it is told."""
+
+    def __init__(self, ends: Verdict | Failed) -> None:
+        self.ends = ends
+
+    def ask(self, reference: str, answer: str, agrees: bool = False) -> Verdict:
+        if isinstance(self.ends, Failed):
+            raise self.ends
+        return self.ends
+
+
+@pytest.mark.parametrize(("ends", "told"), [
+    (Verdict(ENGINE, WrongSql(True, "no such column: secret")), f"{ENGINE} does not answer its reference"),
+    (Verdict(ENGINE, Passed(True, "time")), f"{ENGINE} does not answer its reference"),
+    (Failed("its process ended with status 1", "KeyError: 'secret'"), "its process ended with status 1")])
+def test_what_a_database_says_of_a_reference_is_in_no_log(tmp_path: Path, caplog: pytest.LogCaptureFixture, ends: Verdict | Failed,
+                                                           told: str) -> None:
+    """The whole log, with --verbose."""
+    (tmp_path / "0.reference").write_text("SELECT secret FROM drinker")
+    task = Offered("1", "1", "", "0.reference", "", "", True)
+    material = Material("", tmp_path, (task,), (), "", "", (), None, Window())
+    trial = Trial(shop.material(), Options(), "", True)
+    asker = Asker(material, (), Limits(), Budget(1), Places(1, 1, 1), Recent(1), "", trial, cast(Any, Refuses(ends)))
+    with caplog.at_level(logging.DEBUG):
+        assert asker._tried(task, "SELECT 1", witness.Refused("query 1", "", None)) is None
+    assert [record.getMessage() for record in caplog.records] == [f"task '1' is not tried: {told}"]

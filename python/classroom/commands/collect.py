@@ -29,6 +29,7 @@ import re
 from pathlib import Path
 
 from classroom import exercise, students
+from classroom.draw import counted
 from classroom.fault import Fault, shown
 from classroom.intake import archive, collecting, forms, placing
 from classroom.intake.archive import Member
@@ -127,6 +128,6 @@ def tell(answers: list[placing.Placed], rest: list[placing.NotPlaced], done: col
     if strangers:
         log.warning("not in the class list: %s", shown(*strangers))
     people = len({answer.student for answer in answers})
-    print(f"{people} students, {len(answers)} answers: {done.new} new, {done.replaced} replaced, {done.same} as they were, "
+    print(f"{counted(people, 'student')}, {counted(len(answers), 'answer')}: {done.new} new, {done.replaced} replaced, {done.same} as they were, "
           f"{len(done.kept)} kept")
     return 1 if rest or done.kept or strangers else 0

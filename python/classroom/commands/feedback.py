@@ -71,7 +71,7 @@ def run(arguments: argparse.Namespace) -> int:
     files |= {f"{stem(back.sheet.id)}.md": markdown.text_of(back.sheet).encode("utf-8", "replace") for back in backs}
     missing = add_platforms(files, backs, arguments, arguments.assignment or given.title)
     Written(given.results / FOLDER).put(files)
-    print(f"{len(backs)} students: see {shown(str(given.results / FOLDER))}")
+    print(f"{draw.counted(len(backs), 'student')}: see {shown(str(given.results / FOLDER))}")
     return 1 if missing else 0
 
 

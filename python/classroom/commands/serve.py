@@ -9,8 +9,9 @@ is shown above the query. What is asked is kept in an SQLite file with its hour 
 
 What `ratest` doesn't read a database tries, for three seconds in a process of its own; what comes of that is called
 tried. A question is one call of `ratest` without environment and network, with the limits below; a text that was
-asked before is answered from memory. At most --jobs calls run at once, one for each visitor; further ones wait for
-three seconds at most, --queue of them, and the others are told to ask again (status 503).
+asked before is answered from memory. At most --jobs calls run at once, one for each visitor, and beside them as many that
+take longer than a second; further ones wait for three seconds at most, --queue of them, and the others are told to ask
+again (status 503).
 
 Who asks is told by a random cookie and by the address, or by --user-header where a web server in front asks for a
 login; this is believed of --proxy and of --socket alone. With a login students may hand in.
@@ -40,7 +41,7 @@ from classroom.repair import guard
 from classroom.server import child
 from classroom.server.asked import Log, foundation_of
 from classroom.server.asker import MOST_BYTES, Asker, Budget, Decided
-from classroom.server.course import Course, Served, folders, place_of_hand_ins, place_of_log
+from classroom.server.course import Course, Served, check_apart, folders, place_of_hand_ins, place_of_log
 from classroom.server.handedin import HandIns
 from classroom.server.recent import Recent
 from classroom.server.material import copied
@@ -122,7 +123,7 @@ def run(arguments: argparse.Namespace) -> int:
         work = Path(stack.enter_context(tempfile.TemporaryDirectory(prefix="classroom-")))
         course, watched = served(arguments, work, jobs, stack)
         address = Address(arguments.host, arguments.port, arguments.socket, arguments.socket_mode)
-        serve(Running(course, watched, front, address, jobs + arguments.queue, arguments.hourly or None, arguments.only_verdict,
+        serve(Running(course, watched, front, address, 2 * jobs + arguments.queue, arguments.hourly or None, arguments.only_verdict,
                       tuple(arguments.frame_ancestors), arguments.keep_days or None, arguments.teacher_port))
     return 0
 
@@ -141,7 +142,10 @@ def served(arguments: argparse.Namespace, work: Path, jobs: int,
     processes = {product: stack.enter_context(contextlib.closing(asking.forks(TRIAL_SECONDS, work, words)))
                  for product, words in around.items()}
     made, watched = [], {}
-    for number, (name, folder) in enumerate(folders(arguments.exercise)):
+    all_folders = folders(arguments.exercise)
+    if arguments.asked_file:
+        check_apart([name for name, _ in all_folders], arguments.asked_file)
+    for number, (name, folder) in enumerate(all_folders):
         found = opened(arguments, folder)
         trial = None if arguments.only_proved else trial_of(found, arguments.engine)
         trier = trier_of(trial, work / f"{number}.trial", processes) if trial else None

@@ -95,7 +95,7 @@ def part(given: Exercise, task: Task, of: Graded | None, shows_references: bool,
 
 def hints(given: Exercise, of: Graded, mistakes: Mapping[str, Mistake]) -> tuple[Hint, ...]:
     text = of.answer.text.query.decode("utf-8", "replace")
-    return tuple(Hint(step.text, steps.place_of(step, text)) for step in steps.told(mistakes.get(of.key), given.settings))
+    return tuple(Hint(step.text, steps.place_of(step, text)) for step in steps.told(mistakes.get(of.record), given.settings))
 
 
 def told(of: Graded) -> str:

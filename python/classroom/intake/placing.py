@@ -163,5 +163,5 @@ def _last(same: Sequence[Placed]) -> Placed | NotPlaced:
     last = [one for one in same if one.handed.order == most]
     if len({one.content for one in last}) > 1:
         labels = shown(*(one.handed.member.label for one in last))
-        return NotPlaced(labels, f"{len(last)} answers of {shown(last[0].student)} to the task {shown(last[0].task)}")
+        return NotPlaced(labels, f"task {shown(last[0].task)} has {len(last)} different answers of {shown(last[0].student)}, and nothing says which came last")
     return last[-1]

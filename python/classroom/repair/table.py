@@ -33,9 +33,9 @@ class Line:
 def lines(graded: Sequence[Graded], found: Mapping[str, Mistake]) -> list[Line]:
     groups: dict[tuple[str, str, str], list[Graded]] = {}
     for of in graded:
-        if of.key in found:
-            name = name_of(found[of.key])
-            groups.setdefault((of.task.label, name, found[of.key].decided_by if name != NOT_FOUND else ""), []).append(of)
+        if of.record in found:
+            name = name_of(found[of.record])
+            groups.setdefault((of.task.label, name, found[of.record].decided_by if name != NOT_FOUND else ""), []).append(of)
     order = list(dict.fromkeys(of.task.label for of in graded))
     made = [line(task, mistake, members, found) for (task, mistake, _), members in groups.items()]
     return sorted(made, key=lambda one: (order.index(one.task), one.mistake == NOT_FOUND, -len(one.names)))
@@ -48,7 +48,7 @@ def name_of(mistake: Mistake) -> str:
 
 
 def line(task: str, mistake: str, members: Sequence[Graded], found: Mapping[str, Mistake]) -> Line:
-    own = [found[of.key] for of in members]
+    own = [found[of.record] for of in members]
     places = Counter(one.where for one in own if one.where)
     kinds = Counter(one.kind for one in own if one.kind)
     repair = next((one.repairs[0].text if one.repairs else one.pair[-1] for one in own if one.repairs or one.pair), "")

@@ -32,7 +32,7 @@ class Mistakes:
         self.is_deep = is_deep
 
     def key(self, of: Graded) -> str:
-        return digest(self.common.encode(), of.key.encode())
+        return digest(self.common.encode(), of.record.encode())
 
     def kept(self, of: Graded) -> Mistake | None:
         try:
@@ -79,13 +79,13 @@ class Mistakes:
 
     def of(self, graded: Sequence[Graded]) -> dict[str, Mistake]:
         """What is kept, by the keys of the answers' records."""
-        found = {of.key: self.kept(of) for of in graded if is_asked(of)}
+        found = {of.record: self.kept(of) for of in graded if is_asked(of)}
         return {key: mistake for key, mistake in found.items() if mistake}
 
 
 def is_asked(of: Graded) -> bool:
     """Whether an answer differs; where a database tries, SQLite has to, as it does here."""
-    return of.grade == Grade.DIFFERS and bool(of.key) and of.rows is not None and (
+    return of.grade == Grade.DIFFERS and bool(of.record) and of.rows is not None and (
         not of.is_tried or of.decided_by.startswith("sqlite"))
 
 

@@ -103,12 +103,7 @@ class Log:
         self._is_closed = self._is_full = False
         self._hour = ""
         try:
-            # Nobody else's to read.
-            os.close(os.open(path, os.O_CREAT | os.O_RDWR | os.O_CLOEXEC, 0o600))
-            self._database = sqlite3.connect(path, check_same_thread=False, isolation_level=None, timeout=5)
-            self._database.execute("PRAGMA journal_mode = WAL")
-            self._database.execute("PRAGMA synchronous = NORMAL")
-            self._database.execute("PRAGMA secure_delete = ON")
+            self._database = opened(path, "NORMAL")
             self._database.execute(f"PRAGMA max_page_count = {max(megabytes * 1_000_000 // PAGE, 16)}")
             self._begin()
         except sqlite3.Error as fault:
@@ -168,6 +163,15 @@ class Log:
         with self._lock:
             self._is_closed = True
             self._database.close()
+
+
+def opened(path: Path, synchronous: str) -> sqlite3.Connection:
+    """A file that is nobody else's to read, for many threads, of which one at a time uses it."""
+    os.close(os.open(path, os.O_CREAT | os.O_RDWR | os.O_CLOEXEC, 0o600))
+    database = sqlite3.connect(path, check_same_thread=False, isolation_level=None, timeout=5)
+    for word in ("journal_mode = WAL", f"synchronous = {synchronous}", "secure_delete = ON"):
+        database.execute(f"PRAGMA {word}")
+    return database
 
 
 def drop_before(database: sqlite3.Connection, hour: str) -> int:

@@ -16,9 +16,8 @@ from classroom.server.asked import key_of
 from classroom.server.material import Material, Offered
 from classroom.server.recent import Recent
 from classroom.server.waiting import Places
-from classroom.trial.asking import Trier
+from classroom.trial.asking import Failed, Trier
 from classroom.trial.verdict import Barred, Differs, Passed, Verdict, WrongSql, to_json
-from classroom.trial.words import refusal
 from classroom.tried import Trial, is_open, text_of
 from classroom.witness import NoVerdict, Outcome, Refused, Undecided
 from ratest import printed
@@ -112,12 +111,16 @@ class Asker:
         try:
             reference = text_of((self.material.folder / task.reference).read_bytes())
             found = self.trier.ask(reference, text_of(text.encode("utf-8", "replace")), agrees)
+        except Failed as fault:
+            # Its last words may have texts of the two queries.
+            log.error("task %a is not tried: %s", task.name, fault.how)
+            return None
         except Fault as fault:
             log.error("task %a is not tried: %s", task.name, fault)
             return None
         # What is told of a refused reference may name what stands in it.
         if isinstance(found.outcome, (WrongSql, Barred, Passed)) and found.outcome.is_reference:
-            log.error("task %a is not tried: its reference: %s", task.name, refusal(found.outcome, found.engine))
+            log.error("task %a is not tried: %s does not answer its reference", task.name, found.engine)
             return None
         return found
 

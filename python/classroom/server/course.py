@@ -2,6 +2,7 @@
 from __future__ import annotations
 
 import os
+from collections.abc import Sequence
 from dataclasses import dataclass
 from pathlib import Path
 from urllib.parse import quote
@@ -73,6 +74,17 @@ def place_of_log(name: str, exercise: Path, asked: Path | None) -> Path:
         asked.mkdir(parents=True, exist_ok=True)
         return asked / f"{name or 'asked'}.db"
     return asked
+
+
+def check_apart(names: Sequence[str], asked: Path) -> None:
+    """A Fault where two exercises would have one file in the folder `asked`."""
+    owners: dict[Path, str] = {}
+    for name in names:
+        of = place_of_log(name, Path(), asked)
+        for path in (of, place_of_hand_ins(of)):
+            other = owners.setdefault(path, name)
+            if other != name:
+                raise Fault(f"--asked-file: the exercises {shown(other)} and {shown(name)} would share {shown(path.name)}: rename one of them")
 
 
 def place_of_hand_ins(log: Path) -> Path:

@@ -6,7 +6,6 @@ receipt is shown, so a server that is killed loses none.
 from __future__ import annotations
 
 import hashlib
-import os
 import sqlite3
 import threading
 from dataclasses import dataclass
@@ -14,7 +13,7 @@ from datetime import datetime, timezone
 from pathlib import Path
 
 from classroom.fault import Fault, shown
-from classroom.server.asked import rows
+from classroom.server.asked import opened, rows
 
 FILE = "handed-in.db"
 SCHEMA = """
@@ -51,11 +50,7 @@ class HandIns:
         self.path = path
         self._lock = threading.Lock()
         try:
-            os.close(os.open(path, os.O_CREAT | os.O_RDWR | os.O_CLOEXEC, 0o600))
-            self._database = sqlite3.connect(path, check_same_thread=False, isolation_level=None, timeout=5)
-            self._database.execute("PRAGMA journal_mode = WAL")
-            self._database.execute("PRAGMA synchronous = FULL")
-            self._database.execute("PRAGMA secure_delete = ON")
+            self._database = opened(path, "FULL")
             self._database.executescript(SCHEMA)
         except sqlite3.Error as fault:
             raise Fault(f"{shown(str(path))}: {fault}") from None

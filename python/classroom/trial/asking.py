@@ -43,6 +43,11 @@ class Options:
 class Failed(Fault):
     """The process of one question failed; those of others may not."""
 
+    def __init__(self, how: str, *last: str) -> None:
+        """With its last words, which may have texts of the queries."""
+        super().__init__(": ".join([how, *map(shown, last)]))
+        self.how = how
+
 
 def forks(seconds: float, folder: Path, around: Sequence[str] = ()) -> Forks:
     """What makes the processes of questions that have so many seconds; `around` are the words before those of the
@@ -71,7 +76,7 @@ class Trier:
         try:
             ran = self.processes.ask(os.fspath(self.material.absolute()), json.dumps(question).encode("ascii"))
         except (Ended, OSError) as fault:
-            raise Failed(f"its process could not be begun: {shown(str(fault))}") from None
+            raise Failed("its process could not be begun", str(fault)) from None
         if ran.passed or ran.status == -signal.SIGXCPU:
             return Verdict(self.product, Passed(False, ran.passed or "time"))
         try:
@@ -82,7 +87,7 @@ class Trier:
         except (ValueError, KeyError, TypeError):
             last = [ran.stderr.decode("utf-8", "replace")] if ran.stderr else []
             why = f"signal {-ran.status}" if ran.status < 0 else f"status {ran.status}"
-            raise Failed(": ".join([f"its process ended with {why}", *map(shown, last)])) from None
+            raise Failed(f"its process ended with {why}", *last) from None
 
     def close(self) -> None:
         """Ends all questions at once."""
