@@ -8,11 +8,26 @@ import os
 import stat
 from collections.abc import Iterator
 from contextlib import contextmanager
+from pathlib import Path
 
-from classroom.fault import Fault, told
+from classroom.fault import Fault, shown, told
 
 NO_FILE = "no plain file"
 FLAGS = os.O_RDONLY | os.O_CLOEXEC | os.O_NONBLOCK
+
+
+def bounded(path: Path, most: int) -> bytes | None:
+    """The bytes of a file of the teacher's, None where there is none; a Fault where it can't be read, or has more."""
+    try:
+        with open(path, "rb") as file:
+            raw = file.read(most + 1)
+    except FileNotFoundError:
+        return None
+    except OSError as fault:
+        raise Fault(f"{shown(os.fspath(path))}: {fault.strerror}") from None
+    if len(raw) > most:
+        raise Fault(f"{shown(os.fspath(path))}: more than {most:,} bytes")
+    return raw
 
 
 class NotRead(Fault):

@@ -9,6 +9,7 @@ from datetime import datetime
 from pathlib import Path, PurePosixPath
 from typing import Any
 
+from classroom import reading
 from classroom.fault import Fault, shown
 
 FILE = "exercise.toml"
@@ -60,15 +61,9 @@ class Settings:
 def read(folder: Path, tasks: Iterable[str]) -> Settings:
     """The settings of the exercise in a folder that has these tasks; a Fault names the key that is wrong."""
     path = folder / FILE
-    try:
-        with open(path, "rb") as file:
-            text = file.read(MOST_BYTES + 1)
-    except FileNotFoundError:
+    text = reading.bounded(path, MOST_BYTES)
+    if text is None:
         return Settings()
-    except OSError as fault:
-        raise Fault(f"{shown(str(path))}: {fault.strerror}") from None
-    if len(text) > MOST_BYTES:
-        raise Fault(f"{shown(str(path))}: more than {MOST_BYTES:,} bytes")
     try:
         return settings_of(tomllib.loads(text.decode()), tasks)
     except UnicodeDecodeError:

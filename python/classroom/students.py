@@ -14,6 +14,7 @@ from dataclasses import dataclass, fields
 from functools import cached_property
 from pathlib import Path
 
+from classroom import reading
 from classroom.fault import Fault, shown
 
 MOST_BYTES = 4_000_000
@@ -57,16 +58,10 @@ class ClassList:
 
 def read(path: Path) -> ClassList:
     """The class list in a file, a Fault where it is none; an empty one where there is no file."""
-    try:
-        with open(path, "rb") as file:
-            raw = file.read(MOST_BYTES + 1)
-    except FileNotFoundError:
+    raw = reading.bounded(path, MOST_BYTES)
+    if raw is None:
         return ClassList()
-    except OSError as fault:
-        raise Fault(f"{shown(os.fspath(path))}: {fault.strerror}") from None
     try:
-        if len(raw) > MOST_BYTES:
-            raise Fault(f"more than {MOST_BYTES:,} bytes")
         return list_of(raw.decode("utf-8-sig"))
     except UnicodeDecodeError:
         raise Fault(f"{shown(os.fspath(path))}: not UTF-8") from None

@@ -25,7 +25,7 @@ def cells(content: bytes) -> list[list[str]]:
 
 
 def test_mutants() -> None:
-    found = cells(told.csv_of([told.Told(Question("=1", b"", b"-- a comment\nSELECT 1", "= for <", "1"), Verdict(TOLD, 1, "+x"))]))
+    found = cells(told.csv_of([told.Judged(Question("=1", b"", b"-- a comment\nSELECT 1", "= for <", "1"), Verdict(TOLD, 1, "+x"))]))
     assert found[1] == ["'=1", "1", "'= for <", "told", "1", "'+x", "'-- a comment\nSELECT 1", "proved"]
 
 
@@ -33,9 +33,9 @@ def test_what_a_database_tried_of_mutants_is_not_called_proved() -> None:
     kinds = {TOLD: "sqlite 3", NOT_FOUND: "sqlite 3", OPEN: "", REFUSED: ""}
     outcomes: tuple[Outcome, ...] = (
         Differs(ROWS, (), Side(1, ()), Side(1, ()), (), ALL, 1), NoDifference(1, 0, 0, False), Passed(False, "time"), Barred(False, "x"))
-    made = [told.Told(Question("1", b"", b"SELECT 1", "4 for 3", "1"), trying.told_of(Tried("sqlite 3", of))) for of in outcomes]
+    made = [told.Judged(Question("1", b"", b"SELECT 1", "4 for 3", "1", True), trying.told_of(Tried("sqlite 3", of))) for of in outcomes]
     assert {one.verdict.kind: one.verdict.decided_by for one in made} == kinds
-    assert next(told.lines(["1"], made)) == "task 1: 1 of 3 mutants told, tried by sqlite 3 and not proved"
+    assert next(told.lines(["1"], made)) == "task 1: 1 of 3 mutants told (tried), by sqlite 3 and not proved"
 
 
 def test_mistakes() -> None:

@@ -223,7 +223,7 @@ def test_rules() -> None:
     ("true", ["whole", "whole"], "whole: the rows of this folder would be written over; take another one for the picked rows"),
     ("true", ["nosuch.db", "picked"], "there is no file nosuch.db"),
     ("rm -r 1 2 4 5; echo 'SELECT nmae FROM bar' > 3/reference.sql", ["whole", "picked"],
-     "task 3 is left out: reference.sql: unknown column: nmae\nclassroom: there is no task whose reference can be asked about"),
+     "task 3 is left out: reference.sql: no such column: nmae\nclassroom: there is no task whose reference can be asked about"),
     ("echo 'name,city' > bar.csv; echo 'a,b,c' >> bar.csv", ["whole", "picked"], "whole/bar.csv: row 1 has 3 fields, not 2"),
     ("echo 'bar,beer,price' > serves.csv; echo 'a,b,c' >> serves.csv", ["whole", "picked"],
      "whole/serves.csv: row 1: price is no whole number"),

@@ -93,6 +93,31 @@ def test_queries_over_the_real_types_of_sqlite(imported: Path) -> None:
     assert isinstance(ask("SELECT price FROM cheap", "SELECT nosuch FROM cheap"), WrongSql)
 
 
+def test_comments_of_the_teacher_stand_in_no_witness(tmp_path: Path) -> None:
+    """The statement that a student gets makes the same table."""
+    written = """CREATE TABLE "t /* 1 */" ( -- the answer is 42
+      a INTEGER NOT NULL, /* whoever 'reads' this
+      */ "-- b" TEXT DEFAULT '-- told', [/* c */] TEXT CHECK ([/* c */] <> '/* it''s told */') -- the end
+    )"""
+    for name, text in (("full.db", written), ("again.db", "")):
+        database = sqlite3.connect(tmp_path / name)
+        if not text:
+            material = full.read(tmp_path)
+            assert material
+            queries = [f'SELECT {what} FROM "t /* 1 */"' for what in ("a", "a + 1")]
+            found = tried(material, dict(zip(("reference", "answer"), queries))).outcome
+            assert isinstance(found, Differs)
+            text = found.tables[0].statement
+            assert not any(word in text for word in ("answer", "reads", "the end")) and "'-- told'" in text and "'/* it''s told */'" in text
+        database.execute(text)
+        database.execute("INSERT INTO \"t /* 1 */\" (a) VALUES (1)")
+        assert database.execute("SELECT * FROM \"t /* 1 */\"").fetchall() == [(1, "-- told", None)]
+        with pytest.raises(sqlite3.IntegrityError):
+            database.execute("UPDATE \"t /* 1 */\" SET [/* c */] = '/* it''s told */'")
+        database.commit()
+        database.close()
+
+
 def test_rows_that_are_not_imported_stand_in_neither(tmp_path: Path) -> None:
     path = tmp_path / "books.db"
     database = sqlite3.connect(path)

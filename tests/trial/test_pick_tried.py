@@ -104,7 +104,7 @@ def test_all_that_is_told_of_the_whole_is_told_of_the_picked_rows(sales: Path, t
     made = classroom("import", sales, whole)
     assert made.returncode == 0, made.stderr
     exercise(whole, t2=COUNTED, t3="SELECT name, MAX(amount) FROM shop LEFT JOIN sale ON shop = no GROUP BY no, name HAVING MAX(amount) > 50")
-    first, second = (classroom("pick", whole, folder, *words) for folder, words in ((picked, []), (tmp_path / "again", ["--jobs", "1"])))
+    first, second = classroom("pick", whole, picked), classroom("pick", whole, tmp_path / "again", "--jobs", "1")
     assert first.returncode == 0 and first.stdout == second.stdout, first.stderr + second.stderr
     for name in ("sale.csv", "shop.csv", "full.db"):
         assert (picked / name).read_bytes() == (tmp_path / "again" / name).read_bytes()

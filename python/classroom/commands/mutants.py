@@ -66,7 +66,7 @@ def run(arguments: argparse.Namespace) -> int:
             except Fault as fault:
                 log.warning("%s", fault)
                 del asked[label]
-        made = [told.Told(of, found[verdicts.key(of)]) for one in asked.values() for of in one]
+        made = [told.Judged(of, found[verdicts.key(of)]) for one in asked.values() for of in one]
         for task in by_trying:
             try:
                 assert trial

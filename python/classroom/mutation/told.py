@@ -14,7 +14,7 @@ from classroom.mutation.questions import Question
 
 
 @dataclass(frozen=True)
-class Told:
+class Judged:
     """A query with its verdict."""
 
     of: Question
@@ -28,7 +28,7 @@ def check_written_back(back: Sequence[Question], verdicts: Sequence[Verdict]) ->
             raise Fault(f"task {shown(of.task)}: sqlglot writes reference.sql back as another query")
 
 
-def csv_of(made: Sequence[Told]) -> bytes:
+def csv_of(made: Sequence[Judged]) -> bytes:
     text = io.StringIO(newline="")
     lines = csv.writer(text, lineterminator="\n")
     lines.writerow(("task", "mutant", "mistake", "verdict", "rows", "why", "query", "decided_by"))
@@ -38,7 +38,7 @@ def csv_of(made: Sequence[Told]) -> bytes:
     return text.getvalue().encode("utf-8", "replace")
 
 
-def lines(tasks: Sequence[str], made: Sequence[Told]) -> Iterator[str]:
+def lines(tasks: Sequence[str], made: Sequence[Judged]) -> Iterator[str]:
     """For each task how many are told, and those that aren't."""
     for task in tasks:
         group = [one for one in made if one.of.task == task]
@@ -46,7 +46,7 @@ def lines(tasks: Sequence[str], made: Sequence[Told]) -> Iterator[str]:
         yield from untold(group)
 
 
-def untold(made: Sequence[Told]) -> Iterator[str]:
+def untold(made: Sequence[Judged]) -> Iterator[str]:
     """Two lines for each that the rows don't tell: its mistake and its text."""
     for one in kept(made):
         if one.verdict.kind != TOLD:
@@ -55,7 +55,7 @@ def untold(made: Sequence[Told]) -> Iterator[str]:
             yield f"    {shown(' '.join(one.of.text.decode('utf-8', 'replace').split()))}"
 
 
-def summary(made: Sequence[Told], noun: str = "mutant") -> str:
+def summary(made: Sequence[Judged], noun: str = "mutant") -> str:
     """As `46 of 48 mutants told, 9 of 11 mutants told (tried)`: what is proved and what is tried are never one count."""
     read = kept(made)
     proved, tried = ([one for one in read if one.of.is_tried == is_tried] for is_tried in (False, True))
@@ -63,18 +63,18 @@ def summary(made: Sequence[Told], noun: str = "mutant") -> str:
                      for group, label in ((proved, ""), (tried, " (tried)")) if group or not (tried or label))
 
 
-def by_whom(made: Sequence[Told]) -> str:
+def by_whom(made: Sequence[Judged]) -> str:
     """As `, by sqlite 3.40.1 and not proved`, of what was tried."""
     engines = sorted({one.verdict.engine for one in made} - {""})
     return f", by {', '.join(engines)} and not proved" if engines else ""
 
 
-def kept(made: Sequence[Told]) -> list[Told]:
+def kept(made: Sequence[Judged]) -> list[Judged]:
     """Those that are read, by `ratest` or by the database that tries them."""
     return [one for one in made if one.verdict.kind != REFUSED]
 
 
-def open_ones(made: Sequence[Told]) -> int:
+def open_ones(made: Sequence[Judged]) -> int:
     return sum(one.verdict.kind == OPEN for one in made)
 
 

@@ -10,7 +10,7 @@ from classroom.mutation import questions
 from classroom.mutation.families import BAGS, LISTS, MISTAKES, TRIED
 from classroom.mutation.grading import NOT_DETERMINED, NOT_FOUND, OPEN, REFUSED, TOLD, Verdict
 from classroom.mutation.questions import Question
-from classroom.mutation.told import Told
+from classroom.mutation.told import Judged
 from classroom.results import Results
 from classroom.schema import Table
 from classroom.settings import Settings
@@ -19,7 +19,7 @@ from classroom.trial.verdict import Differs, NoDifference, Passed
 from classroom.tried import Pair, Trial, verdicts
 
 
-def mutants(trial: Trial, task: Task, said: Settings, results: Results, jobs: int | None) -> list[Told]:
+def mutants(trial: Trial, task: Task, said: Settings, results: Results, jobs: int | None) -> list[Judged]:
     """The mutants of a task with their verdicts; a Fault where they can't be made or tried."""
     back, made = of_task(task, [held.table for held in trial.material.pool.held], said)
     check_back(task, asked(trial, [back], results, jobs).get(back))
@@ -62,8 +62,8 @@ def asked(trial: Trial, made: Sequence[Question], results: Results, jobs: int | 
     return {of: found for of, key in known.items() if (found := results.trial(key))}
 
 
-def told(made: Sequence[Question], found: Mapping[Question, verdict.Verdict]) -> list[Told]:
-    return [Told(of, told_of(found.get(of))) for of in made]
+def told(made: Sequence[Question], found: Mapping[Question, verdict.Verdict]) -> list[Judged]:
+    return [Judged(of, told_of(found.get(of))) for of in made]
 
 
 def told_of(found: verdict.Verdict | None) -> Verdict:

@@ -95,13 +95,13 @@ def tries(held: Picture, said: Settings, wanted: Wanted, results: Results, work:
         return None
 
 
-def is_lost(one: told.Told, rows: frozenset[Row]) -> bool:
+def is_lost(one: told.Judged, rows: frozenset[Row]) -> bool:
     """Whether what was told of these rows is told no more; of what is proved, by as few."""
     return one.verdict.kind != TOLD or not one.of.is_tried and one.verdict.rows > len(rows)
 
 
 def checked(folder: Path, files: Mapping[str, bytes], rows: Collection[Row], tasks: Tasks, refused: Collection[Question],
-            wanted: Wanted) -> list[told.Told]:
+            wanted: Wanted) -> list[told.Judged]:
     """All asked once more, on the picked rows; what is kept of it `classroom mutants` finds."""
     asked = [of for of in tasks.asked if of not in refused]
     proved, tried = ([of for of in asked if of.is_tried == is_tried] for is_tried in (False, True))
@@ -109,13 +109,13 @@ def checked(folder: Path, files: Mapping[str, bytes], rows: Collection[Row], tas
     with results.held() as work:
         verdicts = Verdicts(results.runs, files, ())
         found = verdicts.grade(proved, wanted.means, work)
-        made = {of: told.Told(of, found[verdicts.key(of)]) for of in proved}
+        made = {of: told.Judged(of, found[verdicts.key(of)]) for of in proved}
         if tasks.trying and tried:
             made.update((one.of, one) for one in tasks.trying.checked(rows, tried, results))
         return [made[of] for of in asked]
 
 
-def report(tasks: Sequence[str], made: Sequence[told.Told], pool: Pool, rows: frozenset[Row]) -> Iterator[str]:
+def report(tasks: Sequence[str], made: Sequence[told.Judged], pool: Pool, rows: frozenset[Row]) -> Iterator[str]:
     mutants = [one for one in made if one.of.mistake]
     answers = [one for one in made if not one.of.mistake]
     for task in tasks:

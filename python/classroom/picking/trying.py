@@ -8,7 +8,7 @@ from pathlib import Path
 from classroom import tried
 from classroom.mutation import trying
 from classroom.mutation.questions import Question
-from classroom.mutation.told import Told
+from classroom.mutation.told import Judged
 from classroom.picking.finding import Finding, Kind
 from classroom.picking.picture import Picture
 from classroom.picking.pool import Pool, Row
@@ -66,7 +66,7 @@ class Trying:
             return Finding(Kind.SAME)
         return Finding(Kind.REFUSED if isinstance(outcome, (WrongSql, Barred)) else Kind.PASSED)
 
-    def checked(self, rows: Collection[Row], asked: Sequence[Question], results: Results) -> list[Told]:
+    def checked(self, rows: Collection[Row], asked: Sequence[Question], results: Results) -> list[Judged]:
         """All tried once more on the picked rows, as `classroom mutants` does."""
         return trying.told(asked, trying.asked(self.part(rows), asked, results, self.jobs))
 

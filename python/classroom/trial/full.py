@@ -15,7 +15,7 @@ from classroom.fault import Fault, shown
 from classroom.picking.pool import Cells, Foreign, Held, Pool
 from classroom.schema import Column, Table, literal, quoted
 from classroom.trial.material import POSTGRESQL, SQLITE, Made, Material
-from classroom.trial.texts import Token, tokens
+from classroom.trial.texts import Token, tokens, without_comments
 
 MOST_BYTES = 67_108_864
 OTHER_ROWS = "full.db or full.sql has other rows than the CSV files, which are tried in its place: import makes it anew"
@@ -42,7 +42,7 @@ def of_sqlite(path: Path) -> Material:
         for table in tables.values():
             (statement,), = database.execute(
                 f"SELECT sql FROM sqlite_schema WHERE type = 'table' AND name = {literal(table.name)}").fetchall()
-            statements.append(str(statement))
+            statements.append(without_comments(str(statement)))
             names = database.execute(f"SELECT name, type FROM pragma_table_xinfo({literal(table.name)}) WHERE hidden = 0 "
                                      "ORDER BY cid").fetchall()
             rows = database.execute(f"SELECT {', '.join(quoted(name) for name, _ in names)} FROM {quoted(table.name)} "
@@ -99,7 +99,7 @@ def of_script(script: bytes) -> Material:
         if words[:2] == ["CREATE", "TABLE"]:
             name = named[2].name
             tables[name] = model.Table(name, name)
-            statements[name] = [plain.split("\nPARTITION BY")[0]]
+            statements[name] = [without_comments(plain.split("\nPARTITION BY")[0])]
         elif words[:2] in (["CREATE", "TYPE"], ["CREATE", "DOMAIN"]):
             before.append(plain)
         elif words[:2] == ["CREATE", "VIEW"]:

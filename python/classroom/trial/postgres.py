@@ -20,6 +20,7 @@ from classroom.trial.engine import ANSWER, MOST_LINES, QUERY_SECONDS, REFERENCE,
 from classroom.trial.joins import mentions
 from classroom.trial.material import Material
 from classroom.trial.parts import Mask, Parts, bits
+from classroom.trial.reading import places, with_views
 from classroom.trial.texts import begins_as_query
 
 SCHEMA = "ratest_trial_"
@@ -186,12 +187,8 @@ class Postgres:
     @property
     def tables(self) -> frozenset[int]:
         """The tables that the queries name; where they name a view, those of all views too."""
-        numbers = {name.lower(): at for at, name in enumerate(self.material.names())}
-        views = {view.name.lower(): at for at, view in enumerate(self.material.views)}
-        texts = list(self.queries)
-        if any(mentions(text, views) for text in texts):
-            texts += [view.query for view in self.material.views]
-        return frozenset(table for text in texts for table in mentions(text, numbers))
+        numbers = places(self.material)
+        return frozenset(table for text in with_views(self.queries, self.material) for table in mentions(text, numbers))
 
     def load(self, part: Mask, backwards: bool = False) -> None:
         """Makes these the rows of the tables, as they are stored or the other way round."""
@@ -224,11 +221,11 @@ class Postgres:
         self.loads = REFRESH - 1
         self.part = -1
         self.load(whole)
-        places: dict[tuple[int, str], int] = {}
+        known: dict[tuple[int, str], int] = {}
         for table in {table for table, _ in tables}:
             rows = list(bits(self.masks[table]))
             found = self.loader.execute(f"SELECT ctid::text FROM {self.names[table]} ORDER BY ctid").fetchall()
-            places.update({(table, place): at for at, (place,) in zip(rows, found)})
+            known.update({(table, place): at for at, (place,) in zip(rows, found)})
         ids = ", ".join(f"{quoted(alias)}.ctid::text" for _, alias in tables)
         begin = ", ".join(f"{self.names[table]} AS {quoted(alias)}" for table, alias in tables)
         try:
@@ -242,7 +239,7 @@ class Postgres:
         if len(lines) == MOST_LINES:
             raise ValueError("too many tuples")
         for line in lines:
-            yield tuple(places[table, place] for (table, _), place in zip(tables, line))
+            yield tuple(known[table, place] for (table, _), place in zip(tables, line))
 
     def close(self) -> None:
         for session in self.sessions[1:]:

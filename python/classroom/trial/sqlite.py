@@ -15,9 +15,10 @@ from classroom.only_reads import MOST_TEXT, OTHERWISE, READ, barred, bound, in_m
 from classroom.schema import quoted
 from classroom.trial.comparison import Answer
 from classroom.trial.engine import ANSWER, MOST_LINES, QUERY_SECONDS, REFERENCE, Bars, Refused, TooMuch
-from classroom.trial.joins import mentions, named
+from classroom.trial.joins import named
 from classroom.trial.material import Material
 from classroom.trial.parts import Mask, Parts, bits
+from classroom.trial.reading import places, with_views
 from classroom.trial.texts import begins_as_query, clock, tokens, unknown_name
 
 # Steps of SQLite's machine between two looks at the time.
@@ -190,13 +191,9 @@ class Sqlite:
     @property
     def tables(self) -> frozenset[int]:
         """Those that SQLite reads columns of, and, since it doesn't tell all of USING, those that are named."""
-        numbers = {name.lower(): at for at, name in enumerate(self.material.names())}
-        views = {view.name.lower(): at for at, view in enumerate(self.material.views)}
-        texts = list(self.queries)
-        if any(mentions(text, views) for text in texts):
-            texts += [view.query for view in self.material.views]
+        numbers = places(self.material)
         return frozenset(numbers[name] for name in self.stored[0].read if name in numbers).union(
-            *(named(text, numbers, "sqlite") for text in texts))
+            *(named(text, numbers, "sqlite") for text in with_views(self.queries, self.material)))
 
     def answers(self, part: Mask, backwards: bool = False) -> tuple[Answer, Answer]:
         stored = self.stored[backwards]
@@ -206,7 +203,7 @@ class Sqlite:
     def joined(self, tables: Sequence[tuple[int, str]], condition: str) -> Iterator[tuple[int, ...]]:
         stored = self.stored[0]
         stored.load((1 << len(self.parts.rows)) - 1)
-        places = {(row.table, stored.rowid(at)): at for at, row in enumerate(self.parts.rows)}
+        known = {(row.table, stored.rowid(at)): at for at, row in enumerate(self.parts.rows)}
         names = [quoted(held.table.name) for held in self.material.pool.held]
         ids = ", ".join(f"{quoted(alias)}.{stored.aliases[table][1]}" for table, alias in tables)
         begin = ", ".join(f"{names[table]} AS {quoted(alias)}" for table, alias in tables)
@@ -216,7 +213,7 @@ class Sqlite:
             except sqlite3.Error as fault:
                 raise ValueError(str(fault)) from None
         for line in cursor:
-            yield tuple(places[table, rowid] for (table, _), rowid in zip(tables, line))
+            yield tuple(known[table, rowid] for (table, _), rowid in zip(tables, line))
 
     def close(self) -> None:
         for stored in self.stored:

@@ -34,6 +34,11 @@ def tokens(text: str) -> list[Token]:
             for match in TOKEN.finditer(text) if match.lastgroup != "gap"]
 
 
+def without_comments(text: str) -> str:
+    """The text with a blank for each comment."""
+    return "".join(" " if match.lastgroup == "gap" and match[0][0] in "-/" else match[0] for match in TOKEN.finditer(text))
+
+
 def begins_as_query(text: str) -> bool:
     """Whether the first word is SELECT, WITH or VALUES, in parentheses or not."""
     first = next((token for token in tokens(text) if token.text != "("), None)
