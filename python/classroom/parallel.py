@@ -41,6 +41,15 @@ def cores() -> int:
     return len(os.sched_getaffinity(0))
 
 
+def lists(references: Mapping[str, bytes], most: int, cores: int) -> list[list[str]]:
+    """The keys in lists of at most so many, each over one reference, and as many lists as keep the cores at work."""
+    by_reference: dict[bytes, list[str]] = {}
+    for key, reference in references.items():
+        by_reference.setdefault(reference, []).append(key)
+    size = min(most, 1 + len(references) // (2 * cores))
+    return [keys[start:start + size] for keys in by_reference.values() for start in range(0, len(keys), size)]
+
+
 class Running:
     """The processes that run, which can be ended at once."""
 

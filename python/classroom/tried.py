@@ -12,7 +12,7 @@ import json
 import logging
 import re
 import sqlite3
-from collections.abc import Callable, Iterator, Mapping
+from collections.abc import Callable, Iterator, Mapping, Sequence
 from concurrent.futures import ThreadPoolExecutor, as_completed
 from dataclasses import dataclass, replace
 from functools import cached_property
@@ -37,6 +37,7 @@ FORMAT = b"trial 1"
 # For one answer, if `--time` isn't less; `ratest` was asked before.
 SECONDS = 10.0
 LEAST_SECONDS = 0.5
+MOST_IN_TURN = 8    # questions of one process
 FULL = (DATABASE, SCRIPT)
 log = logging.getLogger(__name__)
 
@@ -189,20 +190,20 @@ def verdicts(trial: Trial, asked: Mapping[str, Pair], jobs: int | None) -> Itera
     running = parallel.Running()
     with asking.trier(trial.material, trial.options) as trier:
 
-        def one(key: str, of: Pair) -> tuple[str, Verdict | Failed]:
-            try:
-                return key, trier.ask(text_of(of.reference), text_of(of.text), of.agrees, running.add)
-            except Failed as fault:
-                return key, fault
+        def some(keys: Sequence[str]) -> list[tuple[str, Verdict | Failed]]:
+            pairs = [asking.Pair(text_of(of.reference), text_of(of.text), of.agrees) for of in map(asked.__getitem__, keys)]
+            return list(zip(keys, trier.ask_all(pairs, running.add), strict=True))
 
-        threads = ThreadPoolExecutor(jobs or parallel.cores())
+        most = jobs or parallel.cores()
+        lists = parallel.lists({key: of.reference for key, of in asked.items()}, MOST_IN_TURN, most)
+        threads = ThreadPoolExecutor(most)
         try:
-            for future in as_completed([threads.submit(one, *item) for item in asked.items()]):
-                key, found = future.result()
-                if isinstance(found, Verdict):
-                    yield key, found
-                else:
-                    log.warning("%s is not tried: %s", asked[key].label, found)
+            for future in as_completed([threads.submit(some, keys) for keys in lists]):
+                for key, found in future.result():
+                    if isinstance(found, Verdict):
+                        yield key, found
+                    else:
+                        log.warning("%s is not tried: %s", asked[key].label, found)
         finally:
             threads.shutdown(wait=False, cancel_futures=True)
             running.stop()

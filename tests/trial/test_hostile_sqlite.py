@@ -141,7 +141,7 @@ def test_rows_that_are_stored_the_other_way_round_are_the_same() -> None:
 def test_a_step_without_an_end_takes_no_more_of_the_processor(tmp_path: Path) -> None:
     """What no limit of SQLite ends ends with the process, whatever the clock says."""
     (tmp_path / "material").write_text(json.dumps(to_json(shop.material())))
-    (tmp_path / "question").write_text(json.dumps({"reference": "SELECT 1", "answer": "SELECT 1", "seconds": 0.4}))
+    (tmp_path / "question").write_text(json.dumps([{"reference": "SELECT 1", "answer": "SELECT 1", "seconds": 0.4}]))
     endless = (f"import sys; sys.path.insert(0, {str(TOP / 'python')!r})\nimport classroom.trial.child as child\n"
                "child.MORE_SECONDS = 0.5\ndef spin(*_):\n    while True: pass\nchild.tried = spin\nchild.main(sys.argv[1:])\n")
     ran = subprocess.run([sys.executable, "-c", endless, "material", "question"], cwd=tmp_path, check=False, timeout=300)

@@ -72,7 +72,8 @@ class Verdicts:
         return found
 
     def graded(self, left: Mapping[str, Question], most: int, means: parallel.Means, work: Path) -> dict[str, Verdict]:
-        lists = lists_of(left, most, means)
+        references = {key: of.reference for key, of in left.items()}
+        lists = parallel.lists(references, min(MOST_IN_LIST, most), means.jobs or os.cpu_count() or 1)
         jobs, files, members = [], {}, {}
         for number, keys in enumerate(lists):
             reference = f"{digest(left[keys[0]].reference)}.reference"
@@ -89,16 +90,6 @@ class Verdicts:
                 found[key] = verdict
                 self.keep(key, verdict)
         return found
-
-
-def lists_of(left: Mapping[str, Question], most: int, means: parallel.Means) -> list[list[str]]:
-    """The keys in lists, each over one reference."""
-    by_reference: dict[bytes, list[str]] = {}
-    for key, of in left.items():
-        by_reference.setdefault(of.reference, []).append(key)
-    cores = means.jobs or os.cpu_count() or 1
-    size = min(MOST_IN_LIST, most, 1 + len(left) // (2 * cores))
-    return [keys[start:start + size] for keys in by_reference.values() for start in range(0, len(keys), size)]
 
 
 def read(ran: Ran, keys: Sequence[str]) -> dict[str, Verdict]:

@@ -1,4 +1,4 @@
-"""Asks one question of a child process within limits."""
+"""Asks questions of a child process within limits."""
 from __future__ import annotations
 
 import json
@@ -11,20 +11,20 @@ from collections.abc import Callable, Iterator, Sequence
 from contextlib import contextmanager
 from dataclasses import dataclass
 from pathlib import Path
+from typing import NamedTuple
 
 from classroom import limited
 from classroom.fault import Fault, shown
-from classroom.limited import Limits
+from classroom.limited import Limits, Ran
 from classroom.trial import material as materials
 from classroom.trial import verdict
+from classroom.trial.limits import MOST_SECONDS, OUTPUT, TIMES, how_ended
 from classroom.trial.material import Material
 from classroom.trial.verdict import Passed, Verdict
 
 CHILD = Path(__file__).with_name("child.py")
-# What a process may take by the clock, so that a busy machine changes no verdict: that of its processor is bounded by
-# the process itself.
-TIMES, MORE_SECONDS = 4.0, 60.0
-MEGABYTES, OUTPUT = 1500, 16.0
+MEGABYTES = 1500    # of each process
+Started = Callable[["subprocess.Popen[bytes]"], None]
 
 
 @dataclass(frozen=True)
@@ -37,6 +37,14 @@ class Options:
     engine: str = ""
     asker: str = ""
     looks: int = 0    # at parts, that stand for the seconds, so that each run finds the same; 0: the clock counts
+
+
+class Pair(NamedTuple):
+    """Two queries; of two that are known to agree as sets only duplicates and order are looked at."""
+
+    reference: str
+    answer: str
+    agrees: bool = False
 
 
 class Failed(Fault):
@@ -53,33 +61,53 @@ class Trier:
         self.material = folder / "material.json"
         self.material.write_text(json.dumps(materials.to_json(material)))
 
-    def ask(self, reference: str, answer: str, agrees: bool = False,
-            started: Callable[[subprocess.Popen[bytes]], None] = lambda process: None) -> Verdict:
+    def ask(self, reference: str, answer: str, agrees: bool = False, started: Started = lambda process: None) -> Verdict:
         """The verdict of one question; a Fault where the engine can't be had, Failed where its process ended without a
-        verdict. Of two queries that are known to agree as sets only duplicates and order are looked at. `started` gets
-        the process."""
-        question = {
-            "reference": reference, "answer": answer, "seconds": self.options.seconds, "looks": self.options.looks,
+        verdict."""
+        found, = self.ask_all([Pair(reference, answer, agrees)], started)
+        if isinstance(found, Failed):
+            raise found
+        return found
+
+    def ask_all(self, pairs: Sequence[Pair], started: Started = lambda process: None) -> list[Verdict | Failed]:
+        """The verdicts of several questions, which one process answers in turn, or why there is none; a Fault where the
+        engine can't be had. `started` gets the process."""
+        asked = [{
+            "reference": of.reference, "answer": of.answer, "seconds": self.options.seconds, "looks": self.options.looks,
             "duplicates": self.options.counts_duplicates, "order": self.options.counts_order,
-            "engine": self.options.engine, "asker": self.options.asker, "agrees": agrees}
-        with tempfile.NamedTemporaryFile("w", dir=self.folder, prefix="question-", suffix=".json") as file:
-            json.dump(question, file)
+            "engine": self.options.engine, "asker": self.options.asker, "agrees": of.agrees} for of in pairs]
+        with tempfile.NamedTemporaryFile("w", dir=self.folder, prefix="questions-", suffix=".json") as file:
+            json.dump(asked, file)
             file.flush()
-            ran = limited.run([*self.around, sys.executable, "-I", os.fspath(CHILD), os.fspath(self.material), file.name], Limits(
-                TIMES * self.options.seconds + MORE_SECONDS, MEGABYTES, OUTPUT), os.fspath(self.folder), started)
-        if ran.passed or ran.status == -signal.SIGXCPU:
-            return Verdict(self.product, Passed(False, ran.passed or "time"))
+            limits = Limits(len(asked) * (TIMES * self.options.seconds + MOST_SECONDS), MEGABYTES, len(asked) * OUTPUT)
+            ran = limited.run([*self.around, sys.executable, "-I", os.fspath(CHILD), os.fspath(self.material), file.name],
+                              limits, os.fspath(self.folder), started)
+        lines = ran.stdout.split(b"\n")[:-1]
+        return [self.found(line) for line in lines] + [self.failure(ran) for _ in asked[len(lines):]]
+
+    def found(self, line: bytes) -> Verdict | Failed:
+        """What a line says."""
         try:
-            read = json.loads(ran.stdout)
+            read = json.loads(line)
             if "fault" in read:
                 raise Fault(str(read["fault"]))
-            return verdict.from_json(read)
+            if "failed" in read:
+                return Failed(str(read["failed"]))
+            return self.passed(str(read["passed"])) if "passed" in read else verdict.from_json(read)
         except (ValueError, KeyError, TypeError):
-            if b"MemoryError" in ran.stderr:
-                return Verdict(self.product, Passed(False, "memory"))
-            last = ran.stderr.decode("utf-8", "replace").strip().splitlines()[-1:]
-            why = f"signal {-ran.status}" if ran.status < 0 else f"status {ran.status}"
-            raise Failed(": ".join([f"its process ended with {why}", *map(shown, last)])) from None
+            return Failed("its process printed no verdict")
+
+    def failure(self, ran: Ran) -> Verdict | Failed:
+        """Of a question that the process has no line of."""
+        if ran.passed or ran.status == -signal.SIGXCPU:
+            return self.passed(ran.passed or "time")
+        if b"MemoryError" in ran.stderr:
+            return self.passed("memory")
+        last = ran.stderr.decode("utf-8", "replace").strip().splitlines()[-1:]
+        return Failed(": ".join([how_ended(ran.status), *map(shown, last)]))
+
+    def passed(self, limit: str) -> Verdict:
+        return Verdict(self.product, Passed(False, limit))
 
 
 @contextmanager
