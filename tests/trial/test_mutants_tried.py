@@ -124,10 +124,11 @@ def mutants_of(folder: Path, monkeypatch: pytest.MonkeyPatch, what: str) -> list
                           Settings(), results, 2)
 
 
-def test_a_crash_loses_one_mutant(tmp_path: Path, monkeypatch: pytest.MonkeyPatch) -> None:
+def test_a_crash_loses_one_mutant(tmp_path: Path, monkeypatch: pytest.MonkeyPatch, caplog: pytest.LogCaptureFixture) -> None:
     found = {one.of.mistake: one.verdict for one in mutants_of(tmp_path, monkeypatch, "os.kill(os.getpid(), signal.SIGSEGV)")}
     lost = found.pop("MAX for MIN")
-    assert (lost.kind, lost.why) == (OPEN, "its process ended with signal 11")
+    assert (lost.kind, lost.why) == (OPEN, "its process failed")
+    assert "MAX for MIN is not tried: its process ended with signal 11" in caplog.text
     assert found and TOLD in {one.kind for one in found.values()} and OPEN not in {one.kind for one in found.values()}
     # It is asked again the next time.
     assert len(list((tmp_path / "mutants/runs").iterdir())) == len(found) + 1
