@@ -353,3 +353,44 @@ def test_tried_hints_in_the_feedback(ratest: Path, tried: Path) -> None:
         assert "is enough, as far as was tried: with it your query answered rightly on " in one
         assert "Look at what is counted or computed." in one
         assert "4711" not in one and "COUNT(l.beer)" not in one and "HAVING" not in one
+
+
+@pytest.fixture
+def bars(beers: Path) -> Path:
+    """A task whose answer returns a bar more than once, and one whose answer has the order of its rows wrong."""
+    for task, reference, answer in (("7", "SELECT DISTINCT bar FROM serves", "SELECT bar FROM serves"),
+                                    ("8", "SELECT name FROM drinker ORDER BY name DESC", "SELECT name FROM drinker ORDER BY name")):
+        (beers / task / "answers").mkdir(parents=True)
+        (beers / task / "reference.sql").write_text(reference)
+        (beers / task / "answers/ann.sql").write_text(answer)
+    (beers / "exercise.toml").write_text("hints = 3\n")
+    return beers
+
+
+@pytest.mark.parametrize("counts", ["report", "wrong", "ignore"])
+def test_mistakes_in_duplicates_or_order_alone(ratest: Path, bars: Path, counts: str) -> None:
+    """Where they are remarked on, where they count, and where neither is."""
+    (bars / "exercise.toml").write_text(f'hints = 3\nduplicates = "{counts}"\norder = "{counts}"\n')
+    assert classroom("grade", bars).returncode in (0, 1)
+    ran = classroom("mistakes", bars)
+    assert ran.returncode == 0, ran.stderr
+    lines = list(csv.DictReader(io.StringIO((bars / "results/mistakes.csv").read_text(), newline="")))
+    found = {line["task"]: (line["mistake"], line["kind"], line["decided_by"].split()[0]) for line in lines if line["task"] in "78"}
+    assert found == ({} if counts == "ignore" else {
+        "7": ("as the reference with DISTINCT dropped in the query", "DISTINCT", "sqlite"),
+        "8": ("as the reference with ASC for DESC of name in the ORDER BY", "ORDER BY", "sqlite")})
+    assert classroom("feedback", bars).returncode == 0
+    page = html.unescape((bars / "results/feedback/ann.html").read_text())
+    assert page.count("<summary>Hint ") == (0 if counts == "ignore" else 6)
+    assert ("Look at rows that come more than once." in page) == ("Look at the order of the rows." in page) == (counts != "ignore")
+    assert "SELECT DISTINCT" not in page and "DESC" not in page
+
+
+def test_hints_on_duplicates_where_students_ask(ratest: Path, bars: Path) -> None:
+    with serving(bars, "--hourly", "0", tries=True) as server:
+        got = server.ask("7", "SELECT bar FROM serves")
+        assert got.verdict == "agrees" and "as a set" in got.answer and button(got) == "Where is the mistake?"
+        got = server.hint("7", "SELECT bar FROM serves", 3)
+        assert "as far as was tried" in hints(got)[0] and hints(got)[2] == "Look at rows that come more than once."
+        assert "DISTINCT" not in got.body
+        assert button(server.ask("7", "SELECT DISTINCT bar FROM serves")) == ""

@@ -5,4 +5,4 @@ import sys
 from pathlib import Path
 
 TOP = Path(__file__).resolve().parents[2]
-sys.path.insert(0, str(TOP / "python"))
+sys.path[:0] = [str(TOP / folder) for folder in ("python", "tests/classroom", "tests/trial")]

@@ -220,7 +220,7 @@ def test_where_nothing_is_proved_it_is_tried(answer: str, mistake: str, place: s
     assert not ground.prover.agree(TRIED, [TRIED])[0]
     found = of.repairs(answer)
     assert found.best and (found.best.mistake, answer[slice(*found.best.place)]) == (mistake, place)
-    assert found.tried == len(ground.tried().parts) > 100 and of.classes(answer).best
+    assert found.tried == len(ground.wide.parts) > 100 and of.classes(answer).best
     from classroom.repair import recording
     record = recording.of_found(found, None)
     assert record.decided_by.startswith("sqlite 3.") and "as far as was tried" in record.steps[0].text

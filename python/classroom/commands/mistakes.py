@@ -55,7 +55,7 @@ def run(arguments: argparse.Namespace) -> int:
     for line in table.told([one for one in made if one.task in {of.task.label for of in some}]):
         print(line)
     print(f"see {shown(str(results.folder / 'mistakes.csv'))}")
-    left = [of for of in some if whole.is_asked(of) and (of.record not in found or found[of.record].fault)]
+    left = [of for of in some if looked.is_asked(of) and (of.record not in found or found[of.record].fault)]
     if left:
         log.warning("%d of the answers could not be looked at", len(left))
     return 1 if left else 0

@@ -168,7 +168,8 @@ def served(arguments: argparse.Namespace, work: Path, jobs: int,
         hand_ins = stack.enter_context(contextlib.closing(HandIns(place_of_hand_ins(path)))) if arguments.user_header else None
         other_rows = work / f"{number}-{guard.FOLDER}"
         other_rows.mkdir()
-        hints = hinter(found.given, material, other_rows, child.around(Path(sys.executable), has_network), places)
+        pythons = child.around(Path(sys.executable), has_network), child.around(Path(sys.executable), True)
+        hints = hinter(found.given, material, other_rows, pythons, places, trial)
         made.append(Served(name, asker, kept_in, hand_ins, hints))
         watched[name] = (found, path)
     if not made:

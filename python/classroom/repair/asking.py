@@ -13,7 +13,10 @@ from pathlib import Path
 from classroom import limited, program
 from classroom.limited import Limits
 from classroom.repair import records
+from classroom.repair.looked import Looked
 from classroom.repair.records import Mistake
+from classroom.trial import material
+from classroom.tried import Trial
 
 CHILD = Path(__file__).with_name("child.py")
 MEGABYTES, OUTPUT = 1500, 64.0
@@ -30,7 +33,8 @@ class Means:
     guard: Path | None
     classes: bool = True
     deep: bool = False
-    tried: bool = False      # where `ratest` doesn't read the queries
+    how: Looked = Looked()
+    trial: Trial | None = None    # where PostgreSQL decides
 
 
 def ask(means: Means, reference: str, answers: Mapping[str, str], seconds: float | None = None,
@@ -47,7 +51,10 @@ def ask(means: Means, reference: str, answers: Mapping[str, str], seconds: float
             "exercise": os.fspath(means.exercise.absolute()),
             "guard": os.fspath(means.guard.absolute()) if means.guard else None,
             "program": os.fspath(program.find("ratest_plus")), "reference": reference, "answers": dict(answers),
-            "classes": means.classes, "tried": means.tried, "deep": SECONDS_DEEP if means.deep else 0}))
+            "classes": means.classes, "tried": bool(means.how.engine), "kind": means.how.kind,
+            "material": material.to_json(means.trial.material) if means.trial else None,
+            "engine": means.trial.options.engine if means.trial else "", "asker": means.trial.options.asker if means.trial else "",
+            "deep": SECONDS_DEEP if means.deep else 0}))
         ran = limited.run([*python, "-I", os.fspath(CHILD), os.fspath(question), os.fspath(work)],
                           Limits(most, MEGABYTES, OUTPUT), name, started)
     found = {}

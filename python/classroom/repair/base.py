@@ -1,4 +1,4 @@
-"""Rows of a schema in SQLite, as all of them and as random lawful parts, over which queries are tried.
+"""Rows of a schema in a database, as all of them and as random lawful parts, over which queries are tried.
 
 What is found here is tried and never proved: it rejects a change, and says of none that it is right.
 """
@@ -6,8 +6,9 @@ from __future__ import annotations
 
 import random
 import sqlite3
-from collections.abc import Callable, Collection, Iterator, Sequence
-from typing import Optional
+from collections import Counter
+from collections.abc import Callable, Collection, Hashable, Iterator, Sequence
+from typing import Any, Optional, Protocol
 
 from classroom.only_reads import MOST_TEXT, barred, bound, in_memory
 from classroom.picking.pool import Cell, Pool, Row, picked
@@ -15,6 +16,7 @@ from classroom.picking.rules import rules_of
 from classroom.repair.schema import for_sqlite as schema_for_sqlite
 from classroom.repair.texts import for_sqlite
 from classroom.schema import quoted
+from classroom.trial.comparison import DUPLICATES, ORDER, ROWS
 
 PARTS = 40
 SHARES = (0.3, 0.5, 0.7, 0.85)
@@ -23,31 +25,60 @@ MOST_STEPS, MOST_ROWS = 10_000, 20_000
 STEPS = 200
 FEW = 20    # changes that are looked at further where many steps were needed
 
-# How many columns, and the rows as a set; None where the query is refused or passes a limit.
-Answer = Optional[tuple[int, frozenset[tuple[Cell, ...]]]]
+# How many columns, and the rows in the database's order; None where the query is refused or passes a limit.
+Listed = Optional[tuple[int, Sequence[tuple[Any, ...]]]]
+# How many columns, and what counts of the rows: a set, how often each comes, or the rows in the order of both ways in
+# which they can be stored.
+Answer = Optional[tuple[int, Any]]
+
+
+class Holds(Protocol):
+    """Some rows of a pool in a database, from which queries only read."""
+
+    all_steps: int    # of all queries so far, some 250 in a millisecond
+
+    def lawful(self) -> frozenset[Row]:
+        """The rows that meet all rules of the schema together, the earlier of two that don't."""
+
+    def written(self, query: str) -> str:
+        """The query as this database reads it."""
+
+    def load(self, part: frozenset[Row], backwards: bool = False) -> None:
+        """Makes these the rows, stored in their order or the other way round."""
+
+    def answer(self, text: str) -> Listed:
+        """What the database answers."""
 
 
 class Base:
     """The lawful rows of a pool, with random parts of them, the smallest first, of which one is loaded at a time."""
 
-    def __init__(self, pool: Pool, parts: int = PARTS, seed: str = "1") -> None:
+    def __init__(self, pool: Pool, parts: int = PARTS, seed: str = "1", kind: str = ROWS, database: Holds | None = None) -> None:
+        """`kind`: as what rows are compared; the database is SQLite where none is given."""
         self.pool = pool
-        self.rows = lawful(pool)
+        self.kind = kind
+        self.database = database or Database(pool)
+        self.rows = self.database.lawful()
         self.parts = sorted(set(drawn(pool, self.rows, parts, seed)), key=lambda part: (len(part), sorted(part)))
-        self.database = Database(pool)
         # How many changes were asked on a part, and how many it rejected.
         self.asked = [0] * len(self.parts)
         self.rejected = [0] * len(self.parts)
 
     def answers(self, query: str) -> list[Answer]:
-        """Over each part."""
-        text = for_sqlite(query)
-        return [self.answer(at, text) for at in range(len(self.parts))]
+        """Over each part; None too where the order that counts depends on how the rows are stored."""
+        text = self.database.written(query)
+        found = [self.answer(at, text) for at in range(len(self.parts))]
+        return [None if self.kind == ORDER and of and of[1][0] != of[1][1] else of for of in found]
 
     def answer(self, at: int, text: str) -> Answer:
-        """Over one part, of a text of SQLite."""
+        """Over one part, of a text as the database reads it."""
         self.database.load(self.parts[at])
-        return self.database.answer(text)
+        found = self.database.answer(text)
+        if found is None or self.kind != ORDER:
+            return found and (found[0], counting(found[1], self.kind))
+        self.database.load(self.parts[at], backwards=True)
+        again = self.database.answer(text)
+        return again and (found[0], (tuple(found[1]), tuple(again[1])))
 
     def passes(self, query: str, wanted: Sequence[Answer]) -> bool:
         """Whether a query has these answers on the parts; a part of which none is known says nothing."""
@@ -56,7 +87,7 @@ class Base:
     def passing(self, queries: Sequence[str], wanted: Sequence[Answer], steps: int | None = None) -> list[int]:
         """The places of the queries with these answers. Where so many steps were needed, of those that are left
         the first few alone are looked at further."""
-        texts = [for_sqlite(query) for query in queries]
+        texts = [self.database.written(query) for query in queries]
         return self.left(len(texts), wanted, lambda at, part: self.answer(part, texts[at]), steps)
 
     def left(self, count: int, wanted: Sequence[Answer], answer: Callable[[int, int], Answer], steps: int | None = None) -> list[int]:
@@ -77,12 +108,19 @@ class Base:
         return left
 
 
+def counting(rows: Sequence[tuple[Any, ...]], kind: str) -> Hashable:
+    if kind == DUPLICATES:
+        return frozenset(Counter(rows).items())
+    return frozenset(rows)
+
+
 class Database:
     """Some rows in SQLite, without the schema's rules, from which queries only read."""
 
     def __init__(self, pool: Pool) -> None:
         self.pool = pool
         self.part: frozenset[Row] = frozenset()
+        self.backwards = False
         self.steps = self.all_steps = 0    # of the last query, and of all, in STEPS
         self.is_strict = False
         self.connection = in_memory()
@@ -99,9 +137,14 @@ class Database:
     def may(self, action: int, one: str | None, two: str | None, base: str | None, inside: str | None) -> int:
         return sqlite3.SQLITE_DENY if self.is_strict and barred(action, one, two) else sqlite3.SQLITE_OK
 
-    def load(self, part: frozenset[Row]) -> None:
-        """Makes these the rows."""
-        if part == self.part:
+    def lawful(self) -> frozenset[Row]:
+        return lawful(self.pool)
+
+    def written(self, query: str) -> str:
+        return for_sqlite(query)
+
+    def load(self, part: frozenset[Row], backwards: bool = False) -> None:
+        if part == self.part and backwards == self.backwards:
             return
         self.steps = -1 << 40
         by_table: dict[int, list[int]] = {}
@@ -111,14 +154,15 @@ class Database:
         for at, (held, put) in enumerate(zip(self.pool.held, self.puts)):
             if at in had:
                 self.connection.execute(f"DELETE FROM {quoted(held.table.name)}")
-            self.connection.executemany(put, [held.rows[number] for number in by_table.get(at, [])])
-        self.part = part
+            numbers = by_table.get(at, [])
+            self.connection.executemany(put, [held.rows[number] for number in (numbers[::-1] if backwards else numbers)])
+        self.part, self.backwards = part, backwards
 
     def step(self) -> int:
         self.steps += 1
         return self.steps > MOST_STEPS
 
-    def answer(self, text: str) -> Answer:
+    def answer(self, text: str) -> Listed:
         if len(text.encode("utf-8", "replace")) > MOST_TEXT:
             return None
         self.steps, self.is_strict = 0, True
@@ -133,7 +177,7 @@ class Database:
         if cursor.description is None or len(rows) > MOST_ROWS:
             cursor.close()
             return None
-        return len(cursor.description), frozenset(rows)
+        return len(cursor.description), rows
 
 
 def lawful(pool: Pool) -> frozenset[Row]:

@@ -2,14 +2,17 @@
 
 QUESTION is a file of JSON: `exercise`, a folder with the schema and the rows; `guard`, a folder with other rows of
 the schema, or null; `program`, the path of `ratest_plus`; `reference`; `answers`, texts by their keys; `classes`,
-whether they are looked for; `tried`, whether nothing is proved, since `ratest` doesn't read the queries; `deep`, for how many seconds two changes are. FOLDER is an empty one for what is needed
-meanwhile. For each answer a line of JSON is printed: `[KEY, MISTAKE]`, as `classroom.repair.records` writes it.
+whether they are looked for; `tried`, whether nothing is proved, since a database decided; `kind`, as what rows are compared
+then; `material`, `engine` and `asker` where that is PostgreSQL, as `classroom.trial.child` gets them, else null; `deep`, for
+how many seconds two changes are looked for. FOLDER is an empty one for what is needed meanwhile. For each answer a line of JSON is printed: `[KEY, MISTAKE]`, as `classroom.repair.records` writes it.
 """
 from __future__ import annotations
 
+import contextlib
 import json
 import os
 import sys
+from dataclasses import replace
 from pathlib import Path
 from typing import Any
 
@@ -21,6 +24,7 @@ from classroom.picking import sources
 from classroom.repair import deep, recording, records
 from classroom.repair.records import Mistake
 from classroom.repair.search import Ground, Search
+from classroom.trial import material
 
 DEPTH = 20_000    # of calls, for trees of queries that are nested deep
 
@@ -29,11 +33,18 @@ def main(words: list[str]) -> int:
     sys.setrecursionlimit(DEPTH)
     question: dict[str, Any] = json.loads(Path(words[0]).read_bytes())
     os.environ["RATEST_PLUS"] = question["program"]
-    guard = sources.of_exercise(Path(question["guard"])) if question["guard"] else None
-    ground = Ground(sources.of_exercise(Path(question["exercise"])), guard, Path(words[1]))
+    with contextlib.ExitStack() as stack:
+        answered(question, Path(words[1]), stack)
+    return 0
+
+
+def answered(question: dict[str, Any], work: Path, stack: contextlib.ExitStack) -> None:
+    """Prints what is found for each answer."""
+    ground: Ground | None = None
     search: Search | None = None
     for key, answer in question["answers"].items():
         try:
+            ground = ground or ground_of(question, work, stack)
             search = search or Search(ground, question["reference"], question["tried"])
             found = mistake(search, answer, question)
         except Fault as fault:
@@ -42,7 +53,20 @@ def main(words: list[str]) -> int:
             found = Mistake(fault="the query is nested too deep")
         sys.stdout.write(json.dumps([key, records.to_json(found)]) + "\n")
         sys.stdout.flush()
-    return 0
+
+
+def ground_of(question: dict[str, Any], work: Path, stack: contextlib.ExitStack) -> Ground:
+    rows = sources.of_exercise(Path(question["exercise"]))
+    guard = sources.of_exercise(Path(question["guard"])) if question["guard"] else None
+    if not question["material"]:
+        return Ground(rows, guard, work, kind=question["kind"])
+    from classroom.repair.postgres import Tables
+    of = material.from_json(question["material"])
+    tables = stack.enter_context(contextlib.closing(Tables(of, question["engine"], question["asker"])))
+    # The schema of the CSV files says what columns mean, the database what types they have.
+    pool = replace(of.pool, schema=rows.schema)
+    pool.lawful &= of.pool.lawful
+    return Ground(pool, guard, work, kind=question["kind"], holds=tables.holding, engine=tables.label)
 
 
 def mistake(search: Search, answer: str, question: dict[str, Any]) -> Mistake:

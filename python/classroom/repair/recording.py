@@ -5,7 +5,7 @@ from classroom.mutation.clauses import Clauses
 from classroom.mutation.edits import Edit
 from classroom.repair import hints
 from classroom.repair.records import PROVED, Mistake, Step, Told
-from classroom.repair.search import ENGINE, Found
+from classroom.repair.search import Found
 
 MOST_TOLD = 20    # changes that are kept of one answer
 
@@ -23,4 +23,4 @@ def one(edit: Edit, text: str, clauses: Clauses) -> Told:
 def of_found(repairs: Found, classes: Found | None, pair: tuple[Edit, ...] = ()) -> Mistake:
     steps = tuple(Step(hint.step, hint.text, *(hint.place or (None, None))) for hint in hints.hints(repairs, hints.KIND))
     return Mistake(told(repairs), told(classes) if classes else (), steps, tuple(edit.mistake for edit in pair) + (
-        (pair[-1].text,) if pair else ()), ENGINE if repairs.tried else PROVED)
+        (pair[-1].text,) if pair else ()), repairs.engine if repairs.tried else PROVED)

@@ -7,22 +7,23 @@ answer: which mistake it is. What a guard refutes, other rows on which the two d
 from __future__ import annotations
 
 import sqlite3
-from collections.abc import Sequence
+from collections.abc import Callable, Sequence
 from dataclasses import dataclass
 from functools import cached_property
 from pathlib import Path
 
 from classroom.mutation.edits import Edit, edits
-from classroom.mutation.families import CLASSES, REPAIRS, TRIED_REPAIRS, Family
+from classroom.mutation.families import BAGS, CLASSES, ORDERED, REPAIRS, TRIED_REPAIRS, Family
 from classroom.mutation.query import Query
 from classroom.fault import Fault
 from classroom.picking.pool import Pool
 from classroom.repair import made
-from classroom.repair.base import Answer, Base
+from classroom.repair.base import PARTS as PARTS_OF_ROWS
+from classroom.repair.base import Answer, Base, Database, Holds
 from classroom.repair.proof import LIMITS, Prover
-from classroom.repair.texts import for_sqlite
 from classroom.repair.vocabulary import Words
 from classroom.limited import Limits
+from classroom.trial.comparison import DUPLICATES, ORDER, ROWS
 
 # Of SQLite's machine for the changes of one answer, in hundreds of two: some two seconds. What is left then is not
 # tried, the cheapest changes go first.
@@ -45,6 +46,7 @@ class Found:
     refuted: int                # how many agree on the exercise's rows, and a guard refutes them
     is_guarded: bool            # whether there was a guard
     tried: int = 0              # on so many parts of the rows, and not proved; 0 where it is proved
+    engine: str = ENGINE        # that tried
 
     @property
     def best(self) -> Edit | None:
@@ -54,22 +56,32 @@ class Found:
 class Ground:
     """The rows of an exercise, and the guards that all of its tasks share."""
 
-    def __init__(self, rows: Pool, guard: Pool | None, work: Path, limits: Limits = LIMITS) -> None:
+    def __init__(self, rows: Pool, guard: Pool | None, work: Path, limits: Limits = LIMITS, kind: str = ROWS,
+                 holds: Callable[[Pool], Holds] = Database, engine: str = ENGINE) -> None:
         """`guard` are other rows of the schema, as those that an exercise was picked of; `work` is an empty
-        folder for as long as the ground is used."""
+        folder for as long as the ground is used. `kind`: as what rows are compared; `holds` are the databases that hold
+        them, of this engine."""
         self.rows = rows
         self.schema = rows.schema.decode("utf-8", "replace")
-        self.base = Base(rows)
-        self.wide: Base | None = None    # with more parts, made where it is needed
-        self.guards = [Base(guard)] if guard else []
-        every = frozenset(rows.lawful)
-        self.prover = Prover(rows.files(every), work, limits)
+        self.work, self.limits = work, limits
+        self.kind, self.holds, self.engine = kind, holds, engine
+        self.guards = [self.of(guard, PARTS_OF_ROWS)] if guard else []
 
+    def of(self, pool: Pool, parts: int) -> Base:
+        return Base(pool, parts, kind=self.kind, database=self.holds(pool))
 
-    def tried(self) -> Base:
+    @cached_property
+    def base(self) -> Base:
+        return self.of(self.rows, PARTS_OF_ROWS)
+
+    @cached_property
+    def wide(self) -> Base:
         """The rows with as many parts as take the place of a proof."""
-        self.wide = self.wide or Base(self.rows, TRIED_PARTS)
-        return self.wide
+        return self.of(self.rows, TRIED_PARTS)
+
+    @cached_property
+    def prover(self) -> Prover:
+        return Prover(self.rows.files(frozenset(self.rows.lawful)), self.work, self.limits)
 
 
 class Search:
@@ -80,13 +92,14 @@ class Search:
         many parts take the place of that; then a Fault too where it has none."""
         self.ground = ground
         self.is_tried = is_tried
-        self.base = ground.tried() if is_tried else ground.base
-        self.families, self.of_classes = (beyond(REPAIRS), beyond(CLASSES)) if is_tried else (REPAIRS, CLASSES)
+        self.base = ground.wide if is_tried else ground.base
+        self.families, self.of_classes = (families_of(REPAIRS, ground.kind), families_of(CLASSES, ground.kind)) if is_tried else (
+            REPAIRS, CLASSES)
         self.reference = reference
         self.words = Words(ground.schema, reference)
         self.wanted = self.base.answers(reference)
         if is_tried and not any(self.wanted):
-            raise Fault(f"{ENGINE} does not answer the reference over these rows")
+            raise Fault(f"{ground.engine} does not answer the reference over these rows")
         self.known: dict[tuple[int, str], list[Answer]] = {}    # what guards answer to the reference
         self.plain = self.words.of(reference)
         self.changed = Changed(Query.of(reference, self.plain), self.base, self.of_classes)
@@ -99,7 +112,7 @@ class Search:
     def made(self) -> list[Base]:
         plain = self.words.plain
         pools = [made.pool_of(self.ground.rows, plain.numbers, plain.texts, seed) for seed in SEEDS]
-        return [Base(pool, PARTS) for pool in pools if pool]
+        return [self.ground.of(pool, PARTS) for pool in pools if pool]
 
     def repairs(self, answer: str) -> Found:
         """A Fault where sqlglot doesn't read the answer."""
@@ -136,7 +149,7 @@ class Search:
         for at in range(len(self.guards) if kept else 0):
             kept = self.left_by(at, kept, with_query)
         tried = len(self.wanted) - self.wanted.count(None) if self.is_tried else 0
-        return Found(query, tuple(kept), len(found) - len(kept), not found or bool(self.guards), tried)
+        return Found(query, tuple(kept), len(found) - len(kept), not found or bool(self.guards), tried, self.ground.engine)
 
     def left_by(self, guard: int, found: Sequence[Edit], with_query: str) -> list[Edit]:
         """What one guard does not refute."""
@@ -150,9 +163,10 @@ class Search:
         return [found[at] for at in rows.passing([edit.text for edit in found], wanted)] if wanted else []
 
 
-def beyond(families: Sequence[Family]) -> tuple[Family, ...]:
-    """With those of queries beyond the proved language."""
-    return (*families, *TRIED_REPAIRS)
+def families_of(families: Sequence[Family], kind: str) -> tuple[Family, ...]:
+    """With those of queries beyond the proved language; of answers that differ in duplicates those of duplicates too, and
+    of those that differ in order those of order alone."""
+    return ORDERED if kind == ORDER else (*families, *TRIED_REPAIRS, *(BAGS if kind == DUPLICATES else ()))
 
 
 class Changed:
@@ -162,7 +176,7 @@ class Changed:
         self.query = query
         self.base = base
         self.edits = edits(query, families)
-        self.texts = [for_sqlite(edit.text) for edit in self.edits]
+        self.texts = [base.database.written(edit.text) for edit in self.edits]
         self.answers: dict[tuple[int, int], Answer] = {}
 
     def passing(self, wanted: Sequence[Answer]) -> list[Edit]:

@@ -2,21 +2,37 @@
 from __future__ import annotations
 
 import json
+import logging
 from collections.abc import Iterator, Mapping, Sequence
 from concurrent.futures import ThreadPoolExecutor, as_completed
 from dataclasses import replace
+from functools import cached_property
+from typing import NamedTuple
 
-from classroom import parallel, program, tell
+from classroom import parallel, program, tell, tried
 from classroom.exercise import Exercise, digest
-from classroom.grades import Grade, Graded
-from classroom.repair import asking, guard, records
+from classroom.fault import Fault
+from classroom.grades import Graded
+from classroom.repair import asking, guard, looked, records
+from classroom.repair.looked import Looked
 from classroom.repair.records import Mistake
 from classroom.results import write
+from classroom.trial.material import POSTGRESQL, SQLITE
+from classroom.tried import Trial
 
 FOLDER = "mistakes"      # below the results
-FORMAT = b"2"
+FORMAT = b"3"
 IN_BATCH = 16            # answers of one task that one process looks at
+log = logging.getLogger(__name__)
 TRIED_AGAIN = (asking.LATE, asking.FAILED)
+
+
+class Batch(NamedTuple):
+    """Answers that one process looks at."""
+
+    how: Looked
+    reference: str
+    texts: dict[str, str]    # by the keys of what is kept
 
 
 class Mistakes:
@@ -44,16 +60,16 @@ class Mistakes:
         """Looks for what is not kept yet."""
         self.folder.mkdir(parents=True, exist_ok=True)
         program.find("ratest_plus")
-        left = {self.key(of): of for of in graded if is_asked(of) and not self.kept(of)}
-        batches = list(self.batches(left))
+        left = {self.key(of): of for of in graded if self.is_asked(of) and not self.kept(of)}
+        batches = [batch for batch in self.batches(left) if batch.how.product != POSTGRESQL or self.trial]
         means = asking.Means(self.given.folder, self.guard, True, self.is_deep)
         running = parallel.Running()
         threads = ThreadPoolExecutor(jobs or parallel.cores())
         try:
             with tell.progress(len(left), shows_progress) as step:
                 for done in as_completed([threads.submit(
-                        asking.ask, replace(means, tried=is_tried), reference, texts, started=running.add)
-                        for is_tried, reference, texts in batches]):
+                        asking.ask, replace(means, how=of.how, trial=self.trial if of.how.product == POSTGRESQL else None),
+                        of.reference, of.texts, started=running.add) for of in batches]):
                     for key, found in done.result().items():
                         if found.fault not in TRIED_AGAIN:
                             write(self.folder / f"{key}.json", (json.dumps(records.to_json(found)) + "\n").encode("ascii"))
@@ -63,30 +79,47 @@ class Mistakes:
             running.stop()
             threads.shutdown()
 
-    def batches(self, left: Mapping[str, Graded]) -> Iterator[tuple[bool, str, dict[str, str]]]:
-        """Whether they are tried, and references with some answers each, those of one task in as many processes as
-        there may be."""
-        by_task: dict[tuple[str, bool], dict[str, Graded]] = {}
+    def how(self, of: Graded) -> Looked | None:
+        """How the mistake of an answer is looked for; None where nothing differs, or another database decided than may be
+        asked here."""
+        found = looked.of_graded(of, self.given.settings)
+        return found if found and found.product in ("", SQLITE, POSTGRESQL) else None
+
+    def is_asked(self, of: Graded) -> bool:
+        return self.how(of) is not None
+
+    @cached_property
+    def trial(self) -> Trial | None:
+        """The connections of PostgreSQL; None where there are none, which is told."""
+        try:
+            found = tried.trial_of(self.given, tried.SECONDS)
+        except Fault as fault:
+            log.warning("mistakes are not looked for where PostgreSQL decides: %s", fault)
+            return None
+        if found.material.product != POSTGRESQL:
+            log.warning("mistakes are not looked for where PostgreSQL decides: exercise.toml has no engine and engine_asker")
+            return None
+        return found
+
+    def batches(self, left: Mapping[str, Graded]) -> Iterator[Batch]:
+        """Some answers of one task each, in as many processes as there may be."""
+        by_task: dict[tuple[str, Looked], dict[str, Graded]] = {}
         for key, of in left.items():
-            by_task.setdefault((of.task.name, of.is_tried), {})[key] = of
-        for (_, is_tried), group in by_task.items():
+            how = self.how(of)
+            if how:
+                by_task.setdefault((of.task.name, how), {})[key] = of
+        for (_, how), group in by_task.items():
             keys = list(group)
             size = min(IN_BATCH, max(1, len(left) // (2 * parallel.cores())))
             for start in range(0, len(keys), size):
                 some = keys[start:start + size]
-                yield is_tried, text_of(group[some[0]].task.reference), {
-                    key: text_of(group[key].answer.text.query) for key in some}
+                yield Batch(how, text_of(group[some[0]].task.reference), {
+                    key: text_of(group[key].answer.text.query) for key in some})
 
     def of(self, graded: Sequence[Graded]) -> dict[str, Mistake]:
         """What is kept, by the keys of the answers' records."""
-        found = {of.record: self.kept(of) for of in graded if is_asked(of)}
+        found = {of.record: self.kept(of) for of in graded if self.is_asked(of)}
         return {key: mistake for key, mistake in found.items() if mistake}
-
-
-def is_asked(of: Graded) -> bool:
-    """Whether an answer differs; where a database tries, SQLite has to, as it does here."""
-    return of.grade == Grade.DIFFERS and bool(of.record) and of.rows is not None and (
-        not of.is_tried or of.decided_by.startswith("sqlite"))
 
 
 def text_of(query: bytes) -> str:

@@ -16,6 +16,7 @@ from classroom import draw
 from classroom.exercise import Answer as SubmittedAnswer
 from classroom.exercise import Task
 from classroom.grades import graded, with_trial
+from classroom.repair.looked import looked
 from classroom.server import editor
 from classroom.server.about import About
 from classroom.server.answer import REST, Answer, answer_of
@@ -203,16 +204,16 @@ class Pages:
         """What is shown of hints where this step is asked for, as a digit; none is where it is empty. Each counts as
         a counterexample does."""
         hinter = served.hinter
-        if hinter is None or self.showing.only_verdict or not is_mistake(answered.outcome, answered.trial) or not hinter.is_open():
+        if hinter is None or self.showing.only_verdict or not hinter.is_open():
             return None
-        is_tried = answered.trial is not None and not is_mistake(answered.outcome)
-        if is_tried and answered.trial and not answered.trial.engine.startswith("sqlite"):
+        how = looked(is_mistake(answered.outcome), answered.trial, served.material.settings)
+        if how is None or not hinter.knows(how):
             return None
         if step not in ("1", "2", "3"):
             return Hinted(button=BUTTONS[0])
         if not self.visitors.may_see(visitor, f"{answered.key} hint {step}"):
             return Hinted((NO_MORE,))
-        return shown(hinter.steps(answered.key, task, text, visitor, is_tried), int(step), text)
+        return shown(hinter.steps(answered.key, task, text, visitor, how), int(step), text)
 
     def keep(self, served: Served, task: Offered, text: str, answered: Answered) -> None:
         query = text.encode("utf-8", "replace")

@@ -13,11 +13,14 @@ from classroom.exercise import Exercise
 from classroom.fault import Fault
 from classroom.repair import asking, guard
 from classroom.repair import steps as steps_of
+from classroom.repair.looked import Looked
 from classroom.repair.records import Mistake, Step
 from classroom.server.material import Material, Offered
 from classroom.server.recent import Recent
 from classroom.server.visitors import Visitor
 from classroom.server.waiting import Places
+from classroom.trial.material import POSTGRESQL, SQLITE
+from classroom.tried import Trial
 from ratest.places import Place
 
 SECONDS = 10.0
@@ -43,32 +46,39 @@ class Hinter:
     """Looks for hints to questions about one material, from any number of threads."""
 
     def __init__(self, material: Material, other_rows: Path | None, most: int, begins: datetime | None,
-                 python: Sequence[str], places: Places) -> None:
-        """`other_rows` is the folder of the guard, `python` the words that call an interpreter."""
+                 pythons: tuple[Sequence[str], Sequence[str]], places: Places, trial: Trial | None = None) -> None:
+        """`other_rows` is the folder of the guard; `pythons` are the words that call an interpreter, and one that has the
+        network, for a database there, which the trial has."""
         self.material = material
         self.means = asking.Means(material.folder, other_rows, classes=False)
         self.most = most
         self.begins = begins
-        self.python = tuple(python)
+        self.python, self.with_network = (tuple(words) for words in pythons)
+        self.trial = trial if trial and trial.material.product == POSTGRESQL else None
         self.places = places
         self.kept: Recent[Mistake] = Recent(KEPT_BYTES)
+
+    def knows(self, how: Looked | None) -> bool:
+        """Whether hints can be looked for so."""
+        return how is not None and (how.product in ("", SQLITE) or how.product == POSTGRESQL and self.trial is not None)
 
     def is_open(self) -> bool:
         return steps_of.are_open(self.most, self.begins)
 
-    def steps(self, key: str, task: Offered, text: str, visitor: Visitor, is_tried: bool) -> tuple[Step, ...]:
-        """All steps of a query with this key; `is_tried` where a database said that it differs. Busy where too many
-        ask."""
+    def steps(self, key: str, task: Offered, text: str, visitor: Visitor, how: Looked) -> tuple[Step, ...]:
+        """All steps of a query with this key. Busy where too many ask."""
         found = self.kept.get(key)
         if found is None:
             with self.places.one(visitor.key if visitor.is_known else visitor.network, visitor.network):
-                found = self.kept.get(key) or self._look(key, task, text, is_tried)
+                found = self.kept.get(key) or self._look(key, task, text, how)
         return found.steps[:self.most]
 
-    def _look(self, key: str, task: Offered, text: str, is_tried: bool) -> Mistake:
+    def _look(self, key: str, task: Offered, text: str, how: Looked) -> Mistake:
         reference = (self.material.folder / task.reference).read_text(encoding="utf-8", errors="replace")
         try:
-            found = asking.ask(replace(self.means, tried=is_tried), asking.bare(reference), {key: asking.bare(text)}, SECONDS, self.python)[key]
+            is_local = how.product != POSTGRESQL
+            means = replace(self.means, how=how, trial=None if is_local else self.trial)
+            found = asking.ask(means, asking.bare(reference), {key: asking.bare(text)}, SECONDS, self.python if is_local else self.with_network)[key]
         except (Fault, OSError) as fault:
             log.error("task %a: no hint: %s", task.name, fault)
             return Mistake()
@@ -88,7 +98,8 @@ def shown(steps: Sequence[Step], asked: int, text: str) -> Hinted:
     return Hinted(tuple(one.text for one in seen), place, BUTTONS[len(seen)] if has_more else "", len(seen) + 1)
 
 
-def hinter(given: Exercise, material: Material, other_rows: Path, python: Sequence[str], places: Places) -> Hinter | None:
+def hinter(given: Exercise, material: Material, other_rows: Path, pythons: tuple[Sequence[str], Sequence[str]], places: Places,
+           trial: Trial | None) -> Hinter | None:
     """The hints of an exercise, whose guard is copied into an empty folder; None where none are told, or what they
     need is not there."""
     if not given.settings.hints:
@@ -104,4 +115,4 @@ def hinter(given: Exercise, material: Material, other_rows: Path, python: Sequen
     if pool:
         for name, text in pool.files(pool.lawful).items():
             (other_rows / name).write_bytes(text)
-    return Hinter(material, other_rows if pool else None, given.settings.hints, given.settings.hints_from, python, places)
+    return Hinter(material, other_rows if pool else None, given.settings.hints, given.settings.hints_from, pythons, places, trial)

@@ -46,43 +46,21 @@ RIGHTS = (
 LOADER_RIGHT = "SELECT rolsuper FROM pg_roles WHERE rolname = current_user"
 
 
-class Postgres:
-    """The engine over a material, with a session of the loader and two of the asker."""
+class Server:
+    """A session of the loader, the tables of a material in a schema of its own, and sessions of the asker."""
 
-    pace = 0.25
-
-    @staticmethod
-    def clock() -> float:
-        """The server's work counts."""
-        return time.monotonic()
-
-    def __init__(self, material: Material, parts: Parts, reference: str, answer: str, loader: str, asker: str,
-                 seconds: float = QUERY_SECONDS) -> None:
+    def __init__(self, material: Material, loader: str) -> None:
         self.psycopg = library("psycopg", "python3-psycopg")
-        self.material, self.parts, self.seconds = material, parts, seconds
-        self.queries = (reference, answer)
+        self.material = material
         self.names = [quoted(name) for name in material.names()]
         self.sessions: list[Any] = []
+        self.askers: list[Any] = []
         self.loader = self.connected(loader, "engine")
         if self.one(self.loader, LOADER_RIGHT):
             self.close()
             raise Fault("engine: its user is a superuser; docs/GUIDE.md tells how to make one that is none")
         self.schema = f"{SCHEMA}{int(time.time())}_{secrets.token_hex(6)}"
-        try:
-            self.label = f"postgresql {str(self.one(self.loader, 'SHOW server_version')).split()[0]}"
-            for which in (REFERENCE, ANSWER):
-                look(which, self.queries[which])
-            self.askers = [self.connected(asker, "engine_asker", seconds) for _ in self.queries]
-            self.make_tables()
-            for which in (REFERENCE, ANSWER):
-                self.prepare(which)
-        except Stopped as stopped:
-            stopped.engine = self.label
-            self.close()
-            raise
-        except BaseException:
-            self.close()
-            raise
+        self.label = f"postgresql {str(self.one(self.loader, 'SHOW server_version')).split()[0]}"
 
     def connected(self, address: str, key: str, seconds: float = 0.0) -> Any:
         """A session; of the asker it has limits, and its user few rights."""
@@ -133,13 +111,55 @@ class Postgres:
         self.loader.execute(f"GRANT SELECT ON ALL TABLES IN SCHEMA {self.schema} TO {quoted(user)}")
         for session in self.askers:
             session.execute(f"SET search_path = {self.schema}")
-        self.values = ["(" + ", ".join(map(literal, self.material.pool.held[row.table].rows[row.number])) + ")"
-                       for row in self.parts.rows]
         columns = [", ".join(quoted(column.name) for column in held.table.columns) for held in self.material.pool.held]
         self.begins = [f"INSERT INTO {name} ({columns[at]}) OVERRIDING SYSTEM VALUE VALUES " for at, name in enumerate(self.names)]
-        self.masks = [sum(1 << at for at, row in enumerate(self.parts.rows) if row.table == table)
-                      for table in range(len(self.names))]
-        self.part, self.backwards, self.loads = 0, False, 0
+
+    def close(self) -> None:
+        for session in self.sessions[1:]:
+            session.close()
+        if self.sessions:
+            try:
+                if hasattr(self, "schema"):
+                    self.loader.execute(f"DROP SCHEMA IF EXISTS {self.schema} CASCADE")
+            except self.psycopg.Error:
+                pass    # the next trial removes it
+            self.sessions[0].close()
+
+
+class Postgres(Server):
+    """The engine over a material, with a session of the loader and two of the asker."""
+
+    pace = 0.25
+
+    @staticmethod
+    def clock() -> float:
+        """The server's work counts."""
+        return time.monotonic()
+
+    def __init__(self, material: Material, parts: Parts, reference: str, answer: str, loader: str, asker: str,
+                 seconds: float = QUERY_SECONDS) -> None:
+        super().__init__(material, loader)
+        self.parts, self.seconds = parts, seconds
+        self.queries = (reference, answer)
+        try:
+            for which in (REFERENCE, ANSWER):
+                look(which, self.queries[which])
+            self.askers = [self.connected(asker, "engine_asker", seconds) for _ in self.queries]
+            self.make_tables()
+            self.values = ["(" + ", ".join(map(literal, self.material.pool.held[row.table].rows[row.number])) + ")"
+                           for row in self.parts.rows]
+            self.masks = [sum(1 << at for at, row in enumerate(self.parts.rows) if row.table == table)
+                          for table in range(len(self.names))]
+            self.part, self.backwards, self.loads = 0, False, 0
+            for which in (REFERENCE, ANSWER):
+                self.prepare(which)
+        except Stopped as stopped:
+            stopped.engine = self.label
+            self.close()
+            raise
+        except BaseException:
+            self.close()
+            raise
 
     def prepare(self, which: int) -> None:
         try:
@@ -240,18 +260,6 @@ class Postgres:
             raise ValueError("too many tuples")
         for line in lines:
             yield tuple(known[table, place] for (table, _), place in zip(tables, line))
-
-    def close(self) -> None:
-        for session in self.sessions[1:]:
-            session.close()
-        if self.sessions:
-            try:
-                if hasattr(self, "schema"):
-                    self.loader.execute(f"DROP SCHEMA IF EXISTS {self.schema} CASCADE")
-            except self.psycopg.Error:
-                pass    # the next trial removes it
-            self.sessions[0].close()
-
 
 def look(which: int, text: str) -> None:
     """Refuses a text that is no query before the server gets it."""

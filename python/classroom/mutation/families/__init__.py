@@ -35,3 +35,5 @@ TRIED: tuple[Family, ...] = (aggregates.changes, grouping.changes, outer.changes
 TRIED_REPAIRS: tuple[Family, ...] = (*TRIED, aggregates.counted)
 BAGS: tuple[Family, ...] = (duplicates.changes,)
 LISTS: tuple[Family, ...] = (ordering.changes,)
+# What may make a list right.
+ORDERED: tuple[Family, ...] = (*LISTS, ordering.limited, ordering.added)
