@@ -38,7 +38,7 @@ HOSTILE = {
         "WITH RECURSIVE r(n) AS (SELECT 1 UNION ALL SELECT n + 1 FROM r LIMIT 100000) "
         "SELECT count(*) FROM (SELECT DISTINCT hex(zeroblob(30000)) || n FROM r)", TooMuch, "memory|time"),
     "a sorter over much": (
-        "WITH RECURSIVE r(n) AS (SELECT 1 UNION ALL SELECT n + 1 FROM r LIMIT 100000) "
+        "WITH RECURSIVE r(n) AS (SELECT 1 UNION ALL SELECT n + 1 FROM r LIMIT 3000000) "
         "SELECT hex(zeroblob(30000)) || n FROM r ORDER BY 1 DESC LIMIT 1", TooMuch, "memory|time"),
     "zeroblob": ("SELECT zeroblob(1000000000)", TooMuch, "size"),
     "group_concat": (f"SELECT group_concat({LONG}) FROM item a, item b", TooMuch, "size"),
