@@ -13,6 +13,7 @@ import pytest
 from products import classroom, run
 from roles import Roles
 
+from classroom.results import Results
 from classroom.trial import full
 
 NO_AMOUNT, SAME = 37, (11, 42)
@@ -156,3 +157,13 @@ def test_an_engine_that_is_not_there_stops_the_tried_tasks_alone(server: product
     assert ran.returncode == 1 and "task 2 is left out" in ran.stderr and "nothing is tried: exercise.toml: engine" in ran.stderr
     assert ran.stdout.startswith("task 1: ") and ids(folder, "shop")
 
+
+def test_records_that_nothing_needs_are_removed(tmp_path: Path) -> None:
+    """Of proofs and of trials alike, and nothing else."""
+    results = Results(tmp_path)
+    results.runs.mkdir()
+    kept, gone = "a" * 64, "b" * 64
+    for name in (f"{kept}.json", f"{kept}.trial.json", f"{gone}.json", f"{gone}.trial.json", "own.json", f"{gone}.txt"):
+        (results.runs / name).write_text("{}")
+    results.prune([kept])
+    assert {path.name for path in results.runs.iterdir()} == {f"{kept}.json", f"{kept}.trial.json", "own.json", f"{gone}.txt"}

@@ -1,6 +1,7 @@
 """Verdicts: against all lawful parts of few rows, and by hand."""
 from __future__ import annotations
 
+import itertools
 import json
 import sqlite3
 from pathlib import Path
@@ -218,3 +219,24 @@ def test_the_time_ends_a_search() -> None:
         assert made.least in (verdict.EACH, verdict.NOTHING) and "fewer" in words.least(made).lower()
     else:
         assert isinstance(made, NoDifference)
+
+
+def test_looks_stand_for_the_time(monkeypatch: pytest.MonkeyPatch) -> None:
+    """So a search ends at the same part on any machine, however slow it is."""
+    of = shop.material(customers=40, products=30, orders=60, items=200)
+    parts = Parts(of.pool)
+    same = "SELECT customer FROM orders WHERE no > 1 GROUP BY customer", "SELECT DISTINCT customer FROM orders WHERE NOT no <= 1"
+    other = "SELECT MIN(qty) FROM item", "SELECT MIN(qty) + 1 FROM item WHERE qty > 1"
+
+    def found() -> list[verdict.Outcome]:
+        made = []
+        for pair, looks in itertools.product((same, other), (30, 3000)):
+            search = Search(Sqlite(of, parts, *pair), parts, of, pair, Wanted(seconds=10.0, looks=looks))
+            made.append(search.outcome())
+            assert pair == other or looks <= search.looks.tried <= looks + 2
+        return made
+
+    fast = found()
+    hours = itertools.count(0.0, 3600.0)
+    monkeypatch.setattr(Sqlite, "clock", staticmethod(lambda: next(hours)))
+    assert found() == fast and [type(of) for of in fast] == [NoDifference] * 2 + [Differs] * 2

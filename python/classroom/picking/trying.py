@@ -75,6 +75,6 @@ def of_source(picture: Picture, said: Settings, engine: str | None, results: Res
               used: set[str]) -> Trying:
     """What tries over the rows of a source; a Fault where the engine can't be had."""
     pool = picture.pool
-    whole = tried.trial_over(picture.material(work), lambda: pool, said, tried.SECONDS, engine)
+    whole = tried.trial_over(picture.material(work), lambda: Pool(pool.schema, pool.held), said, tried.SECONDS, engine)
     places = {held.table.name: at for at, held in enumerate(whole.material.pool.held)}
     return Trying(pool, whole, results, jobs, used, places)
