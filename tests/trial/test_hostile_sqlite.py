@@ -4,8 +4,6 @@ from __future__ import annotations
 import json
 import re
 import signal
-import subprocess
-import sys
 import time
 from pathlib import Path
 
@@ -13,9 +11,9 @@ import pytest
 import shop
 from products import TOP
 
+from classroom.trial import asking
 from classroom.trial.asking import Options, trier
 from classroom.trial.engine import Bars, Refused, Stopped, TooMuch
-from classroom.trial.material import to_json
 from classroom.trial.parts import Parts
 from classroom.trial.sqlite import Sqlite, Stored
 from classroom.trial.verdict import Barred, Passed
@@ -38,7 +36,7 @@ HOSTILE = {
         "WITH RECURSIVE r(n) AS (SELECT 1 UNION ALL SELECT n + 1 FROM r LIMIT 100000) "
         "SELECT count(*) FROM (SELECT DISTINCT hex(zeroblob(30000)) || n FROM r)", TooMuch, "memory|time"),
     "a sorter over much": (
-        "WITH RECURSIVE r(n) AS (SELECT 1 UNION ALL SELECT n + 1 FROM r LIMIT 3000000) "
+        "WITH RECURSIVE r(n) AS (SELECT 1 UNION ALL SELECT n + 1 FROM r LIMIT 10000000) "
         "SELECT hex(zeroblob(30000)) || n FROM r ORDER BY 1 DESC LIMIT 1", TooMuch, "memory|time"),
     "zeroblob": ("SELECT zeroblob(1000000000)", TooMuch, "size"),
     "group_concat": (f"SELECT group_concat({LONG}) FROM item a, item b", TooMuch, "size"),
@@ -138,11 +136,12 @@ def test_rows_that_are_stored_the_other_way_round_are_the_same() -> None:
         assert len(lines[0]) > 1 and lines[0] == lines[1][::-1], table
 
 
-def test_a_step_without_an_end_takes_no_more_of_the_processor(tmp_path: Path) -> None:
+def test_a_step_without_an_end_takes_no_more_of_the_processor(tmp_path: Path, monkeypatch: pytest.MonkeyPatch) -> None:
     """What no limit of SQLite ends ends with the process, whatever the clock says."""
-    (tmp_path / "material").write_text(json.dumps(to_json(shop.material())))
-    (tmp_path / "question").write_text(json.dumps([{"reference": "SELECT 1", "answer": "SELECT 1", "seconds": 0.4}]))
-    endless = (f"import sys; sys.path.insert(0, {str(TOP / 'python')!r})\nimport classroom.trial.child as child\n"
-               "child.MORE_SECONDS = 0.5\ndef spin(*_):\n    while True: pass\nchild.tried = spin\nchild.main(sys.argv[1:])\n")
-    ran = subprocess.run([sys.executable, "-c", endless, "material", "question"], cwd=tmp_path, check=False, timeout=300)
-    assert ran.returncode == -signal.SIGXCPU
+    (tmp_path / "child.py").write_text(
+        f"import sys; sys.path.insert(0, {str(TOP / 'python')!r})\nimport classroom.trial.child as child\n"
+        "child.MORE_SECONDS = 0.5\ndef spin(*_):\n    while True: pass\nchild.tried = spin\nchild.main()\n")
+    monkeypatch.setattr(asking, "CHILD", tmp_path / "child.py")
+    with asking.trier(shop.material(), Options(seconds=0.4)) as made:
+        ran = made.processes.ask(str(made.material), json.dumps({"reference": "SELECT 1", "answer": "SELECT 1", "seconds": 0.4}).encode())
+    assert ran.status == -signal.SIGXCPU
