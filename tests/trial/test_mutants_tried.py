@@ -18,6 +18,7 @@ from classroom.mutation import trying
 from classroom.mutation.families import BAGS, LISTS, TRIED
 from classroom.mutation.grading import OPEN, TOLD
 from classroom.mutation.mutants import mutants
+from classroom.mutation.told import Told
 from classroom.results import Results
 from classroom.settings import Settings
 from classroom.trial import asking
@@ -115,7 +116,7 @@ child.main()
 """
 
 
-def mutants_of(folder: Path, monkeypatch: pytest.MonkeyPatch, what: str) -> list[trying.Told]:
+def mutants_of(folder: Path, monkeypatch: pytest.MonkeyPatch, what: str) -> list[Told]:
     (folder / "child.py").write_text(CHILD.replace("WHAT", what))
     monkeypatch.setattr(asking, "CHILD", folder / "child.py")
     results = Results(folder / "mutants")

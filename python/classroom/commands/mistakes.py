@@ -1,10 +1,11 @@
-"""Looks in each answer that differs for the mistake: which one it is, and where.
+"""Looks in each answer that differs, or of which duplicates or order are remarked on, for the mistake: which one it is, and
+where.
 
 For an answer changes of one place are made. One with which the answer is proved to agree with the reference on
 every lawful part of the rows is a repair: there is the mistake. A change of the reference that agrees with the answer
 says which mistake it is, as "the reference with < for <=". What holds on the exercise's few rows by chance is not
 told: other rows of the schema refute it, those in EXERCISE/guard, which `classroom pick` and `classroom import --rows`
-leave there, and rows that are made for the schema.
+leave there, and rows that are made for the schema. Where a database decided, changes are tried by that database and nothing of it is proved.
 
 The answers have to be graded. EXERCISE/results/mistakes.csv gets for each task the mistakes, the most frequent first,
 with the answers that have one, its place in them, and the text of one of them with its repair; the page of the class
