@@ -23,10 +23,12 @@ use rt_schema::{Given, Schema, Table};
 use rt_value::Txt;
 use std::alloc::Global;
 
-/// A schema, and the rows given for it.
+/// A schema, and the rows given for it: rows of its tables, and no more than all tables may have.
 pub struct Tables {
     pub schema: Schema,
     pub given: Given,
+    ghost of_schema: { IsOf schema given },
+    ghost few: { places given.tables ≤ row_limit },
 }
 
 impl Drop for Tables {
