@@ -82,6 +82,7 @@ pub(crate) fn first_of<F: Files>(
     ensures begun { AddsSome (IsKnown F.tells source.now) (first_files source.now) (first_reached source.now (F.held files.old)) (F.begun files.old) (F.begun files.new) }
     ensures begun_ok { OnOk result (AddsAll (IsKnown F.tells source.now) (first_files source.now) (first_reached source.now (F.held files.old)) (F.begun files.old) (F.begun files.new)) }
     ensures made { IsMade source.now → files.new ≡ files.old }
+    ensures has { F.has files.new ≡ F.has files.old }
     ensures held { F.held files.new ≡ F.held files.old }
     ensures rises { NoneFell (F.faults files.old) (F.faults files.new) }
 {
@@ -105,6 +106,7 @@ pub fn read_first<F: Files>(alloc: Global, words: &Words, files: &mut F) -> Resu
     ensures begun { AddsSome (IsKnown F.tells (source_of words.now)) (first_files (source_of words.now)) (first_reached (source_of words.now) (F.held files.old)) (F.begun files.old) (F.begun files.new) }
     ensures begun_ok { OnOk result (AddsAll (IsKnown F.tells (source_of words.now)) (first_files (source_of words.now)) (first_reached (source_of words.now) (F.held files.old)) (F.begun files.old) (F.begun files.new)) }
     ensures made { IsMade (source_of words.now) → files.new ≡ files.old }
+    ensures has { F.has files.new ≡ F.has files.old }
     ensures held { F.held files.new ≡ F.held files.old }
     ensures rises { NoneFell (F.faults files.old) (F.faults files.new) }
 {

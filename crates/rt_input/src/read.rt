@@ -57,6 +57,7 @@ pub(crate) fn read_query<F: Files>(
     ensures begun { AddsPrefix (F.begun files.old) (F.begun files.new) (part_files source.now (query_part part)) }
     ensures begun_ok { OnOk result (F.begun files.new ≡ F.begun files.old ++ part_files source.now (query_part part)) }
     ensures made { IsMade source.now → files.new ≡ files.old }
+    ensures has { F.has files.new ≡ F.has files.old }
     ensures held { F.held files.new ≡ F.held files.old }
     ensures rises { NoneFell (F.faults files.old) (F.faults files.new) }
 {
@@ -80,6 +81,7 @@ fn read_right<F: Files>(
     ensures begun { AddsPrefix (F.begun files.old) (F.begun files.new) (part_files source.now parts.Query2) }
     ensures begun_ok { OnOk result (F.begun files.new ≡ F.begun files.old ++ part_files source.now parts.Query2) }
     ensures made { IsMade source.now → files.new ≡ files.old }
+    ensures has { F.has files.new ≡ F.has files.old }
     ensures held { F.held files.new ≡ F.held files.old }
     ensures rises { NoneFell (F.faults files.old) (F.faults files.new) }
 {
@@ -136,6 +138,7 @@ fn read_source<F: Files>(
     ensures begun { AddsSome (IsKnown F.tells source.now) (input_files source.now) (input_reached source.now (F.held files.old)) (F.begun files.old) (F.begun files.new) }
     ensures begun_ok { OnOk result (AddsAll (IsKnown F.tells source.now) (input_files source.now) (input_reached source.now (F.held files.old)) (F.begun files.old) (F.begun files.new)) }
     ensures made { IsMade source.now → files.new ≡ files.old }
+    ensures has { F.has files.new ≡ F.has files.old }
     ensures held { F.held files.new ≡ F.held files.old }
     ensures rises { NoneFell (F.faults files.old) (F.faults files.new) }
 {
@@ -159,6 +162,7 @@ fn read_command<F: Files>(alloc: Global, words: &Words, files: &mut F) -> Result
     ensures begun { AddsSome (IsKnown F.tells (source_of words.now)) (input_files (source_of words.now)) (input_reached (source_of words.now) (F.held files.old)) (F.begun files.old) (F.begun files.new) }
     ensures begun_ok { OnOk result (AddsAll (IsKnown F.tells (source_of words.now)) (input_files (source_of words.now)) (input_reached (source_of words.now) (F.held files.old)) (F.begun files.old) (F.begun files.new)) }
     ensures made { IsMade (source_of words.now) → files.new ≡ files.old }
+    ensures has { F.has files.new ≡ F.has files.old }
     ensures held { F.held files.new ≡ F.held files.old }
     ensures rises { NoneFell (F.faults files.old) (F.faults files.new) }
 {
@@ -178,6 +182,7 @@ pub fn read_input<F: Files>(alloc: Global, words: &[Txt], files: &mut F) -> Resu
     ensures begun_ok { OnOk result (BeganFor F.tells (F.held files.old) (command words.now) (F.begun files.old) (F.begun files.new)) }
     // A generated input begins no file.
     ensures made { IsMadeCall (command words.now) → files.new ≡ files.old }
+    ensures has { F.has files.new ≡ F.has files.old }
     ensures held { F.held files.new ≡ F.held files.old }
     ensures rises { NoneFell (F.faults files.old) (F.faults files.new) }
 {

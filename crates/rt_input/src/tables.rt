@@ -73,6 +73,7 @@ fn schema_file<F: Files>(alloc: Global, files: &mut F, source: &Source) -> Resul
     ensures begun { AddsPrefix (F.begun files.old) (F.begun files.new) (part_files source.now parts.Schema) }
     ensures begun_ok { OnOk result (F.begun files.new ≡ F.begun files.old ++ part_files source.now parts.Schema) }
     ensures made { IsMade source.now → files.new ≡ files.old }
+    ensures has { F.has files.new ≡ F.has files.old }
     ensures held { F.held files.new ≡ F.held files.old }
     ensures rises { NoneFell (F.faults files.old) (F.faults files.new) }
 {
@@ -104,6 +105,7 @@ fn read_table<F: Files>(
     ensures begun { AddsPrefix (F.begun files.old) (F.begun files.new) (part_files source.now (parts.Table at table.now.name)) }
     ensures begun_ok { OnOk result (F.begun files.new ≡ F.begun files.old ++ part_files source.now (parts.Table at table.now.name)) }
     ensures made { IsMade source.now → files.new ≡ files.old }
+    ensures has { F.has files.new ≡ F.has files.old }
     ensures held { F.held files.new ≡ F.held files.old }
     ensures rises { NoneFell (F.faults files.old) (F.faults files.new) }
 {
@@ -135,6 +137,7 @@ fn read_given<F: Files>(
     ensures begun_ok { OnOk result (F.begun files.new ≡ F.begun files.old ++ table_files source.now 0 schema.now) }
     ensures reached { OnErr result (IsKnown F.tells source.now → AddsPrefix (F.begun files.old) (F.begun files.new) (tables_reached source.now (F.held files.old) 0 (no_rows schema.now) schema.now)) }
     ensures made { IsMade source.now → files.new ≡ files.old }
+    ensures has { F.has files.new ≡ F.has files.old }
     ensures held { F.held files.new ≡ F.held files.old }
     ensures rises { NoneFell (F.faults files.old) (F.faults files.new) }
 {
@@ -160,6 +163,7 @@ pub(crate) fn tables_of<F: Files>(
     ensures begun { AddsSome (IsKnown F.tells source.now) (data_files source.now) (data_reached source.now (F.held files.old)) (F.begun files.old) (F.begun files.new) }
     ensures begun_ok { OnOk result (AddsAll (IsKnown F.tells source.now) (data_files source.now) (data_reached source.now (F.held files.old)) (F.begun files.old) (F.begun files.new)) }
     ensures made { IsMade source.now → files.new ≡ files.old }
+    ensures has { F.has files.new ≡ F.has files.old }
     ensures held { F.held files.new ≡ F.held files.old }
     ensures rises { NoneFell (F.faults files.old) (F.faults files.new) }
 {
@@ -184,6 +188,7 @@ pub fn read_tables<F: Files>(
     ensures speaks { IfErr result (SpeaksOf IsDataPart) }
     ensures begun { AddsSome (IsKnown F.tells (tables_in schema.now dir.now)) (data_files (tables_in schema.now dir.now)) (data_reached (tables_in schema.now dir.now) (F.held files.old)) (F.begun files.old) (F.begun files.new) }
     ensures begun_ok { OnOk result (AddsAll (IsKnown F.tells (tables_in schema.now dir.now)) (data_files (tables_in schema.now dir.now)) (data_reached (tables_in schema.now dir.now) (F.held files.old)) (F.begun files.old) (F.begun files.new)) }
+    ensures has { F.has files.new ≡ F.has files.old }
     ensures held { F.held files.new ≡ F.held files.old }
     ensures rises { NoneFell (F.faults files.old) (F.faults files.new) }
 {

@@ -35,6 +35,7 @@ pub fn read_text<F: Files>(
     ensures begun { AddsPrefix (F.begun files.old) (F.begun files.new) (name.now ∷ []) }
     ensures begun_ok { OnOk result (F.begun files.new ≡ F.begun files.old ++ name.now ∷ []) }
     ensures begun_err { IfErr result (λ o. o ≢ outcomes.NoMemory → F.begun files.new ≡ F.begun files.old ++ name.now ∷ []) }
+    ensures has { F.has files.new ≡ F.has files.old }
     ensures held { F.held files.new ≡ F.held files.old }
     ensures rises { OnlyRises name.now (F.faults files.old) (F.faults files.new) }
 {
@@ -68,6 +69,7 @@ fn file_text<F: Files>(
     ensures speaks { IfErr result (SpeaksOf (λ p. p ≡ part)) }
     ensures begun { AddsPrefix (F.begun files.old) (F.begun files.new) (part_files (sources.Files paths.now) part) }
     ensures begun_ok { OnOk result (F.begun files.new ≡ F.begun files.old ++ part_files (sources.Files paths.now) part) }
+    ensures has { F.has files.new ≡ F.has files.old }
     ensures held { F.held files.new ≡ F.held files.old }
     ensures rises { NoneFell (F.faults files.old) (F.faults files.new) }
 {
@@ -91,6 +93,7 @@ pub(crate) fn source_text<F: Files>(
     ensures begun { AddsPrefix (F.begun files.old) (F.begun files.new) (part_files source.now part) }
     ensures begun_ok { OnOk result (F.begun files.new ≡ F.begun files.old ++ part_files source.now part) }
     ensures made { IsMade source.now → files.new ≡ files.old }
+    ensures has { F.has files.new ≡ F.has files.old }
     ensures held { F.held files.new ≡ F.held files.old }
     ensures rises { NoneFell (F.faults files.old) (F.faults files.new) }
 {

@@ -23,6 +23,7 @@ tables-init g c = record {
   told = λ t. ap Ok (sym c.in_ok-given.ensures.no_rows);
   begun = sym (append-nil (g.F.Files.begun c.args.files.now));
   made = λ m. refl;
+  has = refl;
   held = refl;
   rises = λ name. omega arith;
 }
@@ -99,6 +100,7 @@ tables-preserved g c =
           ∙ ap Ok (sym c.in_ok-read_table.ensures.tables);
       begun = all_then _ _ _ _ _ c.tables.invariant.begun c.in_ok-read_table.ensures.begun_ok ∙ ap (λ fs. g.F.Files.begun c.args.files.now ++ fs) (sym (files-more source schema at table within is));
       made = λ m. c.in_ok-read_table.ensures.made m ∙ c.tables.invariant.made m;
+      has = c.in_ok-read_table.ensures.has ∙ c.tables.invariant.has;
       held = c.in_ok-read_table.ensures.held ∙ c.tables.invariant.held;
       rises = λ name. let a = c.tables.invariant.rises name in let b = c.in_ok-read_table.ensures.rises name in omega (arith, a, b);
     }
