@@ -24,12 +24,12 @@ use Rattle.rt_input.specs.declared.source.Source.TheVariants.{Files, Made}
 -- ---- of one file
 
 -- it was begun just now
-ends_with : (file : Option Text) (old new : List Text) → new ≡ old ++ names_in file → EndsWith file old new
+pub ends_with : (file : Option Text) (old new : List Text) → new ≡ old ++ names_in file → EndsWith file old new
 ends_with None old new is = tt
 ends_with (Some name) old new is = ([], is ∙ ap (λ xs. xs ++ name ∷ []) (sym (append-nil old)))
 
 -- in a later step
-ends_on : (file : Option Text) (old mid new more : List Text) → mid ≡ old ++ more → EndsWith file mid new → EndsWith file old new
+pub ends_on : (file : Option Text) (old mid new more : List Text) → mid ≡ old ++ more → EndsWith file mid new → EndsWith file old new
 ends_on None old mid new more first ends = tt
 ends_on (Some name) old mid new more first ends = (
   more ++ ends.0,
