@@ -1,4 +1,5 @@
 pub mod BegunLemmas
+pub mod EndLemmas
 mod PlaceLemmas
 pub mod RowLemmas
 mod ShapeLemmas

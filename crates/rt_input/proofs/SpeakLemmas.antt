@@ -100,6 +100,30 @@ speaks_load p (load.FieldCount n) first = first
 speaks_load p (load.BadInteger n c) first = first
 speaks_load p (load.BadText n c) first = first
 
+-- the same of their parts alone
+excess_part : (e : Excess) → IsLimitOf (λ q. q ≡ part.Schema) (excess_limit e)
+excess_part excess.Tables = tt
+excess_part (excess.Columns table) = tt
+excess_part (excess.Rules table) = tt
+
+pub schema_part : (fault : SchemaFault) → SpeaksOf (λ q. q ≡ part.Schema) (schema_outcome fault)
+schema_part (schema.Lex fault) = speaks_lex part.Schema fault
+schema_part (schema.Syntax at) = refl
+schema_part (schema.DuplicateName name) = refl
+schema_part (schema.UnknownName name) = refl
+schema_part (schema.KeyTypes table) = refl
+schema_part (schema.CheckTypes table) = refl
+schema_part (schema.TooMany e) = excess_part e
+schema_part schema.NoMemory = tt
+
+pub load_part : (p : Part) (fault : LoadFault) → SpeaksOf (λ q. q ≡ p) (load_outcome p fault)
+load_part p load.NoMemory = tt
+load_part p load.TooManyRows = tt
+load_part p load.BadHeader = refl
+load_part p (load.FieldCount n) = refl
+load_part p (load.BadInteger n c) = refl
+load_part p (load.BadText n c) = refl
+
 pub speaks_sql : (p : Part) (fault : SqlFault) → SpeaksOf (λ q. q ≡ p) (sql_outcome p fault)
 speaks_sql p (sql.Unsupported word at) = refl
 speaks_sql p sql.TooDeep = refl

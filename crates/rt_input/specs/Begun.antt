@@ -1,6 +1,7 @@
 -- Which files a call begins: first ones of those that its command names, in the order of the
 -- reading, and none after the first refusal.
-use Rattle.std.specs.Prelude.{◌≡◌, ℕ, ◌+◌, Bool, List, [], ◌∷◌, ◌++◌, Option, None, Some, Result, Ok, Err, slice_set}
+use Rattle.std.specs.Prelude.{◌≡◌, ℕ, ◌+◌, Bool, List, [], ◌∷◌, ◌++◌, Option, None, Some, Result, Ok, Err, ⊤, slice_set}
+use Rattle.std.specs.Option.{ForSome}
 use Rattle.rt_io.specs.Edge.{AddsPrefix}
 use Rattle.rt_io.specs.Ranges.{Command}
 use Rattle.rt_io.specs.declared.files.Files.{Ghosts}
@@ -8,6 +9,10 @@ use Rattle.rt_schema.specs.declared.table.Table.{Table as TableOf}
 use Rattle.rt_schema.specs.Given.{Tables, places}
 use Rattle.rt_input.specs.declared.part.Part.{Part}
 use Rattle.rt_input.specs.declared.part.Part.TheVariants.{Schema, Table, Query1, Query2}
+use Rattle.rt_input.specs.declared.outcome.Limit.{Limit}
+use Rattle.rt_input.specs.declared.outcome.Limit.TheVariants as limits
+use Rattle.rt_input.specs.declared.outcome.Outcome.{Outcome}
+use Rattle.rt_input.specs.declared.outcome.Outcome.TheVariants as outcome
 use Rattle.rt_input.specs.declared.source.Source.{Source}
 use Rattle.rt_input.specs.First.{first_judged}
 use Rattle.rt_input.specs.Held.{Holding}
@@ -73,6 +78,35 @@ pub record AddsSome (known : Type 0) (files : List TableOf → List Text) (reach
 pub record AddsAll (known : Type 0) (files : List TableOf → List Text) (reached : List Text) (old new : List Text) : Type 0 where
   pub named : (tables : List TableOf) × (new ≡ old ++ files tables)
   pub told : known → new ≡ old ++ reached
+
+-- this name, if there is one, is the last of those begun, and was begun in the call
+abbrev pub EndsWith : Option Text → List Text → List Text → Type 0
+EndsWith None old new = ⊤
+EndsWith (Some name) old new = (more : List Text) × (new ≡ (old ++ more) ++ name ∷ [])
+
+abbrev pub EndsAtLimit : Source → Limit → List Text → List Text → Type 0
+EndsAtLimit source (limits.TooLong part) old new = EndsWith (file_of source part) old new
+EndsAtLimit source limits.Tables old new = ⊤
+EndsAtLimit source (limits.Columns table) old new = ⊤
+EndsAtLimit source (limits.Rules table) old new = ⊤
+EndsAtLimit source limits.Rows old new = ⊤
+EndsAtLimit source (limits.Work work) old new = ⊤
+
+-- nothing is begun behind the part that a refusal, a file that is too long or an error of reading names
+abbrev pub EndsAt : Source → Outcome → List Text → List Text → Type 0
+EndsAt source outcome.Agree old new = ⊤
+EndsAt source (outcome.Witness keep) old new = ⊤
+EndsAt source outcome.Usage old new = ⊤
+EndsAt source (outcome.Refused part fault) old new = EndsWith (file_of source part) old new
+EndsAt source (outcome.Spent s) old new = ⊤
+EndsAt source (outcome.Limit limit) old new = EndsAtLimit source limit old new
+EndsAt source (outcome.ReadFault part) old new = EndsWith (file_of source part) old new
+EndsAt source outcome.WriteFault old new = ⊤
+EndsAt source outcome.NoMemory old new = ⊤
+
+-- the same of a command, if there is one
+abbrev pub EndsFor : Option Command → Outcome → List Text → List Text → Type 0
+EndsFor command o old new = ForSome command (λ k. EndsAt (source_of k) o old new)
 
 -- the files of a whole input, of a command or of none
 abbrev pub BeginsFor : Bool → Holding → Option Command → List Text → List Text → Type 0

@@ -10,7 +10,7 @@ ghost use Rattle.rt_input.specs.Judged.{accepted, ReachesFirst};
 ghost use Rattle.rt_input.specs.Held.{text_of};
 ghost use Rattle.rt_input.specs.Placed.{Placed};
 ghost use Rattle.rt_input.specs.Source.{IsKnown, IsMade, source_of};
-ghost use Rattle.rt_input.specs.Begun.{AddsAll, AddsSome, first_files, first_reached};
+ghost use Rattle.rt_input.specs.Begun.{AddsAll, AddsSome, EndsAt, first_files, first_reached};
 ghost use Rattle.rt_input.specs.Steps.{over, IsFirstPart, SpeaksOf, Stops};
 
 use crate::input::Input;
@@ -81,7 +81,9 @@ pub(crate) fn first_of<F: Files>(
     ensures speaks { IfErr result (SpeaksOf IsFirstPart) }
     ensures begun { AddsSome (IsKnown F.tells source.now) (first_files source.now) (first_reached source.now (F.held files.old)) (F.begun files.old) (F.begun files.new) }
     ensures begun_ok { OnOk result (AddsAll (IsKnown F.tells source.now) (first_files source.now) (first_reached source.now (F.held files.old)) (F.begun files.old) (F.begun files.new)) }
+    ensures last { IfErr result (λ o. EndsAt source.now o (F.begun files.old) (F.begun files.new)) }
     ensures made { IsMade source.now → files.new ≡ files.old }
+    ensures has { F.has files.new ≡ F.has files.old }
     ensures held { F.held files.new ≡ F.held files.old }
     ensures rises { NoneFell (F.faults files.old) (F.faults files.new) }
 {
@@ -104,7 +106,9 @@ pub fn read_first<F: Files>(alloc: Global, words: &Words, files: &mut F) -> Resu
     ensures speaks { IfErr result (SpeaksOf IsFirstPart) }
     ensures begun { AddsSome (IsKnown F.tells (source_of words.now)) (first_files (source_of words.now)) (first_reached (source_of words.now) (F.held files.old)) (F.begun files.old) (F.begun files.new) }
     ensures begun_ok { OnOk result (AddsAll (IsKnown F.tells (source_of words.now)) (first_files (source_of words.now)) (first_reached (source_of words.now) (F.held files.old)) (F.begun files.old) (F.begun files.new)) }
+    ensures last { IfErr result (λ o. EndsAt (source_of words.now) o (F.begun files.old) (F.begun files.new)) }
     ensures made { IsMade (source_of words.now) → files.new ≡ files.old }
+    ensures has { F.has files.new ≡ F.has files.old }
     ensures held { F.held files.new ≡ F.held files.old }
     ensures rises { NoneFell (F.faults files.old) (F.faults files.new) }
 {

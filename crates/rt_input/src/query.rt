@@ -7,6 +7,7 @@ ghost use Rattle.rt_token.specs.Lexed.{lexed};
 ghost use Rattle.rt_input.specs.Placed.{IsPlaceless, PlacedIn};
 ghost use Rattle.rt_input.specs.Source.{Text};
 ghost use Rattle.rt_input.specs.Steps.{Refuses, SpeaksOf};
+ghost use Rattle.rt_input.specs.declared.part.Part.TheVariants as parts;
 
 use crate::faults::{lex_outcome, name_outcome, sql_outcome};
 use crate::outcome::Outcome;
@@ -72,6 +73,7 @@ pub fn like_left(left: &Typed, right: Typed) -> Result<Typed, Outcome>
     ensures kinds { IfOk result (λ typed. typed.kinds ≡ left.now.kinds) }
     ensures ok { IfOk result (λ typed. (typed ≡ right) × (like_left left.now right ≡ Ok typed)) }
     ensures err { IfErr result (Refuses (like_left left.now right)) }
+    ensures speaks { IfErr result (SpeaksOf (λ p. p ≡ parts.Queries)) }
     ensures place { IfErr result IsPlaceless }
 {
     match shapes(left, &right) {

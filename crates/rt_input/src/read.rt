@@ -10,7 +10,7 @@ ghost use Rattle.rt_input.specs.Source.{IsKnown, IsMade, query_part, source_of};
 ghost use Rattle.rt_input.specs.Judged.{query_judged, right_judged, input_judged, total_work, within_limit, work_between, Reaches};
 ghost use Rattle.rt_input.specs.Held.{text_of};
 ghost use Rattle.rt_input.specs.Placed.{IsPlaceless, Placed};
-ghost use Rattle.rt_input.specs.Begun.{AddsAll, AddsSome, BeganFor, Begins, input_files, input_reached, part_files};
+ghost use Rattle.rt_input.specs.Begun.{AddsAll, AddsSome, BeganFor, Begins, EndsAt, EndsFor, input_files, input_reached, part_files};
 ghost use Rattle.rt_input.specs.Steps.{over, Refuses, SpeaksOf, Stops};
 ghost use Rattle.rt_input.specs.Reading.{call, IsMadeCall, IsRead, Stop, WordsStop};
 ghost use Rattle.rt_input.specs.declared.part.Part.TheVariants as parts;
@@ -56,7 +56,9 @@ pub(crate) fn read_query<F: Files>(
     ensures speaks { IfErr result (SpeaksOf (λ p. p ≡ query_part part)) }
     ensures begun { AddsPrefix (F.begun files.old) (F.begun files.new) (part_files source.now (query_part part)) }
     ensures begun_ok { OnOk result (F.begun files.new ≡ F.begun files.old ++ part_files source.now (query_part part)) }
+    ensures last { IfErr result (λ o. EndsAt source.now o (F.begun files.old) (F.begun files.new)) }
     ensures made { IsMade source.now → files.new ≡ files.old }
+    ensures has { F.has files.new ≡ F.has files.old }
     ensures held { F.held files.new ≡ F.held files.old }
     ensures rises { NoneFell (F.faults files.old) (F.faults files.new) }
 {
@@ -79,7 +81,9 @@ fn read_right<F: Files>(
     ensures place { IfErr result (λ o. IsKnown F.tells source.now → Placed (text_of source.now (F.held files.old)) o) }
     ensures begun { AddsPrefix (F.begun files.old) (F.begun files.new) (part_files source.now parts.Query2) }
     ensures begun_ok { OnOk result (F.begun files.new ≡ F.begun files.old ++ part_files source.now parts.Query2) }
+    ensures last { IfErr result (λ o. EndsAt source.now o (F.begun files.old) (F.begun files.new)) }
     ensures made { IsMade source.now → files.new ≡ files.old }
+    ensures has { F.has files.new ≡ F.has files.old }
     ensures held { F.held files.new ≡ F.held files.old }
     ensures rises { NoneFell (F.faults files.old) (F.faults files.new) }
 {
@@ -135,7 +139,9 @@ fn read_source<F: Files>(
     ensures place { IfErr result (λ o. IsKnown F.tells source.now → Placed (text_of source.now (F.held files.old)) o) }
     ensures begun { AddsSome (IsKnown F.tells source.now) (input_files source.now) (input_reached source.now (F.held files.old)) (F.begun files.old) (F.begun files.new) }
     ensures begun_ok { OnOk result (AddsAll (IsKnown F.tells source.now) (input_files source.now) (input_reached source.now (F.held files.old)) (F.begun files.old) (F.begun files.new)) }
+    ensures last { IfErr result (λ o. EndsAt source.now o (F.begun files.old) (F.begun files.new)) }
     ensures made { IsMade source.now → files.new ≡ files.old }
+    ensures has { F.has files.new ≡ F.has files.old }
     ensures held { F.held files.new ≡ F.held files.old }
     ensures rises { NoneFell (F.faults files.old) (F.faults files.new) }
 {
@@ -158,7 +164,9 @@ fn read_command<F: Files>(alloc: Global, words: &Words, files: &mut F) -> Result
     ensures place { IfErr result (λ o. IsKnown F.tells (source_of words.now) → Placed (text_of (source_of words.now) (F.held files.old)) o) }
     ensures begun { AddsSome (IsKnown F.tells (source_of words.now)) (input_files (source_of words.now)) (input_reached (source_of words.now) (F.held files.old)) (F.begun files.old) (F.begun files.new) }
     ensures begun_ok { OnOk result (AddsAll (IsKnown F.tells (source_of words.now)) (input_files (source_of words.now)) (input_reached (source_of words.now) (F.held files.old)) (F.begun files.old) (F.begun files.new)) }
+    ensures last { IfErr result (λ o. EndsAt (source_of words.now) o (F.begun files.old) (F.begun files.new)) }
     ensures made { IsMade (source_of words.now) → files.new ≡ files.old }
+    ensures has { F.has files.new ≡ F.has files.old }
     ensures held { F.held files.new ≡ F.held files.old }
     ensures rises { NoneFell (F.faults files.old) (F.faults files.new) }
 {
@@ -176,8 +184,11 @@ pub fn read_input<F: Files>(alloc: Global, words: &[Txt], files: &mut F) -> Resu
     // first refusal. If there is an input, they are all of them.
     ensures begun { Begins F.Files (command words.now) files.old files.new }
     ensures begun_ok { OnOk result (BeganFor F.tells (F.held files.old) (command words.now) (F.begun files.old) (F.begun files.new)) }
+    // None is begun behind the part that a refusal or an error of reading names.
+    ensures last { IfErr result (λ o. EndsFor (command words.now) o (F.begun files.old) (F.begun files.new)) }
     // A generated input begins no file.
     ensures made { IsMadeCall (command words.now) → files.new ≡ files.old }
+    ensures has { F.has files.new ≡ F.has files.old }
     ensures held { F.held files.new ≡ F.held files.old }
     ensures rises { NoneFell (F.faults files.old) (F.faults files.new) }
 {

@@ -2,7 +2,7 @@
 
 ghost use Rattle.std.specs.Prelude.{◌≡◌, ◌≤◌, ◌++◌, IsTrue, IfOk, IfErr, OnErr, OnOk, Ok, Some, length, slice_get, slice_set};
 ghost use Rattle.rt_io.specs.Edge.{AddsPrefix, NoneFell};
-ghost use Rattle.rt_input.specs.Begun.{AddsAll, AddsSome, data_files, data_reached, part_files, table_files, tables_reached};
+ghost use Rattle.rt_input.specs.Begun.{AddsAll, AddsSome, EndsAt, data_files, data_reached, part_files, table_files, tables_reached};
 ghost use Rattle.rt_schema.specs.Given.{IsOf, places, rows_at, row_limit};
 ghost use Rattle.rt_input.specs.Source.{IsKnown, IsMade, tables_in};
 ghost use Rattle.rt_input.specs.Judged.{schema_of, schema_judged, table_judged, tables_judged, data_judged, no_rows, IsTableReached, ReachesFirst};
@@ -23,10 +23,12 @@ use rt_schema::{Given, Schema, Table};
 use rt_value::Txt;
 use std::alloc::Global;
 
-/// A schema, and the rows given for it.
+/// A schema, and the rows given for it: rows of its tables, and no more than all tables may have.
 pub struct Tables {
     pub schema: Schema,
     pub given: Given,
+    ghost of_schema: { IsOf schema given },
+    ghost few: { places given.tables ≤ row_limit },
 }
 
 impl Drop for Tables {
@@ -54,6 +56,7 @@ fn schema_of(alloc: Global, text: &[u8]) -> Result<Schema, Outcome>
     ensures ok { IfOk result (λ schema. schema_of text.now ≡ Ok schema) }
     ensures err { IfErr result (Refuses (schema_of text.now)) }
     ensures speaks { IfErr result (SpeaksOf IsDataPart) }
+    ensures of_part { IfErr result (SpeaksOf (λ p. p ≡ parts.Schema)) }
     ensures place { IfErr result (PlacedIn parts.Schema text.now) }
 {
     match read_schema(alloc, text) {
@@ -70,7 +73,9 @@ fn schema_file<F: Files>(alloc: Global, files: &mut F, source: &Source) -> Resul
     ensures speaks { IfErr result (SpeaksOf IsDataPart) }
     ensures begun { AddsPrefix (F.begun files.old) (F.begun files.new) (part_files source.now parts.Schema) }
     ensures begun_ok { OnOk result (F.begun files.new ≡ F.begun files.old ++ part_files source.now parts.Schema) }
+    ensures last { IfErr result (λ o. EndsAt source.now o (F.begun files.old) (F.begun files.new)) }
     ensures made { IsMade source.now → files.new ≡ files.old }
+    ensures has { F.has files.new ≡ F.has files.old }
     ensures held { F.held files.new ≡ F.held files.old }
     ensures rises { NoneFell (F.faults files.old) (F.faults files.new) }
 {
@@ -101,7 +106,9 @@ fn read_table<F: Files>(
     ensures speaks { IfErr result (SpeaksOf IsDataPart) }
     ensures begun { AddsPrefix (F.begun files.old) (F.begun files.new) (part_files source.now (parts.Table at table.now.name)) }
     ensures begun_ok { OnOk result (F.begun files.new ≡ F.begun files.old ++ part_files source.now (parts.Table at table.now.name)) }
+    ensures last { IfErr result (λ o. EndsAt source.now o (F.begun files.old) (F.begun files.new)) }
     ensures made { IsMade source.now → files.new ≡ files.old }
+    ensures has { F.has files.new ≡ F.has files.old }
     ensures held { F.held files.new ≡ F.held files.old }
     ensures rises { NoneFell (F.faults files.old) (F.faults files.new) }
 {
@@ -131,8 +138,10 @@ fn read_given<F: Files>(
     ensures speaks { IfErr result (SpeaksOf IsDataPart) }
     ensures begun { OnErr result (AddsPrefix (F.begun files.old) (F.begun files.new) (table_files source.now 0 schema.now)) }
     ensures begun_ok { OnOk result (F.begun files.new ≡ F.begun files.old ++ table_files source.now 0 schema.now) }
+    ensures last { IfErr result (λ o. EndsAt source.now o (F.begun files.old) (F.begun files.new)) }
     ensures reached { OnErr result (IsKnown F.tells source.now → AddsPrefix (F.begun files.old) (F.begun files.new) (tables_reached source.now (F.held files.old) 0 (no_rows schema.now) schema.now)) }
     ensures made { IsMade source.now → files.new ≡ files.old }
+    ensures has { F.has files.new ≡ F.has files.old }
     ensures held { F.held files.new ≡ F.held files.old }
     ensures rises { NoneFell (F.faults files.old) (F.faults files.new) }
 {
@@ -157,7 +166,9 @@ pub(crate) fn tables_of<F: Files>(
     ensures speaks { IfErr result (SpeaksOf IsDataPart) }
     ensures begun { AddsSome (IsKnown F.tells source.now) (data_files source.now) (data_reached source.now (F.held files.old)) (F.begun files.old) (F.begun files.new) }
     ensures begun_ok { OnOk result (AddsAll (IsKnown F.tells source.now) (data_files source.now) (data_reached source.now (F.held files.old)) (F.begun files.old) (F.begun files.new)) }
+    ensures last { IfErr result (λ o. EndsAt source.now o (F.begun files.old) (F.begun files.new)) }
     ensures made { IsMade source.now → files.new ≡ files.old }
+    ensures has { F.has files.new ≡ F.has files.old }
     ensures held { F.held files.new ≡ F.held files.old }
     ensures rises { NoneFell (F.faults files.old) (F.faults files.new) }
 {
@@ -182,6 +193,8 @@ pub fn read_tables<F: Files>(
     ensures speaks { IfErr result (SpeaksOf IsDataPart) }
     ensures begun { AddsSome (IsKnown F.tells (tables_in schema.now dir.now)) (data_files (tables_in schema.now dir.now)) (data_reached (tables_in schema.now dir.now) (F.held files.old)) (F.begun files.old) (F.begun files.new) }
     ensures begun_ok { OnOk result (AddsAll (IsKnown F.tells (tables_in schema.now dir.now)) (data_files (tables_in schema.now dir.now)) (data_reached (tables_in schema.now dir.now) (F.held files.old)) (F.begun files.old) (F.begun files.new)) }
+    ensures last { IfErr result (λ o. EndsAt (tables_in schema.now dir.now) o (F.begun files.old) (F.begun files.new)) }
+    ensures has { F.has files.new ≡ F.has files.old }
     ensures held { F.held files.new ≡ F.held files.old }
     ensures rises { NoneFell (F.faults files.old) (F.faults files.new) }
 {

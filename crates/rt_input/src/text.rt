@@ -2,7 +2,7 @@
 
 ghost use Rattle.std.specs.Prelude.{◌≡◌, ◌≢◌, ◌≤◌, [], ◌∷◌, ◌++◌, IsTrue, IfOk, IfErr, OnOk, Ok};
 ghost use Rattle.rt_io.specs.Edge.{AddsPrefix, NoneFell, OnlyRises};
-ghost use Rattle.rt_input.specs.Begun.{part_files};
+ghost use Rattle.rt_input.specs.Begun.{EndsAt, part_files};
 ghost use Rattle.rt_input.specs.Source.{IsKnown, IsMade, file_name};
 ghost use Rattle.rt_input.specs.Held.{most_bytes, text_read, file_text, text_of, without_mark};
 ghost use Rattle.rt_input.specs.Placed.{IsPlaceless};
@@ -35,6 +35,7 @@ pub fn read_text<F: Files>(
     ensures begun { AddsPrefix (F.begun files.old) (F.begun files.new) (name.now ∷ []) }
     ensures begun_ok { OnOk result (F.begun files.new ≡ F.begun files.old ++ name.now ∷ []) }
     ensures begun_err { IfErr result (λ o. o ≢ outcomes.NoMemory → F.begun files.new ≡ F.begun files.old ++ name.now ∷ []) }
+    ensures has { F.has files.new ≡ F.has files.old }
     ensures held { F.held files.new ≡ F.held files.old }
     ensures rises { OnlyRises name.now (F.faults files.old) (F.faults files.new) }
 {
@@ -68,6 +69,8 @@ fn file_text<F: Files>(
     ensures speaks { IfErr result (SpeaksOf (λ p. p ≡ part)) }
     ensures begun { AddsPrefix (F.begun files.old) (F.begun files.new) (part_files (sources.Files paths.now) part) }
     ensures begun_ok { OnOk result (F.begun files.new ≡ F.begun files.old ++ part_files (sources.Files paths.now) part) }
+    ensures last { IfErr result (λ o. EndsAt (sources.Files paths.now) o (F.begun files.old) (F.begun files.new)) }
+    ensures has { F.has files.new ≡ F.has files.old }
     ensures held { F.held files.new ≡ F.held files.old }
     ensures rises { NoneFell (F.faults files.old) (F.faults files.new) }
 {
@@ -90,7 +93,9 @@ pub(crate) fn source_text<F: Files>(
     ensures speaks { IfErr result (SpeaksOf (λ p. p ≡ part)) }
     ensures begun { AddsPrefix (F.begun files.old) (F.begun files.new) (part_files source.now part) }
     ensures begun_ok { OnOk result (F.begun files.new ≡ F.begun files.old ++ part_files source.now part) }
+    ensures last { IfErr result (λ o. EndsAt source.now o (F.begun files.old) (F.begun files.new)) }
     ensures made { IsMade source.now → files.new ≡ files.old }
+    ensures has { F.has files.new ≡ F.has files.old }
     ensures held { F.held files.new ≡ F.held files.old }
     ensures rises { NoneFell (F.faults files.old) (F.faults files.new) }
 {

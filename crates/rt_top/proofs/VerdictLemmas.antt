@@ -13,6 +13,7 @@ use Rattle.rt_input.specs.declared.part.Part.{Part}
 use Rattle.rt_io.specs.declared.place.Place.{Place}
 use Rattle.rt_io.specs.declared.place.Place.TheVariants as at
 use Rattle.rt_input.specs.Accepted.{Accepted}
+use Rattle.rt_input.specs.Begun.{EndsFor}
 use Rattle.rt_input.specs.Source.{source_of}
 use Rattle.rt_io.specs.Command.{command}
 use Rattle.rt_io.specs.Ranges.{Command}
@@ -71,6 +72,30 @@ stopped_says c (outcome.Limit l) said stop is = is
 stopped_says c (outcome.ReadFault part) said stop is = is
 stopped_says c outcome.WriteFault said stop is = absurd stop
 stopped_says c outcome.NoMemory said stop is = is
+
+-- ---- which file is the last one
+
+pub verdict_ends : (input : Accepted) (o : Outcome) (said : List ℕ) (k : Option Command) (old new : List (List ℕ)) → Judges input o said → EndsFor k o old new
+verdict_ends input outcome.Agree said k old new judges = λ command is. tt
+verdict_ends input (outcome.Witness keep) said k old new judges = λ command is. tt
+verdict_ends input (outcome.Spent s) said k old new judges = λ command is. tt
+verdict_ends input outcome.Usage said k old new judges = absurd judges
+verdict_ends input (outcome.Refused part fault) said k old new judges = absurd judges
+verdict_ends input (outcome.Limit limit) said k old new judges = absurd judges
+verdict_ends input (outcome.ReadFault part) said k old new judges = absurd judges
+verdict_ends input outcome.WriteFault said k old new judges = absurd judges
+verdict_ends input outcome.NoMemory said k old new judges = absurd judges
+
+-- an error of writing, and want of memory, name no part
+pub spoken_ends : (out err : Log) (o : Outcome) (said : List ℕ) (result : Outcome) (k : Option Command) (old new : List (List ℕ)) → Writes out err o said result
+    → EndsFor k o old new → EndsFor k result old new
+spoken_ends out err o said result k old new spoke ends = elim spoke.ends [
+  | inl h ↦ subst (λ (r : Outcome). EndsFor k r old new) (sym h.0) ends
+  | inr h ↦ elim h [
+    | inl f ↦ subst (λ (r : Outcome). EndsFor k r old new) (sym f.0) (λ command is. tt)
+    | inr m ↦ subst (λ (r : Outcome). EndsFor k r old new) (sym m.0) (λ command is. tt)
+  ]
+]
 
 -- ---- completeness
 

@@ -5,6 +5,7 @@ use Rattle.rt_input.specs.Judged.{Reaches, input_judged, within_limit}
 use Rattle.rt_input.specs.Source.{IsKnown}
 use Rattle.rt_input.specs.Steps.{Refuses, Stops, seen}
 use Rattle.rt_input.proofs.BegunLemmas.{input_begun, right_begun, right_stops as first_stops_begun, when_ok}
+use Rattle.rt_input.proofs.EndLemmas.{ends_after_all, if_work}
 use Rattle.rt_input.proofs.StepLemmas.{first_stops, if_err, judged_all, right_stops, stops_refused}
 use Rattle.rt_input.proofs.RowLemmas.{if_ok}
 use Rattle.rt_input.proofs.read.read_source.Goals as goal
@@ -66,3 +67,12 @@ returns-in_err-first-clause-begun g c =
 pub returns-in-Ok-clause-begun_ok : goal.returns-in-Ok-clause-begun_ok
 returns-in-Ok-clause-begun_ok g c = when_ok c.within_limit.result
     (input_begun g.F.Files.tells c.args.source.now (g.F.Files.held c.args.files.now) _ _ _ c.in_ok-first.first c.in_ok-first.ensures.ok c.in_ok-first.ensures.begun_ok c.in-Ok.ensures.begun_ok)
+
+pub returns-in-Ok-clause-last : goal.returns-in-Ok-clause-last
+returns-in-Ok-clause-last g c =
+    if_work c.args.source.now c.within_limit.result c.input_of.result (g.F.Files.begun c.args.files.now) (g.F.Files.begun c.read_right.new.files) c.within_limit.ensures.err
+
+pub returns-in-Err-clause-last : goal.returns-in-Err-clause-last
+returns-in-Err-clause-last g c =
+    ends_after_all c.args.source.now _ _ _ c.in-Err.outcome (g.F.Files.begun c.args.files.now) (g.F.Files.begun c.first_of.new.files) (g.F.Files.begun c.read_right.new.files)
+    c.in_ok-first.ensures.begun_ok c.in-Err.ensures.last

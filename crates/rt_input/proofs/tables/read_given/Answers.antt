@@ -11,6 +11,7 @@ use Rattle.rt_input.specs.declared.part.Part.TheVariants as part
 use Rattle.rt_input.specs.Judged.{IsTableReached, no_rows, table_judged, tables_judged}
 use Rattle.rt_io.proofs.AddLemmas.{all_then}
 use Rattle.rt_input.proofs.BegunLemmas.{files-from, files-more, reached-from, table_begun, when_err}
+use Rattle.rt_input.proofs.EndLemmas.{ends_later}
 use Rattle.rt_input.proofs.StepLemmas.{stops_on}
 use Rattle.rt_input.proofs.TableLemmas.{no_rows-at, rows_at-set_other, tables_judged-more, tables_judged-stops}
 use Rattle.rt_input.proofs.tables.read_given.Goals as goal
@@ -23,6 +24,7 @@ tables-init g c = record {
   told = λ t. ap Ok (sym c.in_ok-given.ensures.no_rows);
   begun = sym (append-nil (g.F.Files.begun c.args.files.now));
   made = λ m. refl;
+  has = refl;
   held = refl;
   rises = λ name. omega arith;
 }
@@ -79,6 +81,12 @@ returns-in_err-read_table-clause-reached g c =
     (reached-from c.args.source.now schema at table within is (g.F.Files.held c.args.files.now) (no_rows schema) c.tables.given.tables (c.tables.invariant.told t))
     c.tables.invariant.begun c.read_table.ensures.begun)
 
+pub returns-in_err-read_table-clause-last : goal.returns-in_err-read_table-clause-last
+returns-in_err-read_table-clause-last g c =
+    let p = err_from_is_err_and c.from_residual-in_err-read_table.result c.from_residual-in_err-read_table.ensures.1 in
+    rw (p.1, p.2) (ends_later c.args.source.now c.in_err-read_table.field-0.0 (g.F.Files.begun c.args.files.now) (g.F.Files.begun c.tables.files)
+    (g.F.Files.begun c.read_table.new.files) _ c.tables.invariant.begun c.in_err-read_table.ensures.last)
+
 pub tables-preserved : goal.tables-preserved
 tables-preserved g c =
     let held = g.F.Files.held c.args.files.now in
@@ -99,6 +107,7 @@ tables-preserved g c =
           ∙ ap Ok (sym c.in_ok-read_table.ensures.tables);
       begun = all_then _ _ _ _ _ c.tables.invariant.begun c.in_ok-read_table.ensures.begun_ok ∙ ap (λ fs. g.F.Files.begun c.args.files.now ++ fs) (sym (files-more source schema at table within is));
       made = λ m. c.in_ok-read_table.ensures.made m ∙ c.tables.invariant.made m;
+      has = c.in_ok-read_table.ensures.has ∙ c.tables.invariant.has;
       held = c.in_ok-read_table.ensures.held ∙ c.tables.invariant.held;
       rises = λ name. let a = c.tables.invariant.rises name in let b = c.in_ok-read_table.ensures.rises name in omega (arith, a, b);
     }

@@ -14,6 +14,7 @@ invariant-tables g l = record {
   told : IsKnown g.F.Files.tells l.source → tables_judged l.source (g.F.Files.held l.fn.files) 0 (no_rows l.schema) (take l.at l.schema) ≡ Ok l.given.tables;
   begun : g.F.Files.begun l.files ≡ g.F.Files.begun l.fn.files ++ table_files l.source 0 (take l.at l.schema);
   made : IsMade l.source → l.files ≡ l.fn.files;
+  has : g.F.Files.has l.files ≡ g.F.Files.has l.fn.files;
   held : g.F.Files.held l.files ≡ g.F.Files.held l.fn.files;
   rises : NoneFell (g.F.Files.faults l.fn.files) (g.F.Files.faults l.files);
 }

@@ -1,10 +1,15 @@
-use Rattle.std.proofs.Common.{◌≡◌, ◌<◌, sym, ap, ◌∙◌, arith, length, Ok, Err}
+use Rattle.std.proofs.Common.{◌≡◌, ◌<◌, ◌++◌, sym, ap, subst, ◌∙◌, arith, length, Ok, Err}
 use Rattle.rt_schema.specs.Given.{places, rows_at}
 use Rattle.rt_load.specs.Loaded.{columns_at, loaded}
 use Rattle.rt_load.proofs.SuitLemmas.{same-length}
 use Rattle.rt_input.specs.declared.part.Part.TheVariants as part
+use Rattle.rt_input.specs.Begun.{part_files}
+use Rattle.rt_input.specs.Faults.{load_outcome}
+use Rattle.rt_input.specs.Source.{Text}
 use Rattle.rt_input.specs.Judged.{table_judged}
 use Rattle.rt_input.specs.Steps.{seen}
+use Rattle.rt_input.proofs.EndLemmas.{ends_at}
+use Rattle.rt_input.proofs.SpeakLemmas.{load_part}
 use Rattle.rt_input.proofs.StepLemmas.{stops_loaded}
 use Rattle.rt_input.proofs.TableLemmas.{columns_at-get, few_after, get-within, table_read}
 use Rattle.rt_input.proofs.tables.read_table.Goals as goal
@@ -41,3 +46,12 @@ returns-clause-err g c =
     (λ t e is. table_read c.args.source.now (g.F.Files.held c.args.files.now) c.args.at c.args.table.now c.in_ok-copy.field-0 text before columns (Err e)
     c.in_ok-copy.ensures (columns_at-get c.args.schema.now c.args.at c.args.table.now c.requires.is_table)
     (c.in_ok-text.ensures.ok t ∙ ap Ok (sym c.as_slice.ensures)) is))
+
+pub returns-clause-last : goal.returns-clause-last
+returns-clause-last g c =
+    let here = part.Table c.args.at c.args.table.now.name in
+    let old = g.F.Files.begun c.args.files.now in
+    let new = g.F.Files.begun c.source_text.new.files in
+    rw (c.load_outcome.ensures, c.in_ok-copy-2.ensures)
+    (ends_at c.args.source.now here (load_outcome here c.in-Err.fault) old new
+    (subst (λ (name : Text). new ≡ old ++ part_files c.args.source.now (part.Table c.args.at name)) c.in_ok-copy.ensures c.in_ok-text.ensures.begun_ok) (load_part here c.in-Err.fault))

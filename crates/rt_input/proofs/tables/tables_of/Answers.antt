@@ -1,3 +1,5 @@
+use Rattle.std.proofs.lemmas.Result.{err_from_is_err_and}
+use Rattle.rt_input.proofs.EndLemmas.{ends_later}
 use Rattle.rt_input.proofs.BegunLemmas.{data_begun, schema_begun, some_of_all, tables_begun}
 use Rattle.rt_input.proofs.tables.tables_of.Goals as goal
 
@@ -9,6 +11,12 @@ pub returns-in_err-given-clause-begun : goal.returns-in_err-given-clause-begun
 returns-in_err-given-clause-begun g c =
     tables_begun g.F.Files.tells c.args.source.now (g.F.Files.held c.args.files.now) _ _ _ c.in_ok-schema.schema c.in_ok-schema.ensures.begun_ok c.in_ok-schema.ensures.ok
     (g.F.Files.held c.schema_file.new.files) c.in_ok-schema.ensures.held c.in_err-given.ensures.begun c.in_err-given.ensures.reached
+
+pub returns-in_err-given-clause-last : goal.returns-in_err-given-clause-last
+returns-in_err-given-clause-last g c =
+    let p = err_from_is_err_and c.from_residual-in_err-given.result c.from_residual-in_err-given.ensures.1 in
+    rw (p.1, p.2) (ends_later c.args.source.now c.in_err-given.field-0.0 (g.F.Files.begun c.args.files.now) (g.F.Files.begun c.schema_file.new.files)
+    (g.F.Files.begun c.read_given.new.files) _ c.in_ok-schema.ensures.begun_ok c.in_err-given.ensures.last)
 
 pub returns-clause-begun : goal.returns-clause-begun
 returns-clause-begun g c = some_of_all _ _ _ _ _
