@@ -6,6 +6,7 @@ ghost use Rattle.rt_formula.specs.Shared.{bool_at, val, IsGrown};
 ghost use Rattle.rt_noted.specs.Annotated.{AreNodes, IsNode, Reads};
 ghost use Rattle.rt_noted.specs.Joints.{AreJoints, AreMembers, join_joint, pair_joints, product_joints, unit_joints, joint_entries};
 
+use crate::copies::{joined_row, room};
 use crate::gate::{both, is_never};
 use crate::rows::note;
 use rt_formula::{Dag, Node, Noted};
@@ -40,7 +41,8 @@ pub(crate) fn unit(alloc: Global) -> Result<List<Joint>, NoMemory>
 fn with_node(alloc: Global, nodes: &[Node], node: Node) -> Result<List<Node>, NoMemory>
     ensures { IfOk result (λ out. out ≡ nodes.now ++ node ∷ []) }
 {
-    let mut out = List::from_slice(alloc, nodes)?;
+    let mut out = room(alloc, nodes.len().saturating_add(1))?;
+    out.extend(nodes)?;
     out.push(node)?;
     Ok(out)
 }
@@ -49,7 +51,7 @@ fn with_node(alloc: Global, nodes: &[Node], node: Node) -> Result<List<Node>, No
 pub(crate) fn joined_one(alloc: Global, first: &Joint, rest: &Noted) -> Result<Joint, NoMemory>
     ensures { IfOk result (λ j. j ∷ [] ≡ join_joint first.now (rest.now ∷ [])) }
 {
-    let row = first.row.join(alloc, &rest.row)?;
+    let row = joined_row(alloc, &first.row, &rest.row)?;
     let nodes = with_node(alloc, first.nodes.as_slice(), rest.node)?;
     Ok(Joint { row, nodes })
 }
@@ -73,7 +75,7 @@ fn joined_each(
 fn joined(alloc: Global, firsts: &[Joint], rests: &[Noted]) -> Result<List<Joint>, NoMemory>
     ensures { IfOk result (λ out. out ≡ pair_joints firsts.now rests.now) }
 {
-    let mut out = List::new(alloc);
+    let mut out = room(alloc, firsts.len().saturating_mul(rests.len()))?;
     for first in firsts {
         joined_each(alloc, &mut out, first, rests)?;
     }
@@ -121,7 +123,7 @@ fn noted(alloc: Global, dag: &mut Dag, joints: &[Joint]) -> Result<List<Noted>, 
     ensures grown { IsGrown dag.old dag.new }
     ensures reads { IfOk result (λ out. Reads dag.new out (joint_entries dag.old joints.now)) }
 {
-    let mut out = List::new(alloc);
+    let mut out = room(alloc, joints.len())?;
     for joint in joints {
         let node = dag.all(joint.nodes.as_slice())?;
         note(alloc, &mut out, &joint.row, node)?;

@@ -5,6 +5,7 @@
 #![tactic(auto)]
 
 mod ann;
+mod copies;
 mod difference;
 mod gate;
 mod join;

@@ -6,6 +6,7 @@ ghost use Rattle.rt_schema.specs.Given.{places, base_of};
 ghost use Rattle.rt_formula.specs.Shared.{IsGrown};
 ghost use Rattle.rt_noted.specs.Annotated.{AreMerged, AreNoted, Reads, entries_of, placed, projected_rows};
 
+use crate::copies::{copied, room};
 use rt_algebra::{Expr, row, scope};
 use rt_formula::{Dag, Groups, Node, Noted};
 use rt_value::{List, NoMemory, Row};
@@ -15,7 +16,7 @@ use std::alloc::Global;
 pub fn note(alloc: Global, out: &mut List<Noted>, row: &Row, node: Node) -> Result<(), NoMemory>
     ensures { OnOk result (out.new ≡ out.old ++ record { row = row.now; node = node } ∷ []) }
 {
-    let row = row.copy(alloc)?;
+    let row = copied(alloc, row)?;
     out.push(Noted { row, node })
 }
 
@@ -114,7 +115,7 @@ fn projected(
 ) -> Result<List<Noted>, NoMemory>
     ensures { IfOk result (λ out. out ≡ projected_rows from.now items.now (map (λ r. r.now) env.now)) }
 {
-    let mut out = List::new(alloc);
+    let mut out = room(alloc, from.len())?;
     for noted in from {
         let row = values_under(alloc, &noted.row, items, &*env)?;
         let node = noted.node;
