@@ -17,7 +17,7 @@ from concurrent.futures import as_completed
 from dataclasses import dataclass
 from pathlib import Path
 
-from classroom import parallel, witness
+from classroom import witness
 from classroom.database.full import DATABASE, SCRIPT
 from classroom.exercise import Answer, Exercise, Task, digest
 from classroom.fault import Fault, library, shown
