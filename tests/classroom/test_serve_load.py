@@ -54,7 +54,7 @@ class Bounds(NamedTuple):
 
 
 # The first are for a machine with two processors that are busy with other things.
-LOOSE, STRICT = Bounds(10.0, 30.0, 150_000_000), Bounds(1.0, 15.0, 150_000_000)
+LOOSE, STRICT = Bounds(20.0, 60.0, 150_000_000), Bounds(1.0, 15.0, 150_000_000)
 
 
 @dataclass
@@ -156,7 +156,7 @@ def test_load(ratest: Path, exercise: Path) -> None:
           f"{most / 1e6:.0f} MB, and beside it the one that tries {most_of_trials / 1e6:.0f} MB; of the processor a question takes {1000 * own / len(asked):.1f} ms there, "
           f"{1000 * programs / len(asked):.1f} ms by ratest and {1000 * tries / len(asked):.1f} ms by trying")
     assert not seen.faults, seen.faults[:3]
-    assert set(seen.statuses) <= {200, 503} and len(asked) > count
+    assert set(seen.statuses) <= {200, 503} and len(asked) >= count
     assert asked[len(asked) * 99 // 100] < bounds.within
     assert asked[-1] < bounds.longest
     assert most < bounds.memory
