@@ -3,8 +3,8 @@ try, and one in a hundred hostile.
 
 SERVE_LOAD=200x300 has 200 clients for 300 seconds, each of whom thinks for two to three seconds between two questions,
 and the strict bounds, for a machine of four processors that does nothing else; without it there are 40 for six seconds,
-who think for one to two, and of the hostile questions none that takes seconds. Who is told that too many ask comes again when the server says, until there is an answer, and
-the time runs from the first time.
+who think for one to two, and of the hostile questions none that takes seconds. Who is told that too many ask comes
+again when the server says, until there is an answer, and the time runs from the first time.
 """
 from __future__ import annotations
 
