@@ -19,7 +19,7 @@ from functools import cached_property
 from pathlib import Path
 from typing import NamedTuple
 
-from classroom import parallel, witness
+from classroom import witness
 from classroom.database.full import DATABASE, SCRIPT
 from classroom.exercise import Answer, Exercise, Task, digest
 from classroom.fault import Fault, library, shown

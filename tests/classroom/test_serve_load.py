@@ -3,8 +3,8 @@ try, and one in a hundred hostile.
 
 SERVE_LOAD=200x300 has 200 clients for 300 seconds, each of whom thinks for two to three seconds between two questions,
 and the strict bounds, for a machine of four processors that does nothing else; without it there are 40 for six seconds,
-who think for one to two. Who is told that too many ask comes again when the server says, until there is an answer, and
-the time runs from the first time.
+who think for one to two, and of the hostile questions none that takes seconds. Who is told that too many ask comes
+again when the server says, until there is an answer, and the time runs from the first time.
 """
 from __future__ import annotations
 
@@ -15,6 +15,7 @@ import shutil
 import threading
 import time
 from collections import Counter
+from collections.abc import Sequence
 from dataclasses import dataclass, field
 from pathlib import Path
 from typing import NamedTuple
@@ -54,7 +55,7 @@ class Bounds(NamedTuple):
 
 
 # The first are for a machine with two processors that are busy with other things.
-LOOSE, STRICT = Bounds(10.0, 30.0, 150_000_000), Bounds(1.0, 15.0, 150_000_000)
+LOOSE, STRICT = Bounds(20.0, 60.0, 150_000_000), Bounds(1.0, 15.0, 150_000_000)
 
 
 @dataclass
@@ -75,9 +76,9 @@ class Question(NamedTuple):
     begins: str | None
 
 
-def question(chosen: random.Random) -> Question:
+def question(chosen: random.Random, hostile: Sequence[str]) -> Question:
     if chosen.random() < 0.01:
-        return Question(chosen.choice("123456"), chosen.choice((*HOSTILE, *HEAVY, *ENDLESS)), None)
+        return Question(chosen.choice("123456"), chosen.choice(hostile), None)
     more = f"\n-- {chosen.randrange(VARIANTS)}"
     if chosen.random() < 0.5:
         task, text, begins = chosen.choice(TRIED)
@@ -88,12 +89,12 @@ def question(chosen: random.Random) -> Question:
     return Question(task, text + more, "agrees" if is_right else "differs on ")
 
 
-def client(server: Server, number: int, thinks: tuple[float, float], until: float, seen: Seen) -> None:
+def client(server: Server, number: int, thinks: tuple[float, float], until: float, hostile: Sequence[str], seen: Seen) -> None:
     chosen = random.Random(number)
     own = {"X-Forwarded-For": f"198.51.{number // 250}.{number % 250}"}
     time.sleep(chosen.uniform(0.0, thinks[1]))
     while time.monotonic() < until:
-        asked = question(chosen)
+        asked = question(chosen, hostile)
         begun = time.monotonic()
         try:
             reply = answered(server, asked, own, seen)
@@ -129,12 +130,14 @@ def exercise(beers: Path) -> Path:
 
 def test_load(ratest: Path, exercise: Path) -> None:
     count, seconds = map(int, os.environ.get("SERVE_LOAD", "40x6").split("x"))
-    thinks, bounds = ((2.0, 3.0), STRICT) if "SERVE_LOAD" in os.environ else ((1.0, 2.0), LOOSE)
+    is_strict = "SERVE_LOAD" in os.environ
+    thinks, bounds = ((2.0, 3.0), STRICT) if is_strict else ((1.0, 2.0), LOOSE)
+    hostile = (*HOSTILE, *HEAVY, *ENDLESS) if is_strict else HOSTILE
     seen = Seen()
     most = most_of_trials = 0
     with serving(exercise, "--proxy", "127.0.0.1", "--hourly", "0", tries=True) as server:
         until = time.monotonic() + seconds
-        clients = [threading.Thread(target=client, args=(server, number, thinks, until, seen)) for number in range(count)]
+        clients = [threading.Thread(target=client, args=(server, number, thinks, until, hostile, seen)) for number in range(count)]
         for thread in clients:
             thread.start()
         while time.monotonic() < until:
@@ -156,7 +159,7 @@ def test_load(ratest: Path, exercise: Path) -> None:
           f"{most / 1e6:.0f} MB, and beside it the one that tries {most_of_trials / 1e6:.0f} MB; of the processor a question takes {1000 * own / len(asked):.1f} ms there, "
           f"{1000 * programs / len(asked):.1f} ms by ratest and {1000 * tries / len(asked):.1f} ms by trying")
     assert not seen.faults, seen.faults[:3]
-    assert set(seen.statuses) <= {200, 503} and len(asked) > count
+    assert set(seen.statuses) <= {200, 503} and len(asked) >= count
     assert asked[len(asked) * 99 // 100] < bounds.within
     assert asked[-1] < bounds.longest
     assert most < bounds.memory

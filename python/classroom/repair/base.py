@@ -7,7 +7,7 @@ from __future__ import annotations
 import random
 import sqlite3
 from collections import Counter
-from collections.abc import Callable, Collection, Hashable, Iterator, Sequence
+from collections.abc import Callable, Hashable, Iterator, Sequence
 from typing import Any, Optional, Protocol
 
 from classroom.only_reads import MOST_TEXT, barred, bound, in_memory
