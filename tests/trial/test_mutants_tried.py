@@ -18,7 +18,7 @@ from classroom.mutation import trying
 from classroom.mutation.families import BAGS, LISTS, TRIED
 from classroom.mutation.grading import OPEN, TOLD
 from classroom.mutation.mutants import mutants
-from classroom.mutation.told import Told
+from classroom.mutation.told import Judged
 from classroom.results import Results
 from classroom.settings import Settings
 from classroom.trial import asking
@@ -116,12 +116,12 @@ child.main()
 """
 
 
-def mutants_of(folder: Path, monkeypatch: pytest.MonkeyPatch, what: str) -> list[Told]:
+def mutants_of(folder: Path, monkeypatch: pytest.MonkeyPatch, what: str) -> list[Judged]:
     (folder / "child.py").write_text(CHILD.replace("WHAT", what))
     monkeypatch.setattr(asking, "CHILD", folder / "child.py")
     results = Results(folder / "mutants")
     results.runs.mkdir(parents=True)
-    return trying.mutants(Trial(shop.material(), Options(), "", True), Task("1", Path("1"), reference=b"SELECT MIN(price) FROM product WHERE price > 1"),
+    return trying.mutants(Trial(shop.material(), Options(), (), True), Task("1", Path("1"), reference=b"SELECT MIN(price) FROM product WHERE price > 1"),
                           Settings(), results, 2)
 
 

@@ -187,7 +187,7 @@ def test_what_a_database_says_of_a_reference_is_in_no_log(tmp_path: Path, caplog
     (tmp_path / "0.reference").write_text("SELECT secret FROM drinker")
     task = Offered("1", "1", "", "0.reference", "", "", True)
     material = Material("", tmp_path, (task,), (), "", "", (), None, Window())
-    trial = Trial(shop.material(), Options(), "", True)
+    trial = Trial(shop.material(), Options(), (), True)
     asker = Asker(material, (), Limits(), Budget(1), Places(1, 1, 1), Recent(1), "", trial, cast(Any, Refuses(ends)))
     with caplog.at_level(logging.DEBUG):
         assert asker._tried(task, "SELECT 1", witness.Refused("query 1", "", None)) is None
