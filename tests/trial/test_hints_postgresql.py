@@ -12,7 +12,7 @@ from pathlib import Path
 import pytest
 from products import TOP, classroom
 from roles import Roles
-from served import Reply, serving
+from served import Reply, Server, serving
 
 pytest.importorskip("flask")
 pytest.importorskip("waitress")
@@ -41,6 +41,15 @@ def hints(got: Reply) -> list[str]:
     return [html.unescape(text) for text in re.findall(r'<p class="hint">(.*?)</p>', got.answer)]
 
 
+def hinted(server: Server, step: int) -> Reply:
+    """The hint of a step, which is asked for again where a busy machine took too long."""
+    for _ in range(5):
+        reply = server.hint("6", ANSWER, step)
+        if hints(reply):
+            break
+    return reply
+
+
 def test_the_mistakes_of_a_class(exercise: Path) -> None:
     classroom("grade", exercise)
     ran = classroom("mistakes", exercise)
@@ -59,7 +68,7 @@ def test_hints_where_students_ask(exercise: Path) -> None:
     with serving(exercise, "--hourly", "0", tries=True) as server:
         got = server.ask("6", ANSWER)
         assert got.verdict.startswith("differs (tried) on ")
-        replies = [server.hint("6", ANSWER, step) for step in (1, 2, 3)]
+        replies = [hinted(server, step) for step in (1, 2, 3)]
         told = hints(replies[2])
         assert "as far as was tried" in told[0] and len(told) == 3 and "<mark>" in replies[1].answer
         for reply in (got, *replies):
