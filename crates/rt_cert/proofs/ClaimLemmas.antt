@@ -56,9 +56,9 @@ find-end rows ps i h so_far = so_far ∙ ap (find (λ p. nat_le rows p)) (drop_a
 -- ---- a choice of rows
 
 -- a choice of which nothing is wrong is a counterexample
-pub choice-is_counterexample : (input : Accepted) (keep : List Bool) → choice_fault input keep ≡ None → is_counterexample input keep ≡ true
+pub choice-shows : (input : Accepted) (keep : List Bool) → choice_fault input keep ≡ None → is_counterexample input keep ≡ true
 unfolding is_counterexample
-choice-is_counterexample input keep h = by (lawful_at input keep) (differ_at input keep) h where
+choice-shows input keep h = by (lawful_at input keep) (differ_at input keep) h where
   by : (l d : Bool) → (if l then (if d then None else Some why.SameAnswers) else Some why.NotLawful) ≡ None → (l && d) ≡ true
   by true true h = refl
   by true false h = cc
@@ -75,7 +75,7 @@ pub claim-holds : (input : Accepted) (ps : List ℕ) (keep : List Bool) → find
 claim-holds input ps keep below is fault = record {
   fault = places-at input ps below ∙ ap (choice_fault input) (sym is) ∙ fault;
   is = ap Some is;
-  counterexample = λ other e. (let same : keep ≡ other = cc in subst (IsCounterexample input) same (ap length is ∙ keep-long (rows_of input) ps, choice-is_counterexample input keep fault));
+  counterexample = λ other e. (let same : keep ≡ other = cc in subst (IsCounterexample input) same (ap length is ∙ keep-long (rows_of input) ps, choice-shows input keep fault));
 }
 
 -- ---- back from a choice

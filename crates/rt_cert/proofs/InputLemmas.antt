@@ -27,18 +27,18 @@ most-within rows None h = omega arith
 most-within rows (Some keep) h = let l = h keep refl in let m = size-most keep in omega (arith, l, m)
 
 -- whether the kept rows are a counterexample, from the parts of an input
-abbrev is_counterexample : List Table → Instance → Typed → Typed → List Bool → Bool
-is_counterexample schema given left right keep =
+abbrev differs_lawfully : List Table → Instance → Typed → Typed → List Bool → Bool
+differs_lawfully schema given left right keep =
     lawful schema (kept given.tables keep) && not (same_rows (plain left.query (kept given.tables keep)) (plain right.query (kept given.tables keep)))
 
 counter-is : (input : Accepted) (schema : List Table) (given : Instance) (left right : Typed) (keep : List Bool) → schema ≡ input.schema → given ≡ input.given → left ≡ input.left → right ≡ input.right
-    → is_counterexample schema given left right keep ≡ is_counterexample input keep
+    → differs_lawfully schema given left right keep ≡ is_counterexample input keep
 unfolding is_counterexample
 counter-is input schema given left right keep s g l r = rw (s, g, l, r) refl
 
 pub encoded-input : (input : Accepted) (keep : Option (List Bool)) (schema : List Table) (given : Instance) (left right : Typed) (d : Shared) (goal rows most : ℕ) (lines : Lines) (r : Result (Option Literal) NoMemory)
     → schema ≡ input.schema → given ≡ input.given → left ≡ input.left → right ≡ input.right → most ≡ most_of keep → d.rows ≡ places input.given.tables → rows ≡ d.rows
-    → ((s : List Bool) → length s ≡ rows → val d s goal ≡ is_counterexample schema given left right s)
+    → ((s : List Bool) → length s ≡ rows → val d s goal ≡ differs_lawfully schema given left right s)
     → IfOk r (Encodes d.rows (λ s. val d s goal ≡ true) most lines) → IfOk r (IsEncoding input keep lines)
 encoded-input input keep schema given left right d goal rows most lines (Err e) s g l q m n same means h = tt
 encoded-input input keep schema given left right d goal rows most lines (Ok assume) s g l q m n same means h =

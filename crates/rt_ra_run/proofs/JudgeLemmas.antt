@@ -12,6 +12,7 @@ use Rattle.rt_input.specs.declared.outcome.Outcome.{Outcome}
 use Rattle.rt_input.specs.declared.outcome.Outcome.TheVariants as outcome
 use Rattle.rt_input.specs.declared.outcome.Spent.{Spent}
 use Rattle.rt_top.specs.Answers as answers
+use Rattle.rt_top.specs.GivenUp.{IsGivenUp as TopIsGivenUp}
 use Rattle.rt_top.specs.Smallest as top
 use Rattle.rt_top.specs.Smallest.{lawful_at}
 use Rattle.rt_top.specs.Texts as texts
@@ -61,7 +62,7 @@ fewest_counterexample : (a : Asked) → Same a → (best : Option (List Bool)) �
 fewest_counterexample a s None h = h
 fewest_counterexample a s (Some keep) h = λ t c. h t (from_counterexample a s t c)
 
-given_up : (a : Asked) → Same a → (s : Spent) → top.IsGivenUp a.input s.budget s.best s.least s.nogoods → IsGivenUp a s
+given_up : (a : Asked) → Same a → (s : Spent) → TopIsGivenUp a.input s.budget s.best s.least s.nogoods → IsGivenUp a s
 given_up a same s h = record {
   small = h.small;
   best_is = best_counterexample a same s.best h.best_is;
