@@ -28,6 +28,6 @@ returns-in_err-grade-clause-begun g c =
 
 pub returns-in_err-grade-clause-last : goal.returns-in_err-grade-clause-last
 returns-in_err-grade-clause-last g c =
-    let p = err_from_is_err_and c.from_residual.result c.from_residual-in_err-grade.ensures.1 in
+    let p = err_from_is_err_and c.from_residual.result c.from_residual.ensures.1 in
     rw (p.1, p.2) (fails_later c.in_err-grade.field-0.0 (g.F.Files.begun c.args.files.now) (g.F.Files.begun c.paths.files)
     (g.F.Files.begun c.grade_file.new.files) _ c.paths.invariant.begun c.in_err-grade.ensures.last)
