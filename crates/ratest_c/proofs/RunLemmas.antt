@@ -1,5 +1,5 @@
 -- What a call over the files of a request answers.
-use Rattle.std.proofs.Common.{◌≡◌, ◌∙◌, ℕ, List, [], true, Result, Ok, Err, IfOk, ap, refl, subst}
+use Rattle.std.proofs.Common.{◌≡◌, ◌∙◌, ℕ, Bool, List, [], true, Result, Ok, Err, IfOk, ap, refl, subst}
 use Rattle.rt_io.specs.Logs.{Log}
 use Rattle.rt_input.specs.Reading.{Call}
 use Rattle.rt_input.specs.declared.outcome.Outcome.{Outcome}
@@ -8,7 +8,7 @@ use Rattle.rt_tools.specs.declared.outcome.ToolOutcome.{ToolOutcome}
 use Rattle.rt_cert.specs.declared.outcome.CertOutcome.{CertOutcome}
 use Rattle.ratest_c.specs.Answers.{Ends, IsAnswer, IsCallOn, filled}
 use Rattle.ratest_c.specs.Calls.{RatestEnds, AlgebraEnds, ToolEnds, CertificateEnds}
-use Rattle.ratest_c.specs.Files.{count_of, counts_in, held_in}
+use Rattle.ratest_c.specs.Files.{count_if, counts_in, has_in, held_in}
 use Rattle.ratest_c.specs.Runs.{EndsIn}
 use Rattle.ratest_c.specs.Services.{service_of}
 use Rattle.ratest_c.specs.declared.file.File.{File}
@@ -16,16 +16,16 @@ use Rattle.ratest_c.specs.declared.request.Request.{Request}
 use Rattle.ratest_c.specs.declared.service.Service.{Service}
 use Rattle.ratest_c.specs.declared.ended.Ended.{Ended}
 
-abbrev counts_of : (List ℕ → List ℕ) → List ℕ → ℕ
-counts_of held name = count_of (held name)
+abbrev counts_of : (List ℕ → Bool) → List ℕ → ℕ
+counts_of has name = count_if (has name)
 
--- the counts after the call are those before it, since they rest on what the files hold alone
-pub counts_stay : (old new : List File) → held_in new ≡ held_in old → counts_in new ≡ counts_in old
+-- the counts after the call are those before it, since they rest on the names of the files alone
+pub counts_stay : (old new : List File) → has_in new ≡ has_in old → counts_in new ≡ counts_in old
 counts_stay old new same = ap counts_of same
 
 pub answered_by : (r : Request) (s : Service) (c : Call) (t : Ended) (old new : List File) → EndsIn s c t
     → s ≡ service_of c.words → c.words ≡ r.words → c.files.tells ≡ true → c.files.held ≡ held_in old
-    → c.files.before ≡ counts_in old → c.files.after ≡ counts_in new → old ≡ r.files → held_in new ≡ held_in old
+    → c.files.before ≡ counts_in old → c.files.after ≡ counts_in new → old ≡ r.files → has_in new ≡ has_in old
     → IsAnswer r t.status t.out.held.items t.err.held.items
 answered_by r s c t old new ends is words tells held before after files same = record {
   call = c;

@@ -20,7 +20,7 @@ use Rattle.ratest_c.specs.declared.service.Service.{Service}
 use Rattle.ratest_c.specs.declared.service.Service.TheVariants.{Ratest, Algebra, Tools, Certificates}
 
 -- a call on the arguments of the request, over files that tell their contents: those of the request. A
--- file with bytes never failed.
+-- file of the request never failed, an empty one neither.
 pub record IsCallOn (r : Request) (c : Call) : Type 0 where
   pub words : c.words ≡ r.words
   pub tells : c.files.tells ≡ true

@@ -13,11 +13,11 @@ abbrev pub has_in : List File → List ℕ → Bool
 has_in [] name = false
 has_in (f ∷ fs) name = if bytes_eq f.name name then true else has_in fs name
 
--- how often a file of these bytes failed: never where it has bytes. A name without bytes may have failed
--- as often as a count can say.
-abbrev pub count_of : List ℕ → ℕ
-count_of [] = 2 ^ 64 - 1
-count_of (b ∷ bs) = 0
+-- how often a name failed: never where there is a file of that name, with bytes or without. Another name
+-- can't be read: it may have failed as often as a count can say.
+abbrev pub count_if : Bool → ℕ
+count_if true = 0
+count_if false = 2 ^ 64 - 1
 
 abbrev pub counts_in : List File → List ℕ → ℕ
-counts_in files name = count_of (held_in files name)
+counts_in files name = count_if (has_in files name)

@@ -62,8 +62,8 @@ impl Files for Framed {
 
     ghost taken = { λ f. option_map_or (λ c. c.at) f.current 0 };
 
-    // A file with bytes never fails. A name without bytes may be absent, so its count is the last that a
-    // `u64` has: there a call that fails has no count to raise, whatever the files hold afterwards.
+    // A file never fails, an empty one neither. The count of a name without a file is the last that a `u64`
+    // has: there a call that fails has no count to raise, whatever names there are afterwards.
     ghost faults = { λ f. counts_in f.files };
 
     ghost begun = { λ f. f.begun.items };

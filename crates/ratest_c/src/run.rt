@@ -4,7 +4,7 @@ ghost use Rattle.std.specs.Prelude.{◌≡◌};
 ghost use Rattle.rt_input.specs.Reading.{call};
 ghost use Rattle.ratest_c.specs.Answers.{IsAnswer};
 ghost use Rattle.ratest_c.specs.Runs.{EndsIn};
-ghost use Rattle.ratest_c.specs.Files.{held_in};
+ghost use Rattle.ratest_c.specs.Files.{has_in, held_in};
 
 use crate::ended::Ended;
 use crate::framed::Framed;
@@ -20,6 +20,7 @@ use std::alloc::Global;
 
 fn run_ratest(alloc: Global, words: &[Txt], files: &mut Framed) -> Ended
     ensures ends { EndsIn Service.Ratest (call ⟦<Framed as Files>⟧ words.now files.old files.new) result }
+    ensures has { has_in files.new.files ≡ has_in files.old.files }
     ensures held { held_in files.new.files ≡ held_in files.old.files }
 {
     let mut out = SureSink::new(alloc);
@@ -32,6 +33,7 @@ fn run_ratest(alloc: Global, words: &[Txt], files: &mut Framed) -> Ended
 
 fn run_algebra(alloc: Global, words: &[Txt], files: &mut Framed) -> Ended
     ensures ends { EndsIn Service.Algebra (call ⟦<Framed as Files>⟧ words.now files.old files.new) result }
+    ensures has { has_in files.new.files ≡ has_in files.old.files }
     ensures held { held_in files.new.files ≡ held_in files.old.files }
 {
     let mut out = SureSink::new(alloc);
@@ -44,6 +46,7 @@ fn run_algebra(alloc: Global, words: &[Txt], files: &mut Framed) -> Ended
 
 fn run_tools(alloc: Global, words: &[Txt], files: &mut Framed) -> Ended
     ensures ends { EndsIn Service.Tools (call ⟦<Framed as Files>⟧ words.now files.old files.new) result }
+    ensures has { has_in files.new.files ≡ has_in files.old.files }
     ensures held { held_in files.new.files ≡ held_in files.old.files }
 {
     let mut out = SureSink::new(alloc);
@@ -56,6 +59,7 @@ fn run_tools(alloc: Global, words: &[Txt], files: &mut Framed) -> Ended
 
 fn run_certificates(alloc: Global, words: &[Txt], files: &mut Framed) -> Ended
     ensures ends { EndsIn Service.Certificates (call ⟦<Framed as Files>⟧ words.now files.old files.new) result }
+    ensures has { has_in files.new.files ≡ has_in files.old.files }
     ensures held { held_in files.new.files ≡ held_in files.old.files }
 {
     let mut out = SureSink::new(alloc);

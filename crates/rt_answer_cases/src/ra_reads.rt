@@ -1,6 +1,7 @@
 //! What the reader of algebra texts takes and refuses, with the byte of each error.
 
-use rt_ra_tree::{RaFault, parse_ra};
+use rt_ra::parse_ra;
+use rt_ra_tree::RaFault;
 use rt_token::tokens;
 use std::alloc::Global;
 use std::process::Abort;

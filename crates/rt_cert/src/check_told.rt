@@ -52,6 +52,7 @@ fn checked<F: Files>(
 ) -> Result<Told, NoMemory>
     ensures says { IfOk result (λ t. ChecksIn (over F.Files files.old files.new) name.now input.now t.outcome t.text) }
     ensures begun { AddsPrefix (F.begun files.old) (F.begun files.new) (name.now ∷ []) }
+    ensures has { F.has files.new ≡ F.has files.old }
     ensures held { F.held files.new ≡ F.held files.old }
     ensures rises { OnlyRises name.now (F.faults files.old) (F.faults files.new) }
 {
@@ -74,6 +75,7 @@ pub(crate) fn check_told<F: Files>(
 ) -> Result<Told, NoMemory>
     ensures says { IfOk result (λ t. SaysCheck (call F.Files words.now files.old files.new) name.now t.outcome t.text) }
     ensures begun { ChecksFor F.tells (F.held files.old) name.now (command words.now) (F.begun files.old) (F.begun files.new) }
+    ensures has { F.has files.new ≡ F.has files.old }
     ensures held { F.held files.new ≡ F.held files.old }
     ensures rises { NoneFell (F.faults files.old) (F.faults files.new) }
 {

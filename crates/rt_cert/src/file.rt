@@ -43,6 +43,7 @@ fn read_text<F: Files>(alloc: Global, name: &Txt, files: &mut F) -> Result<Bytes
     ensures ok { IfOk result (λ text. IsTrue F.tells → IsTextOf (F.held files.old name.now) text) }
     ensures err { IfErr result (FileStops (over F.Files files.old files.new) name.now) }
     ensures begun { AddsPrefix (F.begun files.old) (F.begun files.new) (name.now ∷ []) }
+    ensures has { F.has files.new ≡ F.has files.old }
     ensures held { F.held files.new ≡ F.held files.old }
     ensures rises { OnlyRises name.now (F.faults files.old) (F.faults files.new) }
 {
@@ -71,6 +72,7 @@ pub(crate) fn cert_in<F: Files>(alloc: Global, name: &Txt, files: &mut F) -> Res
     ensures ok { IfOk result (λ cert. IsTrue F.tells → IsFileOf (F.held files.old name.now) cert) }
     ensures err { IfErr result (FileStops (over F.Files files.old files.new) name.now) }
     ensures begun { AddsPrefix (F.begun files.old) (F.begun files.new) (name.now ∷ []) }
+    ensures has { F.has files.new ≡ F.has files.old }
     ensures held { F.held files.new ≡ F.held files.old }
     ensures rises { OnlyRises name.now (F.faults files.old) (F.faults files.new) }
 {

@@ -61,6 +61,7 @@ pub(crate) fn prove_told<F: Files>(
 ) -> Result<Told, NoMemory>
     ensures says { IfOk result (λ t. SaysProve (call F.Files words.now files.old files.new) t.outcome t.text) }
     ensures begun { Begins F.Files (command words.now) files.old files.new }
+    ensures has { F.has files.new ≡ F.has files.old }
     ensures held { F.held files.new ≡ F.held files.old }
     ensures rises { NoneFell (F.faults files.old) (F.faults files.new) }
 {

@@ -33,6 +33,7 @@ use std::alloc::Global;
 fn prepare<F: Files>(alloc: Global, words: &[Txt], files: &mut F) -> Result<Told, NoMemory>
     ensures ends { IfOk result (λ t. Ends (call F.Files words.now files.old files.new) t.outcome t.text) }
     ensures begun { Begins F.Files (asked_by words.now) files.old files.new }
+    ensures has { F.has files.new ≡ F.has files.old }
     ensures held { F.held files.new ≡ F.held files.old }
     ensures rises { NoneFell (F.faults files.old) (F.faults files.new) }
 {
@@ -94,6 +95,7 @@ pub fn cert_run<F: Files, O: Sink, E: Sink>(
     // The files that are begun are first ones of those that the arguments name, in the order of
     // the reading, and none after the first refusal.
     ensures begun { Begins F.Files (asked_by words.now) files.old files.new }
+    ensures has { F.has files.new ≡ F.has files.old }
     ensures held { F.held files.new ≡ F.held files.old }
     ensures rises { NoneFell (F.faults files.old) (F.faults files.new) }
 {

@@ -1,6 +1,6 @@
 -- Which files a call that grades begins.
-use Rattle.std.proofs.Common.{◌≡◌, ◌∙◌, ◌<◌, ◌+◌, Bool, IsTrue, List, [], ◌∷◌, ◌++◌, Ok, length, take, drop, get_or, sym, ap, subst}
-use Rattle.std.specs.Prelude.{ℕ, Option, None, Some}
+use Rattle.std.proofs.Common.{◌≡◌, ◌∙◌, ◌<◌, ◌+◌, Bool, IsTrue, List, [], ◌∷◌, ◌++◌, Result, Ok, Err, length, take, drop, get_or, sym, ap, subst}
+use Rattle.std.specs.Prelude.{ℕ, Option, None, Some, IfErr}
 use Rattle.std.proofs.lemmas.List.{take_more, take-append-drop}
 use Rattle.rt_io.proofs.AddLemmas.{adds_first, adds_then, all_then}
 use Rattle.rt_io.specs.Edge.{AddsPrefix}
@@ -10,9 +10,12 @@ use Rattle.rt_input.specs.First.{first_judged}
 use Rattle.rt_input.specs.Held.{Holding}
 use Rattle.rt_input.specs.Source.{IsKnown, Text, source_of}
 use Rattle.rt_input.specs.declared.first.First.{First}
+use Rattle.rt_input.proofs.EndLemmas.{ends_on, ends_with}
 use Rattle.rt_input.proofs.BegunLemmas.{none_begun, some_first, some_then, when_reached}
-use Rattle.rt_grade.specs.Begun.{GradesFor, ListAdds, grade_reached, list_reached}
+use Rattle.rt_grade.specs.Begun.{FailsLast, GradesFor, ListAdds, grade_reached, list_reached}
 use Rattle.rt_grade.specs.Listing.{list_judged}
+use Rattle.rt_grade.specs.declared.grade_fault.GradeFault.{GradeFault}
+use Rattle.rt_grade.specs.declared.grade_fault.GradeFault.TheVariants.{BadList, TooManyPaths, ListLong, FileRead, Verdict}
 use Rattle.rt_grade.specs.declared.grade_words.GradeWords.{GradeWords}
 use Rattle.rt_grade.proofs.WordLemmas.{known}
 
@@ -33,6 +36,24 @@ module _ (paths : List Text) (at : ℕ) (path : Text) (within : at < length path
   pub path_read : (old mid new : List Text) → mid ≡ old ++ take at paths → new ≡ mid ++ path ∷ [] → new ≡ old ++ take (at + 1) paths
   path_read old mid new before one =
       all_then old mid new (take at paths) (path ∷ []) before one ∙ ap (λ fs. old ++ fs) (sym (take_more paths at path within ∙ ap (λ p. take at paths ++ p ∷ []) (sym is)))
+
+-- ---- the file that can't be read
+
+pub fails_at : (name other : Text) (old new : List Text) → other ≡ name → new ≡ old ++ name ∷ [] → FailsLast (FileRead other) old new
+fails_at name other old new same begun = ends_with (Some other) old new (begun ∙ ap (λ (n : Text). old ++ n ∷ []) (sym same))
+
+-- in a later step
+pub fails_later : (fault : GradeFault) (old mid new more : List Text) → mid ≡ old ++ more → FailsLast fault mid new → FailsLast fault old new
+fails_later (BadList at) old mid new more first fails = tt
+fails_later TooManyPaths old mid new more first fails = tt
+fails_later ListLong old mid new more first fails = tt
+fails_later (FileRead name) old mid new more first fails = ends_on (Some name) old mid new more first fails
+fails_later (Verdict o) old mid new more first fails = tt
+
+pub if_fails_later : {T : Type 0} (r : Result T GradeFault) (old mid new more : List Text) → mid ≡ old ++ more
+    → IfErr r (λ fault. FailsLast fault mid new) → IfErr r (λ fault. FailsLast fault old new)
+if_fails_later (Ok x) old mid new more first fails = tt
+if_fails_later (Err fault) old mid new more first fails = fails_later fault old mid new more first fails
 
 -- ---- the list
 

@@ -6,6 +6,7 @@ ghost use Rattle.std.specs.List.{AllZip};
 ghost use Rattle.rt_io.specs.Edge.{AddsPrefix, NoneFell, OnlyRises};
 ghost use Rattle.rt_input.specs.First.{IsFirst};
 ghost use Rattle.rt_input.specs.Steps.{over};
+ghost use Rattle.rt_grade.specs.Begun.{FailsLast};
 ghost use Rattle.rt_grade.specs.Review.{IsReviewOf};
 ghost use Rattle.rt_grade.specs.Candidates.{CandidateStops, CandidatesStop, IsGradeOf};
 
@@ -33,6 +34,8 @@ fn grade_file<F: Files>(
     ensures err { IfErr result (CandidateStops (over F.Files files.old files.new) path.now) }
     ensures begun { AddsPrefix (F.begun files.old) (F.begun files.new) (path.now ∷ []) }
     ensures begun_ok { OnOk result (F.begun files.new ≡ F.begun files.old ++ path.now ∷ []) }
+    ensures last { IfErr result (λ fault. FailsLast fault (F.begun files.old) (F.begun files.new)) }
+    ensures has { F.has files.new ≡ F.has files.old }
     ensures held { F.held files.new ≡ F.held files.old }
     ensures rises { OnlyRises path.now (F.faults files.old) (F.faults files.new) }
 {
@@ -58,6 +61,8 @@ fn grade_each<F: Files>(
     ensures ok { IfOk result (AllZip (IsGradeOf F.tells (F.held files.old) words.now first.now) paths.now) }
     ensures err { IfErr result (CandidatesStop (over F.Files files.old files.new) paths.now) }
     ensures begun { AddsPrefix (F.begun files.old) (F.begun files.new) paths.now }
+    ensures last { IfErr result (λ fault. FailsLast fault (F.begun files.old) (F.begun files.new)) }
+    ensures has { F.has files.new ≡ F.has files.old }
     ensures held { F.held files.new ≡ F.held files.old }
     ensures rises { NoneFell (F.faults files.old) (F.faults files.new) }
 {
@@ -82,6 +87,8 @@ pub(crate) fn grade_files<F: Files>(
     ensures ok { IfOk result (AllZip (IsGradeOf F.tells (F.held files.old) words.now first.now) paths.now) }
     ensures err { IfErr result (CandidatesStop (over F.Files files.old files.new) paths.now) }
     ensures begun { AddsPrefix (F.begun files.old) (F.begun files.new) paths.now }
+    ensures last { IfErr result (λ fault. FailsLast fault (F.begun files.old) (F.begun files.new)) }
+    ensures has { F.has files.new ≡ F.has files.old }
     ensures held { F.held files.new ≡ F.held files.old }
     ensures rises { NoneFell (F.faults files.old) (F.faults files.new) }
 {

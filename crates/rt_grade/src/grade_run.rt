@@ -5,7 +5,7 @@ ghost use Rattle.rt_io.specs.Edge.{NoneFell};
 ghost use Rattle.rt_input.specs.Reading.{call};
 ghost use Rattle.rt_input.specs.First.{IsFirst};
 ghost use Rattle.rt_input.specs.Steps.{over};
-ghost use Rattle.rt_grade.specs.Begun.{GradesFor, ListAdds};
+ghost use Rattle.rt_grade.specs.Begun.{FailsLast, GradesFor, ListAdds};
 ghost use Rattle.rt_grade.specs.GradeWords.{IsSpelled, grade_words};
 ghost use Rattle.rt_grade.specs.GradeAnswers.{AreGraded, AreGradedBeside, AreGradedBy, Stops, StopsBeside, StopsOf};
 
@@ -37,6 +37,8 @@ fn grades_beside<F: Files>(
     ensures ok { IfOk result (AreGradedBeside (over F.Files files.old files.new) words.now first.now) }
     ensures err { IfErr result (StopsBeside (over F.Files files.old files.new) words.now) }
     ensures begun { ListAdds F.tells words.now (F.held files.old) (F.begun files.old) (F.begun files.new) }
+    ensures last { IfErr result (λ fault. FailsLast fault (F.begun files.old) (F.begun files.new)) }
+    ensures has { F.has files.new ≡ F.has files.old }
     ensures held { F.held files.new ≡ F.held files.old }
     ensures rises { NoneFell (F.faults files.old) (F.faults files.new) }
 {
@@ -55,6 +57,8 @@ fn grades_of<F: Files>(
     ensures ok { IfOk result (λ graded. AreGradedBy (over F.Files files.old files.new) graded words.now) }
     ensures err { IfErr result (λ fault. StopsOf (over F.Files files.old files.new) fault words.now) }
     ensures begun { GradesFor F.tells (F.held files.old) (Some words.now) (F.begun files.old) (F.begun files.new) }
+    ensures last { IfErr result (λ fault. FailsLast fault (F.begun files.old) (F.begun files.new)) }
+    ensures has { F.has files.new ≡ F.has files.old }
     ensures held { F.held files.new ≡ F.held files.old }
     ensures rises { NoneFell (F.faults files.old) (F.faults files.new) }
 {
@@ -76,6 +80,9 @@ pub fn grades<F: Files>(alloc: Global, words: &[Txt], files: &mut F) -> Result<G
     // The files that are begun are first ones of those that the arguments name, in the order of
     // the reading, and none after the first refusal.
     ensures begun { GradesFor F.tells (F.held files.old) (grade_words words.now) (F.begun files.old) (F.begun files.new) }
+    // The file that could not be read is the last of them.
+    ensures last { IfErr result (λ fault. FailsLast fault (F.begun files.old) (F.begun files.new)) }
+    ensures has { F.has files.new ≡ F.has files.old }
     ensures held { F.held files.new ≡ F.held files.old }
     ensures rises { NoneFell (F.faults files.old) (F.faults files.new) }
 {

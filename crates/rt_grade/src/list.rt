@@ -3,6 +3,7 @@
 ghost use Rattle.std.specs.Prelude.{◌≡◌, [], ◌∷◌, ◌++◌, IsTrue, IfOk, IfErr, OnOk, Ok};
 ghost use Rattle.rt_io.specs.Edge.{AddsPrefix, OnlyRises};
 ghost use Rattle.rt_input.specs.Steps.{over};
+ghost use Rattle.rt_grade.specs.Begun.{FailsLast};
 ghost use Rattle.rt_grade.specs.Listing.{ListStops, PathsStop, list_judged, paths_judged};
 
 use crate::grade_fault::GradeFault;
@@ -35,6 +36,8 @@ pub(crate) fn read_list<F: Files>(
     ensures err { IfErr result (ListStops (over F.Files files.old files.new) list.now) }
     ensures begun { AddsPrefix (F.begun files.old) (F.begun files.new) (list.now ∷ []) }
     ensures begun_ok { OnOk result (F.begun files.new ≡ F.begun files.old ++ list.now ∷ []) }
+    ensures last { IfErr result (λ fault. FailsLast fault (F.begun files.old) (F.begun files.new)) }
+    ensures has { F.has files.new ≡ F.has files.old }
     ensures held { F.held files.new ≡ F.held files.old }
     ensures rises { OnlyRises list.now (F.faults files.old) (F.faults files.new) }
 {

@@ -30,4 +30,5 @@ mod walk;
 
 pub use laws::{project_law, rename_law, select_law, table_law, two_law};
 pub use resolve::resolve_ra;
+pub use rt_ra_tree::parse_ra;
 pub use rt_relation::{Column, Relation};

@@ -38,6 +38,7 @@ fn read_data<F: Files>(
     ensures place { IfErr result (λ o. IsTrue F.tells → Placed command.now (F.held files.old) o) }
     ensures begun { AddsSome (IsTrue F.tells) (data_files (tables_of command.now)) (data_reached (tables_of command.now) (F.held files.old)) (F.begun files.old) (F.begun files.new) }
     ensures begun_ok { OnOk result (AddsAll (IsTrue F.tells) (data_files (tables_of command.now)) (data_reached (tables_of command.now) (F.held files.old)) (F.begun files.old) (F.begun files.new)) }
+    ensures has { F.has files.new ≡ F.has files.old }
     ensures held { F.held files.new ≡ F.held files.old }
     ensures rises { NoneFell (F.faults files.old) (F.faults files.new) }
 {
@@ -59,6 +60,7 @@ fn query_text<F: Files>(
     ensures place { IfErr result IsPlaceless }
     ensures begun { AddsPrefix (F.begun files.old) (F.begun files.new) (query_path command.now part ∷ []) }
     ensures begun_ok { OnOk result (F.begun files.new ≡ F.begun files.old ++ query_path command.now part ∷ []) }
+    ensures has { F.has files.new ≡ F.has files.old }
     ensures held { F.held files.new ≡ F.held files.old }
     ensures rises { NoneFell (F.faults files.old) (F.faults files.new) }
 {
@@ -82,6 +84,7 @@ fn read_query<F: Files>(
     ensures place { IfErr result (λ o. IsTrue F.tells → Placed command.now (F.held files.old) o) }
     ensures begun { AddsPrefix (F.begun files.old) (F.begun files.new) (query_path command.now part ∷ []) }
     ensures begun_ok { OnOk result (F.begun files.new ≡ F.begun files.old ++ query_path command.now part ∷ []) }
+    ensures has { F.has files.new ≡ F.has files.old }
     ensures held { F.held files.new ≡ F.held files.old }
     ensures rises { NoneFell (F.faults files.old) (F.faults files.new) }
 {
@@ -117,6 +120,7 @@ fn read_right<F: Files>(
     ensures err { IfErr result (Stops (over F.Files files.old files.new) command.now (right_judged command.now (F.held files.old) schema.now left.now) (λ p. p ≡ parts.Query2)) }
     ensures place { IfErr result (λ o. IsTrue F.tells → Placed command.now (F.held files.old) o) }
     ensures begun { AddsPrefix (F.begun files.old) (F.begun files.new) (command.now.query2 ∷ []) }
+    ensures has { F.has files.new ≡ F.has files.old }
     ensures held { F.held files.new ≡ F.held files.old }
     ensures rises { NoneFell (F.faults files.old) (F.faults files.new) }
 {
@@ -183,6 +187,7 @@ fn read_queries<F: Files>(
     ensures place { IfErr result (λ o. IsTrue F.tells → Placed command.now (F.held files.old) o) }
     ensures begun { AddsPrefix (F.begun files.old) (F.begun files.new) (query_files command.now) }
     ensures reached { IsTrue F.tells → AddsPrefix (F.begun files.old) (F.begun files.new) (queries_reached command.now (F.held files.old) (data_in tables)) }
+    ensures has { F.has files.new ≡ F.has files.old }
     ensures held { F.held files.new ≡ F.held files.old }
     ensures rises { NoneFell (F.faults files.old) (F.faults files.new) }
 {
@@ -205,6 +210,7 @@ pub(crate) fn read_asked<F: Files>(
     ensures err { IfErr result (Stops (over F.Files files.old files.new) command.now (asked_judged command.now (F.held files.old)) (Reaches command.now (F.held files.old))) }
     ensures place { IfErr result (λ o. IsTrue F.tells → Placed command.now (F.held files.old) o) }
     ensures begun { AddsSome (IsTrue F.tells) (asked_files command.now) (asked_reached command.now (F.held files.old)) (F.begun files.old) (F.begun files.new) }
+    ensures has { F.has files.new ≡ F.has files.old }
     ensures held { F.held files.new ≡ F.held files.old }
     ensures rises { NoneFell (F.faults files.old) (F.faults files.new) }
 {

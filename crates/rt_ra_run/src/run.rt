@@ -41,6 +41,7 @@ fn answer<F: Files>(alloc: Global, command: &RaCommand, files: &mut F) -> Result
     ensures row { IfOk result (λ a. (words : List Text) → ra_command words ≡ Some command.now → Row (call F.Files words files.old files.new) a.outcome) }
     ensures says { IfOk result (λ a. (words : List Text) → ra_command words ≡ Some command.now → IsTextOf (call F.Files words files.old files.new) a.outcome a.text) }
     ensures begun { AddsSome (IsTrue F.tells) (asked_files command.now) (asked_reached command.now (F.held files.old)) (F.begun files.old) (F.begun files.new) }
+    ensures has { F.has files.new ≡ F.has files.old }
     ensures held { F.held files.new ≡ F.held files.old }
     ensures rises { NoneFell (F.faults files.old) (F.faults files.new) }
 {
@@ -60,6 +61,7 @@ fn prepare<F: Files>(alloc: Global, words: &[Txt], files: &mut F) -> Result<RaAn
     ensures row { IfOk result (λ a. Row (call F.Files words.now files.old files.new) a.outcome) }
     ensures says { IfOk result (λ a. IsTextOf (call F.Files words.now files.old files.new) a.outcome a.text) }
     ensures begun { Begins F.Files (ra_command words.now) files.old files.new }
+    ensures has { F.has files.new ≡ F.has files.old }
     ensures held { F.held files.new ≡ F.held files.old }
     ensures rises { NoneFell (F.faults files.old) (F.faults files.new) }
 {
@@ -126,6 +128,7 @@ pub fn ra_run<F: Files, O: Sink, E: Sink>(
     // The files that are begun are first ones of those that the command names, in the order of the
     // reading, and none comes after the first refusal.
     ensures begun { Begins F.Files (ra_command words.now) files.old files.new }
+    ensures has { F.has files.new ≡ F.has files.old }
     ensures held { F.held files.new ≡ F.held files.old }
     ensures rises { NoneFell (F.faults files.old) (F.faults files.new) }
 {

@@ -105,6 +105,7 @@ pub fn row_answer<F: Files>(
     ensures ok { IfOk result (IsRowAnswer (call F.Files words.now files.old files.new) row.now) }
     ensures err { IfErr result (Stop (call F.Files words.now files.old files.new)) }
     ensures begun { Begins F.Files (command words.now) files.old files.new }
+    ensures has { F.has files.new ≡ F.has files.old }
     ensures held { F.held files.new ≡ F.held files.old }
     ensures rises { NoneFell (F.faults files.old) (F.faults files.new) }
 {

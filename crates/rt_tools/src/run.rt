@@ -54,6 +54,7 @@ fn row_tool<F: Files>(
 ) -> Result<ToolAnswer, NoMemory>
     ensures says { IfOk result (λ a. SaysRow (call F.Files words.now files.old files.new) row.now a.outcome a.text) }
     ensures begun { BeginsFor F.tells (F.held files.old) (command words.now) (F.begun files.old) (F.begun files.new) }
+    ensures has { F.has files.new ≡ F.has files.old }
     ensures held { F.held files.new ≡ F.held files.old }
     ensures rises { NoneFell (F.faults files.old) (F.faults files.new) }
 {
@@ -69,6 +70,7 @@ fn row_tool<F: Files>(
 fn grade_tool<F: Files>(alloc: Global, words: &[Txt], files: &mut F) -> Result<ToolAnswer, NoMemory>
     ensures says { IfOk result (λ a. SaysGrade (call F.Files words.now files.old files.new) a.outcome a.text) }
     ensures begun { GradesFor F.tells (F.held files.old) (grade_words words.now) (F.begun files.old) (F.begun files.new) }
+    ensures has { F.has files.new ≡ F.has files.old }
     ensures held { F.held files.new ≡ F.held files.old }
     ensures rises { NoneFell (F.faults files.old) (F.faults files.new) }
 {
@@ -91,6 +93,7 @@ fn grade_tool<F: Files>(alloc: Global, words: &[Txt], files: &mut F) -> Result<T
 fn prepare<F: Files>(alloc: Global, words: &[Txt], files: &mut F) -> Result<ToolAnswer, NoMemory>
     ensures ends { IfOk result (λ a. Ends (call F.Files words.now files.old files.new) a.outcome a.text) }
     ensures begun { Begins F.Files (tool_of words.now) files.old files.new }
+    ensures has { F.has files.new ≡ F.has files.old }
     ensures held { F.held files.new ≡ F.held files.old }
     ensures rises { NoneFell (F.faults files.old) (F.faults files.new) }
 {
@@ -146,6 +149,7 @@ pub fn tool_run<F: Files, O: Sink, E: Sink>(
     // The files that are begun are first ones of those that the tool names, in the order of the
     // reading, and none after the first refusal.
     ensures begun { Begins F.Files (tool_of words.now) files.old files.new }
+    ensures has { F.has files.new ≡ F.has files.old }
     ensures held { F.held files.new ≡ F.held files.old }
     ensures rises { NoneFell (F.faults files.old) (F.faults files.new) }
 {

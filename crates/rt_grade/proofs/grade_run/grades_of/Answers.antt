@@ -1,5 +1,5 @@
 use Rattle.rt_input.specs.Steps.{over}
-use Rattle.rt_grade.proofs.BegunLemmas.{beside_begun, first_begun}
+use Rattle.rt_grade.proofs.BegunLemmas.{beside_begun, first_begun, if_fails_later}
 use Rattle.rt_grade.proofs.FaultLemmas.{beside_fault, beside_result, first_stops}
 use Rattle.rt_grade.proofs.grade_run.grades_of.Goals as goal
 
@@ -24,3 +24,8 @@ returns-in-Ok-clause-begun g c =
 
 pub returns-in-Err-clause-begun : goal.returns-in-Err-clause-begun
 returns-in-Err-clause-begun g c = first_begun g.F.Files.tells c.args.words.now (g.F.Files.held c.args.files.now) _ (g.F.Files.begun c.args.files.now) _ c.in-Err.ensures.begun
+
+pub returns-in-Ok-clause-last : goal.returns-in-Ok-clause-last
+returns-in-Ok-clause-last g c =
+    if_fails_later c.grades_beside-graded.result (g.F.Files.begun c.args.files.now) (g.F.Files.begun c.read_first.new.files) (g.F.Files.begun c.grades_beside-graded.new.files) _
+    c.in-Ok.ensures.begun_ok.named.1 c.grades_beside-graded.ensures.last
