@@ -81,10 +81,13 @@ def test_pick_goes_on_without_a_task(ratest: Path, ratest_plus: Path, beers: Pat
         (beers / task / "reference.sql").unlink()
     ran = classroom("pick", beers, tmp_path / "few")
     assert ran.returncode == 1
-    assert ran.stderr.splitlines() == [
-        "classroom: task 2 is left out: reference.sql: not supported: count",
-        *(f"classroom: task {task} is left out: no file reference.sql" for task in "345")]
-    assert ran.stdout.splitlines()[0].startswith("task 1: ") and (tmp_path / "few/serves.csv").is_file()
+    assert ran.stderr.splitlines() == [f"classroom: task {task} is left out: no file reference.sql" for task in "345"]
+    lines = ran.stdout.splitlines()
+    assert lines[0].startswith("task 1: ") and "(tried)" not in lines[0] and (tmp_path / "few/serves.csv").is_file()
+    # `ratest` doesn't read the reference of task 2, which a database tries.
+    assert any(line.startswith("task 2: ") and "(tried), by sqlite " in line for line in lines)
+    assert classroom("pick", beers, tmp_path / "proved", "--only-proved").stderr.splitlines()[0].startswith(
+        "classroom: task 2 is left out: reference.sql: not supported: count")
 
 
 def test_a_refused_answer_is_not_a_wrong_one(ratest: Path, empty: Path) -> None:
