@@ -75,13 +75,18 @@ def material() -> Material:
     return shop.material(POSTGRESQL, items=12)
 
 
-@pytest.fixture(autouse=True)
-def nothing_left(roles: Roles) -> Iterator[None]:
-    """No schema of a trial is left behind."""
-    yield
+def schemas(roles: Roles) -> set[tuple[str, ...]]:
     import psycopg
     with psycopg.connect(roles.owner) as session:
-        assert session.execute("SELECT count(*) FROM pg_namespace WHERE nspname LIKE 'ratest%'").fetchone() == (0,)
+        return set(session.execute("SELECT nspname FROM pg_namespace WHERE nspname LIKE 'ratest%'"))
+
+
+@pytest.fixture(autouse=True)
+def nothing_left(roles: Roles) -> Iterator[None]:
+    """No schema of a trial is left behind. Of processes that other tests had killed some may be there."""
+    before = schemas(roles)
+    yield
+    assert schemas(roles) <= before
 
 
 @pytest.mark.parametrize("name", HOSTILE)
