@@ -153,14 +153,26 @@ def test_what_stops_it_is_one_line(copy: Path, tmp_path: Path) -> None:
 
 
 def test_changes_that_are_not_committed_are_told(copy: Path, tmp_path: Path) -> None:
-    text = (copy / "VERSION").read_text()
-    (copy / "VERSION").write_text("9.9.9\n")
+    text = (copy / "LICENSE").read_text()
+    (copy / "LICENSE").write_text(f"{text}\n")
     try:
         ran = subprocess.run(["tools/package", "--output", tmp_path], cwd=copy, text=True, capture_output=True)
     finally:
-        (copy / "VERSION").write_text(text)
+        (copy / "LICENSE").write_text(text)
     assert ran.returncode == 0 and "with changes that are not committed, and says so" in ran.stderr
     assert "with changes that are not committed" in (tmp_path / "BUILD").read_text()
+
+
+def test_two_versions_are_refused(copy: Path, tmp_path: Path) -> None:
+    """The wheel's own is that of the module `ratest.installed`."""
+    text = (copy / "VERSION").read_text()
+    (copy / "VERSION").write_text("9.9.9\n")
+    try:
+        ran = subprocess.run(["tools/package", "--output", tmp_path / "new"], cwd=copy, text=True, capture_output=True)
+    finally:
+        (copy / "VERSION").write_text(text)
+    assert ran.returncode == 1 and "python/ratest/installed.py has another version than VERSION: ratest-" in ran.stderr
+    assert not list((tmp_path / "new").glob("*.whl"))
 
 
 def test_two_proved_builds_are_the_same(top: Path, tmp_path: Path) -> None:

@@ -67,7 +67,7 @@ def test_the_programs(environment: Path, top: Path, ratest: Path, beers: str) ->
 
 def test_the_library(environment: Path) -> None:
     code = ("import ratest; print(ratest.explain('CREATE TABLE t (a INT)', {'t': [[1], [2]]}, 'SELECT a FROM t', "
-            "'SELECT a FROM t WHERE a > 1'))")
+            "'SELECT a FROM t WHERE a > 1'), end='')")
     ran = run(environment / "bin/python", "-c", code)
     assert (ran.returncode, ran.stderr) == (0, "")
     assert ran.stdout == "witness: 1\nt 1: 1\nonly query 1: 1\n  1\nonly query 2: 0\nboth: 0\n"

@@ -5,6 +5,7 @@ import os
 from collections.abc import Sequence
 from dataclasses import dataclass
 from pathlib import Path
+from typing import TYPE_CHECKING
 from urllib.parse import quote
 
 from classroom.exercise import in_order
@@ -12,8 +13,10 @@ from classroom.fault import Fault, shown, visible
 from classroom.server.asked import LOG, Log
 from classroom.server.asker import Asker
 from classroom.server.handedin import FILE, HandIns
-from classroom.server.hinting import Hinter
 from classroom.server.material import Material
+
+if TYPE_CHECKING:    # it needs libraries that other commands do without
+    from classroom.server.hinting import Hinter
 
 MOST_EXERCISES = 100
 
