@@ -13,7 +13,7 @@ use Rattle.rt_cert.specs.declared.outcome.CertOutcome.{CertOutcome}
 use Rattle.ratest_c.specs.Calls.{RatestEnds, AlgebraEnds, ToolEnds, CertificateEnds}
 use Rattle.ratest_c.specs.Files.{counts_in, held_in}
 use Rattle.ratest_c.specs.Frames.{request_of}
-use Rattle.ratest_c.specs.Replies.{framed}
+use Rattle.ratest_c.specs.Replies.{FitsFrame, framed}
 use Rattle.ratest_c.specs.Services.{service_of}
 use Rattle.ratest_c.specs.declared.request.Request.{Request}
 use Rattle.ratest_c.specs.declared.service.Service.{Service}
@@ -53,6 +53,7 @@ pub record IsReply (asked reply : List ℕ) : Type 0 where
   pub out : List ℕ
   pub err : List ℕ
   pub answer : IsAnswer request status out err
+  pub fits : FitsFrame status out err
   pub frame : reply ≡ framed status out err
 
 -- what the result of the call says: n where the reply is in front of its room, -1 where the request is no

@@ -1,7 +1,7 @@
 //! The bytes of a reply.
 
 ghost use Rattle.std.specs.Prelude.{◌≡◌, ◌<◌, ◌≤◌, ◌^◌, length, take, drop, pos, neg_ℤ, IfOk, IsErrOf};
-ghost use Rattle.ratest_c.specs.Replies.{framed};
+ghost use Rattle.ratest_c.specs.Replies.{FitsFrame, framed};
 
 use crate::ended::Ended;
 use crate::fault::Fault;
@@ -10,11 +10,15 @@ use std::alloc::Global;
 
 fn framed(alloc: Global, status: u8, out: &[u8], err: &[u8]) -> Result<Bytes, Fault>
     ensures ok { IfOk result (λ bytes. bytes ≡ framed status out.now err.now) }
+    ensures fits { IfOk result (λ bytes. FitsFrame status out.now err.now) }
     ensures err { IsErrOf result Fault.Malformed → ⊥ }
 {
     let Ok(length) = u32::try_from(out.len()) else {
         return Err(Fault::NoMemory);
     };
+    if u32::try_from(err.len()).is_err() {
+        return Err(Fault::NoMemory);
+    }
     let mut bytes = List::new(alloc);
     bytes.push(status)?;
     bytes.extend(&length.to_le_bytes())?;
@@ -26,6 +30,7 @@ fn framed(alloc: Global, status: u8, out: &[u8], err: &[u8]) -> Result<Bytes, Fa
 /// The reply of what a command ended with.
 pub(crate) fn reply_of(alloc: Global, ended: &Ended) -> Result<Bytes, Fault>
     ensures ok { IfOk result (λ bytes. bytes ≡ framed ended.now.status ended.now.out.held.items ended.now.err.held.items) }
+    ensures fits { IfOk result (λ bytes. FitsFrame ended.now.status ended.now.out.held.items ended.now.err.held.items) }
     ensures err { IsErrOf result Fault.Malformed → ⊥ }
 {
     framed(alloc, ended.status, ended.out.bytes(), ended.err.bytes())
