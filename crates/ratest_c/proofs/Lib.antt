@@ -1,2 +1,3 @@
 mod FrameLemmas
+mod ReplyLemmas
 mod RunLemmas

@@ -1,5 +1,5 @@
 -- What the reply to a request is.
-use Rattle.std.specs.Prelude.{◌≡◌, ℕ, ◌+◌, ◌<◌, ◌≤◌, ℤ, pos, negsuc, zero, suc, List, [], length, take, drop, IsTrue, true, None, Some}
+use Rattle.std.specs.Prelude.{◌≡◌, ℕ, ◌+◌, ◌<◌, ◌≤◌, ◌⊎◌, ⊤, ℤ, pos, negsuc, zero, suc, List, [], length, take, drop, IsTrue, true, None, Some}
 use Rattle.rt_io.specs.Logs.{Log}
 use Rattle.rt_input.specs.Reading.{Call}
 use Rattle.rt_input.specs.Texts.{status_of}
@@ -13,7 +13,7 @@ use Rattle.rt_cert.specs.declared.outcome.CertOutcome.{CertOutcome}
 use Rattle.ratest_c.specs.Calls.{RatestEnds, AlgebraEnds, ToolEnds, CertificateEnds}
 use Rattle.ratest_c.specs.Files.{counts_in, held_in}
 use Rattle.ratest_c.specs.Frames.{request_of}
-use Rattle.ratest_c.specs.Replies.{framed}
+use Rattle.ratest_c.specs.Replies.{FitsFrame, IsLong, framed}
 use Rattle.ratest_c.specs.Services.{service_of}
 use Rattle.ratest_c.specs.declared.request.Request.{Request}
 use Rattle.ratest_c.specs.declared.service.Service.{Service}
@@ -53,13 +53,25 @@ pub record IsReply (asked reply : List ℕ) : Type 0 where
   pub out : List ℕ
   pub err : List ℕ
   pub answer : IsAnswer request status out err
+  pub fits : FitsFrame status out err
   pub frame : reply ≡ framed status out err
 
+-- what the command of the request ended with has a text that is too long for a reply
+pub record IsTooLong (asked : List ℕ) : Type 0 where
+  pub request : Request
+  pub read : request_of asked ≡ Some request
+  pub status : ℕ
+  pub out : List ℕ
+  pub err : List ℕ
+  pub answer : IsAnswer request status out err
+  pub long : IsLong out err
+
 -- what the result of the call says: n where the reply is in front of its room, -1 where the request is no
--- frame, -2 where memory failed, and minus the length of a reply that has no room. Nothing else of the
--- room changes.
+-- frame, -2 where a text is too long or memory failed, and minus the length of a reply that has no room.
+-- Nothing else of the room changes. Want of memory is free, so -2 itself excludes nothing: which of its two
+-- causes it has, the call that makes the reply says, and there the first comes only with such a text.
 abbrev pub Says : List ℕ → List ℕ → List ℕ → ℤ → Type 0
 Says asked old new (pos n) = (n ≤ length old) × IsReply asked (take n new) × (drop n new ≡ drop n old)
 Says asked old new (negsuc zero) = (request_of asked ≡ None) × (new ≡ old)
-Says asked old new (negsuc (suc zero)) = new ≡ old
+Says asked old new (negsuc (suc zero)) = (IsTooLong asked ⊎ ⊤) × (new ≡ old)
 Says asked old new (negsuc (suc (suc n))) = (reply : List ℕ) × IsReply asked reply × (length reply ≡ n + 3) × (length old < n + 3) × (new ≡ old)

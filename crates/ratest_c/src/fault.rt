@@ -1,8 +1,8 @@
-//! Why a request gets no reply.
+//! Why a request is not read.
 
 use rt_value::NoMemory;
 
-/// Why there is no reply.
+/// Why a request is not read.
 #[derive(Clone, Copy, PartialEq, Eq, Debug)]
 pub(crate) enum Fault {
     /// The request is no frame.

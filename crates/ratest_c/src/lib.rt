@@ -4,7 +4,7 @@
 #![tactic(auto)]
 
 ghost use Rattle.std.specs.Prelude.{◌≡◌, None, IfOk, IsErrOf};
-ghost use Rattle.ratest_c.specs.Answers.{IsReply, Says};
+ghost use Rattle.ratest_c.specs.Answers.{IsReply, IsTooLong, Says};
 ghost use Rattle.ratest_c.specs.Frames.{request_of};
 
 mod ended;
@@ -16,9 +16,11 @@ mod reply;
 mod request;
 mod run;
 mod service;
+mod silence;
 
 use fault::Fault;
 use rt_value::Bytes;
+use silence::Silence;
 use std::alloc::Global;
 
 // What the call gives where the request is no frame.
@@ -29,11 +31,16 @@ const MALFORMED: i64 = -1;
 const NO_MEMORY: i64 = -2;
 
 // The bytes of the reply to a request.
-fn answered(alloc: Global, request: &[u8]) -> Result<Bytes, Fault>
+fn answered(alloc: Global, request: &[u8]) -> Result<Bytes, Silence>
     ensures ok { IfOk result (λ bytes. IsReply request.now bytes) }
-    ensures err { IsErrOf result Fault.Malformed → request_of request.now ≡ None }
+    ensures err { IsErrOf result Silence.Malformed → request_of request.now ≡ None }
+    ensures long { IsErrOf result Silence.TooLong → IsTooLong request.now }
 {
-    let request = request::read_request(alloc, request)?;
+    let request = match request::read_request(alloc, request) {
+        Ok(request) => request,
+        Err(Fault::Malformed) => return Err(Silence::Malformed),
+        Err(Fault::NoMemory) => return Err(Silence::NoMemory),
+    };
     let ended = run::run(alloc, request);
     reply::reply_of(alloc, &ended)
 }
@@ -54,7 +61,7 @@ pub extern "C" fn ratest_ask(alloc: Global, request: &[u8], reply: &mut [u8]) ->
 {
     match answered(alloc, request) {
         Ok(bytes) => reply::put(bytes.as_slice(), reply),
-        Err(Fault::Malformed) => MALFORMED,
-        Err(Fault::NoMemory) => NO_MEMORY,
+        Err(Silence::Malformed) => MALFORMED,
+        Err(Silence::TooLong | Silence::NoMemory) => NO_MEMORY,
     }
 }

@@ -1,20 +1,25 @@
 //! The bytes of a reply.
 
 ghost use Rattle.std.specs.Prelude.{◌≡◌, ◌<◌, ◌≤◌, ◌^◌, length, take, drop, pos, neg_ℤ, IfOk, IsErrOf};
-ghost use Rattle.ratest_c.specs.Replies.{framed};
+ghost use Rattle.ratest_c.specs.Replies.{FitsFrame, IsLong, framed};
 
 use crate::ended::Ended;
-use crate::fault::Fault;
+use crate::silence::Silence;
 use rt_value::{Bytes, List};
 use std::alloc::Global;
 
-fn framed(alloc: Global, status: u8, out: &[u8], err: &[u8]) -> Result<Bytes, Fault>
+fn framed(alloc: Global, status: u8, out: &[u8], err: &[u8]) -> Result<Bytes, Silence>
     ensures ok { IfOk result (λ bytes. bytes ≡ framed status out.now err.now) }
-    ensures err { IsErrOf result Fault.Malformed → ⊥ }
+    ensures fits { IfOk result (λ bytes. FitsFrame status out.now err.now) }
+    ensures err { IsErrOf result Silence.Malformed → ⊥ }
+    ensures long { IsErrOf result Silence.TooLong → IsLong out.now err.now }
 {
     let Ok(length) = u32::try_from(out.len()) else {
-        return Err(Fault::NoMemory);
+        return Err(Silence::TooLong);
     };
+    if u32::try_from(err.len()).is_err() {
+        return Err(Silence::TooLong);
+    }
     let mut bytes = List::new(alloc);
     bytes.push(status)?;
     bytes.extend(&length.to_le_bytes())?;
@@ -24,9 +29,11 @@ fn framed(alloc: Global, status: u8, out: &[u8], err: &[u8]) -> Result<Bytes, Fa
 }
 
 /// The reply of what a command ended with.
-pub(crate) fn reply_of(alloc: Global, ended: &Ended) -> Result<Bytes, Fault>
+pub(crate) fn reply_of(alloc: Global, ended: &Ended) -> Result<Bytes, Silence>
     ensures ok { IfOk result (λ bytes. bytes ≡ framed ended.now.status ended.now.out.held.items ended.now.err.held.items) }
-    ensures err { IsErrOf result Fault.Malformed → ⊥ }
+    ensures fits { IfOk result (λ bytes. FitsFrame ended.now.status ended.now.out.held.items ended.now.err.held.items) }
+    ensures err { IsErrOf result Silence.Malformed → ⊥ }
+    ensures long { IsErrOf result Silence.TooLong → IsLong ended.now.out.held.items ended.now.err.held.items }
 {
     framed(alloc, ended.status, ended.out.bytes(), ended.err.bytes())
 }
