@@ -7,3 +7,5 @@ mod WordLemmas
 mod JudgeLemmas
 mod KnownLemmas
 mod CandidateLemmas
+mod SpellingLemmas
+pub mod OneGradingLemmas

@@ -8,3 +8,4 @@ pub mod Review
 pub mod Candidates
 pub mod GradeAnswers
 pub mod Begun
+pub mod OneGrading

@@ -14,6 +14,7 @@ mod grade_run;
 mod grade_words;
 mod judge;
 mod known;
+pub mod laws;
 mod list;
 mod paths;
 mod paths_fault;

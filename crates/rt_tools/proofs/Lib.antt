@@ -3,3 +3,4 @@ mod EndLemmas
 mod JudgedLemmas
 mod LineLemmas
 mod WriteLemmas
+mod OneGradingLemmas

@@ -4,3 +4,4 @@ pub mod Judged
 pub mod Outcomes
 pub mod Texts
 pub mod Words
+pub mod OneGrading

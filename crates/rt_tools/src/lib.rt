@@ -4,6 +4,7 @@
 
 #![tactic(auto)]
 
+pub mod laws;
 mod outcome;
 mod run;
 mod say;
