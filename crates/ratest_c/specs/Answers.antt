@@ -1,5 +1,5 @@
 -- What the reply to a request is.
-use Rattle.std.specs.Prelude.{◌≡◌, ℕ, ◌+◌, ◌<◌, ◌≤◌, ◌⊎◌, ⊤, ℤ, pos, negsuc, zero, suc, List, [], length, take, drop, IsTrue, true, None, Some}
+use Rattle.std.specs.Prelude.{◌≡◌, ℕ, ◌+◌, ◌<◌, ◌≤◌, ℤ, pos, negsuc, zero, suc, List, [], length, take, drop, IsTrue, true, None, Some}
 use Rattle.rt_io.specs.Logs.{Log}
 use Rattle.rt_input.specs.Reading.{Call}
 use Rattle.rt_input.specs.Texts.{status_of}
@@ -68,10 +68,10 @@ pub record IsTooLong (asked : List ℕ) : Type 0 where
 
 -- what the result of the call says: n where the reply is in front of its room, -1 where the request is no
 -- frame, -2 where a text is too long or memory failed, and minus the length of a reply that has no room.
--- Nothing else of the room changes. Want of memory is free, so -2 itself excludes nothing: which of its two
--- causes it has, the call that makes the reply says, and there the first comes only with such a text.
+-- Nothing else of the room changes. Want of memory is free, so -2 tells no cause; `answered` names a text that
+-- is too long only where there is one.
 abbrev pub Says : List ℕ → List ℕ → List ℕ → ℤ → Type 0
 Says asked old new (pos n) = (n ≤ length old) × IsReply asked (take n new) × (drop n new ≡ drop n old)
 Says asked old new (negsuc zero) = (request_of asked ≡ None) × (new ≡ old)
-Says asked old new (negsuc (suc zero)) = (IsTooLong asked ⊎ ⊤) × (new ≡ old)
+Says asked old new (negsuc (suc zero)) = new ≡ old
 Says asked old new (negsuc (suc (suc n))) = (reply : List ℕ) × IsReply asked reply × (length reply ≡ n + 3) × (length old < n + 3) × (new ≡ old)
