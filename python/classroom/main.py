@@ -13,9 +13,9 @@ import os
 import sys
 from collections.abc import Sequence
 
-from classroom import tell
+from classroom.base import log as tell
 from classroom.commands import COMMANDS
-from classroom.fault import Fault, told
+from classroom.base.errors import Fault, told
 from ratest.installed import VERSION
 
 USAGE, FAULT, STOPPED = 2, 1, 130

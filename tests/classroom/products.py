@@ -13,7 +13,7 @@ from collections.abc import Iterator, Sequence
 from contextlib import contextmanager
 from pathlib import Path
 
-from classroom.schema import literal, tables_of
+from classroom.sql.schema import literal, tables_of
 
 TOP = Path(__file__).resolve().parents[2]
 NULL = "\u2205"

@@ -6,18 +6,20 @@ import io
 from dataclasses import replace
 from pathlib import Path
 
-from classroom import classpage, witness
-from classroom.exercise import Answer, Task
-from classroom.grades import FORMULA, Grade, Graded
-from classroom.mutation import told, trying
-from classroom.mutation.grading import NOT_FOUND, OPEN, REFUSED, TOLD, Verdict
-from classroom.mutation.questions import Question
-from classroom.repair import table
-from classroom.repair.records import Mistake
-from classroom.repair.records import Told as Change
-from classroom.trial.comparison import ROWS
-from classroom.trial.verdict import ALL, Barred, Differs, NoDifference, Outcome, Passed, Side
-from classroom.trial.verdict import Verdict as Tried
+from classroom.views import for_teacher as classpage
+from classroom.verdict import witness
+from classroom.exercise.exercise import Answer, Task
+from classroom.grading.grades import FORMULA, Grade, Graded
+from classroom.mutants import mutants_csv as told
+from classroom.mutants import mutant_trials as trying
+from classroom.mutants.proofs import NOT_FOUND, OPEN, REFUSED, TOLD, Verdict
+from classroom.mutants.question import Question
+from classroom.hints import mistakes_csv as table
+from classroom.hints.mistake import Mistake
+from classroom.hints.mistake import Told as Change
+from classroom.verdict.compare import ROWS
+from classroom.verdict.verdict import ALL, Barred, Differs, NoDifference, Outcome, Passed, Side
+from classroom.verdict.verdict import Verdict as Tried
 
 
 def cells(content: bytes) -> list[list[str]]:

@@ -18,8 +18,9 @@ import pytest
 from kept import same
 from products import TOP, classroom, run
 
-from classroom import hosts, worker
-from classroom.limited import Ran
+from classroom.process import hosts
+from classroom.process import remote as worker
+from classroom.process.limits import Ran
 
 FULL = bool(os.environ.get("CLASSROOM_FULL"))
 PYTHON = "/usr/bin/python3"

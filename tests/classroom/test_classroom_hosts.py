@@ -17,7 +17,7 @@ import pytest
 from kept import same, without_seconds
 from products import classroom, run
 
-from classroom.hosts import place_on_hosts
+from classroom.process.hosts import place_on_hosts
 
 NEEDED = {"sshd": "openssh-server", "ssh-keygen": "openssh-client", "rsync": "rsync", "parallel": "parallel"}
 

@@ -12,7 +12,7 @@ from import_conditions import (CARRIED, CARRIED_POSTGRES, CARRIED_SQLITE, COLLAT
                                LEFT_POSTGRES, LEFT_SQLITE, OWN_LEFT, TEXTS)
 from products import TOP, Postgres, Product, Sqlite, classroom, content, export, quoted, run, whole_answers
 
-from classroom.schema import literal
+from classroom.sql.schema import literal
 
 
 def put(text: str, words: dict[str, str]) -> str:

@@ -17,9 +17,10 @@ import pytest
 from odd_class import KINDS, SUMMARY, TABLES
 from products import TOP, classroom
 
-from classroom import draw, exercise
-from classroom.limited import Ran
-from classroom.witness import Agree, Kept, NoVerdict, Refused, Undecided, Witness, read
+from classroom.views import draw
+from classroom.exercise import exercise
+from classroom.process.limits import Ran
+from classroom.verdict.witness import Agree, Kept, NoVerdict, Refused, Undecided, Witness, read
 
 VOID = ("meta", "link", "input")
 ATTRIBUTES = ("lang", "charset", "name", "content", "rel", "href", "id", "class", "scope", "type", "checked",

@@ -12,7 +12,7 @@ import pytest
 
 import made_archives
 from made_archives import PEOPLE, class_list
-from classroom.intake import collecting
+from classroom.platforms import collect as collecting
 from products import classroom
 
 TASKS = ("1", "2", "aggregates")

@@ -11,8 +11,8 @@ from pathlib import Path
 import pytest
 from products import TOP, classroom
 
-from classroom import texts
-from classroom.reading import NotRead
+from classroom.sql import clean as texts
+from classroom.base.files import NotRead
 
 BY_HAND = "to be graded by hand:"
 

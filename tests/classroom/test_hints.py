@@ -21,9 +21,10 @@ pytest.importorskip("sqlglot", reason="no sqlglot: apt-get install python3-sqlgl
 pytest.importorskip("flask")
 pytest.importorskip("waitress")
 
-from classroom import exercise  # noqa: E402
-from classroom.repair import asking, whole  # noqa: E402
-from classroom.results import Results  # noqa: E402
+from classroom.exercise import exercise  # noqa: E402
+from classroom.hints import ask_children as asking  # noqa: E402
+from classroom.hints import find_mistakes as whole
+from classroom.grading.store import Results  # noqa: E402
 
 WRONG = (TOP / "examples/beers/5/answers/b.sql").read_text()
 REFERENCE = (TOP / "examples/beers/5/reference.sql").read_text()

@@ -8,11 +8,11 @@ from pathlib import Path
 import pytest
 from products import TOP, classroom, run
 
-from classroom.schema import tables_of
+from classroom.sql.schema import tables_of
 
 pytest.importorskip("sqlglot", reason="no sqlglot: apt-get install python3-sqlglot")
 
-from classroom.mutation.mutants import mutants, plain  # noqa: E402
+from classroom.mutants.mutants import mutants, plain  # noqa: E402
 
 TABLES = tables_of("CREATE TABLE t (a INTEGER, b INTEGER, n TEXT); CREATE TABLE u (a INTEGER, c INTEGER, m TEXT);")
 

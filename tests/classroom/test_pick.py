@@ -16,11 +16,11 @@ import made_rows
 import pytest
 from products import TOP, Postgres, Sqlite, classroom, run
 
-from classroom.schema import tables_of
+from classroom.sql.schema import tables_of
 
 pytest.importorskip("sqlglot", reason="no sqlglot: apt-get install python3-sqlglot")
 
-from classroom.picking.rules import rules_of  # noqa: E402
+from classroom.exercise.rules import rules_of  # noqa: E402
 
 FULL = bool(os.environ.get("CLASSROOM_FULL"))
 MOST = 60    # rows that are picked

@@ -22,10 +22,10 @@ from served import FORM, Server, serving
 pytest.importorskip("flask")
 pytest.importorskip("waitress")
 
-from classroom.server.recent import Recent  # noqa: E402
+from classroom.web.cache import Recent  # noqa: E402
 from ratest.places import place_of  # noqa: E402
-from classroom.server.visitors import SHARING, Visitors  # noqa: E402
-from classroom.server.waiting import Busy, Places  # noqa: E402
+from classroom.web.visitors import SHARING, Visitors  # noqa: E402
+from classroom.web.queue import Busy, Places  # noqa: E402
 
 WRONG = (TOP / "examples/beers/3/answers/b.sql").read_text()
 RIGHT = (TOP / "examples/beers/3/reference.sql").read_text()

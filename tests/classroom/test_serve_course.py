@@ -26,11 +26,13 @@ pytest.importorskip("flask")
 pytest.importorskip("waitress")
 pytest.importorskip("limits")
 
-from classroom.server import asked, handedin, overview  # noqa: E402
-from classroom.server.course import Course  # noqa: E402
-from classroom.server.handedin import HandIns  # noqa: E402
-from classroom.server.window import Window  # noqa: E402
-from classroom.server.who import Front, login, network  # noqa: E402
+from classroom.web import questions as asked  # noqa: E402
+from classroom.web import hand_ins as handedin
+from classroom.web import overview
+from classroom.web.course import Course  # noqa: E402
+from classroom.web.hand_ins import HandIns  # noqa: E402
+from classroom.exercise.window import Window  # noqa: E402
+from classroom.web.login import Front, login, network  # noqa: E402
 
 WRONG = (TOP / "examples/beers/3/answers/b.sql").read_text()
 RIGHT = (TOP / "examples/beers/3/reference.sql").read_text()

@@ -7,9 +7,9 @@ from pathlib import Path
 import pytest
 from products import classroom
 
-from classroom import settings
-from classroom.fault import Fault
-from classroom.settings import TaskSettings
+from classroom.exercise import settings
+from classroom.base.errors import Fault
+from classroom.exercise.settings import TaskSettings
 
 # The example of the guide.
 WHOLE = """

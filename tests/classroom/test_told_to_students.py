@@ -7,15 +7,17 @@ from pathlib import Path
 
 import pytest
 
-from classroom import classpage, grades, witness
-from classroom.exercise import Answer, Task
-from classroom.grades import Grade, Graded
-from classroom.server.answer import answer_of
-from classroom.server.asker import shows_rows
-from classroom.settings import Settings
-from classroom.texts import Text
-from classroom.trial.comparison import DUPLICATES, FAILURE, ORDER, ROWS
-from classroom.trial.verdict import ALL, Barred, Differs, Line, NoDifference, Outcome, Passed, Remark, Side, Verdict, WrongSql
+from classroom.views import for_teacher as classpage
+from classroom.grading import grades
+from classroom.verdict import witness
+from classroom.exercise.exercise import Answer, Task
+from classroom.grading.grades import Grade, Graded
+from classroom.views.answer import answer_of
+from classroom.web.ask import shows_rows
+from classroom.exercise.settings import Settings
+from classroom.sql.clean import Text
+from classroom.verdict.compare import DUPLICATES, FAILURE, ORDER, ROWS
+from classroom.verdict.verdict import ALL, Barred, Differs, Line, NoDifference, Outcome, Passed, Remark, Side, Verdict, WrongSql
 
 ENGINE = "sqlite 3.40.1"
 SECRET = "only_in_the_reference"

@@ -13,10 +13,11 @@ from .query import Writer
 
 sys.path.insert(1, str(TOP / "python"))
 
-from classroom.picking.pool import repeated  # noqa: E402
-from classroom.picking.sources import of_exercise  # noqa: E402
-from classroom.trial import child, material  # noqa: E402
-from classroom.trial.verdict import ALL, JOINS, Differs, NoDifference  # noqa: E402
+from classroom.exercise.rows import repeated  # noqa: E402
+from classroom.exercise.sources import of_exercise  # noqa: E402
+from classroom.engines import child  # noqa: E402
+from classroom.exercise import typed_rows as material
+from classroom.verdict.verdict import ALL, JOINS, Differs, NoDifference  # noqa: E402
 
 
 def lack() -> Optional[str]:

@@ -14,7 +14,7 @@ import tasks_railway
 from products import classroom
 from roles import Roles
 
-from classroom.trial.verdict import ALL, JOINS, Differs, from_json
+from classroom.verdict.verdict import ALL, JOINS, Differs, from_json
 import json
 
 HERE = Path(__file__).resolve().parent

@@ -8,13 +8,13 @@ from tempfile import mkdtemp
 
 from cases import HERE, Wrong
 
-from classroom.mutation.clauses import Clauses
-from classroom.mutation.edits import Edit
-from classroom.mutation.spans import Span
-from classroom.picking import sources
-from classroom.repair import made
-from classroom.repair.base import Base
-from classroom.repair.search import Found, Ground, Search
+from classroom.edits.clauses import Clauses
+from classroom.edits.edits import Edit
+from classroom.sql.spans import Span
+from classroom.exercise import sources
+from classroom.exercise import generated as made
+from classroom.engines.sample import Base
+from classroom.hints.repairs import Found, Ground, Search
 
 
 @dataclass(frozen=True)

@@ -13,12 +13,12 @@ import judged  # noqa: E402
 from cases import HERE  # noqa: E402
 from roles import Roles, roles  # noqa: E402, F401
 
-from classroom.picking import sources  # noqa: E402
-from classroom.repair import recording  # noqa: E402
-from classroom.repair.postgres import Tables  # noqa: E402
-from classroom.repair.search import Ground, Search  # noqa: E402
-from classroom.trial.comparison import DUPLICATES, ORDER, ROWS  # noqa: E402
-from classroom.trial.material import of_schema  # noqa: E402
+from classroom.exercise import sources  # noqa: E402
+from classroom.hints import recording  # noqa: E402
+from classroom.engines.postgres_sample import Tables  # noqa: E402
+from classroom.hints.repairs import Ground, Search  # noqa: E402
+from classroom.verdict.compare import DUPLICATES, ORDER, ROWS  # noqa: E402
+from classroom.exercise.typed_rows import of_schema  # noqa: E402
 
 # The kind of difference, a reference, an answer, the mistake and the marked place.
 CASES = [

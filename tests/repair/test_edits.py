@@ -9,10 +9,10 @@ import pytest
 
 pytest.importorskip("sqlglot", reason="no sqlglot: apt-get install python3-sqlglot")
 
-from classroom.mutation.change import Kind  # noqa: E402
-from classroom.mutation.edits import Edit, Keys, edits  # noqa: E402
-from classroom.mutation.query import Query  # noqa: E402
-from classroom.repair.vocabulary import vocabulary  # noqa: E402
+from classroom.edits.change import Kind  # noqa: E402
+from classroom.edits.edits import Edit, Keys, edits  # noqa: E402
+from classroom.edits.query import Query  # noqa: E402
+from classroom.edits.pair_vocabulary import vocabulary  # noqa: E402
 
 SCHEMA = """CREATE TABLE person (id INTEGER PRIMARY KEY, name TEXT, city TEXT, boss INTEGER REFERENCES person);
 CREATE TABLE club (id INTEGER PRIMARY KEY, name TEXT, town TEXT);

@@ -11,9 +11,9 @@ pytest.importorskip("sqlglot", reason="no sqlglot: apt-get install python3-sqlgl
 import cases  # noqa: E402
 import judged  # noqa: E402
 
-from classroom.mutation.change import Kind  # noqa: E402
-from classroom.mutation.tokens import tokens  # noqa: E402
-from classroom.repair import hints  # noqa: E402
+from classroom.edits.change import Kind  # noqa: E402
+from classroom.sql.tokens import tokens  # noqa: E402
+from classroom.hints import steps as hints  # noqa: E402
 
 ALL = [*cases.wrong(), *cases.planted()]
 # Small words of the sentences that SQL has too; in capitals they are never told.

@@ -6,8 +6,8 @@ from pathlib import Path
 
 import pytest
 
-from classroom.picking import sources
-from classroom.repair.base import Base
+from classroom.exercise import sources
+from classroom.engines.sample import Base
 
 HOSTILE = (
     "SELECT zeroblob(1000000000)", "SELECT printf('%.*c', 1000000000, 'x')", "SELECT format('%.*c', 1000000000, 'x')",

@@ -13,8 +13,9 @@ hypothesis = pytest.importorskip("hypothesis", reason="no hypothesis: apt-get in
 from hypothesis import strategies  # noqa: E402
 from sqlglot import exp  # noqa: E402
 
-from classroom.mutation import spans, tokens  # noqa: E402
-from classroom.mutation.tree import SETS, Node, bare, nodes, parsed, regrouped, written  # noqa: E402
+from classroom.sql import spans  # noqa: E402
+from classroom.sql import tokens
+from classroom.sql.tree import SETS, Node, bare, nodes, parsed, regrouped, written  # noqa: E402
 
 # Nodes that stand for themselves nowhere, and what makes a query of their text.
 AROUND = {exp.Where: "SELECT * FROM t {}", exp.From: "SELECT * {}", exp.Join: "SELECT * FROM t {}",

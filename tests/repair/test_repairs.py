@@ -16,10 +16,13 @@ from compare.draw import Draw, Limits  # noqa: E402
 from compare.model import schema as schema_of  # noqa: E402
 from compare.query import Writer  # noqa: E402
 
-from classroom import program  # noqa: E402
-from classroom.picking import sources  # noqa: E402
-from classroom.repair import base, made, schema, texts  # noqa: E402
-from classroom.repair.search import Ground, Search  # noqa: E402
+from classroom.engines import ratest as program  # noqa: E402
+from classroom.exercise import sources  # noqa: E402
+from classroom.engines import sample as base  # noqa: E402
+from classroom.exercise import generated as made
+from classroom.sql import sqlite_schema as schema
+from classroom.sql import dialect as texts
+from classroom.hints.repairs import Ground, Search  # noqa: E402
 
 WRONG, PLANTED = cases.wrong(), cases.planted()
 
@@ -99,8 +102,8 @@ def test_the_filter_only_rejects_what_is_wrong() -> None:
     """No change that is proved to agree fails on the parts."""
     for one in WRONG[::10]:
         of = judged.search(one.schema, one.reference)
-        from classroom.mutation.edits import edits
-        from classroom.mutation.query import Query
+        from classroom.edits.edits import edits
+        from classroom.edits.query import Query
         all_of_them = edits(Query.of(one.answer, of.words.of(one.answer)))[:250]
         agree = of.ground.prover.agree(one.reference, [edit.text for edit in all_of_them])
         for edit, agrees in zip(all_of_them, agree):
@@ -221,7 +224,7 @@ def test_where_nothing_is_proved_it_is_tried(answer: str, mistake: str, place: s
     found = of.repairs(answer)
     assert found.best and (found.best.mistake, answer[slice(*found.best.place)]) == (mistake, place)
     assert found.tried == len(ground.wide.parts) > 100 and of.classes(answer).best
-    from classroom.repair import recording
+    from classroom.hints import recording
     record = recording.of_found(found, None)
     assert record.decided_by.startswith("sqlite 3.") and "as far as was tried" in record.steps[0].text
     assert "proved" not in " ".join(step.text for step in record.steps)
@@ -239,6 +242,6 @@ def test_outer_joins_and_what_is_counted(answer: str, mistake: str) -> None:
 
 
 def test_a_reference_that_sqlite_does_not_answer() -> None:
-    from classroom.fault import Fault
+    from classroom.base.errors import Fault
     with pytest.raises(Fault, match="does not answer the reference"):
         Search(judged.ground("beers"), "SELECT nosuch(bar) FROM serves", is_tried=True)

@@ -4,12 +4,12 @@ from __future__ import annotations
 import random
 from typing import Any
 
-from classroom.picking.pool import Cell, Foreign, Held, Pool, Row
-from classroom.schema import Column, Table
-from classroom.trial import child
-from classroom.trial.material import SQLITE, Material, of_schema
-from classroom.trial.parts import Parts
-from classroom.trial.verdict import Verdict
+from classroom.exercise.rows import Cell, Foreign, Held, Pool, Row
+from classroom.sql.schema import Column, Table
+from classroom.engines import child
+from classroom.exercise.typed_rows import SQLITE, Material, of_schema
+from classroom.exercise.part_masks import Parts
+from classroom.verdict.verdict import Verdict
 
 SCHEMA = """CREATE TABLE customer (id INTEGER PRIMARY KEY, name TEXT, city TEXT);
 CREATE TABLE product (sku TEXT PRIMARY KEY, kind TEXT, price INTEGER CHECK (price >= 0));

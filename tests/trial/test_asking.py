@@ -13,12 +13,12 @@ import pytest
 import shop
 from products import TOP
 
-from classroom import tried
-from classroom.exercise import Answer, Task
-from classroom.texts import Text
-from classroom.trial import asking
-from classroom.trial.asking import Options
-from classroom.trial.verdict import NotDetermined, Passed, Verdict
+from classroom.grading import trials as tried
+from classroom.exercise.exercise import Answer, Task
+from classroom.sql.clean import Text
+from classroom.engines import run_child as asking
+from classroom.engines.run_child import Options
+from classroom.verdict.verdict import NotDetermined, Passed, Verdict
 
 # In place of the process: it does what the answer says.
 CHILD = f"""

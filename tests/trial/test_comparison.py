@@ -5,7 +5,7 @@ from decimal import Decimal
 
 import pytest
 
-from classroom.trial.comparison import COLUMNS, DUPLICATES, FAILURE, ORDER, ROWS, Answer, Line, difference
+from classroom.verdict.compare import COLUMNS, DUPLICATES, FAILURE, ORDER, ROWS, Answer, Line, difference
 
 ONE: list[Line] = [(1, "a"), (2, "b")]
 

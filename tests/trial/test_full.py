@@ -11,12 +11,12 @@ import pytest
 import shop
 from roles import Roles
 
-from classroom.picking.pool import Row
-from classroom.trial import full
-from classroom.trial.child import tried
-from classroom.trial.comparison import ROWS
-from classroom.trial.material import from_json, to_json
-from classroom.trial.verdict import Differs, NoDifference, WrongSql
+from classroom.exercise.rows import Row
+from classroom.exercise import material as full
+from classroom.engines.child import tried
+from classroom.verdict.compare import ROWS
+from classroom.exercise.typed_rows import from_json, to_json
+from classroom.verdict.verdict import Differs, NoDifference, WrongSql
 
 SQLITE = """CREATE TABLE Author (id INTEGER PRIMARY KEY AUTOINCREMENT, "Full Name" TEXT NOT NULL COLLATE NOCASE UNIQUE, born DATE,
   CHECK (length("Full Name") > 1));

@@ -9,11 +9,11 @@ import pytest
 import shop
 from roles import Roles
 
-from classroom.fault import Fault
-from classroom.trial.engine import Bars, Refused, Stopped, TooMuch
-from classroom.trial.material import POSTGRESQL, Material
-from classroom.trial.parts import Parts
-from classroom.trial.postgres import Postgres
+from classroom.base.errors import Fault
+from classroom.engines.engine import Bars, Refused, Stopped, TooMuch
+from classroom.exercise.typed_rows import POSTGRESQL, Material
+from classroom.exercise.part_masks import Parts
+from classroom.engines.postgres import Postgres
 
 TWELVE = ", ".join(f"item i{at}" for at in range(12))
 DENIED = "permission denied"

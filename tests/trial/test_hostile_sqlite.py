@@ -11,12 +11,12 @@ import pytest
 import shop
 from products import TOP
 
-from classroom.trial import asking
-from classroom.trial.asking import Options, trier
-from classroom.trial.engine import Bars, Refused, Stopped, TooMuch
-from classroom.trial.parts import Parts
-from classroom.trial.sqlite import Sqlite, Stored
-from classroom.trial.verdict import Barred, Passed
+from classroom.engines import run_child as asking
+from classroom.engines.run_child import Options, trier
+from classroom.engines.engine import Bars, Refused, Stopped, TooMuch
+from classroom.exercise.part_masks import Parts
+from classroom.engines.sqlite import Sqlite, Stored
+from classroom.verdict.verdict import Barred, Passed
 
 ITEMS = ", ".join(f"item i{at}" for at in range(12))
 LONG = "hex(zeroblob(32000))"

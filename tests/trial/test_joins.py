@@ -13,12 +13,12 @@ import shop
 from hypothesis import HealthCheck, given, reject, settings
 from hypothesis import strategies as st
 
-from classroom.trial import joins
-from classroom.trial.comparison import rounded
-from classroom.trial.engine import Refused
-from classroom.trial.parts import Parts
-from classroom.trial.search import Search, Wanted
-from classroom.trial.sqlite import Sqlite
+from classroom.engines import join_tuples as joins
+from classroom.verdict.compare import rounded
+from classroom.engines.engine import Refused
+from classroom.exercise.part_masks import Parts
+from classroom.engines.counterexample import Search, Wanted
+from classroom.engines.sqlite import Sqlite
 
 # `TRIAL_PAIRS=20000` draws so many pairs of queries.
 PAIRS = int(os.environ.get("TRIAL_PAIRS", "300"))

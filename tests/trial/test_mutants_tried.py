@@ -13,17 +13,17 @@ import pytest
 import shop
 from products import TOP, classroom
 
-from classroom.exercise import Task
-from classroom.mutation import trying
-from classroom.mutation.families import BAGS, LISTS, TRIED
-from classroom.mutation.grading import OPEN, TOLD
-from classroom.mutation.mutants import mutants
-from classroom.mutation.told import Judged
-from classroom.results import Results
-from classroom.settings import Settings
-from classroom.trial import asking
-from classroom.trial.asking import Options
-from classroom.tried import Trial
+from classroom.exercise.exercise import Task
+from classroom.mutants import mutant_trials as trying
+from classroom.edits.families import BAGS, LISTS, TRIED
+from classroom.mutants.proofs import OPEN, TOLD
+from classroom.mutants.mutants import mutants
+from classroom.mutants.mutants_csv import Judged
+from classroom.grading.store import Results
+from classroom.exercise.settings import Settings
+from classroom.engines import run_child as asking
+from classroom.engines.run_child import Options
+from classroom.grading.trials import Trial
 
 TABLES = [held.table for held in shop.pool().held]
 

@@ -6,10 +6,10 @@ import random
 
 import shop
 
-from classroom.picking.pool import Foreign, Held, Pool
-from classroom.schema import Column, Table
-from classroom.trial import joins
-from classroom.trial.parts import Parts, bits
+from classroom.exercise.rows import Foreign, Held, Pool
+from classroom.sql.schema import Column, Table
+from classroom.engines import join_tuples as joins
+from classroom.exercise.part_masks import Parts, bits
 
 
 def circles() -> Parts:

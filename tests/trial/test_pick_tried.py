@@ -13,8 +13,8 @@ import pytest
 from products import classroom, run
 from roles import Roles
 
-from classroom.results import Results
-from classroom.trial import full
+from classroom.grading.store import Results
+from classroom.exercise import material as full
 
 NO_AMOUNT, SAME = 37, (11, 42)
 COUNTED = "SELECT shop, COUNT(amount) FROM sale GROUP BY shop"

@@ -10,15 +10,16 @@ from typing import Any
 import pytest
 import shop
 
-from classroom.picking.sources import of_exercise
-from classroom.trial import verdict, words
-from classroom.trial.asking import Options, trier
-from classroom.trial.comparison import COLUMNS, DUPLICATES, FAILURE, ORDER, ROWS, difference
-from classroom.trial.material import from_json, of_schema, to_json
-from classroom.trial.parts import Parts
-from classroom.trial.search import Search, Wanted
-from classroom.trial.sqlite import Sqlite
-from classroom.trial.verdict import ALL, JOINS, Differs, NoDifference, NotDetermined, Verdict, WrongSql
+from classroom.exercise.sources import of_exercise
+from classroom.verdict import verdict
+from classroom.verdict import sentences as words
+from classroom.engines.run_child import Options, trier
+from classroom.verdict.compare import COLUMNS, DUPLICATES, FAILURE, ORDER, ROWS, difference
+from classroom.exercise.typed_rows import from_json, of_schema, to_json
+from classroom.exercise.part_masks import Parts
+from classroom.engines.counterexample import Search, Wanted
+from classroom.engines.sqlite import Sqlite
+from classroom.verdict.verdict import ALL, JOINS, Differs, NoDifference, NotDetermined, Verdict, WrongSql
 
 # Pairs as students write them: the reference, the answer, and the kind of their difference.
 PAIRS = [

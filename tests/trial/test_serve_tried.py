@@ -19,17 +19,17 @@ pytest.importorskip("flask")
 pytest.importorskip("waitress")
 pytest.importorskip("limits")
 
-from classroom import witness  # noqa: E402
-from classroom.limited import Limits  # noqa: E402
-from classroom.server.asked import Log  # noqa: E402
-from classroom.server.asker import Asker, Budget  # noqa: E402
-from classroom.server.material import Material, Offered  # noqa: E402
-from classroom.server.recent import Recent  # noqa: E402
-from classroom.server.waiting import Places  # noqa: E402
-from classroom.server.window import Window  # noqa: E402
-from classroom.trial.asking import Failed, Options  # noqa: E402
-from classroom.trial.verdict import Passed, Verdict, WrongSql  # noqa: E402
-from classroom.tried import Trial  # noqa: E402
+from classroom.verdict import witness  # noqa: E402
+from classroom.process.limits import Limits  # noqa: E402
+from classroom.web.questions import Log  # noqa: E402
+from classroom.web.ask import Asker, Budget  # noqa: E402
+from classroom.web.served_exercise import Material, Offered  # noqa: E402
+from classroom.web.cache import Recent  # noqa: E402
+from classroom.web.queue import Places  # noqa: E402
+from classroom.exercise.window import Window  # noqa: E402
+from classroom.engines.run_child import Failed, Options  # noqa: E402
+from classroom.verdict.verdict import Passed, Verdict, WrongSql  # noqa: E402
+from classroom.grading.trials import Trial  # noqa: E402
 
 ENGINE = f"sqlite {sqlite3.sqlite_version}"
 COUNT = "SELECT d.name, COUNT(l.beer) FROM drinker d LEFT JOIN likes l ON l.drinker = d.name GROUP BY d.name"

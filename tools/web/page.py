@@ -48,7 +48,7 @@ def page_of(top: Path, module: bytes) -> bytes:
     """The page with a WebAssembly module."""
     script = joined(SCRIPTS)
     template = Template((PARTS / "template.html").read_text(encoding="utf-8"))
-    style = (top / "python/ratest/witness.css", top / "python/classroom/templates/style.css", PARTS / "page.css")
+    style = (top / "python/ratest/witness.css", top / "python/classroom/views/templates/style.css", PARTS / "page.css")
     return template.substitute(
         digest=f"sha256-{base64.b64encode(hashlib.sha256(script.encode()).digest()).decode()}",
         style="".join(path.read_text(encoding="utf-8") for path in style),

@@ -14,12 +14,12 @@ import sys
 from datetime import date
 from pathlib import Path
 
-from classroom import options
-from classroom.exercise import RESULTS
-from classroom.fault import Fault, shown
-from classroom.server import forgetting
-from classroom.server.asked import LOG
-from classroom.server.course import place_of_hand_ins
+from classroom.commands import options
+from classroom.exercise.exercise import RESULTS
+from classroom.base.errors import Fault, shown
+from classroom.web import forget as forgetting
+from classroom.web.questions import LOG
+from classroom.web.course import place_of_hand_ins
 
 SUMMARY = "tell what is kept of what was asked, and remove it"
 

@@ -28,15 +28,19 @@ import logging
 import re
 from pathlib import Path
 
-from classroom import exercise, students
-from classroom.draw import counted
-from classroom.fault import Fault, shown
-from classroom.intake import archive, collecting, forms, placing
-from classroom.intake.archive import Member
-from classroom.intake.forms import Handed
-from classroom.server import handedin
-from classroom.server.asked import LOG
-from classroom.server.course import place_of_hand_ins
+from classroom.exercise import exercise
+from classroom.people import roster as students
+from classroom.views.draw import counted
+from classroom.base.errors import Fault, shown
+from classroom.platforms import archive
+from classroom.platforms import collect as collecting
+from classroom.platforms import forms
+from classroom.platforms import place as placing
+from classroom.platforms.archive import Member
+from classroom.platforms.forms import Handed
+from classroom.web import hand_ins as handedin
+from classroom.web.questions import LOG
+from classroom.web.course import place_of_hand_ins
 
 SUMMARY = "collect answers from a platform's archive"
 log = logging.getLogger(__name__)

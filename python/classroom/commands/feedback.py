@@ -26,15 +26,21 @@ import logging
 from datetime import datetime, timezone
 from pathlib import Path
 
-from classroom import draw, exercise, options, standing, students
-from classroom.exercise import Exercise
-from classroom.fault import Fault, shown
-from classroom.feedback import markdown, platforms, sheet
-from classroom.feedback.platforms import Back
-from classroom.intake import collecting
-from classroom.repair.whole import Mistakes
-from classroom.results import Results
-from classroom.written import Written
+from classroom.views import draw
+from classroom.exercise import exercise
+from classroom.commands import options
+from classroom.marks import gradebook as standing
+from classroom.people import roster as students
+from classroom.exercise.exercise import Exercise
+from classroom.base.errors import Fault, shown
+from classroom.views import markdown
+from classroom.platforms import tables as platforms
+from classroom.views import for_student as sheet
+from classroom.platforms.tables import Back
+from classroom.platforms import collect as collecting
+from classroom.hints.find_mistakes import Mistakes
+from classroom.grading.store import Results
+from classroom.base.files import Written
 
 SUMMARY = "write to each student what became of the answers"
 FOLDER = "feedback"

@@ -23,15 +23,24 @@ from collections.abc import Sequence
 from dataclasses import dataclass
 from pathlib import Path
 
-from classroom import classpage, grades, opening, options, parallel, standing, students
-from classroom import tell as telling
-from classroom import tried, witness, wrong
-from classroom.exercise import Answer, Exercise, Task, digest
-from classroom.fault import Fault, Missing, shown
-from classroom.grades import Graded
-from classroom.opening import Opened
-from classroom.results import Results, trial_name, write
-from classroom.tried import Trial
+from classroom.views import for_teacher as classpage
+from classroom.grading import grades
+from classroom.grading import open as opening
+from classroom.commands import options
+from classroom.process import pool as parallel
+from classroom.marks import gradebook as standing
+from classroom.people import roster as students
+from classroom.base import log as telling
+from classroom.grading import trials as tried
+from classroom.verdict import witness
+from classroom.grading import wrong
+from classroom.exercise.exercise import Answer, Exercise, Task, digest
+from classroom.base.errors import Fault, Missing, shown
+from classroom.grading.grades import Graded
+from classroom.grading.open import Opened
+from classroom.base.files import write
+from classroom.grading.store import Results, trial_name
+from classroom.grading.trials import Trial
 from ratest.draw import counted
 
 SUMMARY = "grade the answers of a class"

@@ -23,10 +23,10 @@ import logging
 import re
 from pathlib import Path
 
-from classroom.database.export import export
-from classroom.database.named import opened
-from classroom.repair import guard
-from classroom.schema import MOST_ROWS
+from classroom.exercise.importing.export import export
+from classroom.exercise.importing.source import opened
+from classroom.exercise import guards as guard
+from classroom.sql.schema import MOST_ROWS
 
 SUMMARY = "make an exercise of a database"
 GUARD_ROWS = 100    # of each table

@@ -21,9 +21,13 @@ import argparse
 import logging
 import sys
 
-from classroom import classpage, exercise, options, students
-from classroom.fault import Fault, library, shown
-from classroom.results import Results, write
+from classroom.views import for_teacher as classpage
+from classroom.exercise import exercise
+from classroom.commands import options
+from classroom.people import roster as students
+from classroom.base.errors import Fault, library, shown
+from classroom.base.files import write
+from classroom.grading.store import Results
 
 SUMMARY = "tell which mistakes the answers have, and where"
 log = logging.getLogger(__name__)
@@ -38,7 +42,8 @@ def add_arguments(parser: argparse.ArgumentParser) -> None:
 
 def run(arguments: argparse.Namespace) -> int:
     library("sqlglot", "python3-sqlglot")
-    from classroom.repair import table, whole
+    from classroom.hints import mistakes_csv as table
+    from classroom.hints import find_mistakes as whole
 
     results = Results((loaded := exercise.load(arguments.exercise)).results)
     given, graded = results.graded(loaded)

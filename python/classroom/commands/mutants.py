@@ -20,10 +20,14 @@ import logging
 import sys
 from collections.abc import Sequence
 
-from classroom import opening, options, parallel, tried
-from classroom.exercise import Task
-from classroom.fault import Fault, library, shown
-from classroom.results import Results, write
+from classroom.grading import open as opening
+from classroom.commands import options
+from classroom.process import pool as parallel
+from classroom.grading import trials as tried
+from classroom.exercise.exercise import Task
+from classroom.base.errors import Fault, library, shown
+from classroom.base.files import write
+from classroom.grading.store import Results
 
 SUMMARY = "tell which usual mistakes the rows show"
 log = logging.getLogger(__name__)
@@ -39,7 +43,10 @@ def add_arguments(parser: argparse.ArgumentParser) -> None:
 
 def run(arguments: argparse.Namespace) -> int:
     library("sqlglot", "python3-sqlglot")
-    from classroom.mutation import grading, questions, told, trying
+    from classroom.mutants import proofs as grading
+    from classroom.mutants import question as questions
+    from classroom.mutants import mutants_csv as told
+    from classroom.mutants import mutant_trials as trying
 
     opened = opening.opened(arguments, 60.0)
     given = opened.given

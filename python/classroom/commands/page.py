@@ -15,11 +15,15 @@ from __future__ import annotations
 import argparse
 from pathlib import Path
 
-from classroom import classpage, exercise, options, students
-from classroom.classpage import Showing
-from classroom.results import Results, write
-from classroom.server import askedpage
-from classroom.server.asked import LOG
+from classroom.views import for_teacher as classpage
+from classroom.exercise import exercise
+from classroom.commands import options
+from classroom.people import roster as students
+from classroom.views.for_teacher import Showing
+from classroom.base.files import write
+from classroom.grading.store import Results
+from classroom.web import asked_page as askedpage
+from classroom.web.questions import LOG
 
 SUMMARY = "make the page of a class"
 

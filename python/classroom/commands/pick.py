@@ -22,8 +22,10 @@ from __future__ import annotations
 import argparse
 import sys
 
-from classroom import opening, options, tried
-from classroom.fault import library
+from classroom.grading import open as opening
+from classroom.commands import options
+from classroom.grading import trials as tried
+from classroom.base.errors import library
 
 SUMMARY = "pick the few rows that tell every mistake"
 

@@ -32,25 +32,28 @@ from collections.abc import Mapping, Sequence
 from concurrent.futures import ThreadPoolExecutor
 from pathlib import Path
 
-from classroom import opening, options, tried
-from classroom.exercise import Task, digest
-from classroom.fault import Fault, library, shown
-from classroom.forking import Forks
-from classroom.limited import Limits
-from classroom.repair import guard
-from classroom.server import child
-from classroom.server.asked import Log, foundation_of
-from classroom.server.asker import MOST_BYTES, Asker, Budget, Decided
-from classroom.server.course import Course, Served, check_apart, folders, place_of_hand_ins, place_of_log
-from classroom.server.handedin import HandIns
-from classroom.server.recent import Recent
-from classroom.server.material import copied
-from classroom.server.waiting import Places
-from classroom.trial import asking, words
-from classroom.trial.asking import Trier
-from classroom.trial.material import POSTGRESQL, SQLITE
-from classroom.trial.verdict import Barred, Passed, WrongSql
-from classroom.tried import Trial
+from classroom.grading import open as opening
+from classroom.commands import options
+from classroom.grading import trials as tried
+from classroom.exercise.exercise import Task, digest
+from classroom.base.errors import Fault, library, shown
+from classroom.process.forkserver import Forks
+from classroom.process.limits import Limits
+from classroom.exercise import guards as guard
+from classroom.process import isolation as child
+from classroom.web.questions import Log, foundation_of
+from classroom.web.ask import MOST_BYTES, Asker, Budget, Decided
+from classroom.web.course import Course, Served, check_apart, folders, place_of_hand_ins, place_of_log
+from classroom.web.hand_ins import HandIns
+from classroom.web.cache import Recent
+from classroom.web.served_exercise import copied
+from classroom.web.queue import Places
+from classroom.engines import run_child as asking
+from classroom.verdict import sentences as words
+from classroom.engines.run_child import Trier
+from classroom.exercise.typed_rows import POSTGRESQL, SQLITE
+from classroom.verdict.verdict import Barred, Passed, WrongSql
+from classroom.grading.trials import Trial
 
 SUMMARY = "serve a page at which students ask"
 SECONDS, CONFLICTS = 10, 2000
@@ -111,8 +114,8 @@ def site(word: str) -> str:
 def run(arguments: argparse.Namespace) -> int:
     for name, package in (("flask", "python3-flask"), ("waitress", "python3-waitress"), ("limits", "python3-limits")):
         library(name, package)
-    from classroom.server.running import Address, Running, serve
-    from classroom.server.who import SOCKET_PEER, Front
+    from classroom.web.server import Address, Running, serve
+    from classroom.web.login import SOCKET_PEER, Front
 
     peers = {SOCKET_PEER} if arguments.socket else {arguments.proxy} if arguments.proxy else set()
     if arguments.user_header and not peers:
@@ -132,7 +135,7 @@ def served(arguments: argparse.Namespace, work: Path, jobs: int,
            stack: contextlib.ExitStack) -> tuple[Course, dict[str, tuple[opening.Opened, Path]]]:
     """The course, each exercise copied below `work`, with what has to be closed on the stack; and for the teacher each
     exercise with its file."""
-    from classroom.server.hinting import hinter    # with itsdangerous, which other commands do without
+    from classroom.web.hint_buttons import hinter  # with itsdangerous, which other commands do without
 
     places = Places(jobs, arguments.queue, WAITING_SECONDS)
     kept: Recent[Decided] = Recent(KEPT_BYTES)

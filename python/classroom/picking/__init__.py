@@ -1,2 +1,4 @@
-"""The few rows of many that tell the mistakes: lawful parts, the union of the witnesses on them, and then
-without what is not needed."""
+"""Few rows out of many, that still show the usual mistakes.
+
+For others: `pick`.
+"""

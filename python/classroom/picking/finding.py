@@ -5,8 +5,8 @@ from collections.abc import Collection, Sequence
 from enum import Enum
 from typing import NamedTuple, Protocol
 
-from classroom.mutation.questions import Question
-from classroom.picking.pool import Pool, Row
+from classroom.mutants.question import Question
+from classroom.exercise.rows import Pool, Row
 
 Rows = frozenset[Row]
 

@@ -6,21 +6,28 @@ from collections.abc import Collection, Iterator, Mapping, Sequence
 from dataclasses import dataclass
 from pathlib import Path
 
-from classroom import parallel, program, settings
-from classroom.fault import Fault, shown
-from classroom.limited import Limits
-from classroom.mutation import told
-from classroom.mutation.grading import OPEN, TOLD, Verdicts
-from classroom.mutation.questions import Question
-from classroom.picking import dropping, passes, picture, sources, trying
-from classroom.picking.asking import Proving
-from classroom.picking.picture import Picture
-from classroom.picking.pool import Pool, Row
-from classroom.picking.tasks import Tasks, tasks_for
-from classroom.picking.trying import Trying
-from classroom.repair import guard
-from classroom.results import Results, write
-from classroom.settings import Settings
+from classroom.process import pool as parallel
+from classroom.engines import ratest as program
+from classroom.exercise import settings
+from classroom.base.errors import Fault, shown
+from classroom.process.limits import Limits
+from classroom.mutants import mutants_csv as told
+from classroom.mutants.proofs import OPEN, TOLD, Verdicts
+from classroom.mutants.question import Question
+from classroom.picking import shrink as dropping
+from classroom.picking import rounds as passes
+from classroom.picking import picked_database as picture
+from classroom.exercise import sources
+from classroom.picking import try_many as trying
+from classroom.picking.ask_many import Proving
+from classroom.picking.picked_database import Picture
+from classroom.exercise.rows import Pool, Row
+from classroom.picking.picked_tasks import Tasks, tasks_for
+from classroom.picking.try_many import Trying
+from classroom.exercise import guards as guard
+from classroom.base.files import write
+from classroom.grading.store import Results
+from classroom.exercise.settings import Settings
 
 LIMITS = Limits(120.0, 2000)
 log = logging.getLogger(__name__)

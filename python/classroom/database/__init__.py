@@ -1,1 +1,0 @@
-"""From a database to the files that `ratest` reads: its catalogue, its rows and its CHECKs."""

@@ -1,0 +1,397 @@
+"""Which rows can matter together, by the tree of a query.
+
+A SELECT depends on a part of the rows only by the tuples of the tables in its FROM that lie in the part: of
+inner joins those for which the conditions hold, and of an outer join also each row of the outer side alone.
+So each part answers as the union of such tuples in it, with what their rows refer to, and a smallest witness
+is a union of tuples. A condition that isn't understood is dropped, which gives more tuples; where a FROM
+isn't, each row of its tables counts alone, as in all lawful parts. This is an argument and tests, no proof.
+"""
+from __future__ import annotations
+
+from collections.abc import Iterator, Mapping, Sequence
+from dataclasses import dataclass, field
+from typing import NamedTuple
+
+import sqlglot
+from sqlglot import exp
+from sqlglot.errors import SqlglotError
+
+from classroom.sql.tree import Node, nodes
+from classroom.sql.lookup import tokens
+
+COMPARISONS = (exp.EQ, exp.NEQ, exp.LT, exp.LTE, exp.GT, exp.GTE)
+MOST_TABLES = 8    # in one tuple
+
+
+@dataclass(frozen=True)
+class Tuples:
+    """The tuples of some tables for which a condition holds."""
+
+    tables: tuple[tuple[int, str], ...]    # their numbers, and their names in the condition
+    condition: str
+
+
+@dataclass
+class Understood:
+    """What is known of the queries: their tuples, and the tables whose rows count each alone."""
+
+    tuples: list[Tuples] = field(default_factory=list)
+    alone: set[int] = field(default_factory=set)
+
+
+class Source(NamedTuple):
+    """A table in a FROM."""
+
+    table: int
+    alias: str     # in small letters
+
+
+@dataclass(frozen=True)
+class Joined:
+    """A table in a FROM with how it is joined."""
+
+    source: Source | None      # None for what is no table of the schema
+    is_left: bool
+    conditions: tuple[Node, ...]
+
+
+class Schema(NamedTuple):
+    """Names of tables and their columns, in small letters, by their numbers."""
+
+    tables: Sequence[str]
+    columns: Sequence[frozenset[str]]
+
+
+def understood(queries: Sequence[str], schema: Schema, dialect: str) -> Understood:
+    """Of both queries and the views."""
+    made = Understood()
+    numbers = {name: at for at, name in enumerate(schema.tables)}
+    for text in queries:
+        seen = mentions(text, numbers)
+        try:
+            tree = sqlglot.parse_one(text, read=dialect)
+            if tree is None:
+                raise ValueError
+            gone = {str(cte.alias).lower() for cte in found(tree, exp.CTE)}
+            for select in found(tree, exp.Select):
+                read, sources = block(select, numbers, gone, schema, dialect)
+                made.tuples += read
+                for source in sources:
+                    seen[source.table] = seen.get(source.table, 0) - 1
+            for name in no_tables(tree):
+                if name in numbers:
+                    seen[numbers[name]] = seen.get(numbers[name], 0) - 1
+        except (SqlglotError, RecursionError, ValueError, AttributeError):
+            made.alone |= set(mentions(text, numbers))
+            continue
+        # A name that is no table of a FROM that was read may be one in a place that isn't known.
+        made.alone |= {table for table, count in seen.items() if count}
+        made.alone |= {numbers[name] for name in gone if name in numbers}
+        made.alone |= {numbers[name_of(table.this)] for table in found(tree, exp.Table)
+                       if (table.args.get("db") or table.args.get("catalog")) and name_of(table.this) in numbers}
+    return made
+
+
+def named(text: str, numbers: Mapping[str, int], dialect: str) -> frozenset[int]:
+    """The tables that a query names where tables can stand."""
+    try:
+        tree = sqlglot.parse_one(text, read=dialect)
+        if tree is None:
+            raise ValueError
+        names = [name_of(table.this) for table in found(tree, exp.Table)]
+        names += [name_of(node.args["field"]) for node in found(tree, exp.In) if node.args.get("field")]
+        return frozenset(numbers[name] for name in names if name in numbers)
+    except (SqlglotError, RecursionError, ValueError, AttributeError):
+        return frozenset(mentions(text, numbers))
+
+
+def mentions(text: str, numbers: Mapping[str, int]) -> dict[int, int]:
+    """How often the name of each table stands in a text, but for names before or behind a dot."""
+    read = tokens(text)
+    count: dict[int, int] = {}
+    for at, token in enumerate(read):
+        near = {read[at - 1].text if at else "", read[at + 1].text if at + 1 < len(read) else ""}
+        if token.name.lower() in numbers and token.kind != "text" and "." not in near:
+            table = numbers[token.name.lower()]
+            count[table] = count.get(table, 0) + 1
+    # One that stands beside a dot alone is mentioned all the same.
+    for at, token in enumerate(read):
+        if token.name.lower() in numbers and at and read[at - 1].text == ".":
+            count.setdefault(numbers[token.name.lower()], 0)
+    return count
+
+
+def found(tree: Node, kind: type[Node]) -> list[Node]:
+    """All nodes of a kind."""
+    return [node for node in nodes(tree) if isinstance(node, kind)]
+
+
+def no_tables(tree: Node) -> Iterator[str]:
+    """The names in a query that stand for a column, or that it gives itself, without a dot beside."""
+    for node in found(tree, exp.Column):
+        # SQLite has X IN TABLE.
+        if node.args.get("table") is None and not (isinstance(node.parent, exp.In) and node.arg_key == "field"):
+            yield name_of(node.this)
+    for node in found(tree, exp.Alias):
+        yield name_of(node.args.get("alias"))
+    for node in found(tree, exp.TableAlias):
+        yield name_of(node.this)
+    for node in found(tree, exp.Join):
+        yield from (name_of(name) for name in node.args.get("using") or [] if isinstance(name, exp.Identifier))
+
+
+def block(select: Node, numbers: Mapping[str, int], gone: set[str], schema: Schema,
+          dialect: str) -> tuple[list[Tuples], list[Source]]:
+    """The tuples of one SELECT, and the tables of its FROM that they account for."""
+    items = joined(select, numbers, gone, schema)
+    if items is None:
+        return [], []
+    sources = [item.source for item in items if item.source]
+    if len({source.alias for source in sources}) < len(sources) or not 0 < len(sources) <= MOST_TABLES:
+        return [], []
+    plain = len(sources) == len(items)
+    where = select.args.get("where")
+    base = [item for item in items if item.source and not item.is_left]
+    conditions = [part for item in items if not item.is_left for part in item.conditions]
+    conditions += conjuncts(where.this) if where else []
+    write = Writer({source.alias: source.table for source in sources}, schema, dialect, plain)
+    first = [item.source for item in base if item.source]
+    made = [Tuples(tuple(first), write.all_of(conditions, {source.alias for source in first}))] if first else []
+    needs: dict[str, set[str]] = {}
+    outer: dict[str, Joined] = {}
+    for item in items:
+        if not item.is_left or not item.source:
+            continue
+        own = item.source.alias
+        # Where a comparison with another outer table holds, that one has a row.
+        met = {alias for part in item.conditions if isinstance(part, COMPARISONS)
+               for alias in write.aliases(part) or () if alias in outer and write.is_known(part)}
+        needs[own] = met.union(*(needs[alias] for alias in met)) if met else set()
+        outer[own] = item
+        members = [*first, *(outer[alias].source for alias in sorted(needs[own])), item.source]
+        with_tables = tuple(source for source in members if source)
+        names = {source.alias for source in with_tables}
+        held = [part for alias in (*sorted(needs[own]), own) for part in outer[alias].conditions]
+        base_part = [part for part in conditions if (write.aliases(part) or {own}) <= {source.alias for source in first}]
+        made.append(Tuples(with_tables, write.all_of([*base_part, *held], names)))
+    return made, sources
+
+
+def joined(select: Node, numbers: Mapping[str, int], gone: set[str], schema: Schema) -> list[Joined] | None:
+    """The tables of a FROM with how they are joined; None where it isn't of a form that is understood."""
+    begin = select.args.get("from")
+    if begin is None or select.args.get("laterals"):
+        return None
+    items = [Joined(source_of(node, numbers, gone), False, ()) for node in begin.expressions]
+    nodes = list(begin.expressions)
+    for join in select.args.get("joins") or []:
+        side, kind = str(join.args.get("side") or "").upper(), str(join.args.get("kind") or "").upper()
+        if join.args.get("natural") or side not in ("", "LEFT") or kind not in ("", "INNER", "CROSS", "OUTER"):
+            return None
+        if kind == "OUTER" and side != "LEFT":
+            return None
+        source = source_of(join.this, numbers, gone)
+        on = join.args.get("on")
+        parts = conjuncts(on) if on is not None else []
+        names = join.args.get("using")
+        if names:
+            parts = using([name_of(name) for name in names], source, items, schema)
+        items.append(Joined(source, side == "LEFT", tuple(parts)))
+        nodes.append(join.this)
+    if any(item.is_left and item.source is None for item in items):
+        # What an outer join gives of a query is not known by the rows of its tables alone, but the rows of the
+        # tables beside it are.
+        items = [item for item in items if item.source or not item.is_left]
+        items.append(Joined(None, False, ()))
+    if any(isinstance(node, exp.Table) and node.args.get("joins") for node in nodes):
+        return None
+    return items
+
+
+def using(names: Sequence[str], source: Source | None, before: Sequence[Joined], schema: Schema) -> list[Node]:
+    """The comparisons of USING where just one table before has the column."""
+    made: list[Node] = []
+    for name in names:
+        holders = [item.source for item in before if item.source and name in schema.columns[item.source.table]]
+        if source and len(holders) == 1 and all(item.source for item in before):
+            made.append(exp.EQ(this=column(holders[0].alias, name), expression=column(source.alias, name)))
+    return made
+
+
+def column(alias: str, name: str) -> Node:
+    return exp.Column(this=exp.Identifier(this=name, quoted=True), table=exp.Identifier(this=alias, quoted=True))
+
+
+def source_of(node: Node, numbers: Mapping[str, int], gone: set[str]) -> Source | None:
+    if not isinstance(node, exp.Table) or not isinstance(node.this, exp.Identifier):
+        return None
+    name = name_of(node.this)
+    if name not in numbers or name in gone or node.args.get("db"):
+        return None
+    alias = node.args.get("alias")
+    if isinstance(alias, exp.TableAlias):
+        if alias.args.get("columns"):
+            return None
+        return Source(numbers[name], name_of(alias.this) or name)
+    return Source(numbers[name], name)
+
+
+def name_of(node: Node | str | None) -> str:
+    if isinstance(node, exp.Column):
+        node = node.this
+    return str(node.this if isinstance(node, exp.Identifier) else node or "").lower()
+
+
+def conjuncts(condition: Node) -> list[Node]:
+    while isinstance(condition, exp.Paren):
+        condition = condition.this
+    if isinstance(condition, exp.And):
+        return conjuncts(condition.this) + conjuncts(condition.expression)
+    return [condition]
+
+
+class Writer:
+    """Writes the conditions of one FROM that are understood, all columns with the name of their table."""
+
+    def __init__(self, tables: Mapping[str, int], schema: Schema, dialect: str, is_plain: bool) -> None:
+        self.tables, self.schema, self.dialect = tables, schema, dialect
+        self.is_plain = is_plain    # the FROM has tables of the schema alone
+
+    def owner(self, node: Node) -> str | None:
+        """The name of the table that a column is of; None where it isn't known."""
+        name, table = name_of(node.this), node.args.get("table")
+        if table is not None:
+            alias = name_of(table)
+            return alias if alias in self.tables and name in self.schema.columns[self.tables[alias]] else None
+        if not self.is_plain:
+            return None
+        holders = [alias for alias, of in self.tables.items() if name in self.schema.columns[of]]
+        return holders[0] if len(holders) == 1 else None
+
+    def aliases(self, condition: Node) -> set[str] | None:
+        """The tables that a condition names; None where one isn't known."""
+        owners = [self.owner(node) for node in found(condition, exp.Column)]
+        return None if None in owners else {owner for owner in owners if owner}
+
+    def is_known(self, condition: Node) -> bool:
+        """Whether a condition is of a form that is written back as it was read."""
+        node = condition
+        if isinstance(node, exp.Paren):
+            return self.is_known(node.this)
+        if isinstance(node, (exp.And, exp.Or)):
+            return self.is_known(node.this) and self.is_known(node.expression)
+        if isinstance(node, exp.Not):
+            return self.is_known(node.this)
+        if isinstance(node, COMPARISONS):
+            return self.is_value(node.this) and self.is_value(node.expression)
+        if isinstance(node, exp.Is):
+            return self.is_value(node.this) and isinstance(node.expression, exp.Null)
+        if isinstance(node, exp.Between):
+            return all(self.is_value(node.args.get(part)) for part in ("this", "low", "high"))
+        if isinstance(node, exp.In):
+            return not node.args.get("query") and not node.args.get("unnest") and not node.args.get("field") and all(
+                map(self.is_value, [node.this, *node.expressions])) and bool(node.expressions)
+        return isinstance(node, exp.Like) and self.is_value(node.this) and self.is_value(node.expression)
+
+    def is_value(self, node: Node | None) -> bool:
+        if isinstance(node, exp.Paren):
+            return self.is_value(node.this)
+        if isinstance(node, exp.Neg):
+            return isinstance(node.this, exp.Literal)
+        if isinstance(node, (exp.Add, exp.Sub, exp.Mul)):
+            return self.is_value(node.this) and self.is_value(node.expression)
+        return isinstance(node, exp.Literal) or isinstance(node, exp.Column) and self.owner(node) is not None
+
+    def all_of(self, conditions: Sequence[Node], names: set[str]) -> str:
+        """The AND of those conditions that are known and name these tables alone."""
+        texts = []
+        for condition in conditions:
+            if self.is_known(condition) and (self.aliases(condition) or set()) <= names:
+                texts.append(f"({self.written(condition)})")
+        return " AND ".join(texts)
+
+    def written(self, condition: Node) -> str:
+        copy: Node = condition.copy()  # type: ignore[no-untyped-call]
+        for node in found(copy, exp.Column):
+            new = column(self.owner(node) or "", name_of(node.this))
+            if node is copy:
+                return str(new.sql(dialect=self.dialect))
+            node.replace(new)  # type: ignore[no-untyped-call]
+        return str(copy.sql(dialect=self.dialect, comments=False))
+
+
+def is_ordered(text: str, dialect: str) -> bool:
+    """Whether a query has an ORDER BY at its top."""
+    try:
+        tree = sqlglot.parse_one(text, read=dialect)
+    except (SqlglotError, RecursionError):
+        return ordered_by_tokens(text)
+    while isinstance(tree, (exp.Paren, exp.Subquery)):
+        if tree.args.get("order"):
+            return True
+        tree = tree.this
+    if tree is None:
+        return False
+    return bool(tree.args.get("order")) or ordered_by_tokens(text)
+
+
+def ordered_by_tokens(text: str) -> bool:
+    depth = 0
+    for token in tokens(text):
+        depth += (token.text == "(") - (token.text == ")")
+        if depth == 0 and token.kind == "word" and token.text.lower() == "order":
+            return True
+    return False
+
+
+def unions(masks: Sequence[int], less_than: int, most: int, wanted: int | None = None) -> Iterator[int | None]:
+    """All unions of masks that have fewer rows than that, the smallest first, each once; None, and then no
+    more, where more than `most` would have to be remembered, or as many as are wanted were found."""
+    own = sorted({mask for mask in masks if mask and mask.bit_count() < less_than}, key=lambda mask: (mask.bit_count(), mask))
+    by_row: dict[int, list[int]] = {}
+    for mask in own:
+        rest = mask
+        while rest:
+            bit = rest & -rest
+            by_row.setdefault(bit, []).append(mask)
+            rest ^= bit
+    least = own[0].bit_count() if own else 0
+    sizes: list[set[int]] = [set() for _ in range(max(less_than, 0))]
+    if sizes:
+        sizes[0].add(0)
+    found = [len(of) for of in sizes]
+    held, total, is_cut, size = 0, 1, False, -1
+    while (size := size + 1) < less_than:
+        for part in sorted(sizes[size]):
+            yield part
+            if wanted is not None and total >= wanted and size + 1 >= less_than - 1:
+                is_cut = True    # what it would bring comes behind all that are wanted
+                continue
+            near: Sequence[int] | set[int] = own
+            if size and size + least >= less_than:
+                near = set()
+                rest = part
+                while rest:
+                    bit = rest & -rest
+                    near.update(by_row.get(bit, ()))
+                    rest ^= bit
+            for mask in near:
+                union = part | mask
+                count = union.bit_count()
+                if size < count < less_than and union not in sizes[count]:
+                    if wanted is not None and total >= wanted and count == less_than - 1:
+                        is_cut = True
+                        continue
+                    sizes[count].add(union)
+                    found[count] += 1
+                    held, total = held + 1, total + 1
+                    while wanted is not None and count < less_than - 1 and total - found[less_than - 1] >= wanted:
+                        less_than, is_cut = less_than - 1, True
+                        held, total = held - len(sizes[less_than]), total - found[less_than]
+            if held > most:
+                yield None
+                return
+        held -= len(sizes[size])
+        sizes[size] = set()
+    if is_cut:
+        yield None

@@ -1,0 +1,279 @@
+"""PostgreSQL as the engine, in an empty database of its own, through psycopg.
+
+A loader owns a schema of this process with the tables and puts the rows; an asker may only read them, and calls
+no volatile routine. Each query has a session of its own, so that neither sees the other's text, and is one
+statement by PREPARE.
+"""
+from __future__ import annotations
+
+import re
+import secrets
+import time
+from collections.abc import Iterator, Sequence
+from typing import Any
+
+from classroom.base.errors import Fault, library, shown
+from classroom.sql.schema import quoted
+from classroom.engines.only_reads import MOST_TEXT
+from classroom.verdict.compare import Answer
+from classroom.engines.engine import ANSWER, MOST_LINES, QUERY_SECONDS, REFERENCE, Bars, Refused, Stopped, TooMuch
+from classroom.engines.join_tuples import mentions
+from classroom.exercise.typed_rows import Material
+from classroom.exercise.part_masks import Mask, Parts, bits
+from classroom.engines.tables_read import places, with_views
+from classroom.sql.lookup import begins_as_query
+
+SCHEMA = "ratest_trial_"
+# Seconds after which the schema of a process that was killed is removed.
+STALE = 3600
+# Parts after which the tables are emptied of the rows that are deleted in them.
+REFRESH = 500
+TEXTS = ("date", "time", "timetz", "timestamp", "timestamptz", "interval", "json", "jsonb", "uuid", "inet", "cidr",
+         "xml", "money", "point")
+PREPARE = "PREPARE query AS "
+# What an asker may do that it shouldn't, with what is told then.
+RIGHTS = (
+    ("SELECT rolsuper OR rolcreaterole OR rolcreatedb OR rolbypassrls OR rolreplication FROM pg_roles "
+     "WHERE rolname = current_user", "is a superuser, or may make roles or databases"),
+    ("SELECT has_database_privilege(current_database(), 'CREATE') OR has_database_privilege(current_database(), 'TEMP')",
+     "may create in the database"),
+    ("SELECT bool_or(has_schema_privilege(oid, 'CREATE')) FROM pg_namespace", "may create in a schema"),
+    ("SELECT count(*) > 0 FROM pg_proc WHERE prokind IN ('f', 'p', 'w') AND has_function_privilege(oid, 'EXECUTE') AND "
+     "(provolatile = 'v' OR proname IN ('pg_stat_get_activity', 'pg_prepared_statement', 'pg_cursor', 'txid_current', "
+     "'pg_current_xact_id'))",
+     "may execute volatile routines, or see other sessions"),
+    ("SELECT current_setting('temp_file_limit') = '-1'", "has no temp_file_limit"))
+LOADER_RIGHT = "SELECT rolsuper FROM pg_roles WHERE rolname = current_user"
+
+
+class Server:
+    """A session of the loader, the tables of a material in a schema of its own, and sessions of the asker."""
+
+    def __init__(self, material: Material, loader: str) -> None:
+        self.psycopg = library("psycopg", "python3-psycopg")
+        self.material = material
+        self.names = [quoted(name) for name in material.names()]
+        self.sessions: list[Any] = []
+        self.askers: list[Any] = []
+        self.loader = self.connected(loader, "engine")
+        if self.one(self.loader, LOADER_RIGHT):
+            self.close()
+            raise Fault("engine: its user is a superuser; docs/GUIDE.md tells how to make one that is none")
+        self.schema = f"{SCHEMA}{int(time.time())}_{secrets.token_hex(6)}"
+        self.label = f"postgresql {str(self.one(self.loader, 'SHOW server_version')).split()[0]}"
+
+    def connected(self, address: str, key: str, seconds: float = 0.0) -> Any:
+        """A session; of the asker it has limits, and its user few rights."""
+        options = "-c timezone=UTC -c jit=off -c max_parallel_workers_per_gather=0 -c synchronous_commit=off"
+        if seconds:
+            options += " -c default_transaction_read_only=on -c work_mem=4MB -c plan_cache_mode=force_generic_plan"
+        try:
+            session = self.psycopg.connect(address, autocommit=True, options=options, connect_timeout=10)
+        except self.psycopg.Error as fault:
+            raise Fault(f"{key}: {shown(str(fault).strip().splitlines()[0])}") from None
+        self.sessions.append(session)
+        for name in TEXTS:
+            session.adapters.register_loader(name, self.psycopg.types.string.TextLoader)
+        if seconds:
+            self.bound(session, key, seconds)
+        return session
+
+    def bound(self, session: Any, key: str, seconds: float) -> None:
+        """Looks at the rights of the asker, and sets the limits of its queries."""
+        try:
+            for query, told in RIGHTS:
+                if self.one(session, query):
+                    raise Fault(f"{key}: its user {told}; docs/GUIDE.md tells how to make one that only reads")
+            # The catalogue was asked without, since on a busy machine it takes its time.
+            session.execute(f"SET statement_timeout = {round(seconds * 1000)}; SET lock_timeout = '1s'")
+        except self.psycopg.Error as fault:
+            raise Fault(f"{key}: {shown(str(fault).strip().splitlines()[0])}") from None
+
+    def one(self, session: Any, query: str) -> Any:
+        return session.execute(query).fetchone()[0]
+
+    def make_tables(self) -> None:
+        old = [name for name, in self.loader.execute(
+            "SELECT nspname FROM pg_namespace WHERE nspname LIKE %s", (SCHEMA.replace("_", "\\_") + "%",)).fetchall()]
+        for name in old:
+            began = re.match(rf"{SCHEMA}(\d+)_", name)
+            if began and int(began[1]) < time.time() - STALE:
+                self.loader.execute(f"DROP SCHEMA IF EXISTS {quoted(name)} CASCADE")
+        user = self.one(self.askers[0], "SELECT current_user")
+        self.loader.execute(f"CREATE SCHEMA {self.schema}; GRANT USAGE ON SCHEMA {self.schema} TO {quoted(user)}; "
+                            f"SET search_path = {self.schema}")
+        if self.material.before:
+            self.loader.execute(self.material.before)
+        for statement in self.material.statements:
+            self.loader.execute(re.sub(r"(?i)\A\s*CREATE TABLE\b", "CREATE UNLOGGED TABLE", statement))
+        for view in self.material.views:
+            self.loader.execute(view.statement)
+        self.loader.execute(f"GRANT SELECT ON ALL TABLES IN SCHEMA {self.schema} TO {quoted(user)}")
+        for session in self.askers:
+            session.execute(f"SET search_path = {self.schema}")
+        columns = [", ".join(quoted(column.name) for column in held.table.columns) for held in self.material.pool.held]
+        self.begins = [f"INSERT INTO {name} ({columns[at]}) OVERRIDING SYSTEM VALUE VALUES " for at, name in enumerate(self.names)]
+
+    def close(self) -> None:
+        for session in self.sessions[1:]:
+            session.close()
+        if self.sessions:
+            try:
+                if hasattr(self, "schema"):
+                    self.loader.execute(f"DROP SCHEMA IF EXISTS {self.schema} CASCADE")
+            except self.psycopg.Error:
+                pass    # the next trial removes it
+            self.sessions[0].close()
+
+
+class Postgres(Server):
+    """The engine over a material, with a session of the loader and two of the asker."""
+
+    pace = 0.25
+
+    @staticmethod
+    def clock() -> float:
+        """The server's work counts."""
+        return time.monotonic()
+
+    def __init__(self, material: Material, parts: Parts, reference: str, answer: str, loader: str, asker: str,
+                 seconds: float = QUERY_SECONDS) -> None:
+        super().__init__(material, loader)
+        self.parts, self.seconds = parts, seconds
+        self.queries = (reference, answer)
+        try:
+            for which in (REFERENCE, ANSWER):
+                look(which, self.queries[which])
+            self.askers = [self.connected(asker, "engine_asker", seconds) for _ in self.queries]
+            self.make_tables()
+            self.values = ["(" + ", ".join(map(literal, self.material.pool.held[row.table].rows[row.number])) + ")"
+                           for row in self.parts.rows]
+            self.masks = [sum(1 << at for at, row in enumerate(self.parts.rows) if row.table == table)
+                          for table in range(len(self.names))]
+            self.part, self.backwards, self.loads = 0, False, 0
+            for which in (REFERENCE, ANSWER):
+                self.prepare(which)
+        except Stopped as stopped:
+            stopped.engine = self.label
+            self.close()
+            raise
+        except BaseException:
+            self.close()
+            raise
+
+    def prepare(self, which: int) -> None:
+        try:
+            self.askers[which].execute(PREPARE + self.queries[which], prepare=True)
+        except self.psycopg.Error as fault:
+            at = fault.diag.statement_position
+            place = int(at) - 1 - len(PREPARE) if at and at.isdigit() else None
+            told = self.stopped(which, fault)
+            raise told or Refused(which, shown(fault.diag.message_primary or str(fault)), place) from None
+        answer = self.ask(which)    # over no rows; of the reference first, so that its text stands nowhere any more
+        if answer.failure:
+            raise Refused(which, answer.failure)
+
+    def stopped(self, which: int, fault: Any) -> Stopped | None:
+        """What ends the trial; None where it is the query's own fault."""
+        state = fault.sqlstate or ""
+        if state == "57014":
+            return TooMuch(which, "time")
+        if state == "42501" or state == "25006":
+            return Bars(which, fault.diag.message_primary or "it may not do that")
+        if state == "42601" and "multiple commands" in str(fault):
+            return Bars(which, "it has more than one statement")
+        if state[:2] in ("53", "54"):
+            return TooMuch(which, "memory" if state == "53200" else "size of a value")
+        if state[:2] in ("08", "57", "58", "XX") or not state:
+            raise Fault(f"the engine: {shown(str(fault).strip().splitlines()[0])}") from None
+        return None
+
+    def ask(self, which: int) -> Answer:
+        try:
+            cursor = self.askers[which].execute("EXECUTE query")
+            lines = cursor.fetchall()
+            columns = len(cursor.description or ())
+        except self.psycopg.Error as fault:
+            told = self.stopped(which, fault)
+            if told:
+                raise told from None
+            return Answer(0, (), shown(fault.diag.message_primary or str(fault)))
+        except MemoryError:
+            raise TooMuch(which, "memory") from None
+        if len(lines) > MOST_LINES:
+            raise TooMuch(which, "rows")
+        return Answer(columns, lines)
+
+    @property
+    def tables(self) -> frozenset[int]:
+        """The tables that the queries name; where they name a view, those of all views too."""
+        numbers = places(self.material)
+        return frozenset(table for text in with_views(self.queries, self.material) for table in mentions(text, numbers))
+
+    def load(self, part: Mask, backwards: bool = False) -> None:
+        """Makes these the rows of the tables, as they are stored or the other way round."""
+        if part == self.part and (backwards == self.backwards or part & (part - 1) == 0):
+            return
+        self.loads += 1
+        texts = []
+        is_new = self.loads % REFRESH == 0
+        for table, mask in enumerate(self.masks):
+            before, now = self.part & mask, part & mask
+            if before == now and backwards == self.backwards and not is_new:
+                continue
+            if before and not is_new:
+                texts.append(f"DELETE FROM {self.names[table]}")
+            if now:
+                rows = list(bits(now))
+                texts.append(self.begins[table] + ", ".join(self.values[at] for at in (reversed(rows) if backwards else rows)))
+        if is_new:
+            texts.insert(0, f"TRUNCATE {', '.join(self.names)}")
+        if texts:
+            self.loader.execute(";".join(["BEGIN", *texts, "COMMIT"]))
+        self.part, self.backwards = part, backwards
+
+    def answers(self, part: Mask, backwards: bool = False) -> tuple[Answer, Answer]:
+        self.load(part, backwards)
+        return self.ask(REFERENCE), self.ask(ANSWER)
+
+    def joined(self, tables: Sequence[tuple[int, str]], condition: str) -> Iterator[tuple[int, ...]]:
+        whole = (1 << len(self.parts.rows)) - 1
+        self.loads = REFRESH - 1
+        self.part = -1
+        self.load(whole)
+        known: dict[tuple[int, str], int] = {}
+        for table in {table for table, _ in tables}:
+            rows = list(bits(self.masks[table]))
+            found = self.loader.execute(f"SELECT ctid::text FROM {self.names[table]} ORDER BY ctid").fetchall()
+            known.update({(table, place): at for at, (place,) in zip(rows, found)})
+        ids = ", ".join(f"{quoted(alias)}.ctid::text" for _, alias in tables)
+        begin = ", ".join(f"{self.names[table]} AS {quoted(alias)}" for table, alias in tables)
+        try:
+            self.loader.execute(f"SET statement_timeout = {round(self.seconds * 1000)}")
+            lines = self.loader.execute(f"SELECT {ids} FROM {begin}" + (f" WHERE {condition}" if condition else "")
+                                        + f" LIMIT {MOST_LINES}").fetchall()
+        except self.psycopg.Error as fault:
+            raise ValueError(str(fault)) from None
+        finally:
+            self.loader.execute("SET statement_timeout = 0")
+        if len(lines) == MOST_LINES:
+            raise ValueError("too many tuples")
+        for line in lines:
+            yield tuple(known[table, place] for (table, _), place in zip(tables, line))
+
+def look(which: int, text: str) -> None:
+    """Refuses a text that is no query before the server gets it."""
+    if len(text.encode("utf-8", "replace")) > MOST_TEXT:
+        raise TooMuch(which, "size of a value")
+    if "\0" in text:
+        raise Refused(which, "a byte that is no character of a text", text.index("\0"))
+    if not begins_as_query(text):
+        raise Bars(which, "it is no query, which begins with SELECT, WITH or VALUES")
+
+
+def literal(value: object) -> str:
+    """A value as a constant of no type, which becomes one of its column's."""
+    if value is None:
+        return "NULL"
+    text = f"\\x{value.hex()}" if isinstance(value, bytes) else str(value)
+    return "'" + text.replace("'", "''") + "'"

@@ -1,0 +1,306 @@
+"""SQLite as the engine: rows in a database in memory, from which the queries only read.
+
+Of a part that comes after another only the rows that changed are put and taken.
+"""
+from __future__ import annotations
+
+import math
+import re
+import sqlite3
+import time
+from collections.abc import Iterator, Sequence
+from contextlib import contextmanager
+
+from classroom.engines.only_reads import MOST_TEXT, OTHERWISE, READ, barred, bound, in_memory
+from classroom.sql.schema import quoted
+from classroom.verdict.compare import Answer
+from classroom.engines.engine import ANSWER, MOST_LINES, QUERY_SECONDS, REFERENCE, Bars, Refused, TooMuch
+from classroom.engines.join_tuples import named
+from classroom.exercise.typed_rows import Material
+from classroom.exercise.part_masks import Mask, Parts, bits
+from classroom.engines.tables_read import places, with_views
+from classroom.sql.lookup import begins_as_query, clock, tokens, unknown_name
+
+# Steps of SQLite's machine between two looks at the time.
+STEPS = 200
+FAR = 1 << 40    # rowids of rows that are stored the other way round
+
+
+class Stored:
+    """A database with the tables, in whose order the rows are stored or the other way round."""
+
+    def __init__(self, material: Material, parts: Parts, backwards: bool, seconds: float) -> None:
+        self.material, self.parts, self.backwards, self.seconds = material, parts, backwards, seconds
+        self.db = in_memory()
+        for statement in material.statements:
+            self.db.execute(turned(statement) if backwards else with_rowid(statement))
+        self.puts: list[str] = []
+        self.takes: list[str] = []
+        self.aliases: list[tuple[int | None, str]] = []    # the column that is the rowid, and the rowid's name
+        for held in material.pool.held:
+            self.prepare(held.table.name, [column.name for column in held.table.columns])
+        for view in material.views:
+            self.db.execute(view.statement)
+        self.part: Mask = 0
+        self.is_strict, self.bar, self.until = False, "", math.inf
+        self.read: set[str] = set()
+        bound(self.db)
+        self.db.set_authorizer(self.may)
+        self.db.set_progress_handler(lambda: time.process_time() > self.until, STEPS)
+
+    def prepare(self, table: str, columns: Sequence[str]) -> None:
+        """The statements that put and take a row, which is known by its rowid."""
+        of = quoted(table)
+        info = self.db.execute(f"SELECT name, type, pk FROM pragma_table_info({quoted_text(table)})").fetchall()
+        keys = [(name, kind) for name, kind, place in info if place]
+        alias = None
+        if len(keys) == 1 and keys[0][1].upper() == "INTEGER" and keys[0][0] in columns and self.is_alias(of, keys[0][0]):
+            alias = list(columns).index(keys[0][0])
+        names = [quoted(name) for name in columns]
+        rowid = next(name for name in ("rowid", "_rowid_", "oid") if name not in {one.lower() for one, _, _ in info})
+        if alias is None:
+            names.append(rowid)
+        self.puts.append(f"INSERT INTO {of} ({', '.join(names)}) VALUES ({', '.join('?' * len(names))})")
+        self.takes.append(f"DELETE FROM {of} WHERE {rowid} = ?")
+        self.aliases.append((alias, rowid))
+
+    def is_alias(self, of: str, name: str) -> bool:
+        """Whether a column is the rowid: then NULL in it becomes a number."""
+        return not self.db.execute(
+            "SELECT 1 FROM pragma_index_list(?) WHERE origin = 'pk'", (of[1:-1].replace('""', '"'),)).fetchall()
+
+    def rowid(self, at: int) -> int:
+        row = self.parts.rows[at]
+        alias, _ = self.aliases[row.table]
+        if alias is not None:
+            value = self.material.pool.held[row.table].rows[row.number][alias]
+            return value if isinstance(value, int) else 0
+        return FAR - row.number if self.backwards else row.number + 1
+
+    def put(self, at: int) -> None:
+        row = self.parts.rows[at]
+        cells = self.material.pool.held[row.table].rows[row.number]
+        self.db.execute(self.puts[row.table], cells if self.aliases[row.table][0] is not None else (*cells, self.rowid(at)))
+
+    def load(self, part: Mask) -> None:
+        """Makes these the rows of the database."""
+        if part == self.part:
+            return
+        for at in bits(self.part & ~part):
+            self.db.execute(self.takes[self.parts.rows[at].table], (self.rowid(at),))
+        for at in bits(part & ~self.part):
+            self.put(at)
+        self.part = part
+
+    def may(self, action: int, one: str | None, two: str | None, base: str | None, inside: str | None) -> int:
+        """The authorizer: a query reads tables, and calls what is not barred."""
+        why = barred(action, one, two) if self.is_strict else ""
+        if self.is_strict and action == READ and not why:
+            self.read.add((one or "").lower())
+        self.bar = self.bar if self.bar and why == OTHERWISE else why or self.bar
+        return sqlite3.SQLITE_DENY if why else sqlite3.SQLITE_OK
+
+    @contextmanager
+    def strictly(self) -> Iterator[None]:
+        self.is_strict, self.bar, self.until = True, "", time.process_time() + self.seconds
+        try:
+            yield
+        finally:
+            self.is_strict, self.until = False, math.inf
+
+    def ask(self, which: int, text: str) -> Answer:
+        self.is_strict, self.bar, self.until = True, "", time.process_time() + self.seconds
+        try:
+            cursor = self.db.execute(text)
+            if cursor.description is None:
+                raise Refused(which, "it is no query")
+            lines = cursor.fetchmany(MOST_LINES + 1)
+            columns = len(cursor.description)
+        except MemoryError:
+            raise TooMuch(which, "memory") from None
+        except (sqlite3.Error, sqlite3.Warning) as fault:
+            return self.failed(which, str(fault))
+        finally:
+            self.is_strict, self.until = False, math.inf
+        if len(lines) > MOST_LINES:
+            cursor.close()
+            raise TooMuch(which, "rows")
+        return Answer(columns, lines)
+
+    def failed(self, which: int, message: str) -> Answer:
+        """The answer of a query that SQLite ended; where that is so on any rows, why."""
+        if self.bar:
+            raise Bars(which, self.bar)
+        if "interrupted" in message:
+            raise TooMuch(which, "time")
+        if "too big" in message:
+            raise TooMuch(which, "size of a value")
+        if "more than one statement" in message or "one statement at a time" in message:
+            raise Bars(which, "it has more than one statement")
+        return Answer(0, (), message)
+
+    def close(self) -> None:
+        self.db.close()
+
+
+class Sqlite:
+    """The engine over a material, with the two databases that store the rows in opposite orders."""
+
+    pace = 1.0
+
+    @staticmethod
+    def clock() -> float:
+        """What others do on the machine doesn't count."""
+        return time.process_time()
+
+    def __init__(self, material: Material, parts: Parts, reference: str, answer: str,
+                 seconds: float = QUERY_SECONDS) -> None:
+        self.label = f"sqlite {sqlite3.sqlite_version}"
+        self.material, self.parts = material, parts
+        self.queries = (reference, answer)
+        self.stored = [Stored(material, parts, backwards, seconds) for backwards in (False, True)]
+        for which in (REFERENCE, ANSWER):
+            self.check(which)
+
+    def check(self, which: int) -> None:
+        """Refuses a query that is wrong over any rows, or does something else than to read them."""
+        text = self.queries[which]
+        if len(text.encode("utf-8", "replace")) > MOST_TEXT:
+            raise TooMuch(which, "size of a value")
+        if "\0" in text:
+            raise Refused(which, "a byte that is no character of a text", text.index("\0"))
+        if not begins_as_query(text):
+            raise Bars(which, "it is no query, which begins with SELECT, WITH or VALUES")
+        found = clock(text)
+        if found:
+            raise Bars(which, f"it asks the clock: {found}")
+        first = self.stored[0]
+        answer = first.ask(which, text)
+        if answer.failure:
+            raise Refused(which, *told(answer.failure, text))
+        names = {name for held in self.material.pool.held for name in (
+            held.table.name, *(column.name for column in held.table.columns))}
+        names |= {str(name) for held in self.material.pool.held for name, in first.db.execute(
+            f"SELECT name FROM pragma_table_xinfo({quoted_text(held.table.name)})")}
+        names |= {str(name) for view in self.material.views for name, in first.db.execute(
+            f"SELECT name FROM pragma_table_info({quoted_text(view.name)})")} | {view.name for view in self.material.views}
+        unknown = unknown_name(text, names)
+        if unknown:
+            raise Refused(which, f"no such column: {unknown[0]}", unknown[1])
+
+    @property
+    def tables(self) -> frozenset[int]:
+        """Those that SQLite reads columns of, and, since it doesn't tell all of USING, those that are named."""
+        numbers = places(self.material)
+        return frozenset(numbers[name] for name in self.stored[0].read if name in numbers).union(
+            *(named(text, numbers, "sqlite") for text in with_views(self.queries, self.material)))
+
+    def answers(self, part: Mask, backwards: bool = False) -> tuple[Answer, Answer]:
+        stored = self.stored[backwards]
+        stored.load(part)
+        return stored.ask(REFERENCE, self.queries[REFERENCE]), stored.ask(ANSWER, self.queries[ANSWER])
+
+    def joined(self, tables: Sequence[tuple[int, str]], condition: str) -> Iterator[tuple[int, ...]]:
+        stored = self.stored[0]
+        stored.load((1 << len(self.parts.rows)) - 1)
+        known = {(row.table, stored.rowid(at)): at for at, row in enumerate(self.parts.rows)}
+        names = [quoted(held.table.name) for held in self.material.pool.held]
+        ids = ", ".join(f"{quoted(alias)}.{stored.aliases[table][1]}" for table, alias in tables)
+        begin = ", ".join(f"{names[table]} AS {quoted(alias)}" for table, alias in tables)
+        with stored.strictly():
+            try:
+                cursor = stored.db.execute(f"SELECT {ids} FROM {begin}" + (f" WHERE {condition}" if condition else ""))
+            except sqlite3.Error as fault:
+                raise ValueError(str(fault)) from None
+        for line in cursor:
+            yield tuple(known[table, rowid] for (table, _), rowid in zip(tables, line))
+
+    def close(self) -> None:
+        for stored in self.stored:
+            stored.close()
+
+
+def told(failure: str, text: str) -> tuple[str, int | None]:
+    """A message of SQLite with the place that it names by what stands there."""
+    near = re.match(r'near "(.*)": syntax error\Z', failure, re.DOTALL)
+    named = re.match(r"(?:no such (?:column|table|function)|ambiguous column name): (.*)\Z", failure, re.DOTALL)
+    wanted = near or named
+    place = None
+    if wanted:
+        word = wanted[1].split(".")[-1].lower()
+        found = [token.start for token in tokens(text) if token.text.lower() == word or token.name.lower() == word]
+        place = found[0] if len(found) == 1 else None
+    return failure, place
+
+
+# Words before a rule that can't stand in the table that is stored the other way round.
+WORD = re.compile(r"""(?P<gap>\s+|--[^\n]*|/\*.*?\*/)|(?P<text>'(?:[^']|'')*')|(?P<name>"(?:[^"]|"")*"|`(?:[^`]|``)*`|\[[^\]]*\])
+    |(?P<word>[^\W\d]\w*)|(?P<number>\d[\w.]*)|(?P<other>.)""", re.VERBOSE | re.DOTALL)
+
+
+def words(statement: str) -> list[tuple[str, str]]:
+    return [(match.lastgroup or "", match[0]) for match in WORD.finditer(statement)]
+
+
+def with_rowid(statement: str) -> str:
+    """The statement without WITHOUT ROWID, since rows are known by their rowid."""
+    return re.sub(r"(?is)\bWITHOUT\s+ROWID\b\s*,?(?=[^)]*\Z)", "", statement).rstrip(" \t\r\n,")
+
+
+def turned(statement: str) -> str:
+    """The statement of a table that stores its rows the other way round: no column is the rowid (INT for
+    INTEGER), keys of several columns and primary keys go down, and a UNIQUE at a column is left out; the rows
+    meet it."""
+    found = words(with_rowid(statement))
+    made: list[str] = []
+    solid = [at for at, (kind, _) in enumerate(found) if kind != "gap"]
+    after = {at: [found[later][1].upper() for later in solid if later > at][:2] for at in solid}
+    before = ""
+    depth, key_depth, in_key = 0, -1, False
+    for at, (kind, text) in enumerate(found):
+        word = text.upper() if kind == "word" else text
+        if kind == "gap":
+            made.append(text)
+            continue
+        if kind == "word" and word == "INTEGER":
+            text = "INT"
+        elif kind == "word" and word == "AUTOINCREMENT":
+            text = ""
+        elif kind == "word" and word in ("ASC", "DESC") and (in_key or before == "KEY"):
+            text = ""
+        elif kind == "word" and word == "UNIQUE":
+            if after[at][:1] == ["("]:
+                in_key, key_depth = True, depth
+            else:
+                text = unnamed(made)
+        elif kind == "word" and word == "KEY" and before == "PRIMARY":
+            if after[at][:1] == ["("]:
+                in_key, key_depth = True, depth
+            else:
+                text += " DESC"
+        elif text == "(":
+            depth += 1
+        elif text in (",", ")") and in_key and depth == key_depth + 1:
+            text = f" DESC{text}"
+        if text.endswith(")"):
+            depth -= 1
+            in_key = in_key and depth > key_depth
+        made.append(text)
+        before = word
+    return without_conflict("".join(made))
+
+
+def unnamed(made: list[str]) -> str:
+    """Takes away CONSTRAINT NAME before a rule that is left out."""
+    solid = [at for at, text in enumerate(made) if text.strip() and not text.startswith(("--", "/*"))]
+    if len(solid) > 1 and made[solid[-2]].upper() == "CONSTRAINT":
+        made[solid[-2]] = made[solid[-1]] = ""
+    return ""
+
+
+def without_conflict(statement: str) -> str:
+    return re.sub(r"(?i)\bON\s+CONFLICT\s+(ROLLBACK|ABORT|FAIL|IGNORE|REPLACE)\b", "", statement)
+
+
+def quoted_text(text: str) -> str:
+    return "'" + text.replace("'", "''") + "'"

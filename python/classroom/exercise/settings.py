@@ -1,0 +1,162 @@
+"""The file `exercise.toml` of an exercise: read whole, each key checked, before anything is done."""
+from __future__ import annotations
+
+import math
+import tomllib
+from collections.abc import Callable, Iterable, Mapping
+from dataclasses import dataclass, field, fields
+from datetime import datetime
+from pathlib import Path, PurePosixPath
+from typing import Any
+
+from classroom.base import files as reading
+from classroom.base.errors import Fault, shown
+
+FILE = "exercise.toml"
+MOST_BYTES = 1_000_000
+# Keys that are read and checked, and whose effect is still to come.
+WITHOUT_EFFECT: tuple[str, ...] = ()
+
+
+@dataclass(frozen=True)
+class TaskSettings:
+    """The keys of one task."""
+
+    title: str = ""
+    points: float = 1                    # of a right answer
+    question: str = "question.txt"       # a file in the folder of the task
+
+
+@dataclass(frozen=True)
+class Settings:
+    """The keys of an exercise; None where one is not said and has no value of its own."""
+
+    title: str = ""
+    time: float | None = None            # seconds for an answer
+    work: int | None = None
+    conflicts: int | None = None
+    engine: str | None = None            # "sqlite", or the connection of a scratch database
+    engine_asker: str = ""               # the connection of the role that only reads
+    tried: str = "right"
+    duplicates: str = "report"
+    order: str = "report"
+    students: str = "class/students.csv"
+    hints: int = 2                       # the highest step
+    hints_from: datetime | None = None   # moments have a zone
+    opens: datetime | None = None
+    closes: datetime | None = None
+    after_close: str = "nothing"
+    task: Mapping[str, TaskSettings] = field(default_factory=dict)    # by the names of tasks
+    said: frozenset[str] = frozenset()   # the keys that the file has
+
+    def of_task(self, name: str) -> TaskSettings:
+        return self.task.get(name, TaskSettings())
+
+    @property
+    def without_effect(self) -> list[str]:
+        """The keys in the file that nothing heeds yet."""
+        return [key for key in WITHOUT_EFFECT if key in self.said]
+
+
+def read(folder: Path, tasks: Iterable[str]) -> Settings:
+    """The settings of the exercise in a folder that has these tasks; a Fault names the key that is wrong."""
+    path = folder / FILE
+    text = reading.bounded(path, MOST_BYTES)
+    if text is None:
+        return Settings()
+    try:
+        return settings_of(tomllib.loads(text.decode()), tasks)
+    except UnicodeDecodeError:
+        raise Fault(f"{shown(str(path))}: not UTF-8") from None
+    except tomllib.TOMLDecodeError as fault:
+        raise Fault(f"{shown(str(path))}: {shown(str(fault))}") from None
+    except Fault as fault:
+        raise Fault(f"{shown(str(path))}: {fault}") from None
+
+
+def settings_of(found: Mapping[str, Any], tasks: Iterable[str]) -> Settings:
+    """The settings of what a file says."""
+    values = checked(found, {**EXERCISE, "task": table}, "")
+    names = set(tasks)
+    made = {}
+    for name, said in values.pop("task", {}).items():
+        key = f"task.{name}"
+        if name not in names:
+            raise Fault(f"{shown(key)}: there is no task {shown(name)}")
+        made[name] = TaskSettings(**checked(table(said, key), TASK, f"{key}."))
+    settings = Settings(**values, task=made, said=frozenset(found))
+    if settings.opens and settings.closes and settings.closes <= settings.opens:
+        raise Fault("closes: it closes before it opens")
+    return settings
+
+
+def checked(found: Mapping[str, Any], known: Mapping[str, Callable[[Any, str], Any]], prefix: str) -> dict[str, Any]:
+    values = {}
+    for key, value in found.items():
+        if key not in known:
+            raise Fault(f"{shown(prefix + key)}: there is no such key")
+        values[key] = known[key](value, prefix + key)
+    return values
+
+
+def table(value: Any, key: str) -> Mapping[str, Any]:
+    if not isinstance(value, dict):
+        raise Fault(f"{shown(key)}: a table is wanted")
+    return value
+
+
+def text(value: Any, key: str) -> str:
+    if not isinstance(value, str):
+        raise Fault(f"{shown(key)}: a text is wanted")
+    return value
+
+
+def one_of(*choices: str) -> Callable[[Any, str], str]:
+    def check(value: Any, key: str) -> str:
+        if value not in choices or not isinstance(value, str):
+            raise Fault(f"{shown(key)}: {' or '.join(map(repr, choices)).replace(chr(39), chr(34))} is wanted")
+        return value
+    return check
+
+
+def whole(least: int, most: int) -> Callable[[Any, str], int]:
+    def check(value: Any, key: str) -> int:
+        if type(value) is not int or not least <= value <= most:
+            raise Fault(f"{shown(key)}: a whole number from {least} to {most} is wanted")
+        return value
+    return check
+
+
+def number(least: float, most: float, noun: str) -> Callable[[Any, str], float]:
+    def check(value: Any, key: str) -> float:
+        if type(value) not in (int, float) or not math.isfinite(value) or not least <= value <= most:
+            raise Fault(f"{shown(key)}: {noun} from {least:g} to {most:g} is wanted")
+        return value    # type: ignore[no-any-return]
+    return check
+
+
+def moment(value: Any, key: str) -> datetime:
+    if not isinstance(value, datetime) or value.tzinfo is None:
+        raise Fault(f"{shown(key)}: a moment with its zone is wanted, as 2026-11-20T08:00:00+01:00")
+    return value
+
+
+def path(value: Any, key: str) -> str:
+    """Of a file below the folder: it names nothing outside of it."""
+    said = PurePosixPath(text(value, key))
+    if not said.parts or said.is_absolute() or ".." in said.parts or "\0" in str(said):
+        raise Fault(f"{shown(key)}: a path below the folder is wanted")
+    return str(said)
+
+
+MOST = 10**18 - 1
+EXERCISE: dict[str, Callable[[Any, str], Any]] = {
+    "title": text, "time": number(0.001, 1e6, "a number of seconds"), "work": whole(1, MOST), "conflicts": whole(1, MOST),
+    "engine": text, "engine_asker": text, "tried": one_of("right", "by hand"),
+    "duplicates": one_of("ignore", "report", "wrong"), "order": one_of("ignore", "report", "wrong"), "students": path,
+    "hints": whole(0, 3), "hints_from": moment, "opens": moment, "closes": moment,
+    "after_close": one_of("reference", "nothing")}
+TASK: dict[str, Callable[[Any, str], Any]] = {
+    "title": text, "points": number(0, 1e6, "a number"), "question": path}
+assert {*EXERCISE, "task", "said"} == {one.name for one in fields(Settings)}
+assert set(TASK) == {one.name for one in fields(TaskSettings)}

@@ -1,0 +1,4 @@
+"""How many points a student has.
+
+For others: `gradebook`, `matrix`.
+"""

@@ -1,0 +1,65 @@
+"""Who has which points: the students of a class against its tasks.
+
+Students are those of the class list, in its order, and then those who answered and are not in it, by name. Where there
+is no list each name of an answer is a student.
+"""
+from __future__ import annotations
+
+import csv
+import io
+from collections.abc import Sequence
+from dataclasses import dataclass
+
+from classroom.exercise.exercise import Exercise
+from classroom.grading.grades import Graded, number, safe
+from classroom.people.roster import ClassList, Student
+
+BY_HAND = "by hand"
+
+
+@dataclass(frozen=True)
+class Standing:
+    """A student with the answer to each task; None where none was handed in."""
+
+    student: Student
+    answers: tuple[Graded | None, ...]
+
+    @property
+    def points(self) -> float:
+        """Of the answers that have a score."""
+        return sum(of.points for of in self.answers if of and of.points is not None)
+
+    @property
+    def open(self) -> int:
+        """How many answers are to be graded by hand."""
+        return sum(of is not None and of.points is None for of in self.answers)
+
+
+def standings(given: Exercise, graded: Sequence[Graded], listed: ClassList) -> list[Standing]:
+    by_name: dict[str, dict[str, Graded]] = {}
+    for of in graded:
+        by_name.setdefault(of.answer.label, {})[of.task.name] = of
+    others = [Student(name, name) for name in by_name if name not in listed.by_id]
+    return [Standing(student, tuple(by_name.get(student.id, {}).get(task.name) for task in given.tasks))
+            for student in (*listed.students, *others)]
+
+
+def most_points(given: Exercise) -> float:
+    return sum(task.settings.points for task in given.tasks)
+
+
+def cell(of: Graded | None) -> str:
+    """The points of an answer; BY_HAND where it has no score, nothing where there is none."""
+    if of is None:
+        return ""
+    return BY_HAND if of.points is None else number(of.points)
+
+
+def class_csv(given: Exercise, found: Sequence[Standing]) -> bytes:
+    """A line a student: id, name, a column a task, the points in all, and how many answers are still open."""
+    text = io.StringIO(newline="")
+    lines = csv.writer(text, lineterminator="\n")
+    lines.writerow(["id", "name", *(safe(task.label) for task in given.tasks), "points", "open"])
+    for of in found:
+        lines.writerow([safe(of.student.id), safe(of.student.name), *map(cell, of.answers), number(of.points), of.open])
+    return text.getvalue().encode("utf-8", "replace")

@@ -1,0 +1,4 @@
+"""Who the students of a class are.
+
+For others: `roster`.
+"""

@@ -1,0 +1,155 @@
+"""What a trial came to, typed, and as JSON."""
+from __future__ import annotations
+
+from collections.abc import Sequence
+from dataclasses import dataclass, field
+from typing import Any, NamedTuple, Union
+
+from classroom.exercise.cells import Cells, cells, encoded
+
+# By what it is known that no smaller part differs: all lawful parts were tried; all that the queries' joins
+# tell apart; each row is needed; or nothing, since the time ended before.
+ALL, JOINS, EACH, NOTHING = LEASTS = ("all", "joins", "each", "nothing")
+
+
+class WitnessRow(NamedTuple):
+    """A row of a witness."""
+
+    table: str
+    number: int    # in its table's file, from 1
+    cells: Cells
+
+
+class Line(NamedTuple):
+    """A row of the answers with how often each query returns it."""
+
+    cells: Cells
+    reference: int
+    answer: int
+
+
+@dataclass(frozen=True)
+class Side:
+    """One query's answer on a witness."""
+
+    columns: int
+    lines: tuple[Cells, ...]    # in the order in which they came
+    failure: str = ""
+
+
+class Shown(NamedTuple):
+    """A table of a witness."""
+
+    name: str
+    columns: tuple[str, ...]
+    statement: str    # CREATE TABLE
+
+
+@dataclass(frozen=True)
+class Differs:
+    """The queries answer differently on some rows."""
+
+    difference: str           # one of comparison.KINDS
+    kept: tuple[WitnessRow, ...]
+    reference: Side
+    answer: Side
+    lines: tuple[Line, ...]   # the rows of both answers, each once
+    least: str                # one of LEASTS
+    parts: int                # how many smaller parts were tried for that
+    tables: tuple[Shown, ...] = ()    # of the rows, and those that the queries read
+
+
+@dataclass(frozen=True)
+class NoDifference:
+    """No part of the rows was found on which they answer differently."""
+
+    lawful: int      # where all lawful parts were tried, how many; else 0
+    random: int      # how many random parts were tried
+    below: int       # all parts of fewer rows than that were tried
+    joins: bool      # of those only what the queries' joins tell apart
+
+
+@dataclass(frozen=True)
+class NotDetermined:
+    """What a query returns depends on the order in which the rows are stored."""
+
+    reference: bool
+    answer: bool
+
+
+@dataclass(frozen=True)
+class WrongSql:
+    """The engine refuses a query over the schema."""
+
+    is_reference: bool
+    message: str
+    place: int | None = None    # the character of the text, from 0
+
+
+@dataclass(frozen=True)
+class Barred:
+    """A query is not run, since it does something else than to read the rows."""
+
+    is_reference: bool
+    message: str
+
+
+@dataclass(frozen=True)
+class Passed:
+    """A limit that a query passed."""
+
+    is_reference: bool
+    limit: str    # time, memory, rows or size of a value
+
+
+Outcome = Union[Differs, NoDifference, NotDetermined, WrongSql, Barred, Passed]
+
+
+@dataclass(frozen=True)
+class Remark:
+    """What differs in duplicates or order alone; of queries that are known to agree also what differs at all."""
+
+    difference: str            # of comparison.KINDS
+    line: Line | None = None   # of duplicates, one row
+
+
+@dataclass(frozen=True)
+class Verdict:
+    """An outcome with the engine that it comes from."""
+
+    engine: str                # as `sqlite 3.40.1`
+    outcome: Outcome
+    remarks: tuple[Remark, ...] = field(default=())
+
+
+def to_json(verdict: Verdict) -> dict[str, Any]:
+    return {"engine": verdict.engine, "kind": type(verdict.outcome).__name__,
+            "outcome": encoded(verdict.outcome), "remarks": [encoded(of) for of in verdict.remarks]}
+
+
+
+
+
+def line(value: Sequence[Any]) -> Line:
+    return Line(cells(value[0]), int(value[1]), int(value[2]))
+
+
+def side(value: dict[str, Any]) -> Side:
+    return Side(int(value["columns"]), tuple(map(cells, value["lines"])), str(value["failure"]))
+
+
+def from_json(text: dict[str, Any]) -> Verdict:
+    """The verdict of a child; ValueError, KeyError or TypeError where it is none."""
+    kind, of = text["kind"], text["outcome"]
+    outcome: Outcome
+    if kind == "Differs":
+        outcome = Differs(
+            str(of["difference"]), tuple(WitnessRow(str(table), int(number), cells(values)) for table, number, values in of["kept"]),
+            side(of["reference"]), side(of["answer"]), tuple(map(line, of["lines"])), str(of["least"]), int(of["parts"]), tuple(
+                Shown(str(name), tuple(map(str, columns)), str(statement)) for name, columns, statement in of["tables"]))
+    else:
+        plain = {"NoDifference": NoDifference, "NotDetermined": NotDetermined, "WrongSql": WrongSql, "Barred": Barred,
+                 "Passed": Passed}
+        outcome = plain[kind](**of)
+    return Verdict(str(text["engine"]), outcome, tuple(
+        Remark(str(one["difference"]), line(one["line"]) if one["line"] else None) for one in text["remarks"]))

@@ -1,0 +1,116 @@
+"""What one student is told: for each task the own text, its verdict, and the rows on which it goes wrong.
+
+No other student's name or text is in it, and nothing of the reference but what it answers on the rows that are shown;
+its text only where that is asked for.
+"""
+from __future__ import annotations
+
+from collections.abc import Mapping, Sequence
+from dataclasses import dataclass
+
+from classroom.views import for_teacher as classpage
+from classroom.grading import grades
+from classroom.marks import gradebook as standing
+from classroom.views.draw import Drawing, counted
+from classroom.exercise.exercise import Exercise, Task
+from classroom.grading.grades import Grade, Graded
+from classroom.hints import steps_shown as steps
+from classroom.hints.mistake import Mistake
+from classroom.marks.gradebook import Standing
+from ratest.places import Place
+
+NOTHING = "nothing was handed in"
+TOLD = {
+    Grade.AGREES: "Your query and the reference answer alike on every part of the exercise’s rows that meets the schema.",
+    Grade.NO_DIFFERENCE: "No rows were found on which your query and the reference answer differently.",
+    Grade.NOT_DETERMINED: "What a query returns depends on the order in which the rows are stored, so it is graded by hand.",
+    Grade.DIFFERS: "On these of the exercise’s rows your query and the reference answer differently. On fewer of them they don’t.",
+    Grade.WRONG_SQL: "A database refuses it, too.",
+    Grade.NOT_READ: "It is graded by hand.",
+    Grade.NO_VERDICT: "No verdict was found within the limits, so it is graded by hand.",
+    Grade.NOT_GRADED: "The answers to this task are graded by hand.",
+}
+FEWER = "On these of the exercise’s rows your query and the reference answer differently. Fewer may do."
+COLUMNS = "The two queries have other numbers of columns."
+
+
+@dataclass(frozen=True)
+class Part:
+    """An answer to a task; without a text where none was handed in."""
+
+    title: str
+    kind: str               # of the style sheet
+    words: str              # the verdict
+    told: str               # what it means
+    points: str             # as `1 of 2`, or that it is graded by hand
+    most: float             # the points that it may have
+    text: str | None
+    drawing: Drawing | None
+    reference: str | None   # None where it is not shown
+    hints: tuple[Hint, ...] = ()
+
+
+@dataclass(frozen=True)
+class Hint:
+    """One step of where the mistake is, which a page shows when it is opened."""
+
+    text: str
+    place: Place | None
+
+
+@dataclass(frozen=True)
+class Sheet:
+    """All that one student gets."""
+
+    id: str
+    title: str      # of the exercise
+    name: str
+    points: str
+    parts: tuple[Part, ...]
+
+    @property
+    def summary(self) -> str:
+        return self.points
+
+
+def sheet(given: Exercise, of: Standing, shows_references: bool, mistakes: Mapping[str, Mistake] = {}) -> Sheet:
+    """`mistakes` are those of answers, by the keys of their records."""
+    parts = tuple(part(given, task, answer, shows_references, mistakes) for task, answer in zip(given.tasks, of.answers))
+    return Sheet(of.student.id, given.title, of.student.name, points_of(given, of), parts)
+
+
+def points_of(given: Exercise, of: Standing) -> str:
+    """As `3 of 5 points, 1 answer still to be graded by hand`."""
+    said = f"{grades.number(of.points)} of {grades.number(standing.most_points(given))} points"
+    return f"{said}, {counted(of.open, 'answer')} still to be graded by hand" if of.open else said
+
+
+def part(given: Exercise, task: Task, of: Graded | None, shows_references: bool, mistakes: Mapping[str, Mistake] = {}) -> Part:
+    reference = classpage.text_of(task.reference) if shows_references else None
+    most = grades.number(task.settings.points)
+    if of is None:
+        return Part(task.title, "none", NOTHING, "", f"0 of {most}", task.settings.points, None, None, reference)
+    points = standing.BY_HAND if of.points is None else f"{grades.number(of.points)} of {most}"
+    return Part(task.title, classpage.css(of), classpage.words(of, False), told(of), points, task.settings.points,
+                classpage.text_of(of.answer.text.whole), classpage.drawing_of(of, given.tables), reference, hints(given, of, mistakes))
+
+
+def hints(given: Exercise, of: Graded, mistakes: Mapping[str, Mistake]) -> tuple[Hint, ...]:
+    text = of.answer.text.query.decode("utf-8", "replace")
+    return tuple(Hint(step.text, steps.place_of(step, text)) for step in steps.told(mistakes.get(of.record), given.settings))
+
+
+def told(of: Graded) -> str:
+    """What the verdict means, in words to the student."""
+    slight = "".join(f" It {remark.split('; ', 1)[1]}." for remark in of.remarks if "as a set; " in remark)
+    if of.trial and of.is_tried:
+        return f"{classpage.told_of_trial(of.trial)}{slight}"
+    if of.grade == Grade.AGREES and slight:
+        return f"{TOLD[Grade.AGREES]}{slight}"
+    if grades.OTHER_COLUMNS in of.remarks:
+        return COLUMNS
+    return FEWER if grades.PERHAPS_FEWER in of.remarks else TOLD[of.grade]
+
+
+def sheets(given: Exercise, found: Sequence[Standing], shows_references: bool) -> list[Sheet]:
+    return [sheet(given, of, shows_references) for of in found]

@@ -1,0 +1,283 @@
+"""The pages, as an application of Flask: the exercises of a course, a form with the query and below it the answer.
+
+Everything works without a script; those that there are keep the page while the answer is looked for, and make an
+editor of the field. No page asks for anything from elsewhere, which the Content-Security-Policy tells the browser too.
+"""
+from __future__ import annotations
+
+from dataclasses import dataclass, replace
+from pathlib import Path
+from typing import NamedTuple
+
+import flask
+from werkzeug.exceptions import Forbidden, HTTPException, NotFound, Unauthorized
+
+from classroom.views import draw
+from classroom.exercise.exercise import Answer as SubmittedAnswer
+from classroom.exercise.exercise import Task
+from classroom.grading.grades import graded, with_trial
+from classroom.hints.target import looked
+from classroom.web import codemirror as editor
+from classroom.web.about import About
+from classroom.views.answer import REST, Answer, answer_of
+from classroom.web.questions import Question
+from classroom.web.ask import MOST_BYTES, Answered, is_mistake, shows_rows
+from classroom.web.course import Course, Served
+from classroom.web.hand_ins import Receipt
+from classroom.web.health import health
+from classroom.web.hint_buttons import BUTTONS, Hinted, shown
+from classroom.web.hint_buttons import REST as NO_MORE
+from classroom.web.served_exercise import Offered
+from classroom.web.visitors import Visitor, Visitors
+from classroom.web.queue import Busy
+from classroom.sql.clean import Text as Submitted
+from classroom.web.login import Behind, Front, login, network
+
+# A form in which every byte of a query takes three.
+MOST_FORM = 4 * MOST_BYTES
+COOKIE = "visitor"
+HEADERS = {
+    "X-Content-Type-Options": "nosniff",
+    "Referrer-Policy": "no-referrer",
+    "Cross-Origin-Opener-Policy": "same-origin",
+    "Cross-Origin-Resource-Policy": "same-origin",
+    "Cache-Control": "no-store",
+}
+POLICY = ("default-src 'none'; style-src 'self'; script-src 'self'; connect-src 'self'; "
+          "img-src 'self' data:; form-action 'self'; base-uri 'none'; frame-ancestors {}")
+
+
+@dataclass(frozen=True)
+class Showing:
+    """What students are shown, and where."""
+
+    only_verdict: bool = False
+    frame_ancestors: tuple[str, ...] = ()    # the sites in whose frames the page stands; none where it stands alone
+
+    @property
+    def is_framed(self) -> bool:
+        return bool(self.frame_ancestors)
+
+    def headers(self) -> dict[str, str]:
+        if self.is_framed:
+            return {**HEADERS, "Content-Security-Policy": POLICY.format(" ".join(self.frame_ancestors)),
+                    "Cross-Origin-Resource-Policy": "cross-origin"}
+        return {**HEADERS, "Content-Security-Policy": POLICY.format("'none'"), "X-Frame-Options": "DENY"}
+
+
+class View(NamedTuple):
+    """What the page of an exercise shows beside it."""
+
+    chosen: str = ""
+    text: str = ""
+    fault: str = ""
+    answer: Answer | None = None
+    receipt: Receipt | None = None
+    hinted: Hinted | None = None    # None where no hint may be asked for
+
+
+@dataclass(frozen=True)
+class Page:
+    """The page of an exercise."""
+
+    served: Served
+    view: View
+    visitor: Visitor
+    course: Course
+    top: str            # the way to the top of the course, for links
+    state: str          # before, open or after
+    has_editor: bool
+
+    @property
+    def title(self) -> str:
+        return self.served.material.title
+
+    @property
+    def may_hand_in(self) -> bool:
+        return bool(self.served.hand_ins and self.visitor.login) and self.state == "open"
+
+
+class Pages:
+    """The page for each request."""
+
+    def __init__(self, course: Course, visitors: Visitors, front: Front, showing: Showing, about: About) -> None:
+        self.course = course
+        self.visitors = visitors
+        self.front = front
+        self.showing = showing
+        self.about_page = about
+        environment = draw.environment()
+        self.templates = {name: environment.get_template(f"{name}.html") for name in ("ask", "course", "about")}
+        self.style = f"{environment.globals['style']}{(draw.TEMPLATES / 'ask.css').read_text(encoding='utf-8')}"
+        self.scripts = {name: (draw.TEMPLATES / name).read_text(encoding="utf-8") for name in ("ask.js", "editor.js")}
+
+    # ---- who asks
+
+    def visitor(self) -> Visitor:
+        """Who sent the request; Unauthorized where a login is wanted and there is none."""
+        request = flask.request
+        name = login(request.environ, self.front)
+        if self.front.user_header and not name:
+            raise Unauthorized
+        found: Visitor = self.visitors.visitor(request.cookies.get(COOKIE, ""), network(request.remote_addr or ""), name)
+        return found
+
+    def with_cookie(self, response: flask.Response, visitor: Visitor) -> flask.Response:
+        if visitor.cookie:
+            if self.showing.is_framed:
+                # Werkzeug can't write the last word, by which a browser keeps the cookie to the platform around.
+                response.headers.add("Set-Cookie", f"{COOKIE}={visitor.cookie}; Path=/; HttpOnly; Secure; SameSite=None; Partitioned")
+            else:
+                response.set_cookie(COOKIE, visitor.cookie, httponly=True, samesite="Strict", secure=flask.request.is_secure)
+        return response
+
+    # ---- pages
+
+    def top(self) -> flask.Response:
+        """The course; or the exercise that it is."""
+        only = self.course.named("")
+        if only:
+            return self.form("")
+        visitor = self.visitor()
+        states = [(one, one.material.window.state()) for one in self.course.served]
+        text = self.templates["course"].render(page=self.course, exercises=states)
+        return self.with_cookie(flask.Response(text.encode("utf-8", "replace")), visitor)
+
+    def served(self, name: str) -> Served:
+        found = self.course.named(name)
+        if found is None:
+            raise NotFound
+        return found
+
+    def form(self, name: str) -> flask.Response:
+        visitor = self.visitor()
+        return self.with_cookie(self.page(self.served(name), visitor), visitor)
+
+    def page(self, served: Served, visitor: Visitor, status: int = 200, view: View = View()) -> flask.Response:
+        page = Page(served, view, visitor, self.course, "../../" if served.name else "", served.material.window.state(),
+                    editor.is_there())
+        return flask.Response(self.templates["ask"].render(page=page).encode("utf-8", "replace"), status)
+
+    def about(self) -> flask.Response:
+        text = self.templates["about"].render(page=self.about_page, course=self.course)
+        return flask.Response(text.encode("utf-8", "replace"))
+
+    def drawing(self, name: str) -> flask.Response:
+        served = self.served(name)
+        if served.material.drawing is None or served.material.window.state() == "before":
+            raise NotFound
+        return flask.Response(served.material.drawing, mimetype="image/svg+xml")
+
+    # ---- questions
+
+    def ask(self, name: str) -> flask.Response:
+        """The answer to the form that was sent."""
+        # A browser says so of a form that another site sends, with whatever login it holds: as a hand-in for somebody.
+        if flask.request.headers.get("Sec-Fetch-Site", "same-origin") not in ("same-origin", "none"):
+            raise Forbidden
+        visitor = self.visitor()
+        served = self.served(name)
+        # A form is sent with lines that end with two characters.
+        fields = {field: flask.request.form.get(field, "").replace("\r\n", "\n") for field in ("task", "query", "do", "step")}
+        task = served.material.task(fields["task"])
+        if task is None or served.material.window.state() == "before":
+            raise NotFound
+        text = fields["query"]
+        if len(text.encode("utf-8", "replace")) > MOST_BYTES:
+            return self.page(served, visitor, 413, View(task.name, "", f"The query has more than {MOST_BYTES} bytes."))
+        if fields["do"] == "hand in":
+            return self.hand_in(served, visitor, task, text)
+        try:
+            answered = served.asker.ask(task, text, visitor)
+            hinted = self.hinted(served, task, text, answered, visitor, fields["step"] if fields["do"] == "hint" else "")
+        except Busy:
+            busy = self.page(served, visitor, 503, View(task.name, text, "Too many ask at this moment. Ask again in a few seconds."))
+            busy.headers["Retry-After"] = "3"
+            return busy
+        if fields["do"] != "hint":
+            self.keep(served, task, text, answered)
+        answer = answer_of(answered.outcome, text, served.material.tables, served.asker.limits.seconds, self.hides(answered, visitor),
+                           answered.trial, served.material.settings)
+        return self.with_cookie(self.page(served, visitor, 200, View(task.name, text, "", answer, None, hinted)), visitor)
+
+    def hinted(self, served: Served, task: Offered, text: str, answered: Answered, visitor: Visitor, step: str) -> Hinted | None:
+        """What is shown of hints where this step is asked for, as a digit; none is where it is empty. Each counts as
+        a counterexample does."""
+        hinter = served.hinter
+        if hinter is None or self.showing.only_verdict or not hinter.is_open():
+            return None
+        how = looked(is_mistake(answered.outcome), answered.trial, served.material.settings)
+        if how is None or not hinter.knows(how):
+            return None
+        if step not in ("1", "2", "3"):
+            return Hinted(button=BUTTONS[0])
+        if not self.visitors.may_see(visitor, f"{answered.key} hint {step}"):
+            return Hinted((NO_MORE,))
+        return shown(hinter.steps(answered.key, task, text, visitor, how), int(step), text)
+
+    def keep(self, served: Served, task: Offered, text: str, answered: Answered) -> None:
+        query = text.encode("utf-8", "replace")
+        told = graded(Task(task.name, Path(), reference=b"", fault="its reference is refused" if task.is_tried else ""),
+                      SubmittedAnswer("", Submitted(query, query)), served.material.tables, answered.ran)
+        if answered.trial:
+            told = with_trial(told, answered.trial, served.material.settings)
+        served.log.keep(Question(answered.key, served.material.digest, task.digest, task.name, text, told.grade, answered.ran,
+                                 answered.trial))
+
+    def hides(self, answered: Answered, visitor: Visitor) -> str | None:
+        """What stands in place of a counterexample; None where it is shown."""
+        if self.showing.only_verdict:
+            return ""
+        if not shows_rows(answered.outcome, answered.trial) or self.visitors.may_see(visitor, answered.key):
+            return None
+        return REST
+
+    def hand_in(self, served: Served, visitor: Visitor, task: Offered, text: str) -> flask.Response:
+        """Keeps the text as the answer of a login, and shows the receipt."""
+        if served.hand_ins is None or not visitor.login:
+            raise NotFound
+        if served.material.window.state() != "open":
+            return self.page(served, visitor, 403, View(task.name, text, "It is too late to hand in."))
+        receipt = served.hand_ins.put(visitor.login, task.name, text)
+        return self.page(served, visitor, 200, View(task.name, text, receipt=receipt))
+
+    def fault(self, fault: HTTPException) -> flask.Response:
+        """A request that can't be answered, by its status alone."""
+        status = fault.code or 500
+        told = {401: "A login is wanted.", 403: "A form of another site is not read.", 404: "There is no such page or task.", 405: "This is not how the page is asked.",
+                413: f"The query has more than {MOST_BYTES} bytes."}.get(status, "This request can't be answered.")
+        text = self.templates["about"].render(page=replace(self.about_page, fault=told), course=self.course)
+        page = flask.Response(text.encode("utf-8", "replace"), status)
+        if status == 405:
+            page.headers["Allow"] = "GET, HEAD, POST"
+        return page
+
+
+def application(course: Course, visitors: Visitors, front: Front, showing: Showing, about: About) -> flask.Flask:
+    """The application over what it asks and what it keeps."""
+    pages = Pages(course, visitors, front, showing, about)
+    app = flask.Flask("classroom.server", static_folder=None, template_folder=None)
+    app.url_map.merge_slashes = False
+    app.config["MAX_CONTENT_LENGTH"] = MOST_FORM
+    app.add_url_rule("/", "top", pages.top, methods=["GET"])
+    app.add_url_rule("/e/<name>/", "form", pages.form, methods=["GET"])
+    app.add_url_rule("/relations.svg", "drawing of the only one", lambda: pages.drawing(""))
+    app.add_url_rule("/e/<name>/relations.svg", "drawing", pages.drawing)
+    app.add_url_rule("/", "ask the only one", lambda: pages.ask(""), methods=["POST"], provide_automatic_options=False)
+    app.add_url_rule("/e/<name>/", "ask", pages.ask, methods=["POST"], provide_automatic_options=False)
+    app.add_url_rule("/about", "about", pages.about)
+    app.add_url_rule("/health", "health", lambda: health(course))
+    app.add_url_rule("/ask.css", "style", lambda: flask.Response(pages.style, mimetype="text/css"))
+    for name, text in pages.scripts.items():
+        app.add_url_rule(f"/{name}", name, lambda text=text: flask.Response(text, mimetype="text/javascript"))
+    app.add_url_rule("/codemirror/<path:name>", "codemirror", editor.file)
+    app.register_error_handler(HTTPException, pages.fault)
+
+    @app.after_request
+    def safe(response: flask.Response) -> flask.Response:
+        for name, value in showing.headers().items():
+            response.headers.setdefault(name, value)
+        return response
+
+    app.wsgi_app = Behind(app.wsgi_app, front)  # type: ignore[assignment]
+    return app
