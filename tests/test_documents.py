@@ -405,8 +405,8 @@ def counts_of_testing() -> dict[str, int]:
         "tests of the crates": all_of(r"#\[test\]", sources),
         "programs with a stored run": len(list((TOP / "crates").glob("*/stdout"))),
         "tests of the tools": all_of(r"^def test_", tests.values())}
-    for folder in ("classroom", "trial", "repair", "library", "launcher", "install", "web", "hostile"):
-        found[f"`{folder}`"] = all_of(r"^def test_", (text for file, text in tests.items() if file.parent.name == folder))
+    for folder in ("classroom", "library", "launcher", "install", "web", "hostile"):
+        found[f"`{folder}`"] = all_of(r"^def test_", (text for file, text in tests.items() if (TOP / "tests" / folder) in file.parents))
     return found
 
 

@@ -1,14 +1,17 @@
-"""Types are checked by mypy, and scripts of the shell by shellcheck."""
+"""Types are checked by mypy, scripts of the shell by shellcheck, and the layers of `classroom` by its imports."""
 from __future__ import annotations
 
+import ast
 import os
 import shutil
 import subprocess
+from collections.abc import Iterator
 from pathlib import Path
 
 import pytest
 
 TESTS = Path(__file__).resolve().parent
+ROOMS = sorted(path.name for path in (TESTS / "classroom").iterdir() if path.is_dir() and path.name != "__pycache__")
 # The folder in which mypy runs, and what it checks there. Modules of these folders are found too.
 CHECKED = [
     ("python", ["classroom", "ratest"]),
@@ -17,7 +20,7 @@ CHECKED = [
     *((f"tests/{path.parent.name}", ["."]) for path in sorted(TESTS.glob("*/conftest.py"))),
     ("tools", ["web"]),
 ]
-FOUND = ("python", "tests", "tests/classroom", "tests/trial", "tools")
+FOUND = ("python", "tests", "tests/classroom", *(f"tests/classroom/{name}" for name in ROOMS), "tools")
 SCRIPTS = [".ci/run", "bench/classroom", "bench/run", "tests/mutants"]
 
 
@@ -38,3 +41,58 @@ def test_scripts(top: Path) -> None:
         pytest.skip("there is no shellcheck: apt-get install shellcheck")
     done = subprocess.run(["shellcheck", *SCRIPTS], cwd=top, capture_output=True, text=True, check=False)
     assert done.returncode == 0, done.stdout
+
+
+PACKAGE = TESTS.parent / "python/classroom"
+# A package imports from those of smaller numbers, and from itself.
+LAYERS = {
+    "base": 0,
+    "sql": 1,
+    "process": 1,
+    "people": 2,
+    "exercise": 2,
+    "verdict": 3,
+    "engines": 4,
+    "edits": 4,
+    "grading": 5,
+    "marks": 6,
+    "mutants": 6,
+    "hints": 6,
+    "views": 7,
+    "picking": 7,
+    "platforms": 8,
+    "web": 8,
+    "commands": 9,
+    "main": 10,
+}
+
+
+def imports(path: Path) -> Iterator[tuple[int, str]]:
+    """Which packages of `classroom` a module imports, in functions and for types too, with the lines."""
+    for node in ast.walk(ast.parse(path.read_text(encoding="utf-8"))):
+        if isinstance(node, ast.ImportFrom) and (node.module or "").startswith("classroom."):
+            yield node.lineno, (node.module or "").split(".")[1]
+        elif isinstance(node, ast.ImportFrom) and node.module == "classroom":
+            yield from ((node.lineno, name.name) for name in node.names)
+        elif isinstance(node, ast.Import):
+            yield from ((node.lineno, name.name.split(".")[1]) for name in node.names if name.name.startswith("classroom."))
+
+
+@pytest.mark.parametrize("path", sorted(PACKAGE.rglob("*.py")), ids=lambda path: str(path.relative_to(PACKAGE)))
+def test_layers(path: Path) -> None:
+    own = path.relative_to(PACKAGE).parts[0].removesuffix(".py")
+    for line, other in imports(path):
+        assert other == own or LAYERS[other] < LAYERS.get(own, 11), f"{path}:{line} imports {other}"
+
+
+def test_a_name_alone_finds_its_module() -> None:
+    found: dict[str, Path] = {}
+    for path in sorted(PACKAGE.rglob("*.py")):
+        if path.name != "__init__.py" and path.parent.name != "commands":
+            assert path.name not in found, f"{path} and {found[path.name]}"
+            found[path.name] = path
+
+
+@pytest.mark.parametrize("path", sorted(PACKAGE.rglob("*.py")), ids=lambda path: str(path.relative_to(PACKAGE)))
+def test_modules_are_small(path: Path) -> None:
+    assert len(path.read_text(encoding="utf-8").splitlines()) <= 400

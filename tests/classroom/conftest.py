@@ -11,9 +11,12 @@ from pathlib import Path
 import pytest
 
 TOP = Path(__file__).resolve().parents[2]
-sys.path[:0] = [str(TOP / "python")]
+HERE = Path(__file__).resolve().parent
+# The package, and the tests' own modules, a folder for each package of it.
+sys.path[:0] = [str(TOP / "python"), str(HERE), *(str(path) for path in sorted(HERE.iterdir()) if path.is_dir())]
 
 import products  # noqa: E402
+from roles import roles  # noqa: E402, F401
 
 
 @pytest.fixture(scope="session")

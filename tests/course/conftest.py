@@ -5,6 +5,6 @@ import sys
 from pathlib import Path
 
 TOP = Path(__file__).resolve().parents[2]
-sys.path[:0] = [str(TOP / "python"), str(TOP / "tests/classroom"), str(TOP / "tests/trial"), str(TOP / "tests/course")]
+sys.path[:0] = [str(TOP / "python"), str(TOP / "tests/classroom"), str(TOP / "tests/course")]
 
 from roles import roles  # noqa: E402, F401

@@ -7,7 +7,7 @@ from pathlib import Path
 
 import pytest
 
-PYTHON = Path(__file__).resolve().parents[2] / "python"
+PYTHON = Path(__file__).resolve().parents[3] / "python"
 LIBRARIES = ("flask", "itsdangerous", "jinja2", "limits", "markdown_it", "psycopg", "sqlglot", "tomlkit", "waitress")
 CODE = """
 import sys

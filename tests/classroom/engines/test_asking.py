@@ -119,7 +119,7 @@ def test_no_child_outlives_what_asked_it(child: None, tmp_path: Path) -> None:
     """Killed without a chance to say so."""
     place = tmp_path / "pid"
     wanted = f"wait {place}"
-    asks = (f"import sys; sys.path[:0] = {[str(TOP / 'python'), str(TOP / 'tests/trial')]!r}\nfrom pathlib import Path\n"
+    asks = (f"import sys; sys.path[:0] = {[str(TOP / 'python'), str(TOP / 'tests/classroom')]!r}\nfrom pathlib import Path\n"
             f"import shop\nfrom classroom.trial import asking\nasking.CHILD = Path({str(tmp_path / 'child.py')!r})\n"
             f"with asking.trier(shop.material(), asking.Options()) as made:\n    made.ask('-', {wanted!r})\n")
     process = subprocess.Popen([sys.executable, "-c", asks], env={**os.environ, "TMPDIR": str(tmp_path)})
