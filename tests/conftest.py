@@ -53,7 +53,13 @@ def browser() -> Iterator[Any]:
         pytest.skip("no chromium or chromedriver: apt-get install chromium chromium-driver")
     options = webdriver.ChromeOptions()
     options.binary_location = path
-    for word in ("--headless=new", "--no-sandbox", "--disable-gpu", "--hide-scrollbars", "--disable-dev-shm-usage"):
+    for word in (
+        "--headless=new",
+        "--no-sandbox",
+        "--disable-gpu",
+        "--hide-scrollbars",
+        "--disable-dev-shm-usage",
+    ):
         options.add_argument(word)
     service = __import__("selenium.webdriver.chrome.service", fromlist=["Service"]).Service(driver)
     opened = webdriver.Chrome(options=options, service=service)

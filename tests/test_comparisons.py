@@ -41,8 +41,11 @@ def compare(comparison: Comparison, count: int = COUNT) -> None:
     assert outcomes["same"] >= count // 3, outcomes
 
 
-@pytest.mark.parametrize("comparison", [BySqlite(), Grades(), Rows(), AlgebraTexts(), Certificates(), Broken()],
-                         ids=["sqlite", "grades", "rows", "algebra", "certificates", "broken"])
+@pytest.mark.parametrize(
+    "comparison",
+    [BySqlite(), Grades(), Rows(), AlgebraTexts(), Certificates(), Broken()],
+    ids=["sqlite", "grades", "rows", "algebra", "certificates", "broken"],
+)
 def test_with_sqlite_and_one_another(comparison: Comparison) -> None:
     compare(comparison)
 
@@ -87,8 +90,14 @@ def always_agrees(tmp_path: Path, monkeypatch: pytest.MonkeyPatch) -> Iterator[N
 
 def test_a_wrong_program_is_told_with_a_small_case(always_agrees: None) -> None:
     comparison = BySqlite()
-    seed = next(seed for seed in range(100) if fails(comparison.difference, case_of(seed, comparison.limits)))
-    smallest = reduced(case_of(seed, comparison.limits), lambda case: fails(comparison.difference, case))
+    seed = next(
+        seed
+        for seed in range(100)
+        if fails(comparison.difference, case_of(seed, comparison.limits))
+    )
+    smallest = reduced(
+        case_of(seed, comparison.limits), lambda case: fails(comparison.difference, case)
+    )
     assert "witness: 1" in (comparison.difference(smallest) or "")
     assert sum(map(len, smallest.rows.values())) == 1
 

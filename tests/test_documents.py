@@ -14,8 +14,15 @@ import pytest
 from compare.steps import Step, clause, follows
 
 TOP = Path(__file__).resolve().parent.parent
-DOCUMENTS = sorted([TOP / "README.md", TOP / "CONTRIBUTING.md", TOP / "CHANGELOG.md", TOP / "tests/README.md",
-                    *(TOP / "docs").glob("*.md")])
+DOCUMENTS = sorted(
+    [
+        TOP / "README.md",
+        TOP / "CONTRIBUTING.md",
+        TOP / "CHANGELOG.md",
+        TOP / "tests/README.md",
+        *(TOP / "docs").glob("*.md"),
+    ]
+)
 NAMES = [str(it.relative_to(TOP)) for it in DOCUMENTS]
 
 BLOCK = re.compile(r"^```.*?^```\s*?$", re.DOTALL | re.MULTILINE)
@@ -74,7 +81,9 @@ def test_links_of_the_documents_lead_somewhere(name: str) -> None:
         target = (path.parent / file).resolve() if file else path
         assert target.exists(), f"{name}: {link}"
         if anchor:
-            assert target.suffix == ".md" and anchor in anchors(target), f"{name}: {link}: {sorted(anchors(target))}"
+            assert target.suffix == ".md" and anchor in anchors(
+                target
+            ), f"{name}: {link}: {sorted(anchors(target))}"
 
 
 @pytest.mark.parametrize("name", NAMES)
@@ -93,7 +102,11 @@ def test_readme_is_read_in_two_minutes() -> None:
 
 def test_readme_names_every_document() -> None:
     linked = {(TOP / link.partition("#")[0]).resolve() for link in links(TOP / "README.md")}
-    missing = [name for name, path in zip(NAMES, DOCUMENTS) if path not in linked and name not in ("README.md", "CHANGELOG.md")]
+    missing = [
+        name
+        for name, path in zip(NAMES, DOCUMENTS)
+        if path not in linked and name not in ("README.md", "CHANGELOG.md")
+    ]
     assert not missing
 
 
@@ -105,11 +118,20 @@ def test_statuses_of_the_readme_are_those_of_the_manual_pages() -> None:
     told = set()
     for name in ("ratest", "ratest_plus"):
         page = (TOP / "tools/manual" / f"{name}.txt").read_text(encoding="utf-8")
-        told |= set(re.findall(r"^  (\d+)  ", page.split("Exit status:")[1].split("Examples:")[0], re.MULTILINE))
+        told |= set(
+            re.findall(
+                r"^  (\d+)  ", page.split("Exit status:")[1].split("Examples:")[0], re.MULTILINE
+            )
+        )
     launcher = re.sub(r"\s+", " ", (TOP / "tools/manual/launcher.txt").read_text(encoding="utf-8"))
     own = launcher.split("Statuses of its own:")[1]
     told |= set(re.findall(r"\b\d\d\b|128 \+ N", own))
-    section = (TOP / "README.md").read_text(encoding="utf-8").split("## Exit statuses")[1].split("\n## ")[0]
+    section = (
+        (TOP / "README.md")
+        .read_text(encoding="utf-8")
+        .split("## Exit statuses")[1]
+        .split("\n## ")[0]
+    )
     assert told and statuses(section) == told
 
 
@@ -125,10 +147,20 @@ def test_every_crate_is_accounted_for(document: str) -> None:
 
 
 def test_limits_of_the_readme_are_those_of_the_definitions() -> None:
-    limits = re.search(r"^\|? ?Limits \|.*$", (TOP / "README.md").read_text(encoding="utf-8"), re.MULTILINE)
+    limits = re.search(
+        r"^\|? ?Limits \|.*$", (TOP / "README.md").read_text(encoding="utf-8"), re.MULTILINE
+    )
     assert limits
-    for file, name in (("rt_io/specs/Ranges", "most_work"), ("rt_io/specs/Ranges", "most_conflicts"), ("rt_io/specs/Command", "work_by_default")):
-        found = re.search(rf"^{name} = (\d+)$", (TOP / f"crates/{file}.antt").read_text(encoding="utf-8"), re.MULTILINE)
+    for file, name in (
+        ("rt_io/specs/Ranges", "most_work"),
+        ("rt_io/specs/Ranges", "most_conflicts"),
+        ("rt_io/specs/Command", "work_by_default"),
+    ):
+        found = re.search(
+            rf"^{name} = (\d+)$",
+            (TOP / f"crates/{file}.antt").read_text(encoding="utf-8"),
+            re.MULTILINE,
+        )
         assert found and f"{int(found[1]):,}" in limits[0], name
     held = (TOP / "crates/rt_input/specs/Held.antt").read_text(encoding="utf-8")
     assert f"most_bytes = {4 << 20}\n" in held and "4 MiB a file" in limits[0]
@@ -153,7 +185,10 @@ def test_definitions_that_the_readme_names_are_where_its_links_lead() -> None:
     for name, file in found:
         assert defines(TOP / file, name), (name, file)
     for call in set(re.findall(r"`(rt_\w+)::(\w+)`", text)):
-        sources = "".join(it.read_text(encoding="utf-8") for it in (TOP / "crates" / call[0] / "src").rglob("*.rt"))
+        sources = "".join(
+            it.read_text(encoding="utf-8")
+            for it in (TOP / "crates" / call[0] / "src").rglob("*.rt")
+        )
         assert re.search(rf"^\s*pub fn {call[1]}\b", sources, re.MULTILINE), call
 
 
@@ -178,8 +213,11 @@ def rows_of_definitions() -> list[Row]:
         linked = re.findall(r"\]\(\.\./([^)]*)\)", cells[1])
         crate, _, files = cells[1].rpartition(": ")
         among = [crate] if crate else of_section
-        paths = [TOP / it for it in linked] or [TOP / "crates" / it / "specs" / f"{file.strip()}.antt"
-                                               for it in among for file in files.split(",")]
+        paths = [TOP / it for it in linked] or [
+            TOP / "crates" / it / "specs" / f"{file.strip()}.antt"
+            for it in among
+            for file in files.split(",")
+        ]
         found.append(Row(names, tuple(paths)))
     return found
 
@@ -187,8 +225,13 @@ def rows_of_definitions() -> list[Row]:
 def test_definitions_are_where_the_page_says() -> None:
     rows = rows_of_definitions()
     assert len(rows) > 150
-    lost = [(name, row.files) for row in rows for name in row.names
-            if not any("src" in it.parts for it in row.files) and not any(defines(it, name) for it in row.files)]
+    lost = [
+        (name, row.files)
+        for row in rows
+        for name in row.names
+        if not any("src" in it.parts for it in row.files)
+        and not any(defines(it, name) for it in row.files)
+    ]
     assert not lost
 
 
@@ -198,16 +241,28 @@ def clauses_of_public_functions(crate: str) -> list[tuple[dict[str, str], str]]:
     if not (sources / "lib.rt").exists():
         return []
     lib = (sources / "lib.rt").read_text(encoding="utf-8")
-    public = set(re.findall(r"\w+", " ".join(re.findall(r"^pub (?:use|mod) ([^;]*);", lib, re.MULTILINE))))
+    public = set(
+        re.findall(r"\w+", " ".join(re.findall(r"^pub (?:use|mod) ([^;]*);", lib, re.MULTILINE)))
+    )
     found = []
     for file in sorted(sources.rglob("*.rt")):
         text = file.read_text(encoding="utf-8")
-        used = {name.split(" as ")[-1].strip(): name.split(" as ")[0].strip()
-                for module, names in re.findall(r"ghost use Rattle\.rt_\w+\.specs\.([\w.]+)\.\{([^}]*)\}", text)
-                if not module.startswith("declared") for name in names.split(",") if name.strip()}
-        has_type, has_trait = (bool(public & set(re.findall(rf"^pub (?:{kind}) (\w+)", text, re.MULTILINE)))
-                               for kind in ("struct|enum|trait", "trait"))
-        for indent, said, name, clauses in re.findall(r"^( *)(pub )?fn (\w+)(.*?)(?:^\1\{|;$)", text, re.DOTALL | re.MULTILINE):
+        used = {
+            name.split(" as ")[-1].strip(): name.split(" as ")[0].strip()
+            for module, names in re.findall(
+                r"ghost use Rattle\.rt_\w+\.specs\.([\w.]+)\.\{([^}]*)\}", text
+            )
+            if not module.startswith("declared")
+            for name in names.split(",")
+            if name.strip()
+        }
+        has_type, has_trait = (
+            bool(public & set(re.findall(rf"^pub (?:{kind}) (\w+)", text, re.MULTILINE)))
+            for kind in ("struct|enum|trait", "trait")
+        )
+        for indent, said, name, clauses in re.findall(
+            r"^( *)(pub )?fn (\w+)(.*?)(?:^\1\{|;$)", text, re.DOTALL | re.MULTILINE
+        ):
             if (has_trait or said and has_type) if indent else said and name in public:
                 found.append((used, re.sub(r"//.*", "", clauses)))
     return found
@@ -215,15 +270,24 @@ def clauses_of_public_functions(crate: str) -> list[tuple[dict[str, str], str]]:
 
 def test_every_definition_that_a_public_clause_cites_is_on_the_page() -> None:
     page = (TOP / "docs/DEFINITIONS.md").read_text(encoding="utf-8")
-    named = {name for quoted in re.findall(r"`([^`]+)`", page) for name in re.findall(r"\w+", quoted)}
-    cited = {used[word] for crate in crates() if not crate.endswith("_cases")
-             for used, clauses in clauses_of_public_functions(crate)
-             for word in re.findall(r"[A-Za-z_]\w*", clauses) if word in used}
+    named = {
+        name for quoted in re.findall(r"`([^`]+)`", page) for name in re.findall(r"\w+", quoted)
+    }
+    cited = {
+        used[word]
+        for crate in crates()
+        if not crate.endswith("_cases")
+        for used, clauses in clauses_of_public_functions(crate)
+        for word in re.findall(r"[A-Za-z_]\w*", clauses)
+        if word in used
+    }
     assert len(cited) > 280 and not sorted(cited - named)
 
 
 def entries_of_decisions() -> list[str]:
-    return re.findall(r"^\d+\. .*$", (TOP / "docs/DECISIONS.md").read_text(encoding="utf-8"), re.MULTILINE)
+    return re.findall(
+        r"^\d+\. .*$", (TOP / "docs/DECISIONS.md").read_text(encoding="utf-8"), re.MULTILINE
+    )
 
 
 def test_decisions_are_numbered_and_at_most_five_lines() -> None:
@@ -235,21 +299,34 @@ def test_decisions_are_numbered_and_at_most_five_lines() -> None:
 
 
 def test_tests_that_the_decisions_name_are_there() -> None:
-    table = (TOP / "docs/DECISIONS.md").read_text(encoding="utf-8").split("## Bugs that tests show")[1]
+    table = (
+        (TOP / "docs/DECISIONS.md").read_text(encoding="utf-8").split("## Bugs that tests show")[1]
+    )
     names = re.findall(r"`(\w+)`", table)
-    sources = "".join(it.read_text(encoding="utf-8") for it in (TOP / "crates").glob("rt_*_cases/src/**/*.rt"))
-    assert len(names) > 40 and not [name for name in names if not re.search(rf"\bfn {name}\b", sources)]
+    sources = "".join(
+        it.read_text(encoding="utf-8") for it in (TOP / "crates").glob("rt_*_cases/src/**/*.rt")
+    )
+    assert len(names) > 40 and not [
+        name for name in names if not re.search(rf"\bfn {name}\b", sources)
+    ]
 
 
 def refusals() -> list[tuple[str, str, str | None]]:
     """The guide's table of refused queries: what is written, what is printed, and what is to be written instead."""
-    section = (TOP / "docs/GUIDE.md").read_text(encoding="utf-8").split("## What is refused\n")[1].split("\n#")[0]
+    section = (
+        (TOP / "docs/GUIDE.md")
+        .read_text(encoding="utf-8")
+        .split("## What is refused\n")[1]
+        .split("\n#")[0]
+    )
     found = []
     for line in section.splitlines():
         cells = [QUOTED.findall(cell) for cell in line.split(" | ")]
         if line.startswith("| `"):
             instead = [it for it in cells[2] if it.startswith("SELECT")]
-            found.append((cells[0][0].replace("\\|", "|"), cells[1][0], instead[0] if instead else None))
+            found.append(
+                (cells[0][0].replace("\\|", "|"), cells[1][0], instead[0] if instead else None)
+            )
     return found
 
 
@@ -262,7 +339,9 @@ def test_refused_queries_of_the_guide(ratest: Path, tmp_path: Path) -> None:
         answer.write_text(written)
         words = [ratest, beers / "schema.sql", beers, beers / "3/reference.sql", answer]
         ran = subprocess.run(words, capture_output=True, text=True, check=False)
-        assert (ran.returncode, ran.stdout) == (3, "") and re.fullmatch(rf"ratest: (query 2|queries): {re.escape(said)}\n", ran.stderr), (written, ran.stderr)
+        assert (ran.returncode, ran.stdout) == (3, "") and re.fullmatch(
+            rf"ratest: (query 2|queries): {re.escape(said)}\n", ran.stderr
+        ), (written, ran.stderr)
         if instead:
             answer.write_text(instead)
             ran = subprocess.run(words, capture_output=True, text=True, check=False)
@@ -272,11 +351,21 @@ def test_refused_queries_of_the_guide(ratest: Path, tmp_path: Path) -> None:
 def test_commands_of_the_algebra_page(ratest_plus: Path, tmp_path: Path) -> None:
     (tmp_path / "examples").symlink_to(TOP / "examples")
     (tmp_path / "ratest_plus").symlink_to(ratest_plus)
-    blocks = re.findall(r"^```\n(\$ .*?)^```", (TOP / "docs/ALGEBRA.md").read_text(encoding="utf-8"), re.DOTALL | re.MULTILINE)
-    typed = [it for block in blocks for it in re.findall(r"^\$ ([^\n]*)\n((?:(?!\$ )[^\n]*\n)*)", block, re.MULTILINE)]
+    blocks = re.findall(
+        r"^```\n(\$ .*?)^```",
+        (TOP / "docs/ALGEBRA.md").read_text(encoding="utf-8"),
+        re.DOTALL | re.MULTILINE,
+    )
+    typed = [
+        it
+        for block in blocks
+        for it in re.findall(r"^\$ ([^\n]*)\n((?:(?!\$ )[^\n]*\n)*)", block, re.MULTILINE)
+    ]
     assert typed
     for command, printed in typed:
-        ran = subprocess.run(shlex.split(command), cwd=tmp_path, capture_output=True, text=True, check=False)
+        ran = subprocess.run(
+            shlex.split(command), cwd=tmp_path, capture_output=True, text=True, check=False
+        )
         assert ran.stdout == printed, command
 
 
@@ -288,13 +377,19 @@ def test_worked_conflict_of_the_architecture_follows() -> None:
     assert learned and len(lines) == 4
     hints = tuple(int(it) for it in learned.groups()[1:])
     assert follows(Step(clause(learned[1]), hints), lines)
-    assert not any(follows(Step(clause(learned[1]), hints[:at] + hints[at + 1:]), lines) for at in range(3))
+    assert not any(
+        follows(Step(clause(learned[1]), hints[:at] + hints[at + 1 :]), lines) for at in range(3)
+    )
 
 
 def table_rows(document: str, first: str) -> list[list[str]]:
     """The cells of the rows of a document's tables whose first cell begins so."""
     rows = (TOP / document).read_text(encoding="utf-8").splitlines()
-    return [[cell.strip() for cell in row.strip("|").split("|")] for row in rows if row.startswith(f"| {first}")]
+    return [
+        [cell.strip() for cell in row.strip("|").split("|")]
+        for row in rows
+        if row.startswith(f"| {first}")
+    ]
 
 
 @pytest.mark.parametrize("students", [100, 200, 400])
@@ -303,29 +398,46 @@ def test_counts_of_searches_are_those_of_measure(students: int) -> None:
     measure = Path(os.environ.get("MEASURE") or TOP / "crates/measure/out/measure")
     if not os.access(measure, os.X_OK):
         pytest.skip("measure is not proved and built")
-    ran = subprocess.run([measure, "made", str(students)], capture_output=True, text=True, check=True)
+    ran = subprocess.run(
+        [measure, "made", str(students)], capture_output=True, text=True, check=True
+    )
     counted = dict(re.findall(r"^(\w+) (\d+)$", ran.stdout, re.MULTILINE))
     row = table_rows("docs/PERFORMANCE.md", f"`made {students}` |")[0]
-    assert [it.replace(",", "") for it in row[2:5]] == [counted[it] for it in ("nodes", "clauses", "conflicts")]
+    assert [it.replace(",", "") for it in row[2:5]] == [
+        counted[it] for it in ("nodes", "clauses", "conflicts")
+    ]
 
 
 @pytest.mark.parametrize("students", [20, 400])
 def test_sizes_of_certificates_are_those_that_are_written(students: int, ratest_plus: Path) -> None:
-    ran = subprocess.run([ratest_plus, "prove", "made", str(students)], capture_output=True, text=True, check=True)
+    ran = subprocess.run(
+        [ratest_plus, "prove", "made", str(students)], capture_output=True, text=True, check=True
+    )
     row = table_rows("docs/PERFORMANCE.md", f"`made {students}` |")[-1]
-    assert [it.replace(",", "") for it in row[1:3]] == [str(len(ran.stdout)), str(ran.stdout.count("\nd "))]
+    assert [it.replace(",", "") for it in row[1:3]] == [
+        str(len(ran.stdout)),
+        str(ran.stdout.count("\nd ")),
+    ]
 
 
 def test_crates_that_the_documents_name_are_there() -> None:
     known = {it.name for it in (TOP / "crates").iterdir()}
     for path in DOCUMENTS:
-        named = {it for words in QUOTED.findall(text_of(path)) for it in re.findall(r"^(rt_[a-z_]+)(?:::\w+)?$", words)}
+        named = {
+            it
+            for words in QUOTED.findall(text_of(path))
+            for it in re.findall(r"^(rt_[a-z_]+)(?:::\w+)?$", words)
+        }
         assert named <= known, (path, named - known)
 
 
 def needed(crate: str) -> set[str]:
     """A crate and those below it."""
-    below = dict(line.split(":") for line in (TOP / "crates.txt").read_text(encoding="utf-8").splitlines() if line.strip())
+    below = dict(
+        line.split(":")
+        for line in (TOP / "crates.txt").read_text(encoding="utf-8").splitlines()
+        if line.strip()
+    )
     found: set[str] = set()
     left = [crate]
     while left:
@@ -337,7 +449,9 @@ def needed(crate: str) -> set[str]:
 
 
 def test_crates_of_a_build_are_counted() -> None:
-    assert f"with the {len(needed('ratest'))} crates that the program needs" in (TOP / "docs/PERFORMANCE.md").read_text(encoding="utf-8")
+    assert f"with the {len(needed('ratest'))} crates that the program needs" in (
+        TOP / "docs/PERFORMANCE.md"
+    ).read_text(encoding="utf-8")
 
 
 def test_readme_has_every_command() -> None:
@@ -354,25 +468,50 @@ def test_readme_has_every_command() -> None:
 def test_lines_of_the_crates_are_counted() -> None:
     """Within a twentieth, so that not each change of a crate is one of the document."""
     text = (TOP / "docs/ARCHITECTURE.md").read_text(encoding="utf-8")
-    told = {folder: int(number.replace(",", "")) for number, folder in re.findall(r"([\d,]+)(?: lines)? in `(src|specs|proofs)/`", text)}
-    counted = {folder: sum(len(file.read_text(encoding="utf-8").splitlines()) for file in (TOP / "crates").glob(f"*/{folder}/**/*")
-                           if file.suffix in (".rt", ".antt")) for folder in ("src", "specs", "proofs")}
-    assert set(told) == set(counted) and all(abs(told[it] - counted[it]) * 20 < counted[it] for it in told), counted
+    told = {
+        folder: int(number.replace(",", ""))
+        for number, folder in re.findall(r"([\d,]+)(?: lines)? in `(src|specs|proofs)/`", text)
+    }
+    counted = {
+        folder: sum(
+            len(file.read_text(encoding="utf-8").splitlines())
+            for file in (TOP / "crates").glob(f"*/{folder}/**/*")
+            if file.suffix in (".rt", ".antt")
+        )
+        for folder in ("src", "specs", "proofs")
+    }
+    assert set(told) == set(counted) and all(
+        abs(told[it] - counted[it]) * 20 < counted[it] for it in told
+    ), counted
 
 
 def test_code_that_the_decisions_compare_is_in_the_crates_that_they_name() -> None:
     """Of each row of "Code that looks the same and stays": each function, type or module is in a crate that its cell
     names."""
-    section = (TOP / "docs/DECISIONS.md").read_text(encoding="utf-8").split("## Code that looks the same and stays")[1].split("\n## ")[0]
-    rows = [line.split(" | ")[0] for line in section.splitlines() if line.startswith("| ") and "`" in line]
+    section = (
+        (TOP / "docs/DECISIONS.md")
+        .read_text(encoding="utf-8")
+        .split("## Code that looks the same and stays")[1]
+        .split("\n## ")[0]
+    )
+    rows = [
+        line.split(" | ")[0]
+        for line in section.splitlines()
+        if line.startswith("| ") and "`" in line
+    ]
     assert len(rows) > 8
     for row in rows:
         named = QUOTED.findall(row)
         among = [it for it in named if it.startswith("rt_")] or crates()
         files = [file for crate in among for file in (TOP / "crates" / crate / "src").rglob("*.rt")]
         sources = "".join(file.read_text(encoding="utf-8") for file in files)
-        lost = [name for name in named if not name.startswith("rt_") and name not in {file.stem for file in files}
-                and not re.search(rf"\b(?:fn|struct|enum|trait) {name.rpartition('::')[2]}\b", sources)]
+        lost = [
+            name
+            for name in named
+            if not name.startswith("rt_")
+            and name not in {file.stem for file in files}
+            and not re.search(rf"\b(?:fn|struct|enum|trait) {name.rpartition('::')[2]}\b", sources)
+        ]
         assert not lost, row
 
 
@@ -380,49 +519,86 @@ def test_installation_names_what_the_package_recommends() -> None:
     """Each package of INSTALL's table is one that the Debian package recommends, and the other way round; and each extra
     is one of the wheel."""
     import tomllib
-    text = (TOP / "docs/INSTALL.md").read_text(encoding="utf-8").split("## What each command needs")[1].split("\n## ")[0]
-    named = {word for line in re.findall(r"`apt-get install ([^`]*)`", text) for word in line.split()}
-    packing = (TOP / "tools/release/packing.py").read_text(encoding="utf-8").split("RECOMMENDED = {")[1].split("\n}")[0]
-    recommended = {word for words in re.findall(r'": \(([^)]*)\)', packing) for word in re.findall(r'"([^"]+)"', words)}
+
+    text = (
+        (TOP / "docs/INSTALL.md")
+        .read_text(encoding="utf-8")
+        .split("## What each command needs")[1]
+        .split("\n## ")[0]
+    )
+    named = {
+        word for line in re.findall(r"`apt-get install ([^`]*)`", text) for word in line.split()
+    }
+    packing = (
+        (TOP / "tools/release/packing.py")
+        .read_text(encoding="utf-8")
+        .split("RECOMMENDED = {")[1]
+        .split("\n}")[0]
+    )
+    recommended = {
+        word
+        for words in re.findall(r'": \(([^)]*)\)', packing)
+        for word in re.findall(r'"([^"]+)"', words)
+    }
     assert named == recommended - {"python3-markupsafe"}
-    extras = tomllib.loads((TOP / "python/pyproject.toml").read_text(encoding="utf-8"))["project"]["optional-dependencies"]
+    extras = tomllib.loads((TOP / "python/pyproject.toml").read_text(encoding="utf-8"))["project"][
+        "optional-dependencies"
+    ]
     assert set(re.findall(r"\| `([a-z]+)` \|$", text, re.MULTILINE)) == set(extras)
 
 
 def counts_of_testing() -> dict[str, int]:
     """What docs/TESTING.md counts, by the words of its tables."""
     sources = [file.read_text(encoding="utf-8") for file in (TOP / "crates").glob("*/src/**/*.rt")]
-    tests = {file: file.read_text(encoding="utf-8") for file in (TOP / "tests").glob("**/test_*.py")}
+    tests = {
+        file: file.read_text(encoding="utf-8") for file in (TOP / "tests").glob("**/test_*.py")
+    }
 
     def all_of(pattern: str, texts: Iterable[str]) -> int:
         return sum(len(re.findall(pattern, text, re.MULTILINE)) for text in texts)
 
     found = {
-        "functions of the crates, each proved safe and ended": all_of(r"^\s*(?:pub(?:\([a-z]+\))? )?fn \w+", sources),
+        "functions of the crates, each proved safe and ended": all_of(
+            r"^\s*(?:pub(?:\([a-z]+\))? )?fn \w+", sources
+        ),
         "clauses of their contracts": all_of(r"^\s*(?:ensures|requires)\b", sources),
         "mutants in the gate": len(list((TOP / "crates").glob("*/must-fail/*.edit"))),
         "mutants outside of it": len(list((TOP / "mutants").glob("*/*.edit"))),
         "tests of the crates": all_of(r"#\[test\]", sources),
         "programs with a stored run": len(list((TOP / "crates").glob("*/stdout"))),
-        "tests of the tools": all_of(r"^def test_", tests.values())}
+        "tests of the tools": all_of(r"^def test_", tests.values()),
+    }
     for folder in ("classroom", "library", "launcher", "install", "web", "hostile"):
-        found[f"`{folder}`"] = all_of(r"^def test_", (text for file, text in tests.items() if (TOP / "tests" / folder) in file.parents))
+        found[f"`{folder}`"] = all_of(
+            r"^def test_",
+            (text for file, text in tests.items() if (TOP / "tests" / folder) in file.parents),
+        )
     return found
 
 
 def test_kinds_of_tests_are_counted() -> None:
     text = (TOP / "docs/TESTING.md").read_text(encoding="utf-8")
-    told = {words: int(number.replace(",", "")) for words, number in re.findall(r"^\| ([^|]+) \| ([\d,]+) \|", text, re.MULTILINE)}
+    told = {
+        words: int(number.replace(",", ""))
+        for words, number in re.findall(r"^\| ([^|]+) \| ([\d,]+) \|", text, re.MULTILINE)
+    }
     assert told == counts_of_testing()
     tests = [file.read_text(encoding="utf-8") for file in (TOP / "tests").glob("**/test_*.py")]
-    browser = sum(len(re.findall(r"^def test_\w+\([^)]*\bbrowser\b", text, re.MULTILINE)) for text in tests)
+    browser = sum(
+        len(re.findall(r"^def test_\w+\([^)]*\bbrowser\b", text, re.MULTILINE)) for text in tests
+    )
     assert f"In a real browser run {browser} of these tests." in text
 
 
 def cited(text: str) -> set[Path]:
     """The files of specs/ that a file of the crates uses."""
-    found = (TOP / "crates" / crate / "specs" / f"{module.replace('.', '/')}.antt" for crate, module in re.findall(
-        r"use Rattle\.(rt_\w+)\.specs\.([A-Za-z][\w.]*?)(?:\.\{|\s|;| as )", text) if not module.startswith("declared"))
+    found = (
+        TOP / "crates" / crate / "specs" / f"{module.replace('.', '/')}.antt"
+        for crate, module in re.findall(
+            r"use Rattle\.(rt_\w+)\.specs\.([A-Za-z][\w.]*?)(?:\.\{|\s|;| as )", text
+        )
+        if not module.startswith("declared")
+    )
     return {file for file in found if file.is_file()}
 
 
@@ -439,8 +615,19 @@ def below(files: Iterable[Path]) -> set[Path]:
 
 
 def test_files_below_the_dozen_are_counted() -> None:
-    section = (TOP / "docs/DEFINITIONS.md").read_text(encoding="utf-8").split("## The headline's dozen")[1].split("\n## ")[0]
-    dozen = [(TOP / "docs" / link).resolve() for link in re.findall(r"\]\((\.\./crates/[^)]*\.antt)\)", section)]
+    section = (
+        (TOP / "docs/DEFINITIONS.md")
+        .read_text(encoding="utf-8")
+        .split("## The headline's dozen")[1]
+        .split("\n## ")[0]
+    )
+    dozen = [
+        (TOP / "docs" / link).resolve()
+        for link in re.findall(r"\]\((\.\./crates/[^)]*\.antt)\)", section)
+    ]
     clauses = cited((TOP / "crates/rt_top/src/top.rt").read_text(encoding="utf-8"))
     assert len(dozen) == 12
-    assert f"in {len(below(dozen))} files of `specs/` in all, and the clauses on {len(below({*dozen, *clauses}))}:" in section
+    assert (
+        f"in {len(below(dozen))} files of `specs/` in all, and the clauses on {len(below({*dozen, *clauses}))}:"
+        in section
+    )

@@ -80,17 +80,26 @@ def refuse(tmp_path_factory: pytest.TempPathFactory) -> Path:
         pytest.skip("there is no C compiler: apt-get install gcc")
     folder = tmp_path_factory.mktemp("refuse")
     (folder / "refuse.c").write_text(REFUSE)
-    subprocess.run(["cc", "-shared", "-fPIC", "-O1", "-o", folder / "refuse.so", folder / "refuse.c", "-ldl"], check=True)
+    subprocess.run(
+        ["cc", "-shared", "-fPIC", "-O1", "-o", folder / "refuse.so", folder / "refuse.c", "-ldl"],
+        check=True,
+    )
     return folder / "refuse.so"
 
 
 @pytest.fixture(scope="module")
 def exercise(tmp_path_factory: pytest.TempPathFactory) -> Path:
     folder = tmp_path_factory.mktemp("exercise")
-    texts = {"schema": SCHEMA, "student.csv": "name,major\nMary,CS\nJohn,ECON\n", "1": FIRST, "2": SECOND,
-             "reg.csv": "name,course,dept,grade\nMary,216,CS,100\nMary,230,CS,75\nJohn,316,CS,90\n",
-             "1.ra": "project(select(reg, dept = 'CS'), (name))", "2.ra": "project(anti(student, select(reg, grade < 80)), (name))",
-             "list": f"{folder}/1\n{folder}/2\n"}
+    texts = {
+        "schema": SCHEMA,
+        "student.csv": "name,major\nMary,CS\nJohn,ECON\n",
+        "1": FIRST,
+        "2": SECOND,
+        "reg.csv": "name,course,dept,grade\nMary,216,CS,100\nMary,230,CS,75\nJohn,316,CS,90\n",
+        "1.ra": "project(select(reg, dept = 'CS'), (name))",
+        "2.ra": "project(anti(student, select(reg, grade < 80)), (name))",
+        "list": f"{folder}/1\n{folder}/2\n",
+    }
     for name, text in texts.items():
         (folder / name).write_text(text)
     return folder
@@ -98,8 +107,18 @@ def exercise(tmp_path_factory: pytest.TempPathFactory) -> Path:
 
 def run(words: list[str], number: int | None, library: Path, folder: Path) -> Ran:
     met = folder / f"met-{number}"
-    refused = {} if number is None else {"REFUSED": str(number), "MET": str(met), "LD_PRELOAD": str(library)}
-    done = subprocess.run(words, stdin=subprocess.DEVNULL, capture_output=True, env={**os.environ, **refused}, check=False)
+    refused = (
+        {}
+        if number is None
+        else {"REFUSED": str(number), "MET": str(met), "LD_PRELOAD": str(library)}
+    )
+    done = subprocess.run(
+        words,
+        stdin=subprocess.DEVNULL,
+        capture_output=True,
+        env={**os.environ, **refused},
+        check=False,
+    )
     return Ran(done.returncode, done.stdout, done.stderr, met.exists())
 
 
@@ -112,7 +131,11 @@ def check(words: list[str], status: int, library: Path, folder: Path) -> None:
             numbers = range(start, start + 64 * STEP, STEP)
             ran = list(pool.map(lambda number: run(words, number, library, folder), numbers))
             for number, one in zip(numbers, ran):
-                is_short = one.status == 7 and whole.out.startswith(one.out) and whole.err.startswith(one.err)
+                is_short = (
+                    one.status == 7
+                    and whole.out.startswith(one.out)
+                    and whole.err.startswith(one.err)
+                )
                 is_whole = (one.status, one.out, one.err) == (status, whole.out, whole.err)
                 assert is_short or is_whole, f"allocation {number} is refused: {one}"
                 refused += is_short
@@ -150,4 +173,9 @@ def test_certificates(ratest_plus: Path, refuse: Path, exercise: Path, tmp_path:
     words = [str(ratest_plus), "prove", *plain(exercise)]
     check(words, 0, refuse, tmp_path)
     (tmp_path / "certificate").write_bytes(run(words, None, refuse, tmp_path).out)
-    check([str(ratest_plus), "check", f"{tmp_path}/certificate", *plain(exercise)], 0, refuse, tmp_path)
+    check(
+        [str(ratest_plus), "check", f"{tmp_path}/certificate", *plain(exercise)],
+        0,
+        refuse,
+        tmp_path,
+    )

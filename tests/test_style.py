@@ -11,7 +11,11 @@ from pathlib import Path
 import pytest
 
 TESTS = Path(__file__).resolve().parent
-ROOMS = sorted(path.name for path in (TESTS / "classroom").iterdir() if path.is_dir() and path.name != "__pycache__")
+ROOMS = sorted(
+    path.name
+    for path in (TESTS / "classroom").iterdir()
+    if path.is_dir() and path.name != "__pycache__"
+)
 # The folder in which mypy runs, and what it checks there. Modules of these folders are found too.
 CHECKED = [
     ("python", ["classroom", "ratest"]),
@@ -20,7 +24,13 @@ CHECKED = [
     *((f"tests/{path.parent.name}", ["."]) for path in sorted(TESTS.glob("*/conftest.py"))),
     ("tools", ["web"]),
 ]
-FOUND = ("python", "tests", "tests/classroom", *(f"tests/classroom/{name}" for name in ROOMS), "tools")
+FOUND = (
+    "python",
+    "tests",
+    "tests/classroom",
+    *(f"tests/classroom/{name}" for name in ROOMS),
+    "tools",
+)
 SCRIPTS = [".ci/run", "bench/classroom", "bench/run", "tests/mutants"]
 
 
@@ -29,17 +39,32 @@ def test_types(folder: str, checked: list[str], top: Path, tmp_path: Path) -> No
     if not shutil.which("mypy"):
         pytest.skip("there is no mypy: apt-get install mypy")
     # Debian's mypy, which sees Debian's packages.
-    done = subprocess.run(["/usr/bin/python3", "-m", "mypy", "--strict", "--explicit-package-bases", f"--cache-dir={tmp_path}",
-                           f"--config-file={top / 'python/pyproject.toml'}", *checked],
-                          cwd=top / folder, capture_output=True, text=True, check=False,
-                          env={**os.environ, "MYPYPATH": ":".join(str(top / it) for it in FOUND)})
+    done = subprocess.run(
+        [
+            "/usr/bin/python3",
+            "-m",
+            "mypy",
+            "--strict",
+            "--explicit-package-bases",
+            f"--cache-dir={tmp_path}",
+            f"--config-file={top / 'python/pyproject.toml'}",
+            *checked,
+        ],
+        cwd=top / folder,
+        capture_output=True,
+        text=True,
+        check=False,
+        env={**os.environ, "MYPYPATH": ":".join(str(top / it) for it in FOUND)},
+    )
     assert done.returncode == 0, done.stdout
 
 
 def test_scripts(top: Path) -> None:
     if not shutil.which("shellcheck"):
         pytest.skip("there is no shellcheck: apt-get install shellcheck")
-    done = subprocess.run(["shellcheck", *SCRIPTS], cwd=top, capture_output=True, text=True, check=False)
+    done = subprocess.run(
+        ["shellcheck", *SCRIPTS], cwd=top, capture_output=True, text=True, check=False
+    )
     assert done.returncode == 0, done.stdout
 
 
@@ -75,10 +100,16 @@ def imports(path: Path) -> Iterator[tuple[int, str]]:
         elif isinstance(node, ast.ImportFrom) and node.module == "classroom":
             yield from ((node.lineno, name.name) for name in node.names)
         elif isinstance(node, ast.Import):
-            yield from ((node.lineno, name.name.split(".")[1]) for name in node.names if name.name.startswith("classroom."))
+            yield from (
+                (node.lineno, name.name.split(".")[1])
+                for name in node.names
+                if name.name.startswith("classroom.")
+            )
 
 
-@pytest.mark.parametrize("path", sorted(PACKAGE.rglob("*.py")), ids=lambda path: str(path.relative_to(PACKAGE)))
+@pytest.mark.parametrize(
+    "path", sorted(PACKAGE.rglob("*.py")), ids=lambda path: str(path.relative_to(PACKAGE))
+)
 def test_layers(path: Path) -> None:
     own = path.relative_to(PACKAGE).parts[0].removesuffix(".py")
     for line, other in imports(path):
@@ -93,6 +124,8 @@ def test_a_name_alone_finds_its_module() -> None:
             found[path.name] = path
 
 
-@pytest.mark.parametrize("path", sorted(PACKAGE.rglob("*.py")), ids=lambda path: str(path.relative_to(PACKAGE)))
+@pytest.mark.parametrize(
+    "path", sorted(PACKAGE.rglob("*.py")), ids=lambda path: str(path.relative_to(PACKAGE))
+)
 def test_modules_are_small(path: Path) -> None:
     assert len(path.read_text(encoding="utf-8").splitlines()) <= 400

@@ -24,17 +24,26 @@ log = logging.getLogger("classroom.main")
 
 def parser() -> argparse.ArgumentParser:
     top = argparse.ArgumentParser(
-        prog="classroom", allow_abbrev=False, description="From a school's database to a graded class.",
-        epilog="`classroom COMMAND --help` tells more of each. docs/GUIDE.md begins with a class in four commands.")
+        prog="classroom",
+        allow_abbrev=False,
+        description="From a school's database to a graded class.",
+        epilog="`classroom COMMAND --help` tells more of each. docs/GUIDE.md begins with a class in four commands.",
+    )
     top.add_argument("--version", action="version", version=f"classroom {VERSION}")
     subparsers = top.add_subparsers(metavar="COMMAND", dest="command", required=True)
     for name, module_name in COMMANDS.items():
         module = importlib.import_module(module_name)
         sub = subparsers.add_parser(
-            name, allow_abbrev=False, help=module.SUMMARY, description=module.__doc__,
-            formatter_class=argparse.RawDescriptionHelpFormatter)
+            name,
+            allow_abbrev=False,
+            help=module.SUMMARY,
+            description=module.__doc__,
+            formatter_class=argparse.RawDescriptionHelpFormatter,
+        )
         module.add_arguments(sub)
-        sub.add_argument("--verbose", action="store_true", help="also tell on standard error what is done")
+        sub.add_argument(
+            "--verbose", action="store_true", help="also tell on standard error what is done"
+        )
         sub.set_defaults(run=module.run)
     return top
 

@@ -9,11 +9,45 @@ Calls may be made from several threads at once.
 """
 from __future__ import annotations
 
-from ratest.answers import (Agree, Answer, Certificate, Grade, KeptRows, Never, Reason, Refused, Rejected, Undecided, Valid,
-                            Witness)
+from ratest.answers import (
+    Agree,
+    Answer,
+    Certificate,
+    Grade,
+    KeptRows,
+    Never,
+    Reason,
+    Refused,
+    Rejected,
+    Undecided,
+    Valid,
+    Witness,
+)
 from ratest.calls import check, explain, grade, prove, why
 from ratest.child import Limits, Stopped
 from ratest.library import NoLibrary, Said, ask
 
-__all__ = ["Agree", "Answer", "Certificate", "Grade", "KeptRows", "Limits", "Never", "NoLibrary", "Reason", "Refused", "Rejected",
-           "Said", "Stopped", "Undecided", "Valid", "Witness", "ask", "check", "explain", "grade", "prove", "why"]
+__all__ = [
+    "Agree",
+    "Answer",
+    "Certificate",
+    "Grade",
+    "KeptRows",
+    "Limits",
+    "Never",
+    "NoLibrary",
+    "Reason",
+    "Refused",
+    "Rejected",
+    "Said",
+    "Stopped",
+    "Undecided",
+    "Valid",
+    "Witness",
+    "ask",
+    "check",
+    "explain",
+    "grade",
+    "prove",
+    "why",
+]

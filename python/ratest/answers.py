@@ -17,7 +17,7 @@ class KeptRows:
     """The rows that are kept of one table."""
 
     columns: tuple[str, ...]
-    numbers: tuple[int, ...]    # each row's number among those that were given, from 1
+    numbers: tuple[int, ...]  # each row's number among those that were given, from 1
     rows: tuple[Row, ...]
 
 
@@ -90,10 +90,10 @@ class Undecided(_OverRows):
 class Refused:
     """A text that is not accepted, or a limit that is passed."""
 
-    part: str              # schema, table NAME, query 1, query 2, queries, row, or limit
+    part: str  # schema, table NAME, query 1, query 2, queries, row, or limit
     cause: str
-    line: int | None       # of the text of this part, where the cause has a place in it, from 1
-    column: int | None     # in characters, from 1
+    line: int | None  # of the text of this part, where the cause has a place in it, from 1
+    column: int | None  # in characters, from 1
 
     def __str__(self) -> str:
         where = "" if self.line is None else f" (line {self.line}, column {self.column})"
@@ -104,9 +104,9 @@ class Refused:
 class Grade:
     """How the query of an answer stands to the reference."""
 
-    kind: str              # agrees, differs, undecided, refused or limit
-    rows: int | None       # of the smallest witness, where it differs
-    cause: str             # why it is refused, or the limit
+    kind: str  # agrees, differs, undecided, refused or limit
+    rows: int | None  # of the smallest witness, where it differs
+    cause: str  # why it is refused, or the limit
 
     @property
     def agrees(self) -> bool:
@@ -124,7 +124,7 @@ class Certificate:
 class Valid:
     """The certificate shows that no witness is smaller, or that the queries agree."""
 
-    size: int | None       # of the witness; None where the queries agree
+    size: int | None  # of the witness; None where the queries agree
 
 
 @dataclass(frozen=True)
@@ -139,8 +139,14 @@ Reason = Union[Never, Witness, Undecided, Refused]
 
 
 def witness_of(outcome: printed.Witness, text: str, tables: Sequence[Table]) -> Witness:
-    return Witness(by_table(outcome.kept, tables), outcome.only_first, outcome.only_second, outcome.both, text,
-                   draw.drawing(outcome, tables))
+    return Witness(
+        by_table(outcome.kept, tables),
+        outcome.only_first,
+        outcome.only_second,
+        outcome.both,
+        text,
+        draw.drawing(outcome, tables),
+    )
 
 
 def undecided_of(outcome: printed.Undecided, text: str, tables: Sequence[Table]) -> Undecided:
@@ -154,6 +160,9 @@ def by_table(kept: Sequence[Kept], tables: Sequence[Table]) -> dict[str, KeptRow
     for table in tables:
         rows = [row for row in kept if row.table == table.name]
         if rows:
-            found[table.name] = KeptRows(tuple(column.name for column in table.columns),
-                                         tuple(row.number for row in rows), tuple(row.cells for row in rows))
+            found[table.name] = KeptRows(
+                tuple(column.name for column in table.columns),
+                tuple(row.number for row in rows),
+                tuple(row.cells for row in rows),
+            )
     return found

@@ -7,8 +7,20 @@ from dataclasses import dataclass
 from typing import Union
 
 from ratest import child, library, printed, schema
-from ratest.answers import (Agree, Answer, Certificate, Grade, Never, Reason, Refused, Rejected, Undecided, Valid,
-                            undecided_of, witness_of)
+from ratest.answers import (
+    Agree,
+    Answer,
+    Certificate,
+    Grade,
+    Never,
+    Reason,
+    Refused,
+    Rejected,
+    Undecided,
+    Valid,
+    undecided_of,
+    witness_of,
+)
 from ratest.child import Limits
 from ratest.library import Said
 from ratest.places import place_of
@@ -17,7 +29,14 @@ from ratest.tables import MOST_BYTES, Source, csv_files
 # A text of SQL, or the path of a file with one.
 Text = Union[str, "os.PathLike[str]"]
 
-SCHEMA, DATA, FIRST, SECOND, LIST, CERTIFICATE = "schema", "data", "query1", "query2", "list", "certificate"
+SCHEMA, DATA, FIRST, SECOND, LIST, CERTIFICATE = (
+    "schema",
+    "data",
+    "query1",
+    "query2",
+    "list",
+    "certificate",
+)
 MOST_CONFLICTS, MOST_WORK, MOST_PATHS = 10_000_000, 32_000_000, 256
 
 
@@ -34,8 +53,15 @@ class Question:
         return self.files.get(name, b"").decode("utf-8", "replace")
 
 
-def explain(schema: Text, tables: Source, query1: Text, query2: Text, conflicts: int | None = None,
-            work: int | None = None, limits: Limits | None = None) -> Answer:
+def explain(
+    schema: Text,
+    tables: Source,
+    query1: Text,
+    query2: Text,
+    conflicts: int | None = None,
+    work: int | None = None,
+    limits: Limits | None = None,
+) -> Answer:
     """The fewest rows on which the queries answer differently, or that they agree.
 
     A schema or a query is a text, or a path. `tables` maps names to lists of rows, paths of CSV files or pandas
@@ -49,8 +75,16 @@ def explain(schema: Text, tables: Source, query1: Text, query2: Text, conflicts:
     return answer
 
 
-def why(schema: Text, tables: Source, query1: Text, query2: Text, row: Sequence[printed.Value],
-        conflicts: int | None = None, work: int | None = None, limits: Limits | None = None) -> Reason:
+def why(
+    schema: Text,
+    tables: Source,
+    query1: Text,
+    query2: Text,
+    row: Sequence[printed.Value],
+    conflicts: int | None = None,
+    work: int | None = None,
+    limits: Limits | None = None,
+) -> Reason:
     """The fewest rows on which the first query answers with this row and the second doesn't, or `Never`."""
     asked = question(schema, tables, {FIRST: query1, SECOND: query2})
     words = ["row", row_text(row), SCHEMA, DATA, FIRST, SECOND, *options(conflicts, work)]
@@ -59,17 +93,30 @@ def why(schema: Text, tables: Source, query1: Text, query2: Text, row: Sequence[
     return answer
 
 
-def grade(schema: Text, tables: Source, reference: Text, answers: Mapping[str, Text], conflicts: int | None = None,
-          work: int | None = None, limits: Limits | None = None) -> dict[str, Grade] | Refused:
+def grade(
+    schema: Text,
+    tables: Source,
+    reference: Text,
+    answers: Mapping[str, Text],
+    conflicts: int | None = None,
+    work: int | None = None,
+    limits: Limits | None = None,
+) -> dict[str, Grade] | Refused:
     """The grade of each answer; `Refused` where the schema, a table or the reference is."""
     names, found = list(answers), {}
     for at in range(0, len(names), MOST_PATHS):
-        group = names[at:at + MOST_PATHS]
+        group = names[at : at + MOST_PATHS]
         # Names of our own, since those that are given may hold anything.
         paths = [str(number) for number in range(1, len(group) + 1)]
-        texts = {FIRST: reference, LIST: "\n".join(paths), **{path: answers[name] for path, name in zip(paths, group)}}
+        texts = {
+            FIRST: reference,
+            LIST: "\n".join(paths),
+            **{path: answers[name] for path, name in zip(paths, group)},
+        }
         asked = question(schema, tables, texts)
-        told = said(["grade", SCHEMA, DATA, FIRST, LIST, *options(conflicts, work)], asked.files, limits)
+        told = said(
+            ["grade", SCHEMA, DATA, FIRST, LIST, *options(conflicts, work)], asked.files, limits
+        )
         if told.status != printed.FINE:
             return refused_of(asked, told)
         grades = printed.grades_of(told.out, paths)
@@ -77,11 +124,20 @@ def grade(schema: Text, tables: Source, reference: Text, answers: Mapping[str, T
     return found
 
 
-def prove(schema: Text, tables: Source, query1: Text, query2: Text, conflicts: int | None = None,
-          work: int | None = None, limits: Limits | None = None) -> Certificate | Refused | Undecided:
+def prove(
+    schema: Text,
+    tables: Source,
+    query1: Text,
+    query2: Text,
+    conflicts: int | None = None,
+    work: int | None = None,
+    limits: Limits | None = None,
+) -> Certificate | Refused | Undecided:
     """A certificate of the verdict on the queries, which `check` checks."""
     asked = question(schema, tables, {FIRST: query1, SECOND: query2})
-    told = said(["prove", SCHEMA, DATA, FIRST, SECOND, *options(conflicts, work)], asked.files, limits)
+    told = said(
+        ["prove", SCHEMA, DATA, FIRST, SECOND, *options(conflicts, work)], asked.files, limits
+    )
     if told.status == printed.FINE:
         return Certificate(told.out)
     if told.status != printed.SPENT:
@@ -91,11 +147,22 @@ def prove(schema: Text, tables: Source, query1: Text, query2: Text, conflicts: i
     return answer
 
 
-def check(certificate: Certificate, schema: Text, tables: Source, query1: Text, query2: Text,
-          work: int | None = None, limits: Limits | None = None) -> Valid | Rejected | Refused:
+def check(
+    certificate: Certificate,
+    schema: Text,
+    tables: Source,
+    query1: Text,
+    query2: Text,
+    work: int | None = None,
+    limits: Limits | None = None,
+) -> Valid | Rejected | Refused:
     """Whether the certificate shows a verdict on these queries over this schema and these rows."""
     asked = question(schema, tables, {FIRST: query1, SECOND: query2, CERTIFICATE: certificate.text})
-    told = said(["check", CERTIFICATE, SCHEMA, DATA, FIRST, SECOND, *options(None, work)], asked.files, limits)
+    told = said(
+        ["check", CERTIFICATE, SCHEMA, DATA, FIRST, SECOND, *options(None, work)],
+        asked.files,
+        limits,
+    )
     if told.status == printed.FINE:
         return Valid(printed.valid_of(told.out))
     if told.err.startswith("ratest: certificate: "):
@@ -105,12 +172,13 @@ def check(certificate: Certificate, schema: Text, tables: Source, query1: Text, 
 
 # ---- what is asked
 
+
 def question(given: Text, tables: Source, texts: Mapping[str, Text]) -> Question:
     files = {SCHEMA: content(given), **{name: content(text) for name, text in texts.items()}}
     try:
         known = schema.tables_of(files[SCHEMA].decode("utf-8", "replace"))
     except schema.NoSchema:
-        known = ()    # which `ratest` says better
+        known = ()  # which `ratest` says better
     files.update({f"{DATA}/{name}.csv": text for name, text in csv_files(tables, known).items()})
     return Question(known, files)
 
@@ -148,6 +216,7 @@ def said(words: Sequence[str], files: Mapping[str, bytes], limits: Limits | None
 
 
 # ---- what is answered
+
 
 def answer_of(asked: Question, told: Said) -> Answer | Never:
     if told.status in (printed.REFUSED, printed.LIMIT):

@@ -19,7 +19,7 @@ class Limits:
     """What one call may take."""
 
     seconds: float = 60.0
-    megabytes: int = 2000    # of address space
+    megabytes: int = 2000  # of address space
 
 
 class Stopped(RuntimeError):
@@ -27,16 +27,30 @@ class Stopped(RuntimeError):
 
     def __init__(self, passed: str) -> None:
         super().__init__(f"the call passed its limit of {passed}")
-        self.passed = passed    # time or memory
+        self.passed = passed  # time or memory
 
 
 def answered(request: bytes, library: Path, limits: Limits) -> bytes:
     """The reply to a request, from a child process."""
     folder = Path(__file__).resolve().parents[1]
-    words = [sys.executable, "-I", "-c", PROGRAM, os.fspath(folder), os.fspath(library), str(limits.megabytes)]
+    words = [
+        sys.executable,
+        "-I",
+        "-c",
+        PROGRAM,
+        os.fspath(folder),
+        os.fspath(library),
+        str(limits.megabytes),
+    ]
     try:
-        ran = subprocess.run(words, input=request, stdout=subprocess.PIPE, stderr=subprocess.DEVNULL,
-                             timeout=limits.seconds, check=False)
+        ran = subprocess.run(
+            words,
+            input=request,
+            stdout=subprocess.PIPE,
+            stderr=subprocess.DEVNULL,
+            timeout=limits.seconds,
+            check=False,
+        )
     except subprocess.TimeoutExpired:
         raise Stopped("time") from None
     if ran.returncode == MALFORMED:

@@ -44,7 +44,12 @@ def path() -> Path:
 @cache
 def loaded(at: Path) -> ctypes.CDLL:
     library = ctypes.CDLL(os.fspath(at))
-    library.ratest_ask.argtypes = [ctypes.c_char_p, ctypes.c_size_t, ctypes.c_void_p, ctypes.c_size_t]
+    library.ratest_ask.argtypes = [
+        ctypes.c_char_p,
+        ctypes.c_size_t,
+        ctypes.c_void_p,
+        ctypes.c_size_t,
+    ]
     library.ratest_ask.restype = ctypes.c_int64
     return library
 
@@ -64,7 +69,11 @@ def framed(words: Sequence[str], files: Mapping[str, bytes]) -> bytes:
 def read(reply: bytes) -> Said:
     """What a reply holds."""
     status, length = struct.unpack_from("<BI", reply)
-    return Said(status, reply[5:5 + length].decode("utf-8", "replace"), reply[5 + length:].decode("utf-8", "replace"))
+    return Said(
+        status,
+        reply[5 : 5 + length].decode("utf-8", "replace"),
+        reply[5 + length :].decode("utf-8", "replace"),
+    )
 
 
 def answered(request: bytes, at: Path) -> bytes:

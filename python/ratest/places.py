@@ -11,8 +11,8 @@ WORD = re.compile(r"\w+")
 class Place:
     """A part of a text: a word, a character, or the empty part at the end."""
 
-    line: int      # from 1
-    column: int    # from 1, in characters
+    line: int  # from 1
+    column: int  # from 1, in characters
     before: str
     marked: str
     after: str
@@ -31,7 +31,13 @@ def place_of(text: str, byte: int) -> Place:
     word = WORD.match(text, at)
     stop = word.end() if word else min(at + 1, len(text))
     before = text[:at]
-    return Place(before.count("\n") + 1, at - (before.rfind("\n") + 1) + 1, before, text[at:stop], text[stop:])
+    return Place(
+        before.count("\n") + 1,
+        at - (before.rfind("\n") + 1) + 1,
+        before,
+        text[at:stop],
+        text[stop:],
+    )
 
 
 def units(text: str) -> int:

@@ -21,8 +21,10 @@ Row = tuple[Value, ...]
 # Possessive, so that the quotes of a long text are read once.
 TEXT = re.compile(r"'(?:[^']++|'')*+'")
 NUMBER = re.compile(r"-?[0-9]{1,40}")
-PLACE = re.compile(r"(?:syntax fault near byte|(?:not UTF-8|number past 128 bits) at byte"
-                   r"|(?:text|comment) without end from byte|unexpected byte at) ([0-9]{1,9})")
+PLACE = re.compile(
+    r"(?:syntax fault near byte|(?:not UTF-8|number past 128 bits) at byte"
+    r"|(?:text|comment) without end from byte|unexpected byte at) ([0-9]{1,9})"
+)
 PASSED = re.compile(r"^ratest: limit: (.+)\Z", re.MULTILINE | re.DOTALL)
 GRADE = re.compile(r"(agree|undecided|too long|witness [0-9]{1,9}|work [0-9]{1,40}|refused: )")
 
@@ -31,7 +33,7 @@ class Kept(NamedTuple):
     """A row that is kept."""
 
     table: str
-    number: int    # in its table's file, from 1
+    number: int  # in its table's file, from 1
     cells: Row
 
 
@@ -67,9 +69,9 @@ class Undecided:
 class Refused:
     """A text that is not accepted."""
 
-    part: str             # schema, table NAME, query 1, query 2, queries or row
+    part: str  # schema, table NAME, query 1, query 2, queries or row
     fault: str
-    place: int | None     # the byte of the text that the fault tells
+    place: int | None  # the byte of the text that the fault tells
 
 
 @dataclass(frozen=True)
@@ -86,9 +88,9 @@ Outcome = Union[Agree, Never, Witness, Undecided, Refused, Limit]
 class Grade:
     """What one line of many grades says of a query."""
 
-    kind: str             # agrees, differs, undecided, refused or limit
-    rows: int | None      # of the witness, where it differs
-    fault: str            # why it is refused, or the limit
+    kind: str  # agrees, differs, undecided, refused or limit
+    rows: int | None  # of the witness, where it differs
+    fault: str  # why it is refused, or the limit
 
 
 class Unreadable(Exception):
@@ -99,7 +101,11 @@ def outcome_of(status: int, out: str, err: str, tables: Sequence[Table]) -> Outc
     """The outcome of one call of `ratest`, `ratest_plus ra` or `ratest_plus row` over these tables."""
     if status in (FINE, WITNESS, SPENT):
         outcome = _Reader(out, {table.name: len(table.columns) for table in tables}).outcome()
-        fits: dict[int, tuple[type, ...]] = {FINE: (Agree, Never), WITNESS: (Witness,), SPENT: (Undecided,)}
+        fits: dict[int, tuple[type, ...]] = {
+            FINE: (Agree, Never),
+            WITNESS: (Witness,),
+            SPENT: (Undecided,),
+        }
         if isinstance(outcome, fits[status]):
             return outcome
     elif status == REFUSED:
@@ -121,7 +127,11 @@ def refusal(err: str, tables: Sequence[Table]) -> Refused | None:
     """
     names = sorted((table.name for table in tables), key=len, reverse=True)
     parts = ["schema", "query 1", "query 2", "queries", "row", *(f"table {name}" for name in names)]
-    found = re.search(rf"^ratest: ({'|'.join(map(re.escape, parts))}|table .+?): (.+)\Z", err, re.MULTILINE | re.DOTALL)
+    found = re.search(
+        rf"^ratest: ({'|'.join(map(re.escape, parts))}|table .+?): (.+)\Z",
+        err,
+        re.MULTILINE | re.DOTALL,
+    )
     if not found:
         return None
     fault = found[2].removesuffix("\n")
@@ -132,7 +142,7 @@ def refusal(err: str, tables: Sequence[Table]) -> Refused | None:
 def grades_of(out: str, names: Sequence[str]) -> list[Grade]:
     """The grades of a list of these names, none of which may hold a line end."""
     reader = _Reader(out, {})
-    grades = [reader.grade(name, names[at + 1:]) for at, name in enumerate(names)]
+    grades = [reader.grade(name, names[at + 1 :]) for at, name in enumerate(names)]
     if reader.count("graded") != len(names):
         raise Unreadable
     reader.end()
@@ -167,7 +177,10 @@ class _Reader:
         outcome: Outcome
         if self.text.startswith("witness: "):
             kept = self.kept_rows(self.count("witness"))
-            outcome = Witness(kept, *(self.answer_rows(words) for words in ("only query 1", "only query 2", "both")))
+            outcome = Witness(
+                kept,
+                *(self.answer_rows(words) for words in ("only query 1", "only query 2", "both")),
+            )
         elif self.text.startswith("undecided: "):
             self.take("undecided: ")
             conflicts = int(self.take("[0-9]{1,20}"))
@@ -249,11 +262,12 @@ class _Reader:
             found = re.compile(stop).search(self.text, self.at)
             if not found:
                 raise Unreadable
-            fault, self.at = self.text[self.at:found.start()], found.start() + 1
+            fault, self.at = self.text[self.at : found.start()], found.start() + 1
             return Grade("refused", None, fault)
         self.take("\n")
         kind, _, number = said.partition(" ")
         if kind == "witness":
             return Grade("differs", int(number), "")
         return {"agree": Grade("agrees", None, ""), "undecided": Grade("undecided", None, "")}.get(
-            said, Grade("limit", None, said))
+            said, Grade("limit", None, said)
+        )

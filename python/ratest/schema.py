@@ -13,15 +13,25 @@ TOKEN = re.compile(
     |(?P<word>[A-Za-z_][A-Za-z0-9_]*)
     |(?P<quoted>"(?:[^"]|"")*+")
     |(?P<text>'(?:[^']|'')*+')
-    |(?P<other>.)""", re.VERBOSE | re.DOTALL)
-KINDS = {"integer": "INTEGER", "int": "INTEGER", "bigint": "INTEGER", "text": "TEXT", "char": "TEXT", "varchar": "TEXT"}
+    |(?P<other>.)""",
+    re.VERBOSE | re.DOTALL,
+)
+KINDS = {
+    "integer": "INTEGER",
+    "int": "INTEGER",
+    "bigint": "INTEGER",
+    "text": "TEXT",
+    "char": "TEXT",
+    "varchar": "TEXT",
+}
 MARK = "\ufeff"
 RULES = ("constraint", "primary", "unique", "foreign", "check", "dependency")
 PLAIN = re.compile(r"[a-z_][a-z0-9_]*")
 RESERVED = frozenset(
     "all and as between case cast check constraint create cross distinct except exists foreign from full "
     "group having in inner intersect is join left like limit natural not null on or order outer primary "
-    "references right select table union unique using where with".split())
+    "references right select table union unique using where with".split()
+)
 
 
 class NoSchema(ValueError):
@@ -33,7 +43,7 @@ class Column:
     """A column; its name as `ratest` holds it, small where it was not quoted."""
 
     name: str
-    kind: str    # INTEGER or TEXT
+    kind: str  # INTEGER or TEXT
 
 
 @dataclass(frozen=True)
@@ -46,8 +56,8 @@ class Table:
 
 @dataclass(frozen=True)
 class Token:
-    kind: str    # word, quoted, text or other
-    text: str    # a word in small letters, a name without its quotes
+    kind: str  # word, quoted, text or other
+    text: str  # a word in small letters, a name without its quotes
 
 
 def tokens(text: str) -> Iterator[Token]:
@@ -74,7 +84,10 @@ def marked(text: str) -> str:
 
 def tables_of(text: str) -> tuple[Table, ...]:
     """The tables of a schema in its order."""
-    return tuple(Table(name, tuple(_column(item) for item in items if not _is_rule(item))) for name, items in items_of(text))
+    return tuple(
+        Table(name, tuple(_column(item) for item in items if not _is_rule(item)))
+        for name, items in items_of(text)
+    )
 
 
 def items_of(text: str) -> Iterator[tuple[str, list[list[Token]]]]:
@@ -85,7 +98,7 @@ def items_of(text: str) -> Iterator[tuple[str, list[list[Token]]]]:
     while at < len(found):
         at += 1
         if found[at - 1] == Token("word", "table"):
-            if found[at:at + 3] == [Token("word", word) for word in ("if", "not", "exists")]:
+            if found[at : at + 3] == [Token("word", word) for word in ("if", "not", "exists")]:
                 at += 3
             if at >= len(found) or found[at].kind not in ("word", "quoted"):
                 raise NoSchema("a table without a name")
@@ -96,7 +109,7 @@ def items_of(text: str) -> Iterator[tuple[str, list[list[Token]]]]:
 
 def _items(found: list[Token], at: int) -> tuple[list[list[Token]], int]:
     """The items between the parenthesis at a place and its end, and the place behind it."""
-    depth, items = 0, [[]]    # type: int, list[list[Token]]
+    depth, items = 0, [[]]  # type: int, list[list[Token]]
     while at < len(found):
         sign = found[at].text if found[at].kind == "other" else ""
         depth += (sign == "(") - (sign == ")")

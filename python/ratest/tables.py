@@ -41,7 +41,10 @@ def csv_file(table: Table, given: Any) -> bytes:
 
 def from_sqlite(connection: sqlite3.Connection, table: Table) -> Iterable[Sequence[Any]]:
     """The rows of a table of a database, in its order."""
-    known = {str(row[1]).casefold() for row in connection.execute(f"PRAGMA table_info({quoted(table.name)})")}
+    known = {
+        str(row[1]).casefold()
+        for row in connection.execute(f"PRAGMA table_info({quoted(table.name)})")
+    }
     if not known:
         raise ValueError(f"the database has no table {table.name}")
     # SQLite would take a name that it doesn't know for a text.
@@ -79,7 +82,9 @@ def cell_text(table: Table, number: int, cell: Any) -> str:
         return ""
     if isinstance(cell, str):
         if not cell:
-            raise ValueError(f"row {number} of {table.name}: an empty text, which a CSV file can't tell from NULL")
+            raise ValueError(
+                f"row {number} of {table.name}: an empty text, which a CSV file can't tell from NULL"
+            )
         return cell
     if isinstance(cell, float) and cell.is_integer():
         return str(int(cell))

@@ -13,7 +13,11 @@ import pytest
 TOP = Path(__file__).resolve().parents[2]
 HERE = Path(__file__).resolve().parent
 # The package, and the tests' own modules, a folder for each package of it.
-sys.path[:0] = [str(TOP / "python"), str(HERE), *(str(path) for path in sorted(HERE.iterdir()) if path.is_dir())]
+sys.path[:0] = [
+    str(TOP / "python"),
+    str(HERE),
+    *(str(path) for path in sorted(HERE.iterdir()) if path.is_dir()),
+]
 
 import products  # noqa: E402
 from roles import roles  # noqa: E402, F401

@@ -7,7 +7,25 @@ from products import Postgres, Sqlite
 
 # The columns of every table here, with values that tell conditions apart.
 INTEGERS = [None, -32768, -5, -1, 0, 1, 2, 3, 5, 7, 32767]
-TEXTS = [None, "a", "A", "b", "B", "ab", "a ", " a", "é", "Z", "10", "9", "☃", "😀", "\ufffd", "it's", "b\\c"]
+TEXTS = [
+    None,
+    "a",
+    "A",
+    "b",
+    "B",
+    "ab",
+    "a ",
+    " a",
+    "é",
+    "Z",
+    "10",
+    "9",
+    "☃",
+    "😀",
+    "\ufffd",
+    "it's",
+    "b\\c",
+]
 COLUMNS: dict[str, tuple[str, Sequence[int | str | None]]] = {
     "id": ("INTEGER PRIMARY KEY", [0]),
     "a": ("SMALLINT", INTEGERS),
@@ -18,7 +36,7 @@ COLUMNS: dict[str, tuple[str, Sequence[int | str | None]]] = {
     "c": ("CHAR(3)", ["a", "b", "ab", None, " a", "a ", "x"]),
     "k": ("TEXT{byte}", ["a", "B", "b", None, "☃", "é", "ab", "a ", "\ufffd", "😀"]),
     "select": ("TEXT", ["a", None, "b"]),
-    "it's, \"odd\"": ("INTEGER", [None, 0, 1, 2]),
+    'it\'s, "odd"': ("INTEGER", [None, 0, 1, 2]),
 }
 
 # A condition, and what is written of it: by both tools, or by from-sqlite and by from-postgres, whose server
@@ -37,7 +55,10 @@ CARRIED = [
     ("(((a > 0)) AND ((b < 5)))", "a > 0 AND b < 5"),
     ("(a > 0 AND b > 0) OR (a < 0 AND b < 0)", "a > 0 AND b > 0 OR a < 0 AND b < 0"),
     ("a > 0 AND (b = 1 OR b = 2)", "a > 0; b = 1 OR b = 2"),
-    ("(b = 1 OR a = 1) AND s <> 'b' AND (a = 2 OR a = 1)", "s <> 'b'; b = 1 OR a = 1; a = 2 OR a = 1"),
+    (
+        "(b = 1 OR a = 1) AND s <> 'b' AND (a = 2 OR a = 1)",
+        "s <> 'b'; b = 1 OR a = 1; a = 2 OR a = 1",
+    ),
     ("a > 0 AND (b > 0 AND (a = 1 OR a = 2))", "a > 0 AND b > 0; a = 1 OR a = 2"),
     ("NOT a = 1", ""),
     ("NOT NOT a = 1", "a = 1"),
@@ -46,7 +67,11 @@ CARRIED = [
     ("a BETWEEN -1 AND 5", "", "a >= -1 AND a <= 5"),
     ("a NOT BETWEEN b AND 5", "", "a < b OR a > 5"),
     ("NOT a BETWEEN 1 AND b", "", "NOT a >= 1 OR NOT a <= b"),
-    ("a BETWEEN 1 AND 5 OR b = 1 AND a BETWEEN 0 AND 3", "", "a >= 1 AND a <= 5 OR b = 1 AND a >= 0 AND a <= 3"),
+    (
+        "a BETWEEN 1 AND 5 OR b = 1 AND a BETWEEN 0 AND 3",
+        "",
+        "a >= 1 AND a <= 5 OR b = 1 AND a >= 0 AND a <= 3",
+    ),
     ("a IN (1, 2, -5)", ""),
     ("a NOT IN (1, 2, NULL)", ""),
     ("b IN (1, a, 2)", "", "b IN (1, 2) OR b = a"),
@@ -61,7 +86,7 @@ CARRIED = [
     ("k > 'a'", ""),
     ("k BETWEEN 'B' AND 'b'", "", "k >= 'B' AND k <= 'b'"),
     ("k >= '\ufffd'", ""),
-    ("\"select\" = 'a' AND \"it's, \"\"odd\"\"\" > 0", ""),
+    ('"select" = \'a\' AND "it\'s, ""odd""" > 0', ""),
     ("s IN ('a')", "", "s = 'a'"),
     ("(a) = (5)", "a = 5"),
     ("a = NULL OR a IN (1, NULL)", ""),
@@ -70,10 +95,10 @@ CARRIED_SQLITE = [
     ("A == 7 or [b] = 5", "a = 7 OR b = 5"),
     ("`a` NOTNULL", "a IS NOT NULL"),
     ("a ISNULL OR b NOT NULL", "a IS NULL OR b IS NOT NULL"),
-    ("s = \"ab\"", "s = 'ab'"),
-    ("s <> \"it's\"", "s <> 'it''s'"),
-    ("\"a\" = 1 /* CHECK (b = 2) */ AND -- )\n b=-5", "a = 1 AND b = -5"),
-    ("own.a >= 3 AND \"OWN\".[b] <> 1", "a >= 3 AND b <> 1"),
+    ('s = "ab"', "s = 'ab'"),
+    ('s <> "it\'s"', "s <> 'it''s'"),
+    ('"a" = 1 /* CHECK (b = 2) */ AND -- )\n b=-5', "a = 1 AND b = -5"),
+    ('own.a >= 3 AND "OWN".[b] <> 1', "a >= 3 AND b <> 1"),
     ("s COLLATE BINARY < 'a'", "s < 'a'"),
     ("c <> 'a '", ""),
     ("NOT a NOT IN (1, NULL)", ""),
@@ -93,9 +118,13 @@ CARRIED_POSTGRES = [
 # Domains, the column that has one, and what is written.
 DOMAINS = [
     ("a", "smallint CHECK (VALUE > 0 AND VALUE < 5)", "a > 0 AND a < 5"),
-    ("v", "varchar(9) CHECK (VALUE IN ('a', 'b') OR VALUE IS NULL)", "v IN ('a', 'b') OR v IS NULL"),
+    (
+        "v",
+        "varchar(9) CHECK (VALUE IN ('a', 'b') OR VALUE IS NULL)",
+        "v IN ('a', 'b') OR v IS NULL",
+    ),
     ("c", "char(3) CHECK (VALUE <> 'a ')", "c <> 'a'"),
-    ("it's, \"odd\"", "integer CHECK (VALUE <> 2)", "\"it's, \"\"odd\"\"\" <> 2"),
+    ('it\'s, "odd"', "integer CHECK (VALUE <> 2)", '"it\'s, ""odd""" <> 2'),
 ]
 
 
@@ -139,7 +168,7 @@ LEFT_SQLITE: list[tuple[str, ...]] = [
     ("a < 1e-3", "has the number 1e-3, which is not whole"),
     ("a = true", "has the word true"),
     ("a = x'00'", "has the word x"),
-    ("\"rowid\" = a", "names rowid, which is no column"),
+    ('"rowid" = a', "names rowid, which is no column"),
     ("rowid = a", "has the word rowid"),
     ("n = 'a'", "compares texts otherwise than by their bytes"),
     ("n > 'a'", "orders texts otherwise than by their bytes"),
@@ -166,32 +195,49 @@ LEFT_POSTGRES: list[tuple[str, ...]] = [
 ]
 # The table of these, and what is told before and after them.
 OWN_LEFT = {
-    Sqlite: ("""CREATE TABLE 't' (a INTEGER, b INT, s TEXT, n TEXT DEFAULT ('x' COLLATE BINARY) COLLATE NOCASE,
+    Sqlite: (
+        """CREATE TABLE 't' (a INTEGER, b INT, s TEXT, n TEXT DEFAULT ('x' COLLATE BINARY) COLLATE NOCASE,
                 price REAL CONSTRAINT "a ""b"" c" CHECK (abs(a) > 2), {checks} CHECK (abs ( a ) > -- none
                 3), UNIQUE (b) /* CHECK (a) */ CHECK ((abs([a])>4)));""",
-             [".price: left out: the type REAL is not read", ": left out: COLLATE; texts are compared by their bytes",
-              ': left out: CHECK a "b" c, which calls abs'],
-             [": left out: CHECK (abs ( a ) > 3), which calls abs",
-              ": left out: CHECK ((abs([a])>4)), which calls abs"]),
-    Postgres: ("""CREATE DOMAIN short AS TEXT CHECK (length(VALUE) < 9);
+        [
+            ".price: left out: the type REAL is not read",
+            ": left out: COLLATE; texts are compared by their bytes",
+            ': left out: CHECK a "b" c, which calls abs',
+        ],
+        [
+            ": left out: CHECK (abs ( a ) > 3), which calls abs",
+            ": left out: CHECK ((abs([a])>4)), which calls abs",
+        ],
+    ),
+    Postgres: (
+        """CREATE DOMAIN short AS TEXT CHECK (length(VALUE) < 9);
                   CREATE DOMAIN share AS DOUBLE PRECISION CHECK (VALUE < 9);
                   CREATE TABLE t (a SMALLINT, b INTEGER, g BIGINT, s TEXT, v VARCHAR(9), c CHAR(3), flag BOOLEAN,
                     price share, d short, {checks});
                   ALTER TABLE t ADD CONSTRAINT old CHECK (a > 0) NOT VALID;""",
-               [".flag: boolean becomes INTEGER: 0 and 1", ".price: left out: the type share is not read"],
-               [": left out: CHECK old, which is NOT VALID", ": left out with its column: CHECK share_check of price",
-                ": left out: CHECK short_check of d, which calls length"]),
+        [".flag: boolean becomes INTEGER: 0 and 1", ".price: left out: the type share is not read"],
+        [
+            ": left out: CHECK old, which is NOT VALID",
+            ": left out with its column: CHECK share_check of price",
+            ": left out: CHECK short_check of d, which calls length",
+        ],
+    ),
 }
 
 # Collations: a table, what is told after its name, and the CHECKs that are written.
 COLLATIONS = {
-    Sqlite: ("""PRAGMA encoding = 'UTF-16be'; CREATE TABLE t (s TEXT CHECK (s > 'a') CHECK (s = 'a' OR s IN ('b', 'c'))
+    Sqlite: (
+        """PRAGMA encoding = 'UTF-16be'; CREATE TABLE t (s TEXT CHECK (s > 'a') CHECK (s = 'a' OR s IN ('b', 'c'))
                   CHECK (s COLLATE BINARY > 'a') CHECK (s COLLATE BINARY <> 'a'));""",
-             [": left out: COLLATE; texts are compared by their bytes",
-              ": left out: CHECK (s > 'a'), which orders texts otherwise than by their bytes",
-              ": left out: CHECK (s COLLATE BINARY > 'a'), which orders texts otherwise than by their bytes"],
-             ["s = 'a' OR s IN ('b', 'c')", "s <> 'a'"]),
-    Postgres: ("""CREATE COLLATION same (provider = icu, locale = 'und', deterministic = false);
+        [
+            ": left out: COLLATE; texts are compared by their bytes",
+            ": left out: CHECK (s > 'a'), which orders texts otherwise than by their bytes",
+            ": left out: CHECK (s COLLATE BINARY > 'a'), which orders texts otherwise than by their bytes",
+        ],
+        ["s = 'a' OR s IN ('b', 'c')", "s <> 'a'"],
+    ),
+    Postgres: (
+        """CREATE COLLATION same (provider = icu, locale = 'und', deterministic = false);
                   CREATE DOMAIN d AS TEXT COLLATE "und-x-icu" CHECK (VALUE > 'a');
                   CREATE DOMAIN e AS TEXT CHECK (VALUE > 'a');
                   CREATE TABLE t (i TEXT COLLATE "und-x-icu", s TEXT COLLATE same, p TEXT COLLATE "POSIX",
@@ -200,10 +246,20 @@ COLLATIONS = {
                     CONSTRAINT n3 CHECK (i COLLATE "C" > 'a'), CONSTRAINT n4 CHECK (s COLLATE "C" IN ('a', 'b')),
                     CONSTRAINT n5 CHECK (p > 'a'), CONSTRAINT n6 CHECK (p COLLATE "und-x-icu" < 'a'),
                     CONSTRAINT n7 CHECK (s IS NOT NULL), CONSTRAINT n8 CHECK ('a'::text < 'b'));""",
-               [": left out: CHECK n0, which orders texts otherwise than by their bytes",
-                ": left out: CHECK n2, which compares texts otherwise than by their bytes",
-                ": left out: CHECK n6, which orders texts otherwise than by their bytes",
-                ": left out: CHECK n8, which orders constants",
-                ": left out: CHECK d_check of d, which orders texts otherwise than by their bytes"],
-               ["i = 'a' OR i IN ('b', 'c')", "i > 'a'", "s IN ('a', 'b')", "p > 'a'", "s IS NOT NULL", "e > 'a'"]),
+        [
+            ": left out: CHECK n0, which orders texts otherwise than by their bytes",
+            ": left out: CHECK n2, which compares texts otherwise than by their bytes",
+            ": left out: CHECK n6, which orders texts otherwise than by their bytes",
+            ": left out: CHECK n8, which orders constants",
+            ": left out: CHECK d_check of d, which orders texts otherwise than by their bytes",
+        ],
+        [
+            "i = 'a' OR i IN ('b', 'c')",
+            "i > 'a'",
+            "s IN ('a', 'b')",
+            "p > 'a'",
+            "s IS NOT NULL",
+            "e > 'a'",
+        ],
+    ),
 }

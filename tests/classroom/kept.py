@@ -11,7 +11,11 @@ def without_seconds(exercise: Path) -> dict[str, bytes]:
     """The files of the results by their names. In the records of the runs and in grades.csv, the one place
     where they are told, the seconds are left out; answers.json, too, names no time."""
     results = exercise / "results"
-    texts = {str(path.relative_to(results)): path.read_bytes() for path in sorted(results.rglob("*")) if path.is_file()}
+    texts = {
+        str(path.relative_to(results)): path.read_bytes()
+        for path in sorted(results.rglob("*"))
+        if path.is_file()
+    }
     for name, text in texts.items():
         if name.startswith("runs/"):
             record = json.loads(text)
@@ -22,7 +26,7 @@ def without_seconds(exercise: Path) -> dict[str, bytes]:
         elif name == "grades.csv":
             lines = list(csv.reader(io.StringIO(text.decode(), newline="")))
             at = lines[0].index("seconds")
-            texts[name] = json.dumps([line[:at] + line[at + 1:] for line in lines]).encode()
+            texts[name] = json.dumps([line[:at] + line[at + 1 :] for line in lines]).encode()
     return texts
 
 

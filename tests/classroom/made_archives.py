@@ -32,14 +32,19 @@ class Person:
 
 # Names with blanks, umlauts, a quote, and one that is another's as well.
 PEOPLE = (
-    Person("anna", "Anna Maria Schäfer", "12345", "101"), Person("ben", "Ben O'Neill", "12346", "102"),
-    Person("jörg", "Jörg Müller", "12347", "103"), Person("li", "Li Na", "12348", "104"))
+    Person("anna", "Anna Maria Schäfer", "12345", "101"),
+    Person("ben", "Ben O'Neill", "12346", "102"),
+    Person("jörg", "Jörg Müller", "12347", "103"),
+    Person("li", "Li Na", "12348", "104"),
+)
 # What each answers, by task.
 Answers = Mapping[str, Mapping[str, str]]
 
 
 def class_list(people: Iterable[Person] = PEOPLE) -> str:
-    return "id,name,moodle,canvas\n" + "".join(f"{one.id},{one.name},{one.moodle},{one.canvas}\n" for one in people)
+    return "id,name,moodle,canvas\n" + "".join(
+        f"{one.id},{one.name},{one.moodle},{one.canvas}\n" for one in people
+    )
 
 
 def written(path: Path, members: Iterable[tuple[str, str | bytes]]) -> Path:
@@ -50,23 +55,46 @@ def written(path: Path, members: Iterable[tuple[str, str | bytes]]) -> Path:
 
 
 def moodle(path: Path, answers: Answers, people: Iterable[Person] = PEOPLE) -> Path:
-    """"Download all submissions", in folders."""
-    return written(path, [(f"{one.name}_{one.moodle}_assignsubmission_file_/{task}.sql", text)
-                          for one in people for task, text in answers.get(one.id, {}).items()])
+    """ "Download all submissions", in folders."""
+    return written(
+        path,
+        [
+            (f"{one.name}_{one.moodle}_assignsubmission_file_/{task}.sql", text)
+            for one in people
+            for task, text in answers.get(one.id, {}).items()
+        ],
+    )
 
 
 def online(path: Path, answers: Answers, people: Iterable[Person] = PEOPLE) -> Path:
     """The same for what was typed at the platform: all tasks of a student in one text of HTML."""
     members = []
     for one in people:
-        lines = [line for task, text in answers.get(one.id, {}).items() for line in (f"-- task {task}", *text.splitlines())]
-        page = "".join(f"<p>{line.replace('&', '&amp;').replace('<', '&lt;').replace('  ', ' &nbsp;')}</p>" for line in lines)
-        members.append((f"{one.name}_{one.moodle}_assignsubmission_onlinetext_/onlinetext.html",
-                        f"<html><head><title>x</title></head><body>{page}</body></html>"))
+        lines = [
+            line
+            for task, text in answers.get(one.id, {}).items()
+            for line in (f"-- task {task}", *text.splitlines())
+        ]
+        page = "".join(
+            f"<p>{line.replace('&', '&amp;').replace('<', '&lt;').replace('  ', ' &nbsp;')}</p>"
+            for line in lines
+        )
+        members.append(
+            (
+                f"{one.name}_{one.moodle}_assignsubmission_onlinetext_/onlinetext.html",
+                f"<html><head><title>x</title></head><body>{page}</body></html>",
+            )
+        )
     return written(path, members)
 
 
-def canvas(path: Path, answers: Answers, people: Iterable[Person] = PEOPLE, late: Iterable[str] = (), again: Iterable[str] = ()) -> Path:
+def canvas(
+    path: Path,
+    answers: Answers,
+    people: Iterable[Person] = PEOPLE,
+    late: Iterable[str] = (),
+    again: Iterable[str] = (),
+) -> Path:
     """Late ones are marked; who handed in again has an older text under a smaller number too."""
     members = []
     for number, one in enumerate(people):
@@ -74,8 +102,15 @@ def canvas(path: Path, answers: Answers, people: Iterable[Person] = PEOPLE, late
             mark = "_LATE" if one.id in late else ""
             base = 45_000 + 100 * number + 10 * at
             if one.id in again:
-                members.append((f"{one.canvas_name}{mark}_{one.canvas}_{base + 1}_{task}-1.sql", text))
-                members.append((f"{one.canvas_name}{mark}_{one.canvas}_{base}_{task}.sql", "SELECT 'an older text'\n"))
+                members.append(
+                    (f"{one.canvas_name}{mark}_{one.canvas}_{base + 1}_{task}-1.sql", text)
+                )
+                members.append(
+                    (
+                        f"{one.canvas_name}{mark}_{one.canvas}_{base}_{task}.sql",
+                        "SELECT 'an older text'\n",
+                    )
+                )
             else:
                 members.append((f"{one.canvas_name}{mark}_{one.canvas}_{base}_{task}.sql", text))
     return written(path, members)
@@ -93,16 +128,31 @@ def nbgrader(folder: Path, answers: Answers, assignment: str = "sql1") -> Path:
 
 def folders(path: Path, answers: Answers) -> Path:
     """One file a student with all tasks in it, parted by comments."""
-    return written(path, [(f"{who}/all.sql", "".join(f"-- task {task}\n{text}\n" for task, text in texts.items()))
-                          for who, texts in answers.items()])
+    return written(
+        path,
+        [
+            (f"{who}/all.sql", "".join(f"-- task {task}\n{text}\n" for task, text in texts.items()))
+            for who, texts in answers.items()
+        ],
+    )
 
 
 def hostile(path: Path) -> Path:
     """Names that lead out of the archive, a link, a device, what the archive says to be small and is not, and one
     answer as it should be."""
-    made = written(path, [("../../outside/1.sql", "SELECT 1\n"), ("/etc/cron.d/1.sql", "SELECT 1\n"),
-                          ("ben/..\\..\\1.sql", "SELECT 1\n"), ("C:/ben/1.sql", "SELECT 1\n"), ("ben/\x1b[2J/1.sql", "SELECT 1\n"),
-                          ("li/1.sql", b"-" * 20_000_000), ("jörg/1.sql", "SELECT 4\n"), ("anna/inner.zip", b"PK\x03\x04")])
+    made = written(
+        path,
+        [
+            ("../../outside/1.sql", "SELECT 1\n"),
+            ("/etc/cron.d/1.sql", "SELECT 1\n"),
+            ("ben/..\\..\\1.sql", "SELECT 1\n"),
+            ("C:/ben/1.sql", "SELECT 1\n"),
+            ("ben/\x1b[2J/1.sql", "SELECT 1\n"),
+            ("li/1.sql", b"-" * 20_000_000),
+            ("jörg/1.sql", "SELECT 4\n"),
+            ("anna/inner.zip", b"PK\x03\x04"),
+        ],
+    )
     with zipfile.ZipFile(made, "a") as archive:
         for name, kind in (("anna/1.sql", stat.S_IFLNK), ("anna/2.sql", stat.S_IFCHR)):
             info = zipfile.ZipInfo(name)
@@ -118,7 +168,10 @@ def bomb(path: Path, files: int, megabytes: int) -> Path:
 
 
 def main(folder: Path) -> None:
-    answers = {one.id: {"1": f"SELECT name -- {one.name}\nFROM drinker\n", "2": "SELECT 1\n"} for one in PEOPLE}
+    answers = {
+        one.id: {"1": f"SELECT name -- {one.name}\nFROM drinker\n", "2": "SELECT 1\n"}
+        for one in PEOPLE
+    }
     folder.mkdir(parents=True, exist_ok=True)
     moodle(folder / "moodle.zip", answers)
     online(folder / "online.zip", answers)

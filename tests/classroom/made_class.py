@@ -7,19 +7,30 @@ import shutil
 from pathlib import Path
 
 TOP = Path(__file__).resolve().parents[2]
-REFUSED = ("SELECT count(*) FROM bar", "SELECT nmae FROM drinker", "SELECT name, city FROM drinker", "SELECT FROM bar",
-           "SELECT name FROM drinker WHERE city = 3", "SELECT name FROM \"bars\nof\nJoe: agree\"", "")
+REFUSED = (
+    "SELECT count(*) FROM bar",
+    "SELECT nmae FROM drinker",
+    "SELECT name, city FROM drinker",
+    "SELECT FROM bar",
+    "SELECT name FROM drinker WHERE city = 3",
+    'SELECT name FROM "bars\nof\nJoe: agree"',
+    "",
+)
 
 
 def make(folder: Path, count: int, seed: int = 45) -> None:
     """Writes the exercise into a folder with so many answers, the same ones for each seed."""
-    shutil.copytree(TOP / "examples/beers", folder, ignore=shutil.ignore_patterns("results", "answers"))
+    shutil.copytree(
+        TOP / "examples/beers", folder, ignore=shutil.ignore_patterns("results", "answers")
+    )
     chosen = random.Random(seed)
     for student in range(count // 5):
         for task in "12345":
             answers = folder / task / "answers"
             answers.mkdir(exist_ok=True)
-            (answers / f"student {student}.sql").write_text(spelled(text(task, chosen), student, chosen))
+            (answers / f"student {student}.sql").write_text(
+                spelled(text(task, chosen), student, chosen)
+            )
 
 
 def text(task: str, chosen: random.Random) -> str:

@@ -8,7 +8,9 @@ from pathlib import Path
 
 TABLE = 'odd "t" <u>: x'
 ANSWER = """o'neil & "<b>\""""
-QUERY = "SELECT '<script>alert(1)</script>' AS x -- \"quoted\" & 'single' </pre>\r\n\r\x01\tFROM t\n"
+QUERY = (
+    "SELECT '<script>alert(1)</script>' AS x -- \"quoted\" & 'single' </pre>\r\n\r\x01\tFROM t\n"
+)
 REFERENCE = "SELECT a FROM t WHERE a < 1 AND b > '&lt;'\n"
 WITNESS = f"""witness: 4
 {TABLE} 1: '</td><script>', 'it''s, "so"', 5
@@ -35,15 +37,22 @@ TABLES = {
     f"Kept rows: {TABLE}": [
         ["row", "a<b", 'c & "d"\nsecond line', "n"],
         ["1", "</td><script>", 'it\'s, "so"', "5"],
-        ["12", "'two\nlines\nonly query 1: 3\n'", "NULL", "-5"]],
+        ["12", "'two\nlines\nonly query 1: 3\n'", "NULL", "-5"],
+    ],
     "Kept rows: t": [
         ["row", "first", "second", "third"],
         ["3", "'NULL'", "'ends '", "NULL"],
-        ["4", "'12'", "''", "NULL"]],
+        ["4", "'12'", "''", "NULL"],
+    ],
     "Answers on these rows: Reference: 2 rows": [
-        ["only here", "&amp;", "<b>"], ["in both", "a\nboth: 0", "plain"]],
+        ["only here", "&amp;", "<b>"],
+        ["in both", "a\nboth: 0", "plain"],
+    ],
     "Answers on these rows: Answer: 3 rows": [
-        ["only here", "NULL", "''"], ["only here", "'\n  x, y'''", "'-7'"], ["in both", "a\nboth: 0", "plain"]],
+        ["only here", "NULL", "''"],
+        ["only here", "'\n  x, y'''", "'-7'"],
+        ["in both", "a\nboth: 0", "plain"],
+    ],
     "Best rows so far: t": [["row", "first", "second", "third"], ["9", "a", "b", "1"]],
     "Kept rows: broad": [["row", *BROAD], ["1", *BROAD]],
     "Answers on these rows: Reference: 0 rows": [["no rows"]],
@@ -51,7 +60,11 @@ TABLES = {
 }
 PRINTED = {
     ANSWER: (WITNESS, "", 1),
-    "broad": (f"witness: 1\nbroad 1: {BROAD_ROW}\nonly query 1: 0\nonly query 2: 1\n  {BROAD_ROW}\nboth: 0\n", "", 1),
+    "broad": (
+        f"witness: 1\nbroad 1: {BROAD_ROW}\nonly query 1: 0\nonly query 2: 1\n  {BROAD_ROW}\nboth: 0\n",
+        "",
+        1,
+    ),
     "10 agrees": ("agree\n", "", 0),
     "9 spent": ("undecided: 7 conflicts\nbest so far: 1\nt 9: 'a', 'b', 1\n", "", 4),
     "none": ("undecided: 7 conflicts\n", "", 4),
@@ -59,19 +72,37 @@ PRINTED = {
     "shapes": ("", "ratest: queries: numbers of columns differ\n", 3),
     "work": ("", "ratest: limit: work 662 is above 9\n", 5),
     "cut": ("witness: 2\nt 1: '<u>', 'b', 1\n", "", 1),
-    "longer": ("witness: 1\nt 1: 'a', 'b', 1\nonly query 1: 0\nonly query 2: 0\nboth: 1\n  1\n  1\n", "", 1),
-    "wide": ("witness: 1\nt 1: 'a', 'b', 1, 4\nonly query 1: 0\nonly query 2: 1\n  1\nboth: 0\n", "", 1),
+    "longer": (
+        "witness: 1\nt 1: 'a', 'b', 1\nonly query 1: 0\nonly query 2: 0\nboth: 1\n  1\n  1\n",
+        "",
+        1,
+    ),
+    "wide": (
+        "witness: 1\nt 1: 'a', 'b', 1, 4\nonly query 1: 0\nonly query 2: 1\n  1\nboth: 0\n",
+        "",
+        1,
+    ),
     "memory": ("", "", 7),
     "killed": ("", "", -9),
     "right": ("agree\n", "", 0),
 }
 SUMMARY = "15 answers: 2 agree, 4 differ, 1 is wrong SQL, 8 have no verdict"
 KINDS = {
-    ANSWER: "differs on 4 rows", "9 spent": "differs on 1 row, perhaps on fewer rows",
-    "10 agrees": "agrees", "broad": "differs on 1 row", "cut": "no verdict", "killed": "no verdict",
-    "longer": "no verdict", "memory": "no verdict: passes the limit of memory", "none": "no verdict: 7 conflicts were not enough",
-    "refused": "wrong SQL: unknown column: a\nb<i>", "right": "agrees", "shapes": "differs: other columns",
-    "wide": "no verdict", "work": "no verdict: passes a limit: work 662 is above 9", "unprinted": "no verdict",
+    ANSWER: "differs on 4 rows",
+    "9 spent": "differs on 1 row, perhaps on fewer rows",
+    "10 agrees": "agrees",
+    "broad": "differs on 1 row",
+    "cut": "no verdict",
+    "killed": "no verdict",
+    "longer": "no verdict",
+    "memory": "no verdict: passes the limit of memory",
+    "none": "no verdict: 7 conflicts were not enough",
+    "refused": "wrong SQL: unknown column: a\nb<i>",
+    "right": "agrees",
+    "shapes": "differs: other columns",
+    "wide": "no verdict",
+    "work": "no verdict: passes a limit: work 662 is above 9",
+    "unprinted": "no verdict",
 }
 SCHEMA = f"""CREATE TABLE "{TABLE.replace('"', '""')}" ("a<b" TEXT, "c & ""d""
 second line" TEXT, n INTEGER);
@@ -110,4 +141,3 @@ def make(folder: Path) -> Path:
     program.write_text(PROGRAM.replace("{folder!r}", repr(str(folder.parent))))
     program.chmod(0o755)
     return program
-

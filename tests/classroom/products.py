@@ -49,13 +49,33 @@ class Postgres:
     def make(self, path: Path, text: str) -> None:
         self.count += 1
         name = f"made_{self.count}"
-        run("psql", "-X", "-q", "-d", f"{self.place} dbname=postgres", "-c", f"CREATE DATABASE {name}")
+        run(
+            "psql",
+            "-X",
+            "-q",
+            "-d",
+            f"{self.place} dbname=postgres",
+            "-c",
+            f"CREATE DATABASE {name}",
+        )
         self.database = f"{self.place} dbname={name}"
         made = run("psql", "-X", "-q", "-v", "ON_ERROR_STOP=1", "-d", self.database, input=text)
         assert not made.returncode, made.stderr
 
     def answer(self, query: str) -> subprocess.CompletedProcess[str]:
-        return run("psql", "-X", "-q", "-t", "--csv", "-P", f"null={NULL}", "-d", self.database, "-c", query)
+        return run(
+            "psql",
+            "-X",
+            "-q",
+            "-t",
+            "--csv",
+            "-P",
+            f"null={NULL}",
+            "-d",
+            self.database,
+            "-c",
+            query,
+        )
 
 
 Product = Sqlite | Postgres
@@ -81,12 +101,41 @@ def server(work: Path) -> Iterator[Postgres | None]:
         work.chmod(0o711)
         os.chown(place, user.pw_uid, user.pw_gid)
     data = place / "data"
-    made = run(initdb, "-D", data, "-A", "trust", "-N", "-U", "postgres", "-E", "UTF8", "--locale=C", cwd="/", **other)
+    made = run(
+        initdb,
+        "-D",
+        data,
+        "-A",
+        "trust",
+        "-N",
+        "-U",
+        "postgres",
+        "-E",
+        "UTF8",
+        "--locale=C",
+        cwd="/",
+        **other,
+    )
     assert not made.returncode, made.stderr
     # Not captured: the server would hold the pipe open.
     begun = subprocess.run(
-        [control, "-D", data, "-w", "-l", place / "log", "-o", f"-k {place} -c listen_addresses= -c fsync=off", "start"],
-        stdout=subprocess.DEVNULL, stderr=subprocess.DEVNULL, cwd="/", check=False, **other)  # type: ignore[call-overload]
+        [
+            control,
+            "-D",
+            data,
+            "-w",
+            "-l",
+            place / "log",
+            "-o",
+            f"-k {place} -c listen_addresses= -c fsync=off",
+            "start",
+        ],
+        stdout=subprocess.DEVNULL,
+        stderr=subprocess.DEVNULL,
+        cwd="/",
+        check=False,
+        **other,
+    )  # type: ignore[call-overload]
     assert not begun.returncode, (place / "log").read_text()
     try:
         yield Postgres(place)
@@ -94,27 +143,39 @@ def server(work: Path) -> Iterator[Postgres | None]:
         run(control, "-D", data, "-m", "immediate", "stop", cwd="/", **other)
 
 
-def export(product: Product, folder: Path, words: Sequence[str] = ()) -> subprocess.CompletedProcess[str]:
+def export(
+    product: Product, folder: Path, words: Sequence[str] = ()
+) -> subprocess.CompletedProcess[str]:
     return classroom("import", product.database, folder, *words)
 
 
 def content(folder: Path) -> dict[str, str]:
     """What `ratest` reads of an exercise."""
-    return {path.name: path.read_bytes().decode() for path in sorted(folder.iterdir()) if path.suffix == ".csv" or path.name == "schema.sql"}
+    return {
+        path.name: path.read_bytes().decode()
+        for path in sorted(folder.iterdir())
+        if path.suffix == ".csv" or path.name == "schema.sql"
+    }
 
 
 # Whole answers. Query 1 is the query where each given row is there, and nothing where one is not; query 2
 # is nothing. So the only witness is all rows, and what is printed for query 1 is the answer on them.
+
 
 def guard(folder: Path) -> str:
     conditions = []
     texts = content(folder)
     for table in tables_of(texts["schema.sql"]):
         for row in list(csv.reader(io.StringIO(texts[f"{table.name}.csv"], newline="")))[1:]:
-            parts = [f"x.{quoted(column.name)} IS NULL" if value == "" else
-                     f"x.{quoted(column.name)} = {value if column.kind == 'INTEGER' else literal(value)}"
-                     for column, value in zip(table.columns, row, strict=True)]
-            conditions.append(f"EXISTS (SELECT * FROM {quoted(table.name)} x WHERE {' AND '.join(parts)})")
+            parts = [
+                f"x.{quoted(column.name)} IS NULL"
+                if value == ""
+                else f"x.{quoted(column.name)} = {value if column.kind == 'INTEGER' else literal(value)}"
+                for column, value in zip(table.columns, row, strict=True)
+            ]
+            conditions.append(
+                f"EXISTS (SELECT * FROM {quoted(table.name)} x WHERE {' AND '.join(parts)})"
+            )
     return " AND ".join(conditions)
 
 
@@ -136,7 +197,13 @@ def printed_answer(text: str) -> set[tuple[str, ...]] | None:
             cell = re.compile(r"NULL|-?\d+|'(?:[^']|'')*'").match(text, at)
             assert cell, text
             value = cell[0]
-            row.append(NULL if value == "NULL" else value[1:-1].replace("''", "'") if value[0] == "'" else value)
+            row.append(
+                NULL
+                if value == "NULL"
+                else value[1:-1].replace("''", "'")
+                if value[0] == "'"
+                else value
+            )
             at = cell.end()
             if text[at] == "\n":
                 at += 1

@@ -11,7 +11,12 @@ import pytest
 
 GUIDE = Path(__file__).resolve().parents[2] / "docs/GUIDE.md"
 # The lines of the guide that make them.
-ROLES = GUIDE.read_text(encoding="utf-8").split("```\nCREATE ROLE")[1].split("```")[0].join(["CREATE ROLE", ""])
+ROLES = (
+    GUIDE.read_text(encoding="utf-8")
+    .split("```\nCREATE ROLE")[1]
+    .split("```")[0]
+    .join(["CREATE ROLE", ""])
+)
 
 
 class Roles(NamedTuple):
@@ -29,8 +34,20 @@ def roles() -> Iterator[Roles]:
     with tempfile.TemporaryDirectory(prefix="pg") as work, products.server(Path(work)) as made:
         if made is None:
             pytest.skip("no psql or initdb: apt-get install postgresql")
-        done = products.run("psql", "-X", "-q", "-v", "ON_ERROR_STOP=1", "-d", f"{made.place} dbname=postgres", input=ROLES)
+        done = products.run(
+            "psql",
+            "-X",
+            "-q",
+            "-v",
+            "ON_ERROR_STOP=1",
+            "-d",
+            f"{made.place} dbname=postgres",
+            input=ROLES,
+        )
         assert done.returncode == 0, done.stderr
         place = made.place.split()[0]
-        yield Roles(made.place + " dbname=ratest_scratch", f"{place} user=ratest_loader dbname=ratest_scratch",
-                    f"{place} user=ratest_asker dbname=ratest_scratch")
+        yield Roles(
+            made.place + " dbname=ratest_scratch",
+            f"{place} user=ratest_loader dbname=ratest_scratch",
+            f"{place} user=ratest_asker dbname=ratest_scratch",
+        )

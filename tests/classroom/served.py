@@ -56,33 +56,57 @@ class AtSocket(http.client.HTTPConnection):
 class Server:
     """A running one."""
 
-    def __init__(self, process: subprocess.Popen[str], port: int, errors: Path, is_tls: bool = False,
-                 socket_path: Path | None = None) -> None:
-        self.process, self.port, self.errors, self.is_tls, self.socket_path = process, port, errors, is_tls, socket_path
+    def __init__(
+        self,
+        process: subprocess.Popen[str],
+        port: int,
+        errors: Path,
+        is_tls: bool = False,
+        socket_path: Path | None = None,
+    ) -> None:
+        self.process, self.port, self.errors, self.is_tls, self.socket_path = (
+            process,
+            port,
+            errors,
+            is_tls,
+            socket_path,
+        )
 
     def connection(self) -> http.client.HTTPConnection:
         if self.socket_path:
             return AtSocket(self.socket_path)
         if self.is_tls:
-            return http.client.HTTPSConnection("127.0.0.1", self.port, timeout=30, context=ssl._create_unverified_context())
+            return http.client.HTTPSConnection(
+                "127.0.0.1", self.port, timeout=30, context=ssl._create_unverified_context()
+            )
         return http.client.HTTPConnection("127.0.0.1", self.port, timeout=30)
 
-    def send(self, method: str, path: str, body: bytes | None = None, headers: Mapping[str, str] = {}) -> Reply:
+    def send(
+        self, method: str, path: str, body: bytes | None = None, headers: Mapping[str, str] = {}
+    ) -> Reply:
         connection = self.connection()
         try:
             connection.request(method, path, body, dict(headers))
             got = connection.getresponse()
             text = got.read().decode()
-            return Reply(got.status, dict(got.getheaders()), text, got.headers.get_all("Set-Cookie") or [])
+            return Reply(
+                got.status, dict(got.getheaders()), text, got.headers.get_all("Set-Cookie") or []
+            )
         finally:
             connection.close()
 
-    def ask(self, task: str, query: str, headers: Mapping[str, str] = {}, at: str = "/", do: str = "ask") -> Reply:
+    def ask(
+        self, task: str, query: str, headers: Mapping[str, str] = {}, at: str = "/", do: str = "ask"
+    ) -> Reply:
         body = urllib.parse.urlencode({"task": task, "query": query, "do": do}).encode()
         return self.send("POST", at, body, {**FORM, **headers})
 
-    def hint(self, task: str, query: str, step: int, headers: Mapping[str, str] = {}, at: str = "/") -> Reply:
-        body = urllib.parse.urlencode({"task": task, "query": query, "do": "hint", "step": step}).encode()
+    def hint(
+        self, task: str, query: str, step: int, headers: Mapping[str, str] = {}, at: str = "/"
+    ) -> Reply:
+        body = urllib.parse.urlencode(
+            {"task": task, "query": query, "do": "hint", "step": step}
+        ).encode()
         return self.send("POST", at, body, {**FORM, **headers})
 
     # The port of the teacher's page, where there is one.
@@ -114,12 +138,18 @@ class Server:
 
     def resident(self, process: int = 0) -> int:
         """Bytes of the server itself, or of one of its processes."""
-        return int(Path(f"/proc/{process or self.process.pid}/statm").read_text().split()[1]) * os.sysconf("SC_PAGE_SIZE")
+        return int(
+            Path(f"/proc/{process or self.process.pid}/statm").read_text().split()[1]
+        ) * os.sysconf("SC_PAGE_SIZE")
 
     def processor(self, process: int = 0) -> tuple[float, float]:
         """Seconds of the server itself, or of one of its processes, and of what it ran and waited for."""
-        parts = Path(f"/proc/{process or self.process.pid}/stat").read_text().rpartition(")")[2].split()
-        user, system, user_of_others, system_of_others = (int(part) / os.sysconf("SC_CLK_TCK") for part in parts[11:15])
+        parts = (
+            Path(f"/proc/{process or self.process.pid}/stat").read_text().rpartition(")")[2].split()
+        )
+        user, system, user_of_others, system_of_others = (
+            int(part) / os.sysconf("SC_CLK_TCK") for part in parts[11:15]
+        )
         return user + system, user_of_others + system_of_others
 
     def kill(self) -> None:
@@ -133,20 +163,35 @@ class Server:
 
 
 @contextmanager
-def serving(exercise: Path, *words: str, ratest: Path | None = None, errors: str = "", socket_path: Path | None = None,
-            tries: bool = False) -> Iterator[Server]:
+def serving(
+    exercise: Path,
+    *words: str,
+    ratest: Path | None = None,
+    errors: str = "",
+    socket_path: Path | None = None,
+    tries: bool = False,
+) -> Iterator[Server]:
     """Serves a course at a free port, or at a socket, and stops; then standard error has to be just `errors`. Nothing
     is tried by a database, unless the test says so."""
     words = words if tries else ("--only-proved", *words)
     path = exercise.parent / "errors"
     # What a server leaves that is killed goes with the test's folder.
-    environment = {**os.environ, "SECRET_OF_THE_SERVER": "not for children", "TMPDIR": str(exercise.parent),
-                   **({"RATEST": str(ratest)} if ratest else {})}
+    environment = {
+        **os.environ,
+        "SECRET_OF_THE_SERVER": "not for children",
+        "TMPDIR": str(exercise.parent),
+        **({"RATEST": str(ratest)} if ratest else {}),
+    }
     place = ["--socket", str(socket_path)] if socket_path else ["--port", "0"]
     with open(path, "w") as file:
         process = subprocess.Popen(
-            [str(TOP / "classroom"), "serve", str(exercise), *place, *words], stdin=subprocess.DEVNULL,
-            stdout=subprocess.PIPE, stderr=file, text=True, env=environment)
+            [str(TOP / "classroom"), "serve", str(exercise), *place, *words],
+            stdin=subprocess.DEVNULL,
+            stdout=subprocess.PIPE,
+            stderr=file,
+            text=True,
+            env=environment,
+        )
     try:
         assert process.stdout
         line = process.stdout.readline()

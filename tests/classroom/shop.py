@@ -20,27 +20,65 @@ CUSTOMER, PRODUCT, ORDERS, ITEM = range(4)
 CITIES, KINDS = ("Bergen", "Oslo", None), ("toy", "book", "tool")
 
 
-def pool(customers: int = 5, products: int = 4, orders: int = 6, items: int = 8, seed: str = "shop") -> Pool:
+def pool(
+    customers: int = 5, products: int = 4, orders: int = 6, items: int = 8, seed: str = "shop"
+) -> Pool:
     """So many rows, the same of the same seed."""
     chance = random.Random(seed)
     integer, text = "INTEGER", "TEXT"
 
-    def held(name: str, columns: dict[str, str], rows: list[tuple[Cell, ...]], key: tuple[int, ...],
-             foreigns: list[Foreign]) -> Held:
-        return Held(Table(name, tuple(Column(*of) for of in columns.items())), rows, [key], foreigns)
+    def held(
+        name: str,
+        columns: dict[str, str],
+        rows: list[tuple[Cell, ...]],
+        key: tuple[int, ...],
+        foreigns: list[Foreign],
+    ) -> Held:
+        return Held(
+            Table(name, tuple(Column(*of) for of in columns.items())), rows, [key], foreigns
+        )
 
-    people: list[tuple[Cell, ...]] = [(at, f"{chance.choice('ABCD')}nn", chance.choice(CITIES)) for at in range(1, customers + 1)]
-    goods: list[tuple[Cell, ...]] = [(f"p{at}", chance.choice(KINDS), chance.choice([None, 1, 2, 3, 5, 8])) for at in range(products)]
-    bought: list[tuple[Cell, ...]] = [(at, chance.choice([None, *range(1, customers + 1)]) if customers else None, f"2024-0{chance.randint(1, 3)}-01")
-                                      for at in range(1, orders + 1)]
+    people: list[tuple[Cell, ...]] = [
+        (at, f"{chance.choice('ABCD')}nn", chance.choice(CITIES)) for at in range(1, customers + 1)
+    ]
+    goods: list[tuple[Cell, ...]] = [
+        (f"p{at}", chance.choice(KINDS), chance.choice([None, 1, 2, 3, 5, 8]))
+        for at in range(products)
+    ]
+    bought: list[tuple[Cell, ...]] = [
+        (
+            at,
+            chance.choice([None, *range(1, customers + 1)]) if customers else None,
+            f"2024-0{chance.randint(1, 3)}-01",
+        )
+        for at in range(1, orders + 1)
+    ]
     pairs = [(order, good) for order in range(1, orders + 1) for good in range(products)]
-    lines: list[tuple[Cell, ...]] = [(order, f"p{good}", chance.randint(1, 3)) for order, good in chance.sample(pairs, min(items, len(pairs)))]
-    return Pool(SCHEMA.encode(), [
-        held("customer", {"id": integer, "name": text, "city": text}, people, (0,), []),
-        held("product", {"sku": text, "kind": text, "price": integer}, goods, (0,), []),
-        held("orders", {"no": integer, "customer": integer, "day": text}, bought, (0,), [Foreign((1,), CUSTOMER, (0,))]),
-        held("item", {"ord": integer, "sku": text, "qty": integer}, lines, (0, 1),
-             [Foreign((0,), ORDERS, (0,)), Foreign((1,), PRODUCT, (0,))])])
+    lines: list[tuple[Cell, ...]] = [
+        (order, f"p{good}", chance.randint(1, 3))
+        for order, good in chance.sample(pairs, min(items, len(pairs)))
+    ]
+    return Pool(
+        SCHEMA.encode(),
+        [
+            held("customer", {"id": integer, "name": text, "city": text}, people, (0,), []),
+            held("product", {"sku": text, "kind": text, "price": integer}, goods, (0,), []),
+            held(
+                "orders",
+                {"no": integer, "customer": integer, "day": text},
+                bought,
+                (0,),
+                [Foreign((1,), CUSTOMER, (0,))],
+            ),
+            held(
+                "item",
+                {"ord": integer, "sku": text, "qty": integer},
+                lines,
+                (0, 1),
+                [Foreign((0,), ORDERS, (0,)), Foreign((1,), PRODUCT, (0,))],
+            ),
+        ],
+    )
 
 
 def material(product: str = SQLITE, **sizes: Any) -> Material:

@@ -40,8 +40,14 @@ class Algebra:
     def relation(self, depth: int) -> Relation:
         if depth == 0:
             return self.table()
-        forms: list[Callable[[int], Relation]] = [self.select, self.project, self.joined, self.joined, self.set_operation,
-                                                  self.divide]
+        forms: list[Callable[[int], Relation]] = [
+            self.select,
+            self.project,
+            self.joined,
+            self.joined,
+            self.set_operation,
+            self.divide,
+        ]
         return self.draw.pick(forms)(depth - 1)
 
     def table(self) -> Relation:
@@ -49,11 +55,20 @@ class Algebra:
         names: list[str] = []
         for column in table.columns:
             letter = "i" if column.kind == "int" else "s"
-            names.append(self.draw.pick([name for name in (f"{letter}{at}" for at in range(4)) if name not in names]))
+            names.append(
+                self.draw.pick(
+                    [name for name in (f"{letter}{at}" for at in range(4)) if name not in names]
+                )
+            )
         columns = tuple((name, column.kind) for name, column in zip(names, table.columns))
-        renamed = ", ".join(f"{quoted(column.name)} AS {name}" for name, column in zip(names, table.columns))
-        return Relation(f"rename({quoted(table.name)}, ({listed(names)}))",
-                        f"SELECT DISTINCT {renamed} FROM {quoted(table.name)}", columns)
+        renamed = ", ".join(
+            f"{quoted(column.name)} AS {name}" for name, column in zip(names, table.columns)
+        )
+        return Relation(
+            f"rename({quoted(table.name)}, ({listed(names)}))",
+            f"SELECT DISTINCT {renamed} FROM {quoted(table.name)}",
+            columns,
+        )
 
     def test(self, of: Relation) -> str:
         name, kind = self.draw.pick(of.columns)
@@ -67,13 +82,17 @@ class Algebra:
     def select(self, depth: int) -> Relation:
         of = self.relation(depth)
         tests = " AND ".join(self.test(of) for _ in range(self.draw.random.randint(1, 2)))
-        return Relation(f"select({of.text}, {tests})", f"SELECT * FROM ({of.sql}) WHERE {tests}", of.columns)
+        return Relation(
+            f"select({of.text}, {tests})", f"SELECT * FROM ({of.sql}) WHERE {tests}", of.columns
+        )
 
     def project(self, depth: int) -> Relation:
         of = self.relation(depth)
         columns = tuple(self.draw.some(of.columns, 3))
         names = listed([name for name, _ in columns])
-        return Relation(f"project({of.text}, ({names}))", f"SELECT DISTINCT {names} FROM ({of.sql})", columns)
+        return Relation(
+            f"project({of.text}, ({names}))", f"SELECT DISTINCT {names} FROM ({of.sql})", columns
+        )
 
     def joined(self, depth: int) -> Relation:
         left, right = self.relation(depth), self.relation(self.draw.pick((0, depth)))
@@ -87,12 +106,19 @@ class Algebra:
         on = pairs(common, "l", "r")
         if word in ("semi", "anti"):
             no = "NOT " if word == "anti" else ""
-            return Relation(text, f"SELECT * FROM ({left.sql}) AS l WHERE {no}EXISTS (SELECT 1 FROM ({right.sql}) AS r "
-                                  f"WHERE {on})", left.columns)
+            return Relation(
+                text,
+                f"SELECT * FROM ({left.sql}) AS l WHERE {no}EXISTS (SELECT 1 FROM ({right.sql}) AS r "
+                f"WHERE {on})",
+                left.columns,
+            )
         kept = listed(left.names, "l.") + "".join(f", r.{name}" for name, _ in further)
         join = "LEFT JOIN" if word == "leftjoin" else "JOIN"
-        return Relation(text, f"SELECT {kept} FROM ({left.sql}) AS l {join} ({right.sql}) AS r ON {on}",
-                        left.columns + further)
+        return Relation(
+            text,
+            f"SELECT {kept} FROM ({left.sql}) AS l {join} ({right.sql}) AS r ON {on}",
+            left.columns + further,
+        )
 
     def set_operation(self, depth: int) -> Relation:
         left = self.relation(depth)
@@ -102,9 +128,15 @@ class Algebra:
         if not fitting:
             return left
         word = self.draw.pick(("UNION", "EXCEPT", "INTERSECT"))
-        sides = [projected(left, [pair[0] for pair in fitting]), projected(right, [pair[1] for pair in fitting])]
-        return Relation(f"{word.lower()}({sides[0].text}, {sides[1].text})",
-                        f"SELECT * FROM ({sides[0].sql}) {word} SELECT * FROM ({sides[1].sql})", sides[0].columns)
+        sides = [
+            projected(left, [pair[0] for pair in fitting]),
+            projected(right, [pair[1] for pair in fitting]),
+        ]
+        return Relation(
+            f"{word.lower()}({sides[0].text}, {sides[1].text})",
+            f"SELECT * FROM ({sides[0].sql}) {word} SELECT * FROM ({sides[1].sql})",
+            sides[0].columns,
+        )
 
     def divide(self, depth: int) -> Relation:
         of = self.relation(depth)
@@ -118,13 +150,17 @@ class Algebra:
         if not set(names) <= set(divisor.names):
             divisor = of
         divisor = projected(divisor, [column for column in divisor.columns if column[0] in names])
-        sql = (f"SELECT DISTINCT {listed(rest)} FROM ({of.sql}) AS x WHERE NOT EXISTS (SELECT 1 FROM ({divisor.sql}) AS y "
-               f"WHERE NOT EXISTS (SELECT 1 FROM ({of.sql}) AS z WHERE {pairs(rest, 'z', 'x', 'IS')} "
-               f"AND {pairs(names, 'z', 'y', 'IS')}))")
+        sql = (
+            f"SELECT DISTINCT {listed(rest)} FROM ({of.sql}) AS x WHERE NOT EXISTS (SELECT 1 FROM ({divisor.sql}) AS y "
+            f"WHERE NOT EXISTS (SELECT 1 FROM ({of.sql}) AS z WHERE {pairs(rest, 'z', 'x', 'IS')} "
+            f"AND {pairs(names, 'z', 'y', 'IS')}))"
+        )
         return Relation(f"divide({of.text}, {divisor.text})", sql, further)
 
 
-def common_kinds(left: Relation, right: Relation) -> list[tuple[tuple[str, Kind], tuple[str, Kind]]]:
+def common_kinds(
+    left: Relation, right: Relation
+) -> list[tuple[tuple[str, Kind], tuple[str, Kind]]]:
     found = []
     rest = list(right.columns)
     for column in left.columns:
@@ -139,4 +175,6 @@ def projected(of: Relation, columns: list[tuple[str, Kind]] | None) -> Relation:
     if columns is None:
         return of
     names = listed([name for name, _ in columns])
-    return Relation(f"project({of.text}, ({names}))", f"SELECT DISTINCT {names} FROM ({of.sql})", tuple(columns))
+    return Relation(
+        f"project({of.text}, ({names}))", f"SELECT DISTINCT {names} FROM ({of.sql})", tuple(columns)
+    )

@@ -14,7 +14,19 @@ from .program import Answer, call, files, folder_of, program, query_text, ratest
 SECONDS = 20.0
 # Bytes that mean something in one of the texts, and some that mean nothing anywhere.
 BYTES = b"\x00\t\n\r \"'(),*+-./0129;<=>AEINOSaz_|\x7f\x80\xc3\xef\xbb\xbf\xff"
-WORDS = (b"SELECT", b"NOT", b"(", b")", b"NULL", b"UNION", b"--", b"/*", b"9223372036854775808", b"CREATE TABLE", b"''")
+WORDS = (
+    b"SELECT",
+    b"NOT",
+    b"(",
+    b")",
+    b"NULL",
+    b"UNION",
+    b"--",
+    b"/*",
+    b"9223372036854775808",
+    b"CREATE TABLE",
+    b"''",
+)
 ON_OUTPUT, ON_ERROR, ANYWHERE = (0, 1, 4), (2, 3, 5, 6, 8), (7,)
 
 
@@ -26,9 +38,9 @@ def broken(text: bytes, random: Random) -> bytes:
         if form == 0:
             text = text[:at]
         elif form == 1:
-            text = text[:at] + text[at + random.randint(1, 4):]
+            text = text[:at] + text[at + random.randint(1, 4) :]
         elif form == 2:
-            text = text[:at] + bytes([random.choice(BYTES)]) + text[at + 1:]
+            text = text[:at] + bytes([random.choice(BYTES)]) + text[at + 1 :]
         elif form == 3:
             text = text[:at] + random.choice(WORDS) + text[at:]
         elif form == 4:
@@ -50,7 +62,11 @@ def fault(answer: Answer) -> Optional[str]:
         is_good = bool(answer.err) and not answer.out
     else:
         is_good = answer.status in ANYWHERE
-    return None if is_good else f"status {answer.status}, output {answer.out[:200]!r}, error {answer.err[:200]!r}"
+    return (
+        None
+        if is_good
+        else f"status {answer.status}, output {answer.out[:200]!r}, error {answer.err[:200]!r}"
+    )
 
 
 @dataclass(frozen=True)
@@ -78,7 +94,11 @@ class Broken:
         if random.random() < 0.1:
             at = random.randrange(1, len(words))
             # An argument can hold no byte 0.
-            words[at] = broken(words[at].encode(), random).replace(b"\0", b"").decode(errors="surrogateescape")
+            words[at] = (
+                broken(words[at].encode(), random)
+                .replace(b"\0", b"")
+                .decode(errors="surrogateescape")
+            )
         answer = call(words, SECONDS)
         told = fault(answer)
         text = path.read_bytes()
@@ -92,9 +112,13 @@ class Broken:
             return [plus, "check", f"{folder}/certificate", schema, rows, first, second]
         if name == "list":
             return [plus, "grade", schema, rows, first, f"{folder}/list"]
-        return random.choice(([program("ratest"), schema, rows, first, second],
-                              [program("ratest"), schema, rows, first, second, "--conflicts", "5"],
-                              [plus, "grade", schema, rows, first, f"{folder}/list"],
-                              [plus, "row", "1, 'a'", schema, rows, first, second],
-                              [plus, "ra", schema, rows, first, second],
-                              [plus, "prove", schema, rows, first, second]))
+        return random.choice(
+            (
+                [program("ratest"), schema, rows, first, second],
+                [program("ratest"), schema, rows, first, second, "--conflicts", "5"],
+                [plus, "grade", schema, rows, first, f"{folder}/list"],
+                [plus, "row", "1, 'a'", schema, rows, first, second],
+                [plus, "ra", schema, rows, first, second],
+                [plus, "prove", schema, rows, first, second],
+            )
+        )

@@ -21,6 +21,7 @@ PLAIN, PLUS = "ratest", "ratest_plus"
 @dataclass(frozen=True)
 class Build:
     """A folder with both programs, each under its name or as `tools/launch` makes it without proofs."""
+
     folder: str
 
     def program(self, name: str) -> str:
@@ -40,7 +41,9 @@ class Build:
 def told(name: str, words: Sequence[str], old: Answer, new: Answer) -> str:
     parts = [f"{name} {' '.join(words)}"]
     for side, answer in (("old", old), ("new", new)):
-        parts.append(f"{side}: status {answer.status}, output {answer.out[:400]!r}, error {answer.err[:400]!r}")
+        parts.append(
+            f"{side}: status {answer.status}, output {answer.out[:400]!r}, error {answer.err[:400]!r}"
+        )
     return "\n".join(parts)
 
 
@@ -59,6 +62,7 @@ def claim_of(certificate: bytes) -> list[bytes]:
 @dataclass(frozen=True)
 class Builds:
     """Of a seeded case: both programs on it, on its texts with some bytes changed, and on each other's certificate."""
+
     old: Build
     new: Build
     name: str = "compare_builds"
@@ -100,7 +104,9 @@ def commands(folder: Path, random: Random) -> Iterator[tuple[str, list[str]]]:
 
 def pairs(folder: Path, pattern: str) -> Iterator[tuple[str, str]]:
     """The first text of a folder and of those in it, with each of them, both ways."""
-    texts = sorted(str(path) for path in folder.rglob(pattern) if path.is_file() and path.name != "schema.sql")
+    texts = sorted(
+        str(path) for path in folder.rglob(pattern) if path.is_file() and path.name != "schema.sql"
+    )
     for text in texts:
         yield texts[0], text
         yield text, texts[0]
@@ -109,7 +115,9 @@ def pairs(folder: Path, pattern: str) -> Iterator[tuple[str, str]]:
 def examples() -> Iterator[tuple[str, list[str]]]:
     """Both programs on the files of each example and of each program's own run."""
     folders = [path for path in sorted(EXAMPLES.iterdir()) if (path / "schema.sql").is_file()]
-    folders += sorted(path for path in (TOP / "crates").glob("*/data") if (path / "schema.sql").is_file())
+    folders += sorted(
+        path for path in (TOP / "crates").glob("*/data") if (path / "schema.sql").is_file()
+    )
     for folder in folders:
         schema = f"{folder}/schema.sql"
         for first, second in pairs(folder, "*.sql"):

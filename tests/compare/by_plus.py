@@ -14,7 +14,17 @@ from .by_sqlite import Database, expected, opened, told
 from .change import changed
 from .draw import Draw, Limits
 from .model import Case, Row, cells, witness_text
-from .program import Answer, Passed, call, files, folder_of, program, query_text, ratest, ratest_plus
+from .program import (
+    Answer,
+    Passed,
+    call,
+    files,
+    folder_of,
+    program,
+    query_text,
+    ratest,
+    ratest_plus,
+)
 
 
 def random_of(case: Case) -> Random:
@@ -71,6 +81,7 @@ def ratest_on(folder: Path, second: str) -> Answer:
 @dataclass(frozen=True)
 class Rows:
     """The fewest rows on which the first query answers with a row, and the second doesn't."""
+
     name: str = "compare_rows"
     limits: Limits = Limits()
 
@@ -85,8 +96,10 @@ class Rows:
         status = 0 if wanted == "never\n" else 1
         if (answer.status, answer.out.decode(), answer.err) == (status, wanted, b""):
             return None
-        return f"row {cells(row)}\nwanted status {status} and\n{wanted}\ngot status {answer.status} and\n" \
-               f"{answer.out.decode()}{answer.err.decode()}"
+        return (
+            f"row {cells(row)}\nwanted status {status} and\n{wanted}\ngot status {answer.status} and\n"
+            f"{answer.out.decode()}{answer.err.decode()}"
+        )
 
     def row_of(self, database: Database) -> Row:
         """A row of the first answer on one of the choices."""
@@ -120,8 +133,14 @@ class AlgebraTexts:
     def difference(self, case: Case) -> Optional[str]:
         algebra = Algebra(Draw(random_of(case), self.limits, case.tables))
         left = algebra.relation(2)
-        right = next((other for other in (algebra.relation(2) for _ in range(50))
-                      if [kind for _, kind in other.columns] == [kind for _, kind in left.columns]), None)
+        right = next(
+            (
+                other
+                for other in (algebra.relation(2) for _ in range(50))
+                if [kind for _, kind in other.columns] == [kind for _, kind in left.columns]
+            ),
+            None,
+        )
         if right is None:
             raise Passed("no second text")
         with closing(Database(case, left.sql, right.sql)) as database:
@@ -137,6 +156,7 @@ class AlgebraTexts:
 class Certificates:
     """The verdict is that of `ratest`, `check` accepts the file, and so does a checker of steps that shares
     nothing with it."""
+
     name: str = "compare_certificates"
     limits: Limits = Limits(rows=12)
 
@@ -153,8 +173,10 @@ class Certificates:
         wanted = f"valid: {verdict}\n".encode()
         if told is None and (checked.status, checked.out, checked.err) == (0, wanted, b""):
             return None
-        return f"verdict {verdict}\n{told}\nprove: status {made.status} {made.err!r}\n{made.out.decode()}\n" \
-               f"check: status {checked.status} {checked.out!r} {checked.err!r}"
+        return (
+            f"verdict {verdict}\n{told}\nprove: status {made.status} {made.err!r}\n{made.out.decode()}\n"
+            f"check: status {checked.status} {checked.out!r} {checked.err!r}"
+        )
 
     def fault(self, verdict: str, made: Answer, encoding: Answer) -> Optional[str]:
         text = made.out.decode()

@@ -60,14 +60,43 @@ def server() -> Iterator[str]:
         other = {"user": user.pw_uid, "group": user.pw_gid, "extra_groups": []}
     quiet: dict[str, Any] = {"check": True, "stdout": subprocess.DEVNULL, "cwd": place, **other}
     try:
-        subprocess.run([where / "initdb", "-D", f"{place}/data", "-U", "postgres", "-A", "trust", "-E", "UTF8",
-                        "--locale=C", "--no-sync"], **quiet)
+        subprocess.run(
+            [
+                where / "initdb",
+                "-D",
+                f"{place}/data",
+                "-U",
+                "postgres",
+                "-A",
+                "trust",
+                "-E",
+                "UTF8",
+                "--locale=C",
+                "--no-sync",
+            ],
+            **quiet,
+        )
         options = f"-k {place} -c listen_addresses= -c fsync=off -c synchronous_commit=off -c full_page_writes=off"
-        subprocess.run([where / "pg_ctl", "-D", f"{place}/data", "-w", "-l", f"{place}/log", "-o", options, "start"], **quiet)
+        subprocess.run(
+            [
+                where / "pg_ctl",
+                "-D",
+                f"{place}/data",
+                "-w",
+                "-l",
+                f"{place}/log",
+                "-o",
+                options,
+                "start",
+            ],
+            **quiet,
+        )
         try:
             yield f"host={place} user=postgres dbname=postgres"
         finally:
-            subprocess.run([where / "pg_ctl", "-D", f"{place}/data", "-m", "immediate", "stop"], **quiet)
+            subprocess.run(
+                [where / "pg_ctl", "-D", f"{place}/data", "-m", "immediate", "stop"], **quiet
+            )
     finally:
         shutil.rmtree(place, ignore_errors=True)
 
@@ -80,7 +109,9 @@ class Database:
         self.connection = psycopg.connect(address, autocommit=True)
         # Two at once may have the same case.
         self.name = f"case_{os.getpid()}"
-        self.run(f"DROP SCHEMA IF EXISTS {self.name} CASCADE; CREATE SCHEMA {self.name}; SET search_path = {self.name}")
+        self.run(
+            f"DROP SCHEMA IF EXISTS {self.name} CASCADE; CREATE SCHEMA {self.name}; SET search_path = {self.name}"
+        )
         self.run(schema(case, "postgres") + add_foreign_keys(case))
         writer = Writer("postgres")
         self.first, self.second = writer.query(case.first), writer.query(case.second)
@@ -94,8 +125,10 @@ class Database:
             with self.connection.transaction():
                 for name, rows in by_table(places).items():
                     row = "(" + ", ".join(["%s"] * len(self.case.rows[name][0])) + ")"
-                    self.connection.execute(f"INSERT INTO {quoted(name)} VALUES {', '.join([row] * len(rows))}".encode(),
-                                            [value for at in rows for value in self.case.rows[name][at]])
+                    self.connection.execute(
+                        f"INSERT INTO {quoted(name)} VALUES {', '.join([row] * len(rows))}".encode(),
+                        [value for at in rows for value in self.case.rows[name][at]],
+                    )
         except psycopg.errors.IntegrityError:
             return False
         return True
@@ -127,7 +160,7 @@ def kept(case: Case, text: str) -> Optional[tuple[list[Place], str]]:
         line = kept_lines(case, [place])
         if text.startswith(line):
             places.append(place)
-            text = text[len(line):]
+            text = text[len(line) :]
     return places, text
 
 
@@ -176,7 +209,11 @@ class ByPostgres:
     def agrees(self, case: Case, database: Database) -> Optional[str]:
         random = Random(query_text(case.first))
         for at in range(TRIED):
-            places = [place for place in case.places() if at == 0 or random.random() < random.choice((0.2, 0.5, 0.9))]
+            places = [
+                place
+                for place in case.places()
+                if at == 0 or random.random() < random.choice((0.2, 0.5, 0.9))
+            ]
             if database.put(places):
                 if database.answer(database.first) != database.answer(database.second):
                     return f"the answers differ on {places}"

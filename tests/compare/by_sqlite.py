@@ -24,8 +24,12 @@ class Database:
         self.connection = sqlite3.connect(":memory:", isolation_level=None)
         self.connection.execute("PRAGMA foreign_keys = ON")
         self.connection.executescript(schema(case, "sqlite"))
-        self.insert = {table.name: f"INSERT INTO {quoted(table.name)} VALUES ("
-                                   + ", ".join("?" * len(table.columns)) + ")" for table in case.tables}
+        self.insert = {
+            table.name: f"INSERT INTO {quoted(table.name)} VALUES ("
+            + ", ".join("?" * len(table.columns))
+            + ")"
+            for table in case.tables
+        }
 
     def put(self, places: tuple[Place, ...]) -> bool:
         """Makes these the rows of the database; whether they meet the schema, else it stays empty."""
@@ -51,9 +55,10 @@ class Database:
         self.connection.close()
 
     def do_differ(self) -> bool:
-        found, = self.connection.execute(
+        (found,) = self.connection.execute(
             f"SELECT EXISTS (SELECT * FROM ({self.first}) EXCEPT SELECT * FROM ({self.second})) "
-            f"OR EXISTS (SELECT * FROM ({self.second}) EXCEPT SELECT * FROM ({self.first}))").fetchone()
+            f"OR EXISTS (SELECT * FROM ({self.second}) EXCEPT SELECT * FROM ({self.first}))"
+        ).fetchone()
         return bool(found)
 
     def answer(self, query: str) -> set[Row]:
@@ -97,8 +102,10 @@ def told(wanted: str, answer: Answer) -> Optional[str]:
     status = 0 if wanted == "agree\n" else 1
     if (answer.status, answer.out, answer.err) == (status, wanted.encode(), b""):
         return None
-    return (f"wanted status {status} and\n{wanted}\ngot status {answer.status} and\n"
-            f"{answer.out.decode(errors='replace')}{answer.err.decode(errors='replace')}")
+    return (
+        f"wanted status {status} and\n{wanted}\ngot status {answer.status} and\n"
+        f"{answer.out.decode(errors='replace')}{answer.err.decode(errors='replace')}"
+    )
 
 
 @dataclass(frozen=True)

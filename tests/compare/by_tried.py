@@ -22,7 +22,11 @@ from classroom.verdict.verdict import ALL, JOINS, Differs, NoDifference  # noqa:
 
 def lack() -> Optional[str]:
     """What to tell where a library is not there."""
-    return None if importlib.util.find_spec("sqlglot") else "sqlglot is missing: apt-get install python3-sqlglot"
+    return (
+        None
+        if importlib.util.find_spec("sqlglot")
+        else "sqlglot is missing: apt-get install python3-sqlglot"
+    )
 
 
 @dataclass(frozen=True)
@@ -37,13 +41,27 @@ class ByTried:
             if proved.status not in (0, 1):
                 raise Passed("without a proved verdict")
             pool = of_exercise(folder)
-        if any(list(repeated(at, held.rows, places)) for at, held in enumerate(pool.held) for places in held.keys):
+        if any(
+            list(repeated(at, held.rows, places))
+            for at, held in enumerate(pool.held)
+            for places in held.keys
+        ):
             raise Passed("with rows that break a key")
-        found = child.tried(material.of_schema(pool, material.SQLITE), {
-            "reference": writer.query(case.first), "answer": writer.query(case.second), "seconds": 20.0}).outcome
+        found = child.tried(
+            material.of_schema(pool, material.SQLITE),
+            {
+                "reference": writer.query(case.first),
+                "answer": writer.query(case.second),
+                "seconds": 20.0,
+            },
+        ).outcome
         rows = int(proved.out.split()[1]) if proved.status == 1 else None
         if rows is None:
-            return None if isinstance(found, NoDifference) else f"agree is proved, and tried is {found}"
+            return (
+                None
+                if isinstance(found, NoDifference)
+                else f"agree is proved, and tried is {found}"
+            )
         if not isinstance(found, Differs):
             return f"a witness of {rows} rows is proved, and tried is {found}"
         if len(found.kept) < rows:

@@ -9,14 +9,31 @@ from .by_postgres import kept
 from .draw import Limits
 from .model import Case, Row, Table, Value, sort_key
 from .program import Answer, Passed, folder_of, ratest
-from .query import (Arith, Base, Between, Col, Compare, Condition, Const, Exists, Expression, InList, InQuery, IsNull,
-                    Joined, Negative, Not, Query, Select, columns_of)
+from .query import (
+    Arith,
+    Base,
+    Between,
+    Col,
+    Compare,
+    Condition,
+    Const,
+    Exists,
+    Expression,
+    InList,
+    InQuery,
+    IsNull,
+    Joined,
+    Negative,
+    Not,
+    Query,
+    Select,
+    columns_of,
+)
 
 try:
     import z3  # type: ignore[import]
 except ImportError:
     z3 = None
-
 
 
 def lack() -> Optional[str]:
@@ -55,8 +72,14 @@ def compared(sign: str, left: Value, right: Value) -> Truth:
     if left is None or right is None:
         return False, False
     one, other = sort_key((left,)), sort_key((right,))
-    found = {"=": one == other, "<>": one != other, "<": one < other, "<=": one <= other, ">": one > other,
-             ">=": one >= other}[sign]
+    found = {
+        "=": one == other,
+        "<>": one != other,
+        "<": one < other,
+        "<=": one <= other,
+        ">": one > other,
+        ">=": one >= other,
+    }[sign]
     return found, not found
 
 
@@ -86,7 +109,13 @@ def value(expression: Expression, scopes: list[Scope]) -> Value:
         return None
     assert isinstance(expression, Arith)
     one, other = int(left), int(right)
-    return one + other if expression.sign == "+" else one - other if expression.sign == "-" else one * other
+    return (
+        one + other
+        if expression.sign == "+"
+        else one - other
+        if expression.sign == "-"
+        else one * other
+    )
 
 
 class Provenance:
@@ -100,10 +129,17 @@ class Provenance:
             return self.select(query, scopes)
         left, right = self.answer(query.left, scopes), self.answer(query.right, scopes)
         if query.word == "UNION":
-            return {row: one_of([left.get(row, False), right.get(row, False)]) for row in {**left, **right}}
+            return {
+                row: one_of([left.get(row, False), right.get(row, False)])
+                for row in {**left, **right}
+            }
         is_except = query.word == "EXCEPT"
-        return {row: both([formula, negated(right.get(row, False)) if is_except else right.get(row, False)])
-                for row, formula in left.items()}
+        return {
+            row: both(
+                [formula, negated(right.get(row, False)) if is_except else right.get(row, False)]
+            )
+            for row, formula in left.items()
+        }
 
     def base(self, base: Base, scopes: list[Scope]) -> tuple[list[str], dict[Row, Formula]]:
         if not isinstance(base.of, str):
@@ -119,7 +155,9 @@ class Provenance:
         joined: list[tuple[Row, Scope, Formula]] = [((), {}, True)]
         for source in select.sources:
             own: list[str] = []
-            for base, condition in [(source.head, None)] + [(join.base, join.on) for join in source.joins]:
+            for base, condition in [(source.head, None)] + [
+                (join.base, join.on) for join in source.joins
+            ]:
                 own.append(base.alias)
                 joined = self.widened(joined, base, condition, own, scopes)
         found: dict[Row, list[Formula]] = {}
@@ -128,12 +166,22 @@ class Provenance:
             if select.where is not None:
                 formula = both([formula, self.truth(select.where, around)[0]])
             if formula is not False:
-                cells = row if select.items is None else tuple(value(item, around) for item in select.items)
+                cells = (
+                    row
+                    if select.items is None
+                    else tuple(value(item, around) for item in select.items)
+                )
                 found.setdefault(cells, []).append(formula)
         return {row: one_of(formulas) for row, formulas in found.items()}
 
-    def widened(self, joined: list[tuple[Row, Scope, Formula]], base: Base, condition: Optional[Condition],
-                own: list[str], scopes: list[Scope]) -> list[tuple[Row, Scope, Formula]]:
+    def widened(
+        self,
+        joined: list[tuple[Row, Scope, Formula]],
+        base: Base,
+        condition: Optional[Condition],
+        own: list[str],
+        scopes: list[Scope],
+    ) -> list[tuple[Row, Scope, Formula]]:
         names, rows = self.base(base, scopes)
         if len(joined) * len(rows) > MOST_JOINED:
             raise Passed("too many joined rows")
@@ -152,7 +200,9 @@ class Provenance:
 
     def truth(self, condition: Condition, scopes: list[Scope]) -> Truth:
         if isinstance(condition, Compare):
-            return compared(condition.sign, value(condition.left, scopes), value(condition.right, scopes))
+            return compared(
+                condition.sign, value(condition.left, scopes), value(condition.right, scopes)
+            )
         if isinstance(condition, Joined):
             parts = [self.truth(part, scopes) for part in condition.parts]
             return every(parts) if condition.word == "AND" else some(parts)
@@ -166,7 +216,9 @@ class Provenance:
             return opposite((of is None, of is not None), condition.negated)
         if isinstance(condition, Between):
             low, high = value(condition.low, scopes), value(condition.high, scopes)
-            return opposite(every([compared(">=", of, low), compared("<=", of, high)]), condition.negated)
+            return opposite(
+                every([compared(">=", of, low), compared("<=", of, high)]), condition.negated
+            )
         if isinstance(condition, InList):
             members = [compared("=", of, value(member, scopes)) for member in condition.members]
             return opposite(some(members), condition.negated)
@@ -188,14 +240,19 @@ class Provenance:
             for key in table.keys():
                 found += self.key(table, key)
             for foreign in table.foreign_keys:
-                found += self.foreign_key(table, foreign.columns, self.tables[foreign.table], foreign.referenced)
+                found += self.foreign_key(
+                    table, foreign.columns, self.tables[foreign.table], foreign.referenced
+                )
         return found
 
     def is_ruled_out(self, table: Table, row: Row) -> bool:
         named = {column.name: cell for column, cell in zip(table.columns, row)}
-        full = [column.name for column in table.columns if column.not_null] + list(table.primary_key)
+        full = [column.name for column in table.columns if column.not_null] + list(
+            table.primary_key
+        )
         return any(named[name] is None for name in full) or any(
-            self.truth(check, [{"": named}])[1] is True for check in table.checks)
+            self.truth(check, [{"": named}])[1] is True for check in table.checks
+        )
 
     def cells(self, table: Table, at: int, names: tuple[str, ...]) -> Row:
         columns = [column.name for column in table.columns]
@@ -209,14 +266,26 @@ class Provenance:
                 found.setdefault(cells, []).append(self.kept[table.name, at])
         return [z3.AtMost(*rows, 1) for rows in found.values() if len(rows) > 1]
 
-    def foreign_key(self, table: Table, names: tuple[str, ...], other: Table, referenced: tuple[str, ...]) -> list[Formula]:
+    def foreign_key(
+        self, table: Table, names: tuple[str, ...], other: Table, referenced: tuple[str, ...]
+    ) -> list[Formula]:
         found = []
-        targets = [self.cells(other, at, referenced) for at in range(len(self.case.rows[other.name]))]
+        targets = [
+            self.cells(other, at, referenced) for at in range(len(self.case.rows[other.name]))
+        ]
         for at in range(len(self.case.rows[table.name])):
             cells = self.cells(table, at, names)
             if None not in cells:
-                found.append(one_of([negated(self.kept[table.name, at])] + [
-                    self.kept[other.name, place] for place, target in enumerate(targets) if target == cells]))
+                found.append(
+                    one_of(
+                        [negated(self.kept[table.name, at])]
+                        + [
+                            self.kept[other.name, place]
+                            for place, target in enumerate(targets)
+                            if target == cells
+                        ]
+                    )
+                )
         return found
 
 
@@ -236,9 +305,16 @@ class ByZ3:
     def told(self, case: Case, answer: Answer) -> Optional[str]:
         provenance = Provenance(case)
         first, second = provenance.answer(case.first, []), provenance.answer(case.second, [])
-        differ = one_of([formula for row in {**first, **second}
-                         for formula in (both([first.get(row, False), negated(second.get(row, False))]),
-                                         both([second.get(row, False), negated(first.get(row, False))]))])
+        differ = one_of(
+            [
+                formula
+                for row in {**first, **second}
+                for formula in (
+                    both([first.get(row, False), negated(second.get(row, False))]),
+                    both([second.get(row, False), negated(first.get(row, False))]),
+                )
+            ]
+        )
         solver = z3.Solver()
         solver.set("timeout", SECONDS * 1000)
         solver.add(differ, *provenance.law())
@@ -247,13 +323,20 @@ class ByZ3:
         head, _, text = answer.out.decode().partition("\n")
         places, _ = kept(case, text) or ([], "")
         variables = list(provenance.kept.values())
-        chosen = [z3.BoolVal(place in places) == variable for place, variable in provenance.kept.items()]
+        chosen = [
+            z3.BoolVal(place in places) == variable for place, variable in provenance.kept.items()
+        ]
         if head != f"witness: {len(places)}" or not holds(solver, *chosen):
             return "the witness is no counterexample"
         if holds(solver, z3.AtMost(*variables, len(places) - 1)):
             return "there is a smaller counterexample"
-        earlier = one_of([both(chosen[:at] + [variables[at]]) for at, place in enumerate(provenance.kept)
-                          if place not in places])
+        earlier = one_of(
+            [
+                both(chosen[:at] + [variables[at]])
+                for at, place in enumerate(provenance.kept)
+                if place not in places
+            ]
+        )
         if holds(solver, earlier, z3.AtMost(*variables, len(places))):
             return "another one of this size comes first"
         return None

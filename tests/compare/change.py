@@ -4,8 +4,23 @@ from __future__ import annotations
 import dataclasses
 from typing import TYPE_CHECKING, Any, Callable, Iterator, Optional
 
-from .query import (Arith, Between, Compare, Const, Exists, InList, InQuery, IsNull, Joined, Negative, Not, Query,
-                    Select, SetOperation, columns_of)
+from .query import (
+    Arith,
+    Between,
+    Compare,
+    Const,
+    Exists,
+    InList,
+    InQuery,
+    IsNull,
+    Joined,
+    Negative,
+    Not,
+    Query,
+    Select,
+    SetOperation,
+    columns_of,
+)
 
 if TYPE_CHECKING:
     from .draw import Draw
@@ -49,7 +64,12 @@ def children(node: Any) -> Iterator[tuple[str, Any]]:
     """The fields of a node that hold nodes."""
     for part in dataclasses.fields(node):
         value = getattr(node, part.name)
-        if dataclasses.is_dataclass(value) or isinstance(value, tuple) and value and all(map(dataclasses.is_dataclass, value)):
+        if (
+            dataclasses.is_dataclass(value)
+            or isinstance(value, tuple)
+            and value
+            and all(map(dataclasses.is_dataclass, value))
+        ):
             yield part.name, value
 
 
@@ -61,7 +81,9 @@ def changes(node: Any) -> Iterator[Any]:
         if isinstance(value, tuple):
             for at, member in enumerate(value):
                 for other in changes(member):
-                    yield dataclasses.replace(node, **{name: value[:at] + (other,) + value[at + 1:]})
+                    yield dataclasses.replace(
+                        node, **{name: value[:at] + (other,) + value[at + 1 :]}
+                    )
         else:
             for other in changes(value):
                 yield dataclasses.replace(node, **{name: other})
@@ -72,13 +94,17 @@ def reductions(case: Case) -> Iterator[Case]:
     for table in case.tables:
         rows = case.rows[table.name]
         for at in range(len(rows)):
-            yield dataclasses.replace(case, rows={**case.rows, table.name: rows[:at] + rows[at + 1:]})
+            yield dataclasses.replace(
+                case, rows={**case.rows, table.name: rows[:at] + rows[at + 1 :]}
+            )
     for place, table in enumerate(case.tables):
         for part in ("foreign_keys", "checks", "unique"):
             found = getattr(table, part)
             for at in range(len(found)):
-                fewer = dataclasses.replace(table, **{part: found[:at] + found[at + 1:]})
-                yield dataclasses.replace(case, tables=case.tables[:place] + [fewer] + case.tables[place + 1:])
+                fewer = dataclasses.replace(table, **{part: found[:at] + found[at + 1 :]})
+                yield dataclasses.replace(
+                    case, tables=case.tables[:place] + [fewer] + case.tables[place + 1 :]
+                )
     for part in ("first", "second"):
         query = getattr(case, part)
         size = len(repr(query))

@@ -21,13 +21,17 @@ from .program import Passed, limit_memory, missing, query_text
 
 class Comparison(Protocol):
     """What is compared: how large the cases are, and how the programs differ on one (None: not at all)."""
-    @property
-    def name(self) -> str: ...
 
     @property
-    def limits(self) -> Limits: ...
+    def name(self) -> str:
+        ...
 
-    def difference(self, case: Case) -> Optional[str]: ...
+    @property
+    def limits(self) -> Limits:
+        ...
+
+    def difference(self, case: Case) -> Optional[str]:
+        ...
 
 
 @dataclass(frozen=True)
@@ -43,7 +47,9 @@ def case_of(seed: int, limits: Limits) -> Case:
 
 
 def shown(case: Case) -> str:
-    tables = "".join(f"-- {table.name}.csv\n{csv_text(table, case.rows[table.name])}" for table in case.tables)
+    tables = "".join(
+        f"-- {table.name}.csv\n{csv_text(table, case.rows[table.name])}" for table in case.tables
+    )
     return f"{schema(case, 'ratest')}{tables}-- query 1\n{query_text(case.first)}-- query 2\n{query_text(case.second)}"
 
 
@@ -80,7 +86,12 @@ def compared(comparison: Comparison, seed: int) -> Found:
 def progress(name: str, done: int, count: int, start: float) -> None:
     if sys.stderr.isatty():
         left = (time.monotonic() - start) / done * (count - done)
-        print(f"\r{name}: {done} of {count}, {left:.0f} seconds left ", end="", file=sys.stderr, flush=True)
+        print(
+            f"\r{name}: {done} of {count}, {left:.0f} seconds left ",
+            end="",
+            file=sys.stderr,
+            flush=True,
+        )
 
 
 @dataclass(frozen=True)
@@ -101,7 +112,9 @@ def run(comparison: Comparison, first: int, count: int, jobs: int) -> Counter[st
     outcomes: Counter[str] = Counter()
     start = time.monotonic()
     with Pool(jobs, begin_worker) as pool:
-        for found in pool.imap_unordered(Task(comparison), range(first, first + count), chunksize=8):
+        for found in pool.imap_unordered(
+            Task(comparison), range(first, first + count), chunksize=8
+        ):
             outcomes[found.outcome] += 1
             if found.text:
                 print(f"\n{comparison.name}: seed {found.seed}\n{found.text}", flush=True)
@@ -112,8 +125,12 @@ def run(comparison: Comparison, first: int, count: int, jobs: int) -> Counter[st
 def main(comparison: Comparison, about: str) -> int:
     parser = argparse.ArgumentParser(prog=comparison.name, description=about)
     parser.add_argument("--count", type=int, default=1000, help="how many cases (1000)")
-    parser.add_argument("--from", type=int, default=0, dest="first", help="the seed of the first case (0)")
-    parser.add_argument("--jobs", type=int, default=os.cpu_count() or 1, help="how many at a time (all processors)")
+    parser.add_argument(
+        "--from", type=int, default=0, dest="first", help="the seed of the first case (0)"
+    )
+    parser.add_argument(
+        "--jobs", type=int, default=os.cpu_count() or 1, help="how many at a time (all processors)"
+    )
     words = parser.parse_args()
     lack = missing()
     if lack:
@@ -126,5 +143,7 @@ def main(comparison: Comparison, about: str) -> int:
         print(f"\n{comparison.name}: stopped", file=sys.stderr)
         return 130
     counts = ", ".join(f"{count} {outcome}" for outcome, count in sorted(outcomes.items()))
-    print(f"{comparison.name}: {words.count} cases from seed {words.first} in {time.monotonic() - start:.0f} seconds: {counts}")
+    print(
+        f"{comparison.name}: {words.count} cases from seed {words.first} in {time.monotonic() - start:.0f} seconds: {counts}"
+    )
     return 1 if outcomes["differs"] else 0

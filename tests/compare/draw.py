@@ -15,8 +15,30 @@ from typing import Literal, Optional, Sequence, TypeVar, Union
 
 from .change import changed
 from .model import Case, Column, ForeignKey, Row, Table, Value
-from .query import (Arith, Base, Between, Col, Compare, Condition, Const, Exists, Expression, InList, InQuery, IsNull,
-                    Join, Joined, Kind, Negative, Not, Query, Select, SetOperation, Source, columns_of)
+from .query import (
+    Arith,
+    Base,
+    Between,
+    Col,
+    Compare,
+    Condition,
+    Const,
+    Exists,
+    Expression,
+    InList,
+    InQuery,
+    IsNull,
+    Join,
+    Joined,
+    Kind,
+    Negative,
+    Not,
+    Query,
+    Select,
+    SetOperation,
+    Source,
+    columns_of,
+)
 
 T = TypeVar("T")
 
@@ -26,8 +48,23 @@ SUM_SIGNS: tuple[Literal["+", "-"], ...] = ("+", "-")
 ARITHMETIC_SIGNS: tuple[Literal["+", "-", "*"], ...] = ("+", "-", "*")
 SIGNS = ("=", "<>", "<", "<=", ">", ">=")
 NUMBERS: tuple[int, ...] = (0, 1, 2, 3, -1)
-WIDE_NUMBERS: tuple[int, ...] = NUMBERS + (2**63 - 1, -2**63, 2**62, -(2**63) + 1)
-TEXTS: tuple[str, ...] = ("a", "b", "A", "it's", "é", "☃😀", "a,b", 'say "x"', " a", "NULL", "10", "9", "line\nend", "--")
+WIDE_NUMBERS: tuple[int, ...] = NUMBERS + (2**63 - 1, -(2**63), 2**62, -(2**63) + 1)
+TEXTS: tuple[str, ...] = (
+    "a",
+    "b",
+    "A",
+    "it's",
+    "é",
+    "☃😀",
+    "a,b",
+    'say "x"',
+    " a",
+    "NULL",
+    "10",
+    "9",
+    "line\nend",
+    "--",
+)
 COLUMN_NAMES = ("a", "b", "c", "d")
 TABLE_NAMES = ("t", "u", "v", "Odd name", "größe")
 ALIASES = ("x", "y", "z", "w", "p", "q", "r", "s", "g", "h", "j", "k", "l", "m", "n", "o")
@@ -36,6 +73,7 @@ ALIASES = ("x", "y", "z", "w", "p", "q", "r", "s", "g", "h", "j", "k", "l", "m",
 @dataclass(frozen=True)
 class Limits:
     """How large the cases are."""
+
     rows: int = 7
     tables: int = 3
     depth: int = 2
@@ -50,6 +88,7 @@ class Limits:
 @dataclass(frozen=True)
 class Visible:
     """A source that can be named, and those of its columns that its name alone makes out."""
+
     alias: str
     columns: tuple[tuple[str, Kind], ...]
 
@@ -75,7 +114,9 @@ class Draw:
     def case(self) -> Case:
         if self.limits.large and self.chance(1 / self.limits.large):
             most = int(10 ** self.random.uniform(1, log10(self.limits.large_rows)))
-            self.limits = replace(self.limits, rows=most, values=max(4, most // 4), depth=1, sources=2)
+            self.limits = replace(
+                self.limits, rows=most, values=max(4, most // 4), depth=1, sources=2
+            )
         self.is_wide = self.chance(0.2)
         self.tables = self.schema()
         rows = self.rows()
@@ -89,8 +130,10 @@ class Draw:
     def schema(self) -> list[Table]:
         found = []
         for name in self.random.sample(TABLE_NAMES, self.random.randint(1, self.limits.tables)):
-            columns = [Column(column, "int" if self.chance(0.65) else "text", self.chance(0.15))
-                       for column in COLUMN_NAMES[:self.random.randint(1, 3)]]
+            columns = [
+                Column(column, "int" if self.chance(0.65) else "text", self.chance(0.15))
+                for column in COLUMN_NAMES[: self.random.randint(1, 3)]
+            ]
             found.append(self.with_keys(Table(name, columns)))
         for table in found:
             while self.chance(0.35):
@@ -117,8 +160,11 @@ class Draw:
         referenced = self.pick(other.keys())
         columns: list[str] = []
         for name in referenced:
-            fitting = [column.name for column in table.columns
-                       if column.kind == other.kind_of(name) and column.name not in columns]
+            fitting = [
+                column.name
+                for column in table.columns
+                if column.kind == other.kind_of(name) and column.name not in columns
+            ]
             if not fitting:
                 return
             columns.append(self.pick(fitting))
@@ -127,38 +173,57 @@ class Draw:
     def check(self, table: Table) -> Condition:
         """The form that a CHECK may have: comparisons of columns and constants, with no parentheses inside."""
         columns = tuple((column.name, column.kind) for column in table.columns)
-        parts = tuple(self.leaf([Visible("", columns)], arithmetic=False) for _ in range(self.random.randint(1, 2)))
+        parts = tuple(
+            self.leaf([Visible("", columns)], arithmetic=False)
+            for _ in range(self.random.randint(1, 2))
+        )
         return parts[0] if len(parts) == 1 else Joined("AND" if self.chance(0.5) else "OR", parts)
 
     def value(self, column: Column) -> Value:
         if not column.not_null and self.chance(0.2) or self.chance(0.02):
             return None
         if column.kind == "text":
-            return self.pick(TEXTS[:self.limits.values] if self.chance(0.8) else TEXTS)
+            return self.pick(TEXTS[: self.limits.values] if self.chance(0.8) else TEXTS)
         if self.is_wide and self.chance(0.3):
             return self.pick(WIDE_NUMBERS)
-        return self.pick(NUMBERS) if self.limits.values < 5 else self.random.randint(-1, self.limits.values)
+        return (
+            self.pick(NUMBERS)
+            if self.limits.values < 5
+            else self.random.randint(-1, self.limits.values)
+        )
 
     def rows(self) -> dict[str, list[Row]]:
-        total = self.random.randint(min(2, self.limits.rows), self.limits.rows) if self.chance(0.97) else 0
+        total = (
+            self.random.randint(min(2, self.limits.rows), self.limits.rows)
+            if self.chance(0.97)
+            else 0
+        )
         found: dict[str, list[Row]] = {table.name: [] for table in self.tables}
         for _ in range(total):
             table = self.pick(self.tables)
             rows = found[table.name]
-            row = self.pick(rows) if rows and self.chance(0.05) else tuple(self.value(c) for c in table.columns)
+            row = (
+                self.pick(rows)
+                if rows and self.chance(0.05)
+                else tuple(self.value(c) for c in table.columns)
+            )
             rows.append(row)
         return found
 
     # Queries. `outer` are the scopes around, the nearest one first; `kinds` what the columns have to be.
 
-    def query(self, depth: int, outer: list[list[Visible]], kinds: Optional[tuple[Kind, ...]]) -> Query:
+    def query(
+        self, depth: int, outer: list[list[Visible]], kinds: Optional[tuple[Kind, ...]]
+    ) -> Query:
         if depth > 0 and self.chance(0.3):
             left = self.query(depth - 1, outer, kinds)
             wanted = tuple(kind for _, kind in columns_of(left))
             return SetOperation(self.pick(WORDS), left, self.query(depth - 1, outer, wanted))
         return self.select(depth, outer, kinds)
 
-    def select(self, depth: int, outer: list[list[Visible]], kinds: Optional[tuple[Kind, ...]]) -> Select:
+    def select(
+        self, depth: int, outer: list[list[Visible]], kinds: Optional[tuple[Kind, ...]]
+    ) -> Select:
         taken: list[str] = []
         closed: set[str] = set()
         own: list[Visible] = []
@@ -172,12 +237,21 @@ class Draw:
             return Select(None, tuple(sources), where, tuple(everything))
         wanted = kinds or tuple(self.pick(KINDS) for _ in range(self.random.randint(1, 2)))
         items = tuple(self.expression(kind, scopes, null=False) for kind in wanted)
-        named = tuple((item.name if isinstance(item, Col) else f"c{at}", kind)
-                      for at, (item, kind) in enumerate(zip(items, wanted)))
+        named = tuple(
+            (item.name if isinstance(item, Col) else f"c{at}", kind)
+            for at, (item, kind) in enumerate(zip(items, wanted))
+        )
         return Select(items, tuple(sources), where, named)
 
-    def source(self, depth: int, outer: list[list[Visible]], taken: list[str], closed: set[str], own: list[Visible],
-               everything: list[tuple[str, Kind]]) -> Source:
+    def source(
+        self,
+        depth: int,
+        outer: list[list[Visible]],
+        taken: list[str],
+        closed: set[str],
+        own: list[Visible],
+        everything: list[tuple[str, Kind]],
+    ) -> Source:
         head, seen = self.base(depth, outer, taken, closed, everything)
         visible = [seen]
         joins = []
@@ -187,13 +261,23 @@ class Draw:
             # In ON, SQLite sees each source of FROM in place of one around that has its name.
             around = [[other for other in scope if other.alias not in taken] for scope in outer]
             closed |= {other.alias for scope in around for other in scope}
-            on = None if self.chance(0.15) else self.condition(min(depth, 1), [list(visible)] + around)
+            on = (
+                None
+                if self.chance(0.15)
+                else self.condition(min(depth, 1), [list(visible)] + around)
+            )
             joins.append(Join(base, on))
         own += visible
         return Source(head, tuple(joins))
 
-    def base(self, depth: int, outer: list[list[Visible]], taken: list[str], closed: set[str],
-             everything: list[tuple[str, Kind]]) -> tuple[Base, Visible]:
+    def base(
+        self,
+        depth: int,
+        outer: list[list[Visible]],
+        taken: list[str],
+        closed: set[str],
+        everything: list[tuple[str, Kind]],
+    ) -> tuple[Base, Visible]:
         # An alias may hide one of a scope around, where no ON before it spoke of that scope.
         alias = self.pick([name for name in ALIASES if name not in taken and name not in closed])
         taken.append(alias)
@@ -207,13 +291,18 @@ class Draw:
             columns = tuple((column.name, column.kind) for column in table.columns)
         everything += columns
         names = [name for name, _ in columns]
-        return Base(of, alias), Visible(alias, tuple(column for column in columns if names.count(column[0]) == 1))
+        return Base(of, alias), Visible(
+            alias, tuple(column for column in columns if names.count(column[0]) == 1)
+        )
 
     # Conditions and expressions over scopes, the nearest one first.
 
     def condition(self, depth: int, scopes: list[list[Visible]], parts: int = 3) -> Condition:
         if parts > 1 and self.chance(0.4):
-            members = tuple(self.condition(depth, scopes, parts - 1) for _ in range(2 if self.chance(0.7) else 3))
+            members = tuple(
+                self.condition(depth, scopes, parts - 1)
+                for _ in range(2 if self.chance(0.7) else 3)
+            )
             return Joined("AND" if self.chance(0.6) else "OR", members)
         if parts > 0 and self.chance(0.15):
             return Not(self.condition(depth, scopes, parts - 1))
@@ -225,7 +314,9 @@ class Draw:
         if self.chance(0.5):
             return Exists(self.query(depth, scopes, None))
         kind = self.pick(KINDS)
-        return InQuery(self.expression(kind, scopes), self.chance(0.5), self.query(depth, scopes, (kind,)))
+        return InQuery(
+            self.expression(kind, scopes), self.chance(0.5), self.query(depth, scopes, (kind,))
+        )
 
     def all_visible(self, scopes: list[list[Visible]]) -> list[Visible]:
         """Those sources of all scopes that a nearer one of their name doesn't hide."""
@@ -242,7 +333,12 @@ class Draw:
             return self.over(kind, visible, null, arithmetic)
 
         def column() -> Expression:
-            columns = [Col(source.alias, name) for source in visible for name, of in source.columns if of == kind]
+            columns = [
+                Col(source.alias, name)
+                for source in visible
+                for name, of in source.columns
+                if of == kind
+            ]
             return self.pick(columns) if columns and self.chance(0.85) else side(null=False)
 
         form = self.random.random()
@@ -256,18 +352,29 @@ class Draw:
         return Between(column(), self.chance(0.3), side(), side())
 
     def expression(self, kind: Kind, scopes: list[list[Visible]], null: bool = True) -> Expression:
-        return self.over(kind, scopes[0] if self.chance(0.8) else self.all_visible(scopes), null, True)
+        return self.over(
+            kind, scopes[0] if self.chance(0.8) else self.all_visible(scopes), null, True
+        )
 
     def over(self, kind: Kind, visible: list[Visible], null: bool, arithmetic: bool) -> Expression:
         if kind == "int" and arithmetic and not self.is_wide and self.chance(0.15):
             return self.arithmetic(visible)
         if null and self.chance(0.04):
             return Const(None)
-        columns = [Col(source.alias, name) for source in visible for name, of in source.columns if of == kind]
+        columns = [
+            Col(source.alias, name)
+            for source in visible
+            for name, of in source.columns
+            if of == kind
+        ]
         if columns and self.chance(0.75):
             return self.pick(columns)
         if kind == "text":
-            return Const(self.pick(TEXTS[:self.limits.values]) if self.chance(0.8) else self.pick(TEXTS + ("",)))
+            return Const(
+                self.pick(TEXTS[: self.limits.values])
+                if self.chance(0.8)
+                else self.pick(TEXTS + ("",))
+            )
         return Const(self.pick(WIDE_NUMBERS if self.is_wide else NUMBERS))
 
     def arithmetic(self, visible: list[Visible]) -> Expression:
@@ -275,7 +382,11 @@ class Draw:
         if self.chance(0.2):
             return Negative(left)
         # A product of three columns may have more than 128 bits, which is refused.
-        return Arith(self.pick(SUM_SIGNS if isinstance(left, Arith) else ARITHMETIC_SIGNS), left, self.over("int", visible, False, False))
+        return Arith(
+            self.pick(SUM_SIGNS if isinstance(left, Arith) else ARITHMETIC_SIGNS),
+            left,
+            self.over("int", visible, False, False),
+        )
 
     # The second query: the first with one change, or another of the same columns.
 

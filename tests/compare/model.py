@@ -54,6 +54,7 @@ class Table:
 @dataclass
 class Case:
     """Rows stand by the names of their tables, in the order of the file."""
+
     tables: list[Table]
     rows: dict[str, list[Row]]
     first: Query
@@ -63,7 +64,9 @@ class Case:
 
     def places(self) -> list[tuple[str, int]]:
         """The table and the number from 0 of each row, in the order in which `ratest` counts them."""
-        return [(table.name, at) for table in self.tables for at in range(len(self.rows[table.name]))]
+        return [
+            (table.name, at) for table in self.tables for at in range(len(self.rows[table.name]))
+        ]
 
 
 def names(columns: tuple[str, ...]) -> str:
@@ -76,16 +79,23 @@ def create_table(table: Table, dialect: Dialect) -> str:
     for column in table.columns:
         # SQLite lets NULL into a primary key.
         is_full = column.not_null or dialect == "sqlite" and column.name in table.primary_key
-        items.append(f"{quoted(column.name)} {TYPES[dialect][column.kind]}" + (" NOT NULL" if is_full else ""))
+        items.append(
+            f"{quoted(column.name)} {TYPES[dialect][column.kind]}"
+            + (" NOT NULL" if is_full else "")
+        )
     if table.primary_key:
         items.append(f"PRIMARY KEY {names(table.primary_key)}")
     items += [f"UNIQUE {names(key)}" for key in table.unique]
     if dialect != "postgres":
         # Rows are put in one after the other, and may refer to one another.
         late = " DEFERRABLE INITIALLY DEFERRED" if dialect == "sqlite" else ""
-        items += [f"FOREIGN KEY {names(key.columns)} REFERENCES {quoted(key.table)} {names(key.referenced)}{late}"
-                  for key in table.foreign_keys]
-    items += [f"CHECK ({Writer(dialect, plain_names=True).condition(check)})" for check in table.checks]
+        items += [
+            f"FOREIGN KEY {names(key.columns)} REFERENCES {quoted(key.table)} {names(key.referenced)}{late}"
+            for key in table.foreign_keys
+        ]
+    items += [
+        f"CHECK ({Writer(dialect, plain_names=True).condition(check)})" for check in table.checks
+    ]
     return f"CREATE TABLE {quoted(table.name)} (" + ", ".join(items) + ");"
 
 
@@ -97,7 +107,9 @@ def add_foreign_keys(case: Case) -> str:
     return "\n".join(
         f"ALTER TABLE {quoted(table.name)} ADD FOREIGN KEY {names(key.columns)} REFERENCES {quoted(key.table)} "
         f"{names(key.referenced)} DEFERRABLE INITIALLY DEFERRED;"
-        for table in case.tables for key in table.foreign_keys)
+        for table in case.tables
+        for key in table.foreign_keys
+    )
 
 
 def csv_text(table: Table, rows: list[Row]) -> str:
@@ -123,8 +135,14 @@ def cells(row: Row) -> str:
 
 def sort_key(row: Row) -> list[tuple[int, int, bytes]]:
     """NULL first, then whole numbers, then texts by their bytes."""
-    return [(0, 0, b"") if value is None else (1, value, b"") if isinstance(value, int) else (2, 0, value.encode())
-            for value in row]
+    return [
+        (0, 0, b"")
+        if value is None
+        else (1, value, b"")
+        if isinstance(value, int)
+        else (2, 0, value.encode())
+        for value in row
+    ]
 
 
 def kept_lines(case: Case, kept: Optional[list[tuple[str, int]]]) -> str:
@@ -135,6 +153,8 @@ def witness_text(case: Case, kept: list[tuple[str, int]], first: set[Row], secon
     """What `ratest` has to print of a witness, by the answers that another program gives on these rows."""
     text = f"witness: {len(kept)}\n" + kept_lines(case, kept)
     for title, rows in (("only query 1", first - second), ("only query 2", second - first)):
-        text += f"{title}: {len(rows)}\n" + "".join(f"  {cells(row)}\n" for row in sorted(rows, key=sort_key))
+        text += f"{title}: {len(rows)}\n" + "".join(
+            f"  {cells(row)}\n" for row in sorted(rows, key=sort_key)
+        )
     both = sorted(first & second, key=sort_key)
     return text + f"both: {len(both)}\n" + "".join(f"  {cells(row)}\n" for row in both)

@@ -53,8 +53,15 @@ def limit_memory() -> None:
 
 def call(command: Sequence[str], seconds: float = SECONDS) -> Answer:
     try:
-        done = subprocess.run(command, stdin=subprocess.DEVNULL, capture_output=True, timeout=seconds, env=NO_VARIABLES,
-                              close_fds=False, check=False)
+        done = subprocess.run(
+            command,
+            stdin=subprocess.DEVNULL,
+            capture_output=True,
+            timeout=seconds,
+            env=NO_VARIABLES,
+            close_fds=False,
+            check=False,
+        )
     except subprocess.TimeoutExpired as late:
         return Answer(None, late.stdout or b"", late.stderr or b"")
     return Answer(done.returncode, done.stdout, done.stderr)
@@ -66,7 +73,9 @@ def query_text(query: Query) -> str:
 
 def place_of_folders() -> Optional[str]:
     """Where folders are made: in memory where that can be had, unless TMPDIR says where; else where Python makes them."""
-    return None if "TMPDIR" in os.environ or not os.access(IN_MEMORY, os.W_OK | os.X_OK) else IN_MEMORY
+    return (
+        None if "TMPDIR" in os.environ or not os.access(IN_MEMORY, os.W_OK | os.X_OK) else IN_MEMORY
+    )
 
 
 @contextmanager
@@ -76,7 +85,9 @@ def folder_of(case: Case) -> Iterator[Path]:
         folder = Path(place)
         (folder / "schema.sql").write_text(schema(case, "ratest"), encoding="utf-8")
         for table in case.tables:
-            (folder / f"{table.name}.csv").write_text(csv_text(table, case.rows[table.name]), encoding="utf-8")
+            (folder / f"{table.name}.csv").write_text(
+                csv_text(table, case.rows[table.name]), encoding="utf-8"
+            )
         (folder / "1.sql").write_text(query_text(case.first), encoding="utf-8")
         (folder / "2.sql").write_text(query_text(case.second), encoding="utf-8")
         yield folder

@@ -8,7 +8,12 @@ Kind = Literal["int", "text"]
 
 
 def quoted(name: str) -> str:
-    plain = name.isascii() and name.replace("_", "a").isalnum() and name[0].isalpha() and name == name.lower()
+    plain = (
+        name.isascii()
+        and name.replace("_", "a").isalnum()
+        and name[0].isalpha()
+        and name == name.lower()
+    )
     return name if plain else '"' + name.replace('"', '""') + '"'
 
 
@@ -96,6 +101,7 @@ Condition = Union[Compare, IsNull, InQuery, InList, Between, Exists, Joined, Not
 @dataclass(frozen=True)
 class Base:
     """A table by its name, or a derived table, under an alias."""
+
     of: Union[str, Query]
     alias: str
 
@@ -148,6 +154,7 @@ class Writer:
     """Writes queries for a program. Parentheses stand where the grammar needs them, and nowhere else, so that
     the readers' precedence is compared too; SQLite, which has none around an operand of a set operator, gets
     derived tables there."""
+
     dialect: Literal["ratest", "sqlite", "postgres"]
     # Whether columns stand without their source, as in CHECK.
     plain_names: bool = False
@@ -168,9 +175,16 @@ class Writer:
         return f"{left} {query.word} {right}"
 
     def select(self, select: Select) -> str:
-        items = "*" if select.items is None else ", ".join(
-            self.item(item, name) for item, (name, _) in zip(select.items, select.columns))
-        text = f"SELECT DISTINCT {items} FROM " + ", ".join(self.source(source) for source in select.sources)
+        items = (
+            "*"
+            if select.items is None
+            else ", ".join(
+                self.item(item, name) for item, (name, _) in zip(select.items, select.columns)
+            )
+        )
+        text = f"SELECT DISTINCT {items} FROM " + ", ".join(
+            self.source(source) for source in select.sources
+        )
         return text + (f" WHERE {self.condition(select.where)}" if select.where else "")
 
     def item(self, item: Expression, name: str) -> str:
@@ -180,8 +194,11 @@ class Writer:
     def source(self, source: Source) -> str:
         text = self.base(source.head)
         for join in source.joins:
-            text += f" CROSS JOIN {self.base(join.base)}" if join.on is None else (
-                f" JOIN {self.base(join.base)} ON {self.condition(join.on)}")
+            text += (
+                f" CROSS JOIN {self.base(join.base)}"
+                if join.on is None
+                else (f" JOIN {self.base(join.base)} ON {self.condition(join.on)}")
+            )
         return text
 
     def base(self, base: Base) -> str:
@@ -191,8 +208,14 @@ class Writer:
     def condition(self, condition: Condition, within: str = "") -> str:
         """`within` is the word around this condition: AND, OR or NOT."""
         if isinstance(condition, Joined):
-            text = f" {condition.word} ".join(self.condition(part, condition.word) for part in condition.parts)
-            loose = within == "NOT" or (within == "AND" and condition.word == "OR") or within == condition.word
+            text = f" {condition.word} ".join(
+                self.condition(part, condition.word) for part in condition.parts
+            )
+            loose = (
+                within == "NOT"
+                or (within == "AND" and condition.word == "OR")
+                or within == condition.word
+            )
             return f"({text})" if loose else text
         if isinstance(condition, Not):
             return f"NOT {self.condition(condition.of, 'NOT')}"
@@ -207,13 +230,21 @@ class Writer:
         if isinstance(condition, InQuery):
             return f"{of} {word}IN ({self.query(condition.query)})"
         if isinstance(condition, InList):
-            return f"{of} {word}IN (" + ", ".join(self.expression(member) for member in condition.members) + ")"
+            return (
+                f"{of} {word}IN ("
+                + ", ".join(self.expression(member) for member in condition.members)
+                + ")"
+            )
         return f"{of} {word}BETWEEN {self.expression(condition.low)} AND {self.expression(condition.high)}"
 
     def expression(self, expression: Expression, within: str = "") -> str:
         if isinstance(expression, Col):
             name = quoted(expression.name)
-            return name if expression.source is None or self.plain_names else f"{quoted(expression.source)}.{name}"
+            return (
+                name
+                if expression.source is None or self.plain_names
+                else f"{quoted(expression.source)}.{name}"
+            )
         if isinstance(expression, Const):
             value = expression.value
             if value is None:

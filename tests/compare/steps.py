@@ -62,7 +62,9 @@ def follows(step: Step, lines: list[frozenset[Literal]]) -> bool:
 
 def fault(certificate: str, encoding: Encoding) -> Optional[str]:
     """The first thing that is wrong; None where the certificate proves its verdict."""
-    added = next(int(line.split()[1]) for line in certificate.splitlines() if line.startswith("added "))
+    added = next(
+        int(line.split()[1]) for line in certificate.splitlines() if line.startswith("added ")
+    )
     if added != len(encoding.lines):
         return f"{len(encoding.lines)} lines, and the certificate says {added}"
     lines = list(encoding.lines)
@@ -70,5 +72,9 @@ def fault(certificate: str, encoding: Encoding) -> Optional[str]:
         if not follows(step, lines):
             return f"step {number} does not follow"
         lines.append(step.clause)
-    denied = frozenset() if encoding.assumed is None else frozenset({(encoding.assumed[0], not encoding.assumed[1])})
+    denied = (
+        frozenset()
+        if encoding.assumed is None
+        else frozenset({(encoding.assumed[0], not encoding.assumed[1])})
+    )
     return None if any(line <= denied for line in lines) else "no line refutes what is assumed"

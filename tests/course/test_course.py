@@ -18,8 +18,12 @@ from classroom.verdict.verdict import ALL, JOINS, Differs, from_json
 import json
 
 HERE = Path(__file__).resolve().parent
-GRADES = {tasks_library.RIGHT: {"agrees", "no difference found"}, tasks_library.WRONG: {"differs"},
-          tasks_library.ORDER: {"not determined"}, tasks_library.ERROR: {"wrong SQL"}}
+GRADES = {
+    tasks_library.RIGHT: {"agrees", "no difference found"},
+    tasks_library.WRONG: {"differs"},
+    tasks_library.ORDER: {"not determined"},
+    tasks_library.ERROR: {"wrong SQL"},
+}
 # Of the tried differences so many have to be shown to be the smallest.
 LEAST = 0.95
 
@@ -38,20 +42,31 @@ def fill(folder: Path, tasks: Tasks) -> dict[tuple[str, str], str]:
     return wanted
 
 
-def check(folder: Path, wanted: dict[tuple[str, str], str], capsys: pytest.CaptureFixture[str]) -> None:
+def check(
+    folder: Path, wanted: dict[tuple[str, str], str], capsys: pytest.CaptureFixture[str]
+) -> None:
     begun = time.monotonic()
     ran = classroom("grade", folder)
     seconds = time.monotonic() - begun
     with open(folder / "results/grades.csv", newline="", encoding="utf-8") as file:
         found = {(line["task"], line["answer"]): line for line in csv.DictReader(file)}
-    wrong = {name: (line["grade"], line["fault"], wanted[name]) for name, line in found.items() if line["grade"] not in GRADES[wanted[name]]}
+    wrong = {
+        name: (line["grade"], line["fault"], wanted[name])
+        for name, line in found.items()
+        if line["grade"] not in GRADES[wanted[name]]
+    }
     assert not wrong and len(found) == len(wanted) == 80, (wrong, ran.stderr)
-    tried = [from_json(json.loads(path.read_bytes())).outcome for path in (folder / "results/runs").glob("*.trial.json")]
+    tried = [
+        from_json(json.loads(path.read_bytes())).outcome
+        for path in (folder / "results/runs").glob("*.trial.json")
+    ]
     differing = [one for one in tried if isinstance(one, Differs)]
     least = sum(one.least in (ALL, JOINS) for one in differing)
     with capsys.disabled():
-        print(f"\n{len(found)} answers in {seconds:.1f} s, {sum(line['decided_by'] == 'proved' for line in found.values())} proved; "
-              f"{least} of {len(differing)} tried differences are the smallest")
+        print(
+            f"\n{len(found)} answers in {seconds:.1f} s, {sum(line['decided_by'] == 'proved' for line in found.values())} proved; "
+            f"{least} of {len(differing)} tried differences are the smallest"
+        )
     assert differing and least >= LEAST * len(differing)
 
 
@@ -65,12 +80,26 @@ def test_library(ratest: Path, tmp_path: Path, capsys: pytest.CaptureFixture[str
     check(tmp_path / "class", fill(tmp_path / "class", tasks_library.TASKS), capsys)
 
 
-def test_railway(ratest: Path, roles: Roles, tmp_path: Path, capsys: pytest.CaptureFixture[str]) -> None:
+def test_railway(
+    ratest: Path, roles: Roles, tmp_path: Path, capsys: pytest.CaptureFixture[str]
+) -> None:
     os.environ["RATEST"] = str(ratest.absolute())
     place = roles.owner.split(" dbname")[0]
-    products.run("psql", "-X", "-q", "-d", f"{place} dbname=postgres", "-c", "DROP DATABASE IF EXISTS railway", "-c", "CREATE DATABASE railway")
+    products.run(
+        "psql",
+        "-X",
+        "-q",
+        "-d",
+        f"{place} dbname=postgres",
+        "-c",
+        "DROP DATABASE IF EXISTS railway",
+        "-c",
+        "CREATE DATABASE railway",
+    )
     owner = roles.owner.replace("ratest_scratch", "railway")
-    done = products.run("psql", "-X", "-q", "-v", "ON_ERROR_STOP=1", "-d", owner, "-f", HERE / "railway.sql")
+    done = products.run(
+        "psql", "-X", "-q", "-v", "ON_ERROR_STOP=1", "-d", owner, "-f", HERE / "railway.sql"
+    )
     assert done.returncode == 0, done.stderr
     made = classroom("import", owner, tmp_path / "class")
     assert made.returncode == 0, made.stderr

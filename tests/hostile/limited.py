@@ -33,8 +33,14 @@ def limits() -> None:
 def ended(words: Sequence[str | Path]) -> Ended:
     start = time.monotonic()
     try:
-        done = subprocess.run(words, stdin=subprocess.DEVNULL, capture_output=True, timeout=WAITED, check=False,
-                              preexec_fn=limits)
+        done = subprocess.run(
+            words,
+            stdin=subprocess.DEVNULL,
+            capture_output=True,
+            timeout=WAITED,
+            check=False,
+            preexec_fn=limits,
+        )
     except subprocess.TimeoutExpired:
         return Ended(124, b"", b"", WAITED)
     return Ended(done.returncode, done.stdout, done.stderr, time.monotonic() - start)

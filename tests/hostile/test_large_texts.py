@@ -51,8 +51,11 @@ TABLE = "a\n1\n2\n"
 QUERY = "SELECT a FROM t\n"
 WHERE = "SELECT a FROM t WHERE "
 # A table without rows beside one of many, for conditions that are asked for each row around them.
-MANY = {"schema": lambda: "CREATE TABLE t (a INTEGER); CREATE TABLE none (b INTEGER);", "none.csv": lambda: "b\n",
-        "t.csv": lambda: "a\n" + numbered(1990, "", "", "\n") + "\n"}
+MANY = {
+    "schema": lambda: "CREATE TABLE t (a INTEGER); CREATE TABLE none (b INTEGER);",
+    "none.csv": lambda: "b\n",
+    "t.csv": lambda: "a\n" + numbered(1990, "", "", "\n") + "\n",
+}
 
 QUERIES = [
     both("columns", 0, lambda: f"SELECT {repeated(2_000_000, 'a', ',')} FROM t"),
@@ -73,28 +76,67 @@ QUERIES = [
     both("stars past all memory", 7, lambda: doubled_stars(62)),
     first("one text", 3, lambda: "SELECT '" + repeated(4_000_000, "x")),
     first("a text past the limit", 5, lambda: repeated(4_194_305, " ")),
-    Case("tables", 5, {"schema": lambda: numbered(120_000, "CREATE TABLE t", " (a INTEGER);", " ")}),
-    Case("columns of a table", 5, {"schema": lambda: f"CREATE TABLE t ({numbered(200_000, 'a', ' INTEGER', ',')});"}),
-    Case("references to a wide key", 3, {"schema": lambda: (
-        f"CREATE TABLE p ({numbered(60_000, 'a', ' INTEGER', ',')}, PRIMARY KEY ({numbered(60_000, 'a', '', ',')})); "
-        f"CREATE TABLE q (b INTEGER, {repeated(60_000, 'FOREIGN KEY (b) REFERENCES p', ',')});")}),
-    Case("rules of a table", 5, {"schema": lambda: f"CREATE TABLE t (a INTEGER, {repeated(300_000, 'UNIQUE (a)', ',')});"}),
+    Case(
+        "tables", 5, {"schema": lambda: numbered(120_000, "CREATE TABLE t", " (a INTEGER);", " ")}
+    ),
+    Case(
+        "columns of a table",
+        5,
+        {"schema": lambda: f"CREATE TABLE t ({numbered(200_000, 'a', ' INTEGER', ',')});"},
+    ),
+    Case(
+        "references to a wide key",
+        3,
+        {
+            "schema": lambda: (
+                f"CREATE TABLE p ({numbered(60_000, 'a', ' INTEGER', ',')}, PRIMARY KEY ({numbered(60_000, 'a', '', ',')})); "
+                f"CREATE TABLE q (b INTEGER, {repeated(60_000, 'FOREIGN KEY (b) REFERENCES p', ',')});"
+            )
+        },
+    ),
+    Case(
+        "rules of a table",
+        5,
+        {"schema": lambda: f"CREATE TABLE t (a INTEGER, {repeated(300_000, 'UNIQUE (a)', ',')});"},
+    ),
     Case("one field", 3, {"t.csv": lambda: "a\n" + repeated(4_000_000, "1")}),
     Case("one record", 3, {"t.csv": lambda: "a\n" + repeated(2_000_000, "1", ",")}),
     Case("empty lines", 0, {"t.csv": lambda: "a\n" + repeated(4_000_000, "", "\n")}),
-    Case("conditions over no rows", 0, {**MANY, "1": lambda: (
-        f"{WHERE}NOT EXISTS (SELECT b FROM none WHERE {repeated(200_000, 'b = t.a', ' AND ')})")}),
-    Case("conditions beside no rows", 0, {**MANY, "1": lambda: (
-        f"{WHERE}NOT EXISTS (SELECT b FROM t x, none WHERE {repeated(100_000, 'b = t.a AND x.a = b', ' AND ')})")}),
+    Case(
+        "conditions over no rows",
+        0,
+        {
+            **MANY,
+            "1": lambda: (
+                f"{WHERE}NOT EXISTS (SELECT b FROM none WHERE {repeated(200_000, 'b = t.a', ' AND ')})"
+            ),
+        },
+    ),
+    Case(
+        "conditions beside no rows",
+        0,
+        {
+            **MANY,
+            "1": lambda: (
+                f"{WHERE}NOT EXISTS (SELECT b FROM t x, none WHERE {repeated(100_000, 'b = t.a AND x.a = b', ' AND ')})"
+            ),
+        },
+    ),
 ]
 
 # Against the table itself.
 ALGEBRA = [
     first("tests", 0, lambda: f"select(t, {repeated(400_000, 'a = a', ' AND ')})"),
-    first("tests that no row meets", 1, lambda: f"select(t, {repeated(400_000, 'a < a', ' AND ')})"),
+    first(
+        "tests that no row meets", 1, lambda: f"select(t, {repeated(400_000, 'a < a', ' AND ')})"
+    ),
     first("columns of a projection", 3, lambda: f"project(t, ({repeated(2_000_000, 'a', ',')}))"),
     first("names of a renaming", 3, lambda: f"rename(t, ({numbered(400_000, 'a', '', ',')}))"),
-    first("operators in one another", 3, lambda: repeated(300_000, "semi(") + "t" + repeated(300_000, ", t)")),
+    first(
+        "operators in one another",
+        3,
+        lambda: repeated(300_000, "semi(") + "t" + repeated(300_000, ", t)"),
+    ),
     first("operators at the limit", 0, lambda: repeated(64, "semi(") + "t" + repeated(64, ", t)")),
     first("divisions too many", 3, lambda: repeated(9, "divide(") + "t" + repeated(9, ", t)")),
     first("parentheses", 3, lambda: repeated(4_000_000, "(")),
@@ -141,7 +183,12 @@ CERTIFICATES = [
 
 def written(folder: Path, files: dict[str, Text]) -> list[str]:
     """The four plain words of a command over these files."""
-    usual: dict[str, Text] = {"schema": lambda: SCHEMA, "t.csv": lambda: TABLE, "1": lambda: QUERY, "2": lambda: QUERY}
+    usual: dict[str, Text] = {
+        "schema": lambda: SCHEMA,
+        "t.csv": lambda: TABLE,
+        "1": lambda: QUERY,
+        "2": lambda: QUERY,
+    }
     for name, text in {**usual, **files}.items():
         (folder / name).write_bytes(text().encode(errors="surrogateescape"))
     return [str(folder / "schema"), str(folder), str(folder / "1"), str(folder / "2")]
@@ -174,10 +221,14 @@ def test_rows(name: str, status: int, text: Text, ratest_plus: Path, tmp_path: P
     assert ended([ratest_plus, "row", text(), *words]).status == status
 
 
-@pytest.mark.parametrize("name, status, text", CERTIFICATES, ids=[name for name, _, _ in CERTIFICATES])
-def test_certificates(name: str, status: int, text: Text, ratest_plus: Path, tmp_path: Path) -> None:
+@pytest.mark.parametrize(
+    "name, status, text", CERTIFICATES, ids=[name for name, _, _ in CERTIFICATES]
+)
+def test_certificates(
+    name: str, status: int, text: Text, ratest_plus: Path, tmp_path: Path
+) -> None:
     words = written(tmp_path, {"2": lambda: f"{WHERE}a > 1"})
     right = ended([ratest_plus, "prove", *words]).out.decode()
-    head = right[:right.index("\nd ") + 1]
+    head = right[: right.index("\nd ") + 1]
     (tmp_path / "certificate").write_text(head + text())
     assert ended([ratest_plus, "check", tmp_path / "certificate", *words]).status == status

@@ -27,7 +27,7 @@ def cuts(text: bytes) -> Iterable[bytes]:
 
 
 def exchanges(text: bytes) -> Iterable[bytes]:
-    return (text[:at] + bytes([byte]) + text[at + 1:] for at in range(len(text)) for byte in BYTES)
+    return (text[:at] + bytes([byte]) + text[at + 1 :] for at in range(len(text)) for byte in BYTES)
 
 
 def is_good(one: Ended, other: Ended) -> bool:
@@ -40,13 +40,19 @@ def is_good(one: Ended, other: Ended) -> bool:
 
 def wrong(words: list[str], file: Path, texts: Iterable[bytes], folder: Path) -> list[bytes]:
     """Those texts that end badly in the place of a file, which `words` name."""
+
     def tried(numbered: tuple[int, bytes]) -> bytes | None:
         number, text = numbered
         # Each text in a folder of its own, where tables are looked for, so that many can be tried at once.
         place = folder / f"{file.name}-{number}"
         shutil.copytree(file.parent, place)
         (place / file.name).write_bytes(text)
-        moved = [str(place) + word[len(str(file.parent)):] if word.startswith(str(file.parent)) else word for word in words]
+        moved = [
+            str(place) + word[len(str(file.parent)) :]
+            if word.startswith(str(file.parent))
+            else word
+            for word in words
+        ]
         good = is_good(ended(moved), ended(moved))
         shutil.rmtree(place)
         return None if good else text
@@ -65,7 +71,9 @@ def plain(exercise: Path, *queries: str) -> list[str]:
     return [f"{exercise}/schema.sql", f"{exercise}"] + [f"{exercise}/{query}" for query in queries]
 
 
-@pytest.mark.parametrize("name", ["schema.sql", "student.csv", "reg.csv", "query1.sql", "query2.sql"])
+@pytest.mark.parametrize(
+    "name", ["schema.sql", "student.csv", "reg.csv", "query1.sql", "query2.sql"]
+)
 def test_files_that_are_cut(name: str, ratest: Path, exercise: Path, tmp_path: Path) -> None:
     text = (exercise / name).read_bytes()
     words = [str(ratest), *plain(exercise, "query1.sql", "query2.sql")]
@@ -106,11 +114,17 @@ def test_certificates(change: object, ratest_plus: Path, exercise: Path, tmp_pat
     assert wrong(words, exercise / "certificate", change(made.out), tmp_path) == []
 
 
-def test_numbers_of_every_length_in_a_certificate(ratest_plus: Path, exercise: Path, tmp_path: Path) -> None:
+def test_numbers_of_every_length_in_a_certificate(
+    ratest_plus: Path, exercise: Path, tmp_path: Path
+) -> None:
     queries = plain(exercise, "query1.sql", "query2.sql")
     made = ended([str(ratest_plus), "prove", *queries]).out
     (exercise / "certificate").write_bytes(made)
     head, _, _ = made.partition(b"\nd ")
-    texts = [head + b"\nd +" + b"9" * digits + b" ; " + b"9" * other + b"\nend\n" for digits in range(1, 41) for other in (1, digits)]
+    texts = [
+        head + b"\nd +" + b"9" * digits + b" ; " + b"9" * other + b"\nend\n"
+        for digits in range(1, 41)
+        for other in (1, digits)
+    ]
     words = [str(ratest_plus), "check", f"{exercise}/certificate", *queries]
     assert wrong(words, exercise / "certificate", texts, tmp_path) == []

@@ -25,16 +25,31 @@ def wheel(packages: Path) -> Path:
 def environment(wheel: Path, tmp_path_factory: pytest.TempPathFactory) -> Path:
     """A virtual environment with nothing but the wheel in it."""
     place = tmp_path_factory.mktemp("environment")
-    made = subprocess.run(["/usr/bin/python3", "-m", "venv", place], capture_output=True, text=True, timeout=SECONDS)
+    made = subprocess.run(
+        ["/usr/bin/python3", "-m", "venv", place], capture_output=True, text=True, timeout=SECONDS
+    )
     if made.returncode:
         pytest.skip("no virtual environment: apt-get install python3-venv")
-    subprocess.run([place / "bin/pip", "install", "--no-index", "--quiet", "--disable-pip-version-check", wheel], check=True,
-                   timeout=SECONDS, env=OUTSIDE)
+    subprocess.run(
+        [
+            place / "bin/pip",
+            "install",
+            "--no-index",
+            "--quiet",
+            "--disable-pip-version-check",
+            wheel,
+        ],
+        check=True,
+        timeout=SECONDS,
+        env=OUTSIDE,
+    )
     return place
 
 
 def run(*words: str | Path) -> subprocess.CompletedProcess[str]:
-    return subprocess.run(words, env=OUTSIDE, text=True, capture_output=True, timeout=SECONDS, cwd="/")
+    return subprocess.run(
+        words, env=OUTSIDE, text=True, capture_output=True, timeout=SECONDS, cwd="/"
+    )
 
 
 def test_its_name_and_its_version(wheel: Path, top: Path) -> None:
@@ -56,7 +71,13 @@ def test_the_programs(environment: Path, top: Path, ratest: Path, beers: str) ->
     packed = next(environment.glob("lib/python3*/site-packages/ratest/programs/ratest"))
     assert packed.read_bytes() == ratest.read_bytes(), "the very program that was proved"
     at = top / "examples/beers"
-    ran = run(environment / "bin/ratest", at / "schema.sql", at, at / "3/reference.sql", at / "3/answers/b.sql")
+    ran = run(
+        environment / "bin/ratest",
+        at / "schema.sql",
+        at,
+        at / "3/reference.sql",
+        at / "3/answers/b.sql",
+    )
     assert (ran.returncode, ran.stdout, ran.stderr) == (1, beers, "")
     assert "build: proved\n" in run(environment / "bin/ratest", "--version").stdout
     ran = run(environment / "bin/ratest_plus", "--help")
@@ -66,8 +87,10 @@ def test_the_programs(environment: Path, top: Path, ratest: Path, beers: str) ->
 
 
 def test_the_library(environment: Path) -> None:
-    code = ("import ratest; print(ratest.explain('CREATE TABLE t (a INT)', {'t': [[1], [2]]}, 'SELECT a FROM t', "
-            "'SELECT a FROM t WHERE a > 1'), end='')")
+    code = (
+        "import ratest; print(ratest.explain('CREATE TABLE t (a INT)', {'t': [[1], [2]]}, 'SELECT a FROM t', "
+        "'SELECT a FROM t WHERE a > 1'), end='')"
+    )
     ran = run(environment / "bin/python", "-c", code)
     assert (ran.returncode, ran.stderr) == (0, "")
     assert ran.stdout == "witness: 1\nt 1: 1\nonly query 1: 1\n  1\nonly query 2: 0\nboth: 0\n"

@@ -38,16 +38,33 @@ class Repository:
     calls_file: Path
     environment: dict[str, str] = field(default_factory=dict)
 
-    def run(self, *words: str | Path, program: str | Path = "./ratest",
-            **more: str) -> subprocess.CompletedProcess[str]:
+    def run(
+        self, *words: str | Path, program: str | Path = "./ratest", **more: str
+    ) -> subprocess.CompletedProcess[str]:
         """Calls the program in the repository's folder; the names in `more` go into its environment."""
-        return subprocess.run([program, *words], cwd=self.top, env={**self.environment, **more}, text=True,
-                              capture_output=True, stdin=subprocess.DEVNULL, timeout=SECONDS)
+        return subprocess.run(
+            [program, *words],
+            cwd=self.top,
+            env={**self.environment, **more},
+            text=True,
+            capture_output=True,
+            stdin=subprocess.DEVNULL,
+            timeout=SECONDS,
+        )
 
-    def start(self, *words: str | Path, program: str | Path = "./ratest", **more: str) -> subprocess.Popen[str]:
+    def start(
+        self, *words: str | Path, program: str | Path = "./ratest", **more: str
+    ) -> subprocess.Popen[str]:
         """The same without waiting for its end."""
-        return subprocess.Popen([program, *words], cwd=self.top, env={**self.environment, **more}, text=True,
-                                stdout=subprocess.PIPE, stderr=subprocess.PIPE, stdin=subprocess.DEVNULL)
+        return subprocess.Popen(
+            [program, *words],
+            cwd=self.top,
+            env={**self.environment, **more},
+            text=True,
+            stdout=subprocess.PIPE,
+            stderr=subprocess.PIPE,
+            stdin=subprocess.DEVNULL,
+        )
 
     def calls(self) -> list[str]:
         """The commands of rt that were called, in order."""
@@ -65,8 +82,11 @@ class Repository:
 
     def changed(self) -> list[str]:
         """The files that no copy of the launcher and no sources are."""
-        return sorted(str(path.relative_to(self.top)) for path in self.top.rglob("*")
-                      if path.is_file() and "out" in path.parts)
+        return sorted(
+            str(path.relative_to(self.top))
+            for path in self.top.rglob("*")
+            if path.is_file() and "out" in path.parts
+        )
 
     def processes(self) -> list[str]:
         """The processes that run in this repository's name: those with its temporary folder in their
@@ -88,7 +108,13 @@ def repository(top: Path, tmp_path: Path) -> Repository:
     (place / "crates.txt").write_text(CRATES)
     for line in CRATES.splitlines():
         crate = line.split(":")[0]
-        source = place / "crates" / crate / "src" / ("main.rt" if crate.startswith("ratest") else "lib.rt")
+        source = (
+            place
+            / "crates"
+            / crate
+            / "src"
+            / ("main.rt" if crate.startswith("ratest") else "lib.rt")
+        )
         source.parent.mkdir(parents=True)
         source.write_text(f"//! {crate}\n")
     tools = tmp_path / "bin"
@@ -97,6 +123,12 @@ def repository(top: Path, tmp_path: Path) -> Repository:
     temporary, home = tmp_path / "temporary", tmp_path / "home"
     temporary.mkdir()
     home.mkdir()
-    environment = {"PATH": f"{tools}:/usr/bin:/bin", "HOME": str(home), "TMPDIR": str(temporary), "FAKE_LINE": LINE,
-                   "FAKE_CALLS": str(tmp_path / "calls"), "RATEST_TEST": str(place)}
+    environment = {
+        "PATH": f"{tools}:/usr/bin:/bin",
+        "HOME": str(home),
+        "TMPDIR": str(temporary),
+        "FAKE_LINE": LINE,
+        "FAKE_CALLS": str(tmp_path / "calls"),
+        "RATEST_TEST": str(place),
+    }
     return Repository(place, temporary, home, tmp_path / "calls", environment)

@@ -35,25 +35,38 @@ def run(place: Path, value: str, rt: str | None) -> subprocess.CompletedProcess[
     if rt is not None:
         (place / "bin/rt").write_text(f"#!/bin/sh\n{rt}\n")
         (place / "bin/rt").chmod(0o755)
-    return subprocess.run(["./test"], cwd=place, env={"PATH": f"{place}/bin:/usr/bin:/bin", "HOME": str(place)},
-                          text=True, capture_output=True, timeout=120)
+    return subprocess.run(
+        ["./test"],
+        cwd=place,
+        env={"PATH": f"{place}/bin:/usr/bin:/bin", "HOME": str(place)},
+        text=True,
+        capture_output=True,
+        timeout=120,
+    )
 
 
 def test_counts_are_sums_and_the_skipped_are_named(place: Path) -> None:
-    ran = run(place, "True", "echo \"rt $*\"; echo 40 passed, 0 failed")
+    ran = run(place, "True", 'echo "rt $*"; echo 40 passed, 0 failed')
     lines = ran.stdout.splitlines()
     assert (ran.returncode, lines[-1]) == (0, "42 passed, 0 failed, 1 skipped")
     assert lines[0] == "rt ci", "the whole gate, with no name behind it"
-    assert any(line.startswith("test: skipped: ") and "test_moon: there is no moon" in line for line in lines)
+    assert any(
+        line.startswith("test: skipped: ") and "test_moon: there is no moon" in line
+        for line in lines
+    )
 
 
-@pytest.mark.parametrize(("value", "rt", "last"), [
-    ("False", "echo 40 passed, 0 failed", "41 passed, 1 failed, 1 skipped"),
-    ("True", "echo 39 passed, 1 failed; exit 1", "41 passed, 1 failed, 1 skipped"),
-    ("False", "echo 39 passed, 1 failed; exit 1", "40 passed, 2 failed, 1 skipped"),
-    ("True", "echo 40 passed, 0 failed; exit 3", "2 passed, 1 failed, 1 skipped"),
-    ("True", "exit 0", "2 passed, 1 failed, 1 skipped"),
-    ("True", None, "2 passed, 1 failed, 1 skipped")])
+@pytest.mark.parametrize(
+    ("value", "rt", "last"),
+    [
+        ("False", "echo 40 passed, 0 failed", "41 passed, 1 failed, 1 skipped"),
+        ("True", "echo 39 passed, 1 failed; exit 1", "41 passed, 1 failed, 1 skipped"),
+        ("False", "echo 39 passed, 1 failed; exit 1", "40 passed, 2 failed, 1 skipped"),
+        ("True", "echo 40 passed, 0 failed; exit 3", "2 passed, 1 failed, 1 skipped"),
+        ("True", "exit 0", "2 passed, 1 failed, 1 skipped"),
+        ("True", None, "2 passed, 1 failed, 1 skipped"),
+    ],
+)
 def test_either_failure_fails_the_whole(place: Path, value: str, rt: str | None, last: str) -> None:
     ran = run(place, value, rt)
     assert (ran.returncode, ran.stdout.splitlines()[-1]) == (1, last)
@@ -69,8 +82,10 @@ def test_tests_that_do_not_load_fail(place: Path) -> None:
 def lacking(place: Path) -> Path:
     """The folder, where a package is missing, and a command apt-get that only notes its words."""
     text = (place / "tools/setup").read_text()
-    (place / "tools/setup").write_text(text.replace("packages=(\n", "packages=(\n  no-such-package\n"))
-    for name, said in (("apt-get", f"echo \"$*\" >>{place}/asked"), ("id", "echo 1000")):
+    (place / "tools/setup").write_text(
+        text.replace("packages=(\n", "packages=(\n  no-such-package\n")
+    )
+    for name, said in (("apt-get", f'echo "$*" >>{place}/asked'), ("id", "echo 1000")):
         (place / "bin" / name).write_text(f"#!/bin/sh\n{said}\n")
         (place / "bin" / name).chmod(0o755)
     return place
@@ -79,8 +94,13 @@ def lacking(place: Path) -> Path:
 def test_missing_packages_are_named(lacking: Path) -> None:
     """Where it does not run as root: the line that installs them, and nothing is installed."""
     ran = run(lacking, "True", "echo 1 passed, 0 failed")
-    assert "as root: apt-get install --no-install-recommends" in ran.stderr and "no-such-package" in ran.stderr
-    assert "no-such-package" in ran.stdout and "tools/setup installs what the tests need" in ran.stdout
+    assert (
+        "as root: apt-get install --no-install-recommends" in ran.stderr
+        and "no-such-package" in ran.stderr
+    )
+    assert (
+        "no-such-package" in ran.stdout and "tools/setup installs what the tests need" in ran.stdout
+    )
     assert not (lacking / "asked").exists()
     checked = subprocess.run([lacking / "tools/setup", "--check"], text=True, capture_output=True)
     assert checked.returncode == 0 and "no-such-package" in checked.stdout.split()
@@ -90,7 +110,12 @@ def test_missing_packages_are_installed_by_root(lacking: Path) -> None:
     (lacking / "bin/id").write_text("#!/bin/sh\necho 0\n")
     ran = run(lacking, "True", "echo 1 passed, 0 failed")
     asked = (lacking / "asked").read_text().splitlines()
-    assert ran.returncode == 0 and asked[0] == "update" and asked[1].startswith("install ") and "no-such-package" in asked[1]
+    assert (
+        ran.returncode == 0
+        and asked[0] == "update"
+        and asked[1].startswith("install ")
+        and "no-such-package" in asked[1]
+    )
 
 
 def test_setup_has_one_form(place: Path) -> None:

@@ -14,7 +14,12 @@ from pathlib import Path
 
 import pytest
 
-BEERS = ["examples/beers/schema.sql", "examples/beers", "examples/beers/3/reference.sql", "examples/beers/3/answers/b.sql"]
+BEERS = [
+    "examples/beers/schema.sql",
+    "examples/beers",
+    "examples/beers/3/reference.sql",
+    "examples/beers/3/answers/b.sql",
+]
 SECONDS = 1200
 FASTEST_OF = 5
 BEFORE_INTERRUPT = 12
@@ -38,8 +43,15 @@ class Built:
     seconds: float
 
     def run(self, *words: str) -> subprocess.CompletedProcess[str]:
-        return subprocess.run(["./ratest", *words], cwd=self.top, env=self.environment, text=True,
-                              capture_output=True, stdin=subprocess.DEVNULL, timeout=SECONDS)
+        return subprocess.run(
+            ["./ratest", *words],
+            cwd=self.top,
+            env=self.environment,
+            text=True,
+            capture_output=True,
+            stdin=subprocess.DEVNULL,
+            timeout=SECONDS,
+        )
 
 
 @pytest.fixture(scope="session")
@@ -47,16 +59,31 @@ def built(top: Path, tmp_path_factory: pytest.TempPathFactory) -> Built:
     if not shutil.which("rt"):
         pytest.skip("there is no command rt on the PATH")
     place = tmp_path_factory.mktemp("real") / "repository"
-    shutil.copytree(top, place, ignore=shutil.ignore_patterns("out", ".git", ".*_cache", "__pycache__"), symlinks=True)
+    shutil.copytree(
+        top,
+        place,
+        ignore=shutil.ignore_patterns("out", ".git", ".*_cache", "__pycache__"),
+        symlinks=True,
+    )
     source = place / "crates/ratest/src/main.rt"
     text = source.read_text()
     assert text.count(HEAD) == 1
     source.write_text(text.replace(HEAD, FAULT + HEAD))
-    environment = {"PATH": os.environ["PATH"], "HOME": str(tmp_path_factory.mktemp("home")),
-                   "TMPDIR": str(tmp_path_factory.mktemp("temporary"))}
+    environment = {
+        "PATH": os.environ["PATH"],
+        "HOME": str(tmp_path_factory.mktemp("home")),
+        "TMPDIR": str(tmp_path_factory.mktemp("temporary")),
+    }
     started = time.monotonic()
-    first = subprocess.run(["./ratest", *BEERS], cwd=place, env=environment, text=True, capture_output=True,
-                           stdin=subprocess.DEVNULL, timeout=SECONDS)
+    first = subprocess.run(
+        ["./ratest", *BEERS],
+        cwd=place,
+        env=environment,
+        text=True,
+        capture_output=True,
+        stdin=subprocess.DEVNULL,
+        timeout=SECONDS,
+    )
     return Built(place, environment, first, time.monotonic() - started)
 
 
@@ -81,7 +108,9 @@ def answer_in_readme(top: Path) -> str:
 
 def test_first_call_answers(built: Built) -> None:
     load = os.getloadavg()[0]
-    print(f"the first answer took {built.seconds:.0f} s; the load is {load:.1f} on {os.cpu_count()} processors")
+    print(
+        f"the first answer took {built.seconds:.0f} s; the load is {load:.1f} on {os.cpu_count()} processors"
+    )
     assert (built.first.returncode, built.first.stdout) == (1, answer_in_readme(built.top))
     assert len(built.first.stderr.splitlines()) == 2
     assert "not proved: " in built.first.stderr
@@ -104,14 +133,41 @@ def test_failed_check_has_a_status_of_its_own(built: Built) -> None:
     assert "a run-time check failed" in ran.stderr.splitlines()[-1]
 
 
-@pytest.mark.parametrize("words", [
-    ["examples/beers/schema.sql", "examples/beers", "examples/beers/3/reference.sql", "examples/beers/3/reference.sql"],
-    ["examples/beers/schema.sql", "examples/beers", "examples/beers/3/reference.sql", "README.md"],
-    ["examples/beers/schema.sql", "nowhere", "examples/beers/3/reference.sql", "examples/beers/3/answers/a.sql"],
-    ["made", "20"], ["made", "20", "--conflicts", "1"], ["made", "20", "--work", "10"], ["made", "401"],
-    ["a", "b"], ["--conflicts", "x", "a", "b"]])
-def test_answers_are_those_of_the_proved_program(built: Built, ratest: Path, words: list[str]) -> None:
-    proved = subprocess.run([ratest, *words], cwd=built.top, text=True, capture_output=True, timeout=60)
+@pytest.mark.parametrize(
+    "words",
+    [
+        [
+            "examples/beers/schema.sql",
+            "examples/beers",
+            "examples/beers/3/reference.sql",
+            "examples/beers/3/reference.sql",
+        ],
+        [
+            "examples/beers/schema.sql",
+            "examples/beers",
+            "examples/beers/3/reference.sql",
+            "README.md",
+        ],
+        [
+            "examples/beers/schema.sql",
+            "nowhere",
+            "examples/beers/3/reference.sql",
+            "examples/beers/3/answers/a.sql",
+        ],
+        ["made", "20"],
+        ["made", "20", "--conflicts", "1"],
+        ["made", "20", "--work", "10"],
+        ["made", "401"],
+        ["a", "b"],
+        ["--conflicts", "x", "a", "b"],
+    ],
+)
+def test_answers_are_those_of_the_proved_program(
+    built: Built, ratest: Path, words: list[str]
+) -> None:
+    proved = subprocess.run(
+        [ratest, *words], cwd=built.top, text=True, capture_output=True, timeout=60
+    )
     ran = built.run(*words)
     notice, _, rest = ran.stderr.partition("\n")
     assert notice.startswith("ratest: not proved: ")
@@ -120,8 +176,13 @@ def test_answers_are_those_of_the_proved_program(built: Built, ratest: Path, wor
 
 def test_an_output_that_fails_ends_likewise(built: Built, ratest: Path) -> None:
     for program in (str(ratest), "./ratest"):
-        ran = subprocess.run(["bash", "-c", f"'{program}' made 20 >/dev/full"], cwd=built.top, env=built.environment,
-                             capture_output=True, timeout=60)
+        ran = subprocess.run(
+            ["bash", "-c", f"'{program}' made 20 >/dev/full"],
+            cwd=built.top,
+            env=built.environment,
+            capture_output=True,
+            timeout=60,
+        )
         assert ran.returncode == 6
 
 
@@ -130,15 +191,26 @@ def test_interrupt_leaves_nothing_behind(top: Path, tmp_path: Path, words: list[
     if not shutil.which("rt"):
         pytest.skip("there is no command rt on the PATH")
     place, temporary, home = tmp_path / "repository", tmp_path / "temporary", tmp_path / "home"
-    shutil.copytree(top, place, ignore=shutil.ignore_patterns("out", ".git", ".*_cache", "__pycache__"), symlinks=True)
+    shutil.copytree(
+        top,
+        place,
+        ignore=shutil.ignore_patterns("out", ".git", ".*_cache", "__pycache__"),
+        symlinks=True,
+    )
     # Sources that were never proved, so that no proof kept on this machine ends the build at once.
     with (place / "crates/rt_value/src/lib.rt").open("a") as lowest:
         lowest.write(f"\n// Only in {place}.\n")
     temporary.mkdir()
     home.mkdir()
     files = sorted(place.rglob("*"))
-    started = subprocess.Popen(["./ratest", *words], cwd=place, stdin=subprocess.DEVNULL, stderr=subprocess.PIPE,
-                               text=True, env={"PATH": os.environ["PATH"], "HOME": str(home), "TMPDIR": str(temporary)})
+    started = subprocess.Popen(
+        ["./ratest", *words],
+        cwd=place,
+        stdin=subprocess.DEVNULL,
+        stderr=subprocess.PIPE,
+        text=True,
+        env={"PATH": os.environ["PATH"], "HOME": str(home), "TMPDIR": str(temporary)},
+    )
     time.sleep(BEFORE_INTERRUPT)
     begun = time.monotonic()
     while len(running_in(str(temporary))) <= 2:

@@ -41,7 +41,9 @@ def database() -> sqlite3.Connection:
 
 def frame() -> Any:
     pandas = pytest.importorskip("pandas")
-    return pandas.DataFrame({"price": [3, None, 5], "bar": [row[0] for row in ROWS], "beer": [row[1] for row in ROWS]})
+    return pandas.DataFrame(
+        {"price": [3, None, 5], "bar": [row[0] for row in ROWS], "beer": [row[1] for row in ROWS]}
+    )
 
 
 def file(folder: Path) -> Path:
@@ -53,18 +55,38 @@ def file(folder: Path) -> Path:
 @pytest.mark.parametrize("kind", ["rows", "path", "text of a path", "sqlite3", "pandas"])
 def test_tables(kind: str, tmp_path: Path) -> None:
     sources: dict[str, Callable[[], Any]] = {
-        "rows": lambda: {"serves": ROWS}, "path": lambda: {"serves": file(tmp_path)},
-        "text of a path": lambda: {"serves": str(file(tmp_path))}, "sqlite3": database, "pandas": lambda: {"serves": frame()}}
+        "rows": lambda: {"serves": ROWS},
+        "path": lambda: {"serves": file(tmp_path)},
+        "text of a path": lambda: {"serves": str(file(tmp_path))},
+        "sqlite3": database,
+        "pandas": lambda: {"serves": frame()},
+    }
     answer = ratest.explain(SCHEMA, sources[kind](), FIRST, SECOND)
     assert isinstance(answer, ratest.Witness) and str(answer) == WITNESS
-    assert answer.kept == {"serves": ratest.KeptRows(("bar", "beer", "price"), (2,), (("Joe's", "Corona", None),))}
-    assert (answer.size, answer.only_first, answer.only_second, answer.both) == (1, (("Joe's", "Corona"),), (), ())
+    assert answer.kept == {
+        "serves": ratest.KeptRows(("bar", "beer", "price"), (2,), (("Joe's", "Corona", None),))
+    }
+    assert (answer.size, answer.only_first, answer.only_second, answer.both) == (
+        1,
+        (("Joe's", "Corona"),),
+        (),
+        (),
+    )
 
 
-@pytest.mark.parametrize("tables, error", [
-    ({"serve": ROWS}, ValueError), ({"serves": [("a", "b", True)]}, TypeError), ({"serves": [("a", "b", 1.5)]}, TypeError),
-    ({"serves": [("a", "", 1)]}, ValueError), ({"serves": ["abc"]}, TypeError), ({"serves": [("a", b"b", 1)]}, TypeError),
-    ({"serves": "/nowhere"}, OSError), (sqlite3.connect(":memory:"), ValueError)])
+@pytest.mark.parametrize(
+    "tables, error",
+    [
+        ({"serve": ROWS}, ValueError),
+        ({"serves": [("a", "b", True)]}, TypeError),
+        ({"serves": [("a", "b", 1.5)]}, TypeError),
+        ({"serves": [("a", "", 1)]}, ValueError),
+        ({"serves": ["abc"]}, TypeError),
+        ({"serves": [("a", b"b", 1)]}, TypeError),
+        ({"serves": "/nowhere"}, OSError),
+        (sqlite3.connect(":memory:"), ValueError),
+    ],
+)
 def test_tables_that_are_none(tables: Any, error: type[Exception]) -> None:
     with pytest.raises(error):
         ratest.explain(SCHEMA, tables, FIRST, SECOND)
@@ -83,21 +105,31 @@ def test_agreement_and_refusals() -> None:
     tables = {"serves": ROWS}
     assert ratest.explain(SCHEMA, tables, FIRST, f"{FIRST} -- the same") == ratest.Agree()
     assert ratest.explain(SCHEMA, {}, FIRST, SECOND) == ratest.Agree()
-    refused = ratest.explain(SCHEMA, tables, FIRST, "SELECT bar, beer\nFROM serves\nWHERE price = = 3")
+    refused = ratest.explain(
+        SCHEMA, tables, FIRST, "SELECT bar, beer\nFROM serves\nWHERE price = = 3"
+    )
     assert refused == ratest.Refused("query 2", "syntax fault near byte 43", 3, 15)
     assert str(refused) == "query 2: syntax fault near byte 43 (line 3, column 15)"
     # A byte is not a character.
-    refused = ratest.explain(SCHEMA, tables, "SELECT bar FROM serves WHERE bar = 'é' AND AND", SECOND)
+    refused = ratest.explain(
+        SCHEMA, tables, "SELECT bar FROM serves WHERE bar = 'é' AND AND", SECOND
+    )
     assert isinstance(refused, ratest.Refused) and (refused.line, refused.column) == (1, 44)
     refused = ratest.explain(SCHEMA, tables, FIRST, "SELECT drinker, beer FROM serves")
     assert refused == ratest.Refused("query 2", "unknown column: drinker", None, None)
-    assert ratest.explain("CREATE TABLE", {}, FIRST, SECOND) == ratest.Refused("schema", "syntax fault near byte 12", 1, 13)
+    assert ratest.explain("CREATE TABLE", {}, FIRST, SECOND) == ratest.Refused(
+        "schema", "syntax fault near byte 12", 1, 13
+    )
     assert ratest.explain(SCHEMA, tables, FIRST, "SELECT bar FROM serves") == ratest.Refused(
-        "queries", "numbers of columns differ", None, None)
+        "queries", "numbers of columns differ", None, None
+    )
     assert ratest.explain(SCHEMA, {"serves": [("a", "b", "c")]}, FIRST, SECOND) == ratest.Refused(
-        "table serves", "record 2, column 3: not an integer", None, None)    # the header is record 1
+        "table serves", "record 2, column 3: not an integer", None, None
+    )  # the header is record 1
     many = {"serves": [("a", str(number), 1) for number in range(2001)]}
-    assert ratest.explain(SCHEMA, many, FIRST, SECOND) == ratest.Refused("limit", "more than 2000 rows", None, None)
+    assert ratest.explain(SCHEMA, many, FIRST, SECOND) == ratest.Refused(
+        "limit", "more than 2000 rows", None, None
+    )
     wrongs: list[dict[str, Any]] = [{"conflicts": 0}, {"work": 32_000_001}]
     for wrong in wrongs:
         with pytest.raises(ValueError):
@@ -117,10 +149,15 @@ def test_a_budget_that_is_spent() -> None:
 
 def test_paths_of_the_texts() -> None:
     tables = {path.stem: path for path in BEERS.glob("*.csv")}
-    answer = ratest.explain(BEERS / "schema.sql", tables, BEERS / "3/reference.sql", BEERS / "3/answers/b.sql")
+    answer = ratest.explain(
+        BEERS / "schema.sql", tables, BEERS / "3/reference.sql", BEERS / "3/answers/b.sql"
+    )
     readme = (TOP / "README.md").read_text()
-    assert isinstance(answer, ratest.Witness) and f"```\n$ ./ratest examples/beers/schema.sql examples/beers examples/beers/3/" \
+    assert (
+        isinstance(answer, ratest.Witness)
+        and f"```\n$ ./ratest examples/beers/schema.sql examples/beers examples/beers/3/"
         f"reference.sql examples/beers/3/answers/b.sql\n{answer}```" in readme
+    )
     with pytest.raises(FileNotFoundError):
         ratest.explain(BEERS / "none.sql", tables, FIRST, SECOND)
 
@@ -129,11 +166,15 @@ def test_why() -> None:
     tables = {"serves": ROWS}
     assert str(ratest.why(SCHEMA, tables, FIRST, SECOND, ("Joe's", "Corona"))) == WITNESS
     assert ratest.why(SCHEMA, tables, FIRST, SECOND, ("Joe's", "Dixie")) == ratest.Never()
-    assert ratest.why(SCHEMA, tables, FIRST, SECOND, ("Joe's",)) == ratest.Refused("row", "numbers of columns differ", None, None)
+    assert ratest.why(SCHEMA, tables, FIRST, SECOND, ("Joe's",)) == ratest.Refused(
+        "row", "numbers of columns differ", None, None
+    )
 
 
 def test_grades() -> None:
-    answers: dict[str, str] = {f"answer {number}": FIRST if number % 3 else SECOND for number in range(300)}
+    answers: dict[str, str] = {
+        f"answer {number}": FIRST if number % 3 else SECOND for number in range(300)
+    }
     answers["none"] = "SELECT"
     answers["too long"] = "SELECT bar, beer FROM serves" + " " * 5_000_000
     grades = ratest.grade(SCHEMA, {"serves": ROWS}, FIRST, answers)
@@ -142,21 +183,35 @@ def test_grades() -> None:
     assert grades["answer 299"].agrees and grades["answer 297"] == ratest.Grade("differs", 1, "")
     assert grades["none"] == ratest.Grade("refused", None, "syntax fault near byte 6")
     assert grades["too long"] == ratest.Grade("limit", None, "too long")
-    assert ratest.grade(SCHEMA, {"serves": ROWS}, "SELECT", answers) == ratest.Refused("query 1", "syntax fault near byte 6", 1, 7)
+    assert ratest.grade(SCHEMA, {"serves": ROWS}, "SELECT", answers) == ratest.Refused(
+        "query 1", "syntax fault near byte 6", 1, 7
+    )
     assert ratest.grade(SCHEMA, {"serves": ROWS}, FIRST, {}) == {}
 
 
 def test_certificates() -> None:
     tables = {"serves": ROWS}
     made = ratest.prove(SCHEMA, tables, FIRST, SECOND)
-    assert isinstance(made, ratest.Certificate) and made.text.startswith("ratest certificate 1\nverdict witness 1\nkeep 1\n")
+    assert isinstance(made, ratest.Certificate) and made.text.startswith(
+        "ratest certificate 1\nverdict witness 1\nkeep 1\n"
+    )
     assert ratest.check(made, SCHEMA, tables, FIRST, SECOND) == ratest.Valid(1)
-    assert ratest.check(made, SCHEMA, tables, FIRST, FIRST) == ratest.Rejected("answers are the same")
-    assert ratest.check(ratest.Certificate("x"), SCHEMA, tables, FIRST, SECOND) == ratest.Rejected("malformed at line 1")
+    assert ratest.check(made, SCHEMA, tables, FIRST, FIRST) == ratest.Rejected(
+        "answers are the same"
+    )
+    assert ratest.check(ratest.Certificate("x"), SCHEMA, tables, FIRST, SECOND) == ratest.Rejected(
+        "malformed at line 1"
+    )
     same = ratest.prove(SCHEMA, tables, FIRST, FIRST)
-    assert isinstance(same, ratest.Certificate) and ratest.check(same, SCHEMA, tables, FIRST, FIRST) == ratest.Valid(None)
-    assert ratest.prove(SCHEMA, tables, FIRST, "SELECT") == ratest.Refused("query 2", "syntax fault near byte 6", 1, 7)
-    assert ratest.check(made, SCHEMA, tables, "SELECT", FIRST) == ratest.Refused("query 1", "syntax fault near byte 6", 1, 7)
+    assert isinstance(same, ratest.Certificate) and ratest.check(
+        same, SCHEMA, tables, FIRST, FIRST
+    ) == ratest.Valid(None)
+    assert ratest.prove(SCHEMA, tables, FIRST, "SELECT") == ratest.Refused(
+        "query 2", "syntax fault near byte 6", 1, 7
+    )
+    assert ratest.check(made, SCHEMA, tables, "SELECT", FIRST) == ratest.Refused(
+        "query 1", "syntax fault near byte 6", 1, 7
+    )
 
 
 def test_to_sql_is_the_witness_in_a_database() -> None:
@@ -164,7 +219,10 @@ def test_to_sql_is_the_witness_in_a_database() -> None:
     assert isinstance(answer, ratest.Witness)
     made = sqlite3.connect(":memory:")
     made.executescript(answer.to_sql())
-    assert made.execute(FIRST).fetchall() == [("Joe's", "Corona")] and made.execute(SECOND).fetchall() == []
+    assert (
+        made.execute(FIRST).fetchall() == [("Joe's", "Corona")]
+        and made.execute(SECOND).fetchall() == []
+    )
 
 
 class Page(html.parser.HTMLParser):
@@ -196,23 +254,43 @@ def test_a_notebook_shows_what_the_class_page_shows() -> None:
     answer = ratest.explain(SCHEMA, {"serves": ROWS}, FIRST, SECOND)
     assert isinstance(answer, ratest.Witness)
     text = answer._repr_html_()
-    assert Page(text).cells == ["serves", "Joe's", "Corona", "NULL", "Query 1: 1 row", "Joe's", "Corona", "Query 2: 0 rows", "no rows"]
+    assert Page(text).cells == [
+        "serves",
+        "Joe's",
+        "Corona",
+        "NULL",
+        "Query 1: 1 row",
+        "Joe's",
+        "Corona",
+        "Query 2: 0 rows",
+        "no rows",
+    ]
     assert "The queries differ on 1 row, and on no fewer" in text and "These rows as SQL" in text
     assert draw.drawn(answer._drawing, "Query 1", "Query 2") in text
 
 
 def test_no_library_is_said_at_the_call(tmp_path: Path) -> None:
-    code = ("import ratest\ntry:\n    ratest.explain('CREATE TABLE t (a INT)', {}, 'SELECT a FROM t', 'SELECT a FROM t')\n"
-            "except ratest.NoLibrary as error:\n    print(error)\n")
+    code = (
+        "import ratest\ntry:\n    ratest.explain('CREATE TABLE t (a INT)', {}, 'SELECT a FROM t', 'SELECT a FROM t')\n"
+        "except ratest.NoLibrary as error:\n    print(error)\n"
+    )
     copied = tmp_path / "lib/python3/dist-packages/ratest"
     copied.mkdir(parents=True)
     for path in (TOP / "python/ratest").iterdir():
         if path.is_file():
             (copied / path.name).write_bytes(path.read_bytes())
-    ran = subprocess.run([sys.executable, "-c", code], env={"PYTHONPATH": str(copied.parent), "PYTHONDONTWRITEBYTECODE": "1"},
-                         capture_output=True, text=True, timeout=SECONDS)
+    ran = subprocess.run(
+        [sys.executable, "-c", code],
+        env={"PYTHONPATH": str(copied.parent), "PYTHONDONTWRITEBYTECODE": "1"},
+        capture_output=True,
+        text=True,
+        timeout=SECONDS,
+    )
     assert (ran.returncode, ran.stdout, ran.stderr) == (
-        0, "there is no libratest.so: tools/library makes it, and $LIBRATEST may name it\n", "")
+        0,
+        "there is no libratest.so: tools/library makes it, and $LIBRATEST may name it\n",
+        "",
+    )
 
 
 def test_the_guide(capsys: pytest.CaptureFixture[str]) -> None:
@@ -224,4 +302,6 @@ def test_the_guide(capsys: pytest.CaptureFixture[str]) -> None:
     calls = dict(re.findall(r"^\| `(\w+)\((.*?)\)`", chapter, re.MULTILINE))
     assert set(calls) == {name for name in ratest.__all__ if name.islower()}
     for name, words in calls.items():
-        assert list(inspect.signature(getattr(ratest, name)).parameters)[:words.count(",") + 1] == words.split(", ")
+        assert list(inspect.signature(getattr(ratest, name)).parameters)[
+            : words.count(",") + 1
+        ] == words.split(", ")

@@ -37,7 +37,8 @@ const text = (bytes) => btoa(Array.from(bytes, (byte) => String.fromCharCode(byt
 
 
 class Asking(Protocol):
-    def ask(self, questions: Sequence[Question], limit: int = AMPLE) -> list[Reply]: ...
+    def ask(self, questions: Sequence[Question], limit: int = AMPLE) -> list[Reply]:
+        ...
 
 
 class Unable(Exception):
@@ -45,13 +46,22 @@ class Unable(Exception):
 
 
 def packed(questions: Sequence[Question]) -> list[dict[str, Any]]:
-    return [{"words": it.words, "files": [[name, base64.b64encode(content).decode()] for name, content in it.files.items()]}
-            for it in questions]
+    return [
+        {
+            "words": it.words,
+            "files": [
+                [name, base64.b64encode(content).decode()] for name, content in it.files.items()
+            ],
+        }
+        for it in questions
+    ]
 
 
 def unpacked(replies: Any) -> list[Reply]:
     assert isinstance(replies, list), replies
-    return [Reply(status, base64.b64decode(out), base64.b64decode(err)) for status, out, err in replies]
+    return [
+        Reply(status, base64.b64decode(out), base64.b64decode(err)) for status, out, err in replies
+    ]
 
 
 @dataclass(frozen=True)
@@ -64,7 +74,11 @@ class Browser:
         self.driver.set_script_timeout(SECONDS)
         found: list[Reply] = []
         for at in range(0, len(questions), AT_ONCE):
-            found += unpacked(self.driver.execute_async_script(IN_PAGE, packed(questions[at:at + AT_ONCE]), limit))
+            found += unpacked(
+                self.driver.execute_async_script(
+                    IN_PAGE, packed(questions[at : at + AT_ONCE]), limit
+                )
+            )
         return found
 
 
@@ -75,14 +89,23 @@ class Node:
     page: Path
 
     def ask(self, questions: Sequence[Question], limit: int = AMPLE) -> list[Reply]:
-        module = re.search(r'<script type="text/plain" id="module">([^<]*)</script>', self.page.read_text(encoding="utf-8"))
+        module = re.search(
+            r'<script type="text/plain" id="module">([^<]*)</script>',
+            self.page.read_text(encoding="utf-8"),
+        )
         assert module
         given = json.dumps({"module": module[1], "limit": limit, "questions": packed(questions)})
         program = shutil.which("node")
         if not program:
             raise Unable("there is no node: apt-get install nodejs")
-        ran = subprocess.run([program, NODE, SCRIPTS / "frame.js"], input=given, capture_output=True, text=True,
-                             timeout=SECONDS, check=False)
+        ran = subprocess.run(
+            [program, NODE, SCRIPTS / "frame.js"],
+            input=given,
+            capture_output=True,
+            text=True,
+            timeout=SECONDS,
+            check=False,
+        )
         if ran.returncode == NOT_READ:
             raise Unable(f"node cannot read the module: {ran.stderr.strip()}")
         assert not ran.returncode, ran.stderr

@@ -9,7 +9,12 @@ from pathlib import Path
 import pytest
 
 TOP = Path(__file__).resolve().parents[2]
-sys.path[:0] = [str(TOP / "python"), str(TOP / "tools"), str(TOP / "tests"), str(Path(__file__).resolve().parent)]
+sys.path[:0] = [
+    str(TOP / "python"),
+    str(TOP / "tools"),
+    str(TOP / "tests"),
+    str(Path(__file__).resolve().parent),
+]
 
 from release import library  # noqa: E402
 
@@ -24,7 +29,12 @@ def page(top: Path, ratest: Path, tmp_path_factory: pytest.TempPathFactory) -> P
     if not library.is_new(top, library.module(top)):
         pytest.skip("ratest_c is not proved and built: tools/library")
     made = tmp_path_factory.mktemp("page") / "ratest.html"
-    ran = subprocess.run([top / "tools/web/build", "--out", made], capture_output=True, text=True,
-                         timeout=BUILD_SECONDS, check=False)
+    ran = subprocess.run(
+        [top / "tools/web/build", "--out", made],
+        capture_output=True,
+        text=True,
+        timeout=BUILD_SECONDS,
+        check=False,
+    )
     assert ran.returncode == 0, ran.stderr
     return made

@@ -29,8 +29,10 @@ LARGE = Question(("made", "400"), {})
 
 @pytest.fixture
 def opened(browser: Any, page: Path) -> Any:
-    browser.execute_cdp_cmd("Emulation.setDeviceMetricsOverride", {
-        "width": 1000, "height": 980, "deviceScaleFactor": 1, "mobile": False})
+    browser.execute_cdp_cmd(
+        "Emulation.setDeviceMetricsOverride",
+        {"width": 1000, "height": 980, "deviceScaleFactor": 1, "mobile": False},
+    )
     browser.get(page.as_uri())
     browser.get_log("browser")
     return browser
@@ -46,13 +48,18 @@ def answered(ratest: Path) -> list[tuple[Question, Reply]]:
 
 def compare(host: Asking, answered: Sequence[tuple[Question, Reply]]) -> None:
     found = host.ask([question for question, _ in answered])
-    differing = [(*pair, told) for pair, told in zip(answered, found, strict=True) if told != pair[1]]
+    differing = [
+        (*pair, told) for pair, told in zip(answered, found, strict=True) if told != pair[1]
+    ]
     assert not differing, f"{len(differing)} of {len(found)} differ, the first: {differing[0]}"
 
 
 def test_questions_are_of_each_kind(answered: list[tuple[Question, Reply]]) -> None:
     counts = Counter(reply.status for _, reply in answered)
-    assert set(counts) >= {0, 1, 2, 3, 4, 5, 6} and min(counts[status] for status in (0, 1, 3)) > COUNT // 20, counts
+    assert (
+        set(counts) >= {0, 1, 2, 3, 4, 5, 6}
+        and min(counts[status] for status in (0, 1, 3)) > COUNT // 20
+    ), counts
     assert len(answered) == COUNT and {question.words for question, _ in answered} >= set(ARGUMENTS)
 
 
@@ -81,7 +88,7 @@ def test_large_texts(opened: Any, page: Path, ratest: Path) -> None:
 def test_little_memory(opened: Any, ratest: Path) -> None:
     host = Browser(opened)
     assert host.ask([LARGE]) == [native(ratest, LARGE)]
-    small, = host.ask([LARGE], 8 * MEBIBYTE)
+    (small,) = host.ask([LARGE], 8 * MEBIBYTE)
     assert (small.status, small.out) == (OUT_OF_MEMORY, b"")
     # Less than the module begins with.
     assert host.ask([LARGE], MEBIBYTE) == [Reply(OUT_OF_MEMORY, b"", b"")]
@@ -89,6 +96,7 @@ def test_little_memory(opened: Any, ratest: Path) -> None:
 
 
 # What is drawn is what the page of a class draws.
+
 
 def drawn_by_class(question: Question, reply: Reply) -> dict[str, Any] | None:
     tables = tables_of(question.files["schema.sql"].decode())
@@ -118,31 +126,72 @@ def listed(value: Any) -> Any:
     return [listed(it) for it in value] if isinstance(value, (list, tuple)) else value
 
 
-def test_drawings_are_those_of_the_class_page(opened: Any, answered: list[tuple[Question, Reply]]) -> None:
+def test_drawings_are_those_of_the_class_page(
+    opened: Any, answered: list[tuple[Question, Reply]]
+) -> None:
     compared = 0
     for question, reply in answered:
         if reply.status in (1, 4) and "made" not in question.words:
             schema = question.files["schema.sql"].decode()
-            found = opened.execute_script(DRAWN, reply.status, reply.out.decode(), reply.err.decode(), schema)
+            found = opened.execute_script(
+                DRAWN, reply.status, reply.out.decode(), reply.err.decode(), schema
+            )
             assert found == listed(drawn_by_class(question, reply)), question
             compared += 1
     assert compared > COUNT // 10
 
 
-TEXTS = ["", " ", "a", " a", "a ", "\ta", "a\x1c", "a\x85", "\ufeffa", "\xa0a", "a\u3000", "NULL", "null", "nULL ", "12",
-         "-12", "--12", "1 2", "'", "''", "'a'", "'a\n'b'", "it's", "a\r\nb", "a\rb", "\x00\x07\x7f\x80\x9f", "\u202ea\u2066", "\ufffe\uffff", "<b>&amp;</b>", "☃😀"]
+TEXTS = [
+    "",
+    " ",
+    "a",
+    " a",
+    "a ",
+    "\ta",
+    "a\x1c",
+    "a\x85",
+    "\ufeffa",
+    "\xa0a",
+    "a\u3000",
+    "NULL",
+    "null",
+    "nULL ",
+    "12",
+    "-12",
+    "--12",
+    "1 2",
+    "'",
+    "''",
+    "'a'",
+    "'a\n'b'",
+    "it's",
+    "a\r\nb",
+    "a\rb",
+    "\x00\x07\x7f\x80\x9f",
+    "\u202ea\u2066",
+    "\ufffe\uffff",
+    "<b>&amp;</b>",
+    "☃😀",
+]
 
 
 def test_texts_are_drawn_as_in_the_class_page(opened: Any) -> None:
     values: list[int | str | None] = [*TEXTS, None, 0, -5, 2**127]
-    cells = [{"kind": "null" if it is None else "number" if isinstance(it, int) else "text",
-              "text": "NULL" if it is None else str(it)} for it in values]
+    cells = [
+        {
+            "kind": "null" if it is None else "number" if isinstance(it, int) else "text",
+            "text": "NULL" if it is None else str(it),
+        }
+        for it in values
+    ]
     found = opened.execute_script("return arguments[0].map(drawnCell)", cells)
     assert found == [asdict(draw.cell(it)) for it in values]
     found = opened.execute_script("return arguments[0].map(pictures)", TEXTS)
     assert found == [draw.pictures(it) for it in TEXTS]
     letters = [chr(code) for code in range(0x10000) if not 0xD800 <= code < 0xE000]
-    assert opened.execute_script("return arguments[0].map(pictures)", letters) == [draw.pictures(it) for it in letters]
+    assert opened.execute_script("return arguments[0].map(pictures)", letters) == [
+        draw.pictures(it) for it in letters
+    ]
 
 
 def test_places_are_those_of_the_served_page(opened: Any) -> None:
@@ -150,20 +199,44 @@ def test_places_are_those_of_the_served_page(opened: Any) -> None:
     texts = [of_seed(seed, Limits()).files["1.sql"].decode() for seed in range(20)]
     texts += ["", "é\n☃😀 größe\n", "\n\n"]
     asked = [(text, random.randrange(len(text.encode()) + 3)) for text in texts for _ in range(5)]
-    found = opened.execute_script("return arguments[0].map(([text, byte]) => placeOf(text, byte))", asked)
+    found = opened.execute_script(
+        "return arguments[0].map(([text, byte]) => placeOf(text, byte))", asked
+    )
     for (text, byte), it in zip(asked, found, strict=True):
         wanted = place_of(text, byte)
-        assert (it["line"], it["column"], it["before"], it["marked"]) == (wanted.line, wanted.column, wanted.before, wanted.marked)
+        assert (it["line"], it["column"], it["before"], it["marked"]) == (
+            wanted.line,
+            wanted.column,
+            wanted.before,
+            wanted.marked,
+        )
         assert (it["from"], it["to"]) == wanted.span
 
 
-@pytest.mark.parametrize("status, out, err, kind", [
-    (0, "agree\nagree\n", "", "none"), (1, "agree\n", "", "none"), (0, "agree\n", "", "agree"), (7, "", "", "memory"), (9, "", "", "none"),
-    (1, "witness: 1\nt 1: 'a', 1\n", "", "none"), (1, "witness: 1\nt 1: 'a\n", "", "none"),
-    (1, "witness: 1\nt 1: 1\nonly query 1: 0\nonly query 2: 0\nboth: 1\n  1\n  1\n", "", "none"),
-    (1, "witness: 1\nt 1: 1\nonly query 1: 0\nonly query 2: 0\nboth: 1\n  1\n", "", "witness"),
-    (4, "undecided: 7 conflicts\n", "", "undecided"), (3, "", "ratest: query 2: unknown column: a\nb<i>\n", "refused"),
-    (3, "", "refused\n", "none"), (5, "", "ratest: limit: work 662 is above 9\n", "limit"), (5, "", "", "none")])
+@pytest.mark.parametrize(
+    "status, out, err, kind",
+    [
+        (0, "agree\nagree\n", "", "none"),
+        (1, "agree\n", "", "none"),
+        (0, "agree\n", "", "agree"),
+        (7, "", "", "memory"),
+        (9, "", "", "none"),
+        (1, "witness: 1\nt 1: 'a', 1\n", "", "none"),
+        (1, "witness: 1\nt 1: 'a\n", "", "none"),
+        (
+            1,
+            "witness: 1\nt 1: 1\nonly query 1: 0\nonly query 2: 0\nboth: 1\n  1\n  1\n",
+            "",
+            "none",
+        ),
+        (1, "witness: 1\nt 1: 1\nonly query 1: 0\nonly query 2: 0\nboth: 1\n  1\n", "", "witness"),
+        (4, "undecided: 7 conflicts\n", "", "undecided"),
+        (3, "", "ratest: query 2: unknown column: a\nb<i>\n", "refused"),
+        (3, "", "refused\n", "none"),
+        (5, "", "ratest: limit: work 662 is above 9\n", "limit"),
+        (5, "", "", "none"),
+    ],
+)
 def test_printed_texts(opened: Any, status: int, out: str, err: str, kind: str) -> None:
     tables = [{"name": "t", "columns": [{"name": "a", "kind": "INTEGER"}]}]
     found = opened.execute_script("return outcomeOf(...arguments)", status, out, err, tables)
@@ -173,6 +246,7 @@ def test_printed_texts(opened: Any, status: int, out: str, err: str, kind: str) 
 
 
 # The page is used.
+
 
 def texts(browser: Any, selector: str) -> list[str]:
     return [element.text for element in browser.find_elements("css selector", selector)]
@@ -220,18 +294,34 @@ def test_a_student_asks(opened: Any) -> None:
     assert ask(opened) == ["differs on 5 rows"]
     assert texts(opened, ".kept caption") == ["bar", "beer", "serves"]
     assert texts(opened, ".kept td") == [
-        "Joe's", "Durham", "Dixie", "Dixie Brewing", "Corona", "Grupo Modelo", "Joe's", "Dixie", "3", "Joe's", "Corona", "NULL"]
+        "Joe's",
+        "Durham",
+        "Dixie",
+        "Dixie Brewing",
+        "Corona",
+        "Grupo Modelo",
+        "Joe's",
+        "Dixie",
+        "3",
+        "Joe's",
+        "Corona",
+        "NULL",
+    ]
     assert texts(opened, ".result caption") == ["Reference: 0 rows", "Answer: 1 row"]
     assert texts(opened, ".only th, .only td") == ["only here", "Joe's"]
     picture(opened)
-    assert ask(opened, "SELECT bar\nFROM WHERE x") == ["refused: query 2: syntax fault near byte 16 (line 2, column 6)"]
+    assert ask(opened, "SELECT bar\nFROM WHERE x") == [
+        "refused: query 2: syntax fault near byte 16 (line 2, column 6)"
+    ]
     assert texts(opened, "mark") == ["WHERE"]
     assert opened.execute_script("return [query.selectionStart, query.selectionEnd]") == [16, 21]
     assert ask(opened, opened.find_element("id", "reference").get_property("value")) == ["agrees"]
     choose(opened, "numbers")
     assert ask(opened) == ["differs on 1 row"] and texts(opened, ".kept td") == ["2", "20"]
     # Nothing is asked for, and nothing is refused.
-    entries = opened.execute_script("return performance.getEntriesByType('resource').map(it => it.name)")
+    entries = opened.execute_script(
+        "return performance.getEntriesByType('resource').map(it => it.name)"
+    )
     assert not [name for name in entries if not name.startswith("blob:")]
     assert not opened.get_log("browser")
 
@@ -246,13 +336,17 @@ def picture(browser: Any) -> None:
 
 def test_rows_of_ones_own(opened: Any) -> None:
     choose(opened, "your own")
-    put(opened, "schema", "CREATE TABLE t (a INTEGER); CREATE TABLE \"<b>\" (\"<i>\" TEXT);")
+    put(opened, "schema", 'CREATE TABLE t (a INTEGER); CREATE TABLE "<b>" ("<i>" TEXT);')
     put_tables(opened, {"t": "a\n1\n2\n", "<b>": "<i>\n<img src=x onerror=alert(1)>\n"})
-    put(opened, "reference", "SELECT \"<i>\" FROM \"<b>\"")
+    put(opened, "reference", 'SELECT "<i>" FROM "<b>"')
     assert ask(opened, "SELECT '</script><script>alert(2)</script>' FROM t") == ["differs on 1 row"]
-    assert ask(opened, "SELECT x.\"<i>\" FROM \"<b>\" x WHERE x.\"<i>\" = 'a'") == ["differs on 1 row"]
-    assert texts(opened, ".kept caption") == ["<b>"] and texts(opened, ".kept td") == ["<img src=x onerror=alert(1)>"]
-    assert not opened.find_elements("css selector", "#answer img, #answer script, #answer b, #answer i")
+    assert ask(opened, 'SELECT x."<i>" FROM "<b>" x WHERE x."<i>" = \'a\'') == ["differs on 1 row"]
+    assert texts(opened, ".kept caption") == ["<b>"] and texts(opened, ".kept td") == [
+        "<img src=x onerror=alert(1)>"
+    ]
+    assert not opened.find_elements(
+        "css selector", "#answer img, #answer script, #answer b, #answer i"
+    )
     opened.find_elements("css selector", ".table button")[1].click()
     assert ask(opened) == ["no verdict"]
     assert not opened.get_log("browser")
@@ -275,8 +369,10 @@ def test_stop(opened: Any) -> None:
 
 
 def test_page_opens_in_a_narrow_window(opened: Any) -> None:
-    opened.execute_cdp_cmd("Emulation.setDeviceMetricsOverride", {
-        "width": 390, "height": 1200, "deviceScaleFactor": 1, "mobile": True})
+    opened.execute_cdp_cmd(
+        "Emulation.setDeviceMetricsOverride",
+        {"width": 390, "height": 1200, "deviceScaleFactor": 1, "mobile": True},
+    )
     choose(opened, "beers, task 3, answer b")
     assert ask(opened) == ["differs on 5 rows"]
     assert opened.execute_script("return document.documentElement.scrollWidth") == 390

@@ -16,7 +16,8 @@ from web.kit import kit_here, run
 from web.narrow import narrowed
 from web.page import exercises, page_of
 
-MODULE = b"""source_filename = "rattle"
+MODULE = (
+    b"""source_filename = "rattle"
 target datalayout = "%s"
 target triple = "x86_64-unknown-linux-gnu"
 
@@ -25,11 +26,15 @@ define noundef i64 @ratest_ask(ptr noundef %%a0, i64 noundef %%a1, ptr noundef %
 }
 attributes #0 = { nounwind "frame-pointer"="all" "probe-stack"="inline-asm" "stack-probe-size"="3072" "target-cpu"="x86-64-v2" }
 attributes #1 = { nounwind }
-""" % retarget.FROM_LAYOUT
+"""
+    % retarget.FROM_LAYOUT
+)
 
 
 def test_a_module_for_another_target() -> None:
-    assert retarget.retargeted(MODULE) == b"""source_filename = "rattle"
+    assert (
+        retarget.retargeted(MODULE)
+        == b"""source_filename = "rattle"
 target datalayout = "e-m:e-p:64:64-p10:8:8-p20:8:8-i64:64-i128:128-n32:64-S128-ni:1:10:20"
 target triple = "wasm64-unknown-unknown"
 
@@ -39,17 +44,30 @@ define noundef i64 @ratest_ask(ptr noundef %a0, i64 noundef %a1, ptr noundef %a2
 attributes #0 = { nounwind "frame-pointer"="none" }
 attributes #1 = { nounwind }
 """
+    )
 
 
-@pytest.mark.parametrize("old, new, told", [
-    (b"-n8:16", b"-n8:32", "the datalayout of the module is not 'e-m:e"),
-    (b"x86_64-unknown-linux-gnu", b"aarch64-unknown-linux-gnu", "the triple of the module is not 'x86_64"),
-    (b"@ratest_ask(", b"@ratest_asks(", "no function ratest_ask of two slices"),
-    (b"define noundef", b"define internal noundef", "no function ratest_ask of two slices"),
-    (b"i64 noundef %a1", b"i32 noundef %a1", "no function ratest_ask of two slices"),
-    (b"ret i64 0", b'%r = call i64 asm sideeffect "rdtsc", "=r"()', "code in assembler"),
-    (b"ret i64 0", b"%r = call i64 @llvm.x86.rdtsc()", "what only x86-64 has"),
-    (b"attributes #1 = { nounwind }", b'attributes #1 = { nounwind "tuned-for"="x86-64" }', 'attribute "x86-64"')])
+@pytest.mark.parametrize(
+    "old, new, told",
+    [
+        (b"-n8:16", b"-n8:32", "the datalayout of the module is not 'e-m:e"),
+        (
+            b"x86_64-unknown-linux-gnu",
+            b"aarch64-unknown-linux-gnu",
+            "the triple of the module is not 'x86_64",
+        ),
+        (b"@ratest_ask(", b"@ratest_asks(", "no function ratest_ask of two slices"),
+        (b"define noundef", b"define internal noundef", "no function ratest_ask of two slices"),
+        (b"i64 noundef %a1", b"i32 noundef %a1", "no function ratest_ask of two slices"),
+        (b"ret i64 0", b'%r = call i64 asm sideeffect "rdtsc", "=r"()', "code in assembler"),
+        (b"ret i64 0", b"%r = call i64 @llvm.x86.rdtsc()", "what only x86-64 has"),
+        (
+            b"attributes #1 = { nounwind }",
+            b'attributes #1 = { nounwind "tuned-for"="x86-64" }',
+            'attribute "x86-64"',
+        ),
+    ],
+)
 def test_a_module_that_has_changed(old: bytes, new: bytes, told: str) -> None:
     with pytest.raises(Changed, match="^the toolchain's interface has changed: ") as error:
         retarget.retargeted(MODULE.replace(old, new))
@@ -59,24 +77,32 @@ def test_a_module_that_has_changed(old: bytes, new: bytes, told: str) -> None:
 EMPTY = b"\0asm\1\0\0\0"
 
 
-@pytest.mark.parametrize("content, told", [
-    (b"\0ELF", "no WebAssembly module"),
-    (EMPTY + b"\2\1\1", "asks for functions of its host"),
-    (EMPTY + b"\7\1\0", "does not export ask, limit, memory, room, size"),
-    (EMPTY + b"\7\x0a\1\6memory\2\0", "does not export ask, limit, room, size")])
+@pytest.mark.parametrize(
+    "content, told",
+    [
+        (b"\0ELF", "no WebAssembly module"),
+        (EMPTY + b"\2\1\1", "asks for functions of its host"),
+        (EMPTY + b"\7\1\0", "does not export ask, limit, memory, room, size"),
+        (EMPTY + b"\7\x0a\1\6memory\2\0", "does not export ask, limit, room, size"),
+    ],
+)
 def test_a_linked_module_that_has_changed(content: bytes, told: str) -> None:
     with pytest.raises(Changed, match=told):
         webassembly.check(content)
 
 
-@pytest.mark.parametrize("content, told", [
-    (b"\4\4\1\x70\0\1", "a memory or a table without 64 bits"),
-    (b"\5\3\1\0\1", "a memory or a table without 64 bits"),
-    (b"\1\2\1\x5f", "a type that is no function's"),
-    (b"\x0b\7\1\0\x41\0\x0b\1\0", "begins at no constant"),
-    (b"\x0b\7\1\1\x42\0\x0b\1\0", "data of another form"),
-    (b"\1\4\1\x60\0\0\3\2\1\0\x0a\5\1\3\0\xfd\x0b", "has the instruction 0xfd"),
-    (b"\1\4\1\x60\0\0\3\2\1\0\x0a\6\1\4\0\xfc\x0c\x0b", "has the instruction 0xfc 0x0c")])
+@pytest.mark.parametrize(
+    "content, told",
+    [
+        (b"\4\4\1\x70\0\1", "a memory or a table without 64 bits"),
+        (b"\5\3\1\0\1", "a memory or a table without 64 bits"),
+        (b"\1\2\1\x5f", "a type that is no function's"),
+        (b"\x0b\7\1\0\x41\0\x0b\1\0", "begins at no constant"),
+        (b"\x0b\7\1\1\x42\0\x0b\1\0", "data of another form"),
+        (b"\1\4\1\x60\0\0\3\2\1\0\x0a\5\1\3\0\xfd\x0b", "has the instruction 0xfd"),
+        (b"\1\4\1\x60\0\0\3\2\1\0\x0a\6\1\4\0\xfc\x0c\x0b", "has the instruction 0xfc 0x0c"),
+    ],
+)
 def test_a_module_of_another_form_is_not_narrowed(content: bytes, told: str) -> None:
     with pytest.raises(Changed, match=told):
         narrowed(EMPTY + content)
@@ -132,9 +158,34 @@ def in_node(top: Path, folder: Path, text: str, script: str) -> str:
     kit = kit_here(top)
     source, compiled, archive, linked = (folder / f"it.{end}" for end in ("c", "o", "a", "wasm"))
     source.write_text(text)
-    run([kit.clang, *webassembly.TARGET, "-O1", "-ffreestanding", "-nostdinc", "-c", source, "-o", compiled], 60)
+    run(
+        [
+            kit.clang,
+            *webassembly.TARGET,
+            "-O1",
+            "-ffreestanding",
+            "-nostdinc",
+            "-c",
+            source,
+            "-o",
+            compiled,
+        ],
+        60,
+    )
     run([kit.archiver, "--format=gnu", "rcsD", archive, compiled], 60)
-    run([kit.linker, "--target", "wasm64-unknown-unknown", "--toolchain", kit.llvm, "-o", linked, archive], 60)
+    run(
+        [
+            kit.linker,
+            "--target",
+            "wasm64-unknown-unknown",
+            "--toolchain",
+            kit.llvm,
+            "-o",
+            linked,
+            archive,
+        ],
+        60,
+    )
     made = narrowed(linked.read_bytes())
     ran = subprocess.run(["node", "-e", script], input=made, capture_output=True, check=False)
     assert not ran.returncode, ran.stderr.decode()
@@ -210,7 +261,10 @@ console.log(String(found));
 
 
 def test_heap(top: Path, tmp_path: Path) -> None:
-    assert in_node(top, tmp_path, HEAP_IN_C % webassembly.HEAP, HEAP_IN_NODE) == "0,true,true,true,0,0,true\n"
+    assert (
+        in_node(top, tmp_path, HEAP_IN_C % webassembly.HEAP, HEAP_IN_NODE)
+        == "0,true,true,true,0,0,true\n"
+    )
 
 
 def test_a_compiler_that_keeps_the_module(tmp_path: Path) -> None:
@@ -222,13 +276,18 @@ def test_a_compiler_that_keeps_the_module(tmp_path: Path) -> None:
         (tmp_path / "toolchain/bin" / name).chmod(0o755)
     made = tmp_path / "module.bc"
     copy = keeping(tmp_path / "toolchain", tmp_path / "copy", made)
-    assert sorted(it.name for it in copy.iterdir()) == ["bin", "lib"] and (copy / "bin/llvm-ar").is_symlink()
+    assert (
+        sorted(it.name for it in copy.iterdir()) == ["bin", "lib"]
+        and (copy / "bin/llvm-ar").is_symlink()
+    )
     with pytest.raises(Changed, match="hands its clang no LLVM module"):
         module.check(made)
     (tmp_path / "given.bc").write_bytes(b"BC\xc0\xde and more")
     for words in (["-c", "-x", "c", "given.bc"], ["-c", "-x", "ir", "given.bc", "-O3"]):
         assert not made.exists()
-        ran = subprocess.run([copy / "bin/clang", *words], cwd=tmp_path, capture_output=True, text=True, check=True)
+        ran = subprocess.run(
+            [copy / "bin/clang", *words], cwd=tmp_path, capture_output=True, text=True, check=True
+        )
         assert ran.stdout == f"{tmp_path}/toolchain/bin/clang {' '.join(words)}\n"
     module.check(made)
     assert made.read_bytes() == b"BC\xc0\xde and more"
@@ -238,34 +297,55 @@ def test_a_compiler_that_keeps_the_module(tmp_path: Path) -> None:
 
 
 def built(top: Path, path: str, out: Path) -> subprocess.CompletedProcess[str]:
-    return subprocess.run([top / "tools/web/build", "--out", out], env={**os.environ, "PATH": path}, capture_output=True,
-                          text=True, check=False)
+    return subprocess.run(
+        [top / "tools/web/build", "--out", out],
+        env={**os.environ, "PATH": path},
+        capture_output=True,
+        text=True,
+        check=False,
+    )
 
 
 def test_no_toolchain(top: Path, tmp_path: Path) -> None:
     ran = built(top, "/usr/bin:/bin", tmp_path / "page.html")
-    assert (ran.returncode, ran.stdout) == (1, "") and ran.stderr.startswith("build: there is no command rt on the PATH")
+    assert (ran.returncode, ran.stdout) == (1, "") and ran.stderr.startswith(
+        "build: there is no command rt on the PATH"
+    )
     (tmp_path / "kit/bin").mkdir(parents=True)
     (tmp_path / "kit/bin/rt").write_text("#!/bin/sh\n")
     (tmp_path / "kit/bin/rt").chmod(0o755)
     ran = built(top, f"{tmp_path}/kit/bin:/usr/bin:/bin", tmp_path / "page.html")
     assert (ran.returncode, ran.stdout) == (1, "")
-    assert ran.stderr == f"build: the toolchain's interface has changed: there is no program {tmp_path}/kit/toolchain/bin/clang\n"
+    assert (
+        ran.stderr
+        == f"build: the toolchain's interface has changed: there is no program {tmp_path}/kit/toolchain/bin/clang\n"
+    )
     assert not (tmp_path / "page.html").exists()
 
 
 def test_exercises(top: Path) -> None:
-    names = [queries.name for exercise in exercises(top / "examples") for queries in exercise.queries]
-    assert names[:2] == ["beers, task 1, answer a", "beers, task 1, answer b"] and {"numbers", "university"} <= set(names)
+    names = [
+        queries.name for exercise in exercises(top / "examples") for queries in exercise.queries
+    ]
+    assert names[:2] == ["beers, task 1, answer a", "beers, task 1, answer b"] and {
+        "numbers",
+        "university",
+    } <= set(names)
     assert len(names) == len(set(names)) == 17
 
 
 def test_a_page_is_the_same_each_time(top: Path) -> None:
     page = page_of(top, EMPTY)
-    assert page == page_of(top, EMPTY) and page.count(b"<script") == 4 and b"$" not in page.split(b"<main>")[0]
+    assert (
+        page == page_of(top, EMPTY)
+        and page.count(b"<script") == 4
+        and b"$" not in page.split(b"<main>")[0]
+    )
 
 
-def test_a_script_that_would_end(top: Path, tmp_path: Path, monkeypatch: pytest.MonkeyPatch) -> None:
+def test_a_script_that_would_end(
+    top: Path, tmp_path: Path, monkeypatch: pytest.MonkeyPatch
+) -> None:
     (tmp_path / "a.js").write_text("const text = '</SCRIPT>';\n")
     monkeypatch.setattr("web.page.PARTS", tmp_path)
     from web.page import joined

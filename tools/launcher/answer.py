@@ -45,8 +45,10 @@ def answer(program: Program, words: list[str], is_build: bool) -> int:
         return 0
     if program.is_built(program.proved) or is_build:
         program.take_over(words)
-    program.say("not proved: this build has run-time checks in place of proofs; "
-                f"{program.called} --build proves and builds the program, {prove.expected(program)}")
+    program.say(
+        "not proved: this build has run-time checks in place of proofs; "
+        f"{program.called} --build proves and builds the program, {prove.expected(program)}"
+    )
     return unproved.run(program, words)
 
 
@@ -61,9 +63,14 @@ def build_proved(program: Program) -> None:
     if program.is_built(program.proved):
         program.say("is proved and built")
         return
-    build(program, program.proved, program.crates_file, prove.make,
-          f"proves and builds the program, {len(program.crate_lines())} crates, {prove.expected(program)}",
-          "it could not be proved and built")
+    build(
+        program,
+        program.proved,
+        program.crates_file,
+        prove.make,
+        f"proves and builds the program, {len(program.crate_lines())} crates, {prove.expected(program)}",
+        "it could not be proved and built",
+    )
 
 
 def build_unproved(program: Program) -> None:
@@ -71,17 +78,30 @@ def build_unproved(program: Program) -> None:
         return
     instead = f"{program.called} --build proves and builds it"
     try:
-        build(program, program.unproved, os.path.join(program.top, "crates", program.name, "src", "main.rt"),
-              unproved.make, "is not proved and built here: builds it without proofs first, in a minute or two "
-              "on four idle cores",
-              f"it could not be built without proofs; {instead}")
+        build(
+            program,
+            program.unproved,
+            os.path.join(program.top, "crates", program.name, "src", "main.rt"),
+            unproved.make,
+            "is not proved and built here: builds it without proofs first, in a minute or two "
+            "on four idle cores",
+            f"it could not be built without proofs; {instead}",
+        )
     except unproved.NotThere:
-        raise Failed("`rt try` built it without proofs, but the file is not where this toolchain is known to put it; "
-                     + instead) from None
+        raise Failed(
+            "`rt try` built it without proofs, but the file is not where this toolchain is known to put it; "
+            + instead
+        ) from None
 
 
-def build(program: Program, path: str, lock: str, make: Callable[[Program, str, str], bool], does: str,
-          failed: str) -> None:
+def build(
+    program: Program,
+    path: str,
+    lock: str,
+    make: Callable[[Program, str, str], bool],
+    does: str,
+    failed: str,
+) -> None:
     """Makes the build of the program at `path` by `make`, in a folder of its own, so that an interrupt leaves
     nothing behind. One call at a time makes it, and others wait."""
     if not shutil.which("rt"):

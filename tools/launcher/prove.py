@@ -30,9 +30,16 @@ def make(program: Program, folder: str, log: str) -> bool:
     for path in (folder, temporary):
         os.chmod(path, 0o711)
     started, anew = time.monotonic(), 0
-    rt = subprocess.Popen(["rt", "ci"], cwd=top, env={**os.environ, "TMPDIR": temporary}, stdin=subprocess.DEVNULL,
-                          stdout=subprocess.PIPE, stderr=subprocess.STDOUT, start_new_session=True,
-                          preexec_fn=lambda: stopping.dies_with_parent(signal.SIGTERM))
+    rt = subprocess.Popen(
+        ["rt", "ci"],
+        cwd=top,
+        env={**os.environ, "TMPDIR": temporary},
+        stdin=subprocess.DEVNULL,
+        stdout=subprocess.PIPE,
+        stderr=subprocess.STDOUT,
+        start_new_session=True,
+        preexec_fn=lambda: stopping.dies_with_parent(signal.SIGTERM),
+    )
     assert rt.stdout
     try:
         with open(log, "wb") as to:
@@ -108,4 +115,6 @@ def expected(program: Program) -> str:
     except (OSError, ValueError, KeyError, TypeError):
         return "in about half an hour on four cores"
     took = f"{seconds} seconds" if seconds < 120 else f"{round(seconds / 60)} minutes"
-    return f"which last took {took} on this machine, where {anew} of {crates} crates had to be proved"
+    return (
+        f"which last took {took} on this machine, where {anew} of {crates} crates had to be proved"
+    )

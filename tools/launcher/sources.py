@@ -34,7 +34,9 @@ class Program:
     def crate_lines(self) -> list[str]:
         """The lines of crates.txt for the program's crate and all that it stands on, in their order."""
         with open(self.crates_file, encoding="utf-8") as file:
-            lines = {crate_of(line): line for line in file if ":" in line and not line.startswith("#")}
+            lines = {
+                crate_of(line): line for line in file if ":" in line and not line.startswith("#")
+            }
         taken, left = set(), [self.name]
         while left:
             crate = left.pop()
@@ -50,13 +52,17 @@ class Program:
             folder = os.path.join(self.top, "crates", crate_of(line))
             for part in ("src", "specs", "proofs"):
                 for at, _, names in os.walk(os.path.join(folder, part)):
-                    yield from (os.path.join(at, name) for name in names if name.endswith((".rt", ".antt")))
+                    yield from (
+                        os.path.join(at, name) for name in names if name.endswith((".rt", ".antt"))
+                    )
 
     def is_built(self, path: str) -> bool:
         """Whether this build of the program is there and no source is newer."""
         try:
             made = os.stat(path).st_mtime_ns
-            return os.access(path, os.X_OK) and all(os.stat(it).st_mtime_ns <= made for it in self.sources())
+            return os.access(path, os.X_OK) and all(
+                os.stat(it).st_mtime_ns <= made for it in self.sources()
+            )
         except OSError:
             return False
 

@@ -85,6 +85,8 @@ def end_group(leader: subprocess.Popen[bytes]) -> None:
             os.killpg(leader.pid, number)
         end = time.monotonic() + SECONDS_TO_END
         # The child is not waited for yet, so that no other group can have its number.
-        while time.monotonic() < end and not os.waitid(os.P_PID, leader.pid, os.WEXITED | os.WNOWAIT | os.WNOHANG):
+        while time.monotonic() < end and not os.waitid(
+            os.P_PID, leader.pid, os.WEXITED | os.WNOWAIT | os.WNOHANG
+        ):
             time.sleep(0.02)
     leader.wait()

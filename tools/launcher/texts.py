@@ -36,31 +36,47 @@ def help_text(top: str, name: str) -> str:
 
 def launcher_help(top: str, name: str) -> str:
     """The text of --help in the repository."""
-    return "\n".join([help_text(top, name), read(top, "tools", "manual", "launcher.txt").replace("NAME", name),
-                      f"Documents:\n  {top}: README.md and docs, above all docs/GUIDE.md\n"])
+    return "\n".join(
+        [
+            help_text(top, name),
+            read(top, "tools", "manual", "launcher.txt").replace("NAME", name),
+            f"Documents:\n  {top}: README.md and docs, above all docs/GUIDE.md\n",
+        ]
+    )
 
 
 def commit(top: str) -> str:
     """The commit that the repository stands at."""
+
     def git(*words: str) -> str:
-        ran = subprocess.run(["git", "--no-optional-locks", "-C", top, *words], stdin=subprocess.DEVNULL,
-                             capture_output=True, text=True, timeout=SECONDS, check=True)
+        ran = subprocess.run(
+            ["git", "--no-optional-locks", "-C", top, *words],
+            stdin=subprocess.DEVNULL,
+            capture_output=True,
+            text=True,
+            timeout=SECONDS,
+            check=True,
+        )
         return ran.stdout.strip()
 
     if not os.path.exists(os.path.join(top, ".git")):
         return "not known, this folder being no git repository"
     try:
         changes = git("status", "--porcelain", "--untracked-files=no")
-        return git("rev-parse", "HEAD") + (", with changes that are not committed" if changes else "")
+        return git("rev-parse", "HEAD") + (
+            ", with changes that are not committed" if changes else ""
+        )
     except (OSError, subprocess.SubprocessError):
         return "not known, since git does not tell it"
 
 
 def version_text(top: str, name: str, build: str) -> str:
-    return (f"{name} {read(top, 'VERSION').strip()}\n"
-            f"commit: {commit(top)}\n"
-            f"build: {build}\n"
-            f"toolchain: {toolchain.wanted(top)}\n")
+    return (
+        f"{name} {read(top, 'VERSION').strip()}\n"
+        f"commit: {commit(top)}\n"
+        f"build: {build}\n"
+        f"toolchain: {toolchain.wanted(top)}\n"
+    )
 
 
 def version(program: Program) -> str:
@@ -80,4 +96,8 @@ def version(program: Program) -> str:
 
 def packed(top: str, name: str) -> dict[str, str]:
     """The texts that stand beside an installed program, for the front that prints them."""
-    return {"usage": usage(top, name), "help": help_text(top, name), "version": version_text(top, name, "proved")}
+    return {
+        "usage": usage(top, name),
+        "help": help_text(top, name),
+        "version": version_text(top, name, "proved"),
+    }

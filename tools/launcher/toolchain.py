@@ -21,8 +21,14 @@ def found() -> str | None:
     if not shutil.which("rt"):
         return None
     try:
-        ran = subprocess.run(["rt", "version"], stdin=subprocess.DEVNULL, capture_output=True, text=True,
-                             errors="replace", timeout=SECONDS)
+        ran = subprocess.run(
+            ["rt", "version"],
+            stdin=subprocess.DEVNULL,
+            capture_output=True,
+            text=True,
+            errors="replace",
+            timeout=SECONDS,
+        )
     except (OSError, subprocess.TimeoutExpired):
         return "rt version gives no answer"
     return (ran.stdout.strip() or "rt version prints nothing").splitlines()[0]
@@ -30,10 +36,12 @@ def found() -> str | None:
 
 def missing(top: str) -> str:
     """What to tell where there is no command rt."""
-    return (f"there is no command rt on the PATH, which builds the program. It comes with the toolchain\n"
-            f"  {wanted(top)}\n"
-            "for Linux on x86-64, a folder that whoever gave you this repository has: put a link to its bin/rt into a\n"
-            "folder of the PATH. It needs Python 3.8 or later; `rt selftest` shows whether it works.")
+    return (
+        f"there is no command rt on the PATH, which builds the program. It comes with the toolchain\n"
+        f"  {wanted(top)}\n"
+        "for Linux on x86-64, a folder that whoever gave you this repository has: put a link to its bin/rt into a\n"
+        "folder of the PATH. It needs Python 3.8 or later; `rt selftest` shows whether it works."
+    )
 
 
 def other(top: str) -> str | None:

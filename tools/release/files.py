@@ -22,7 +22,9 @@ def moment(top: Path) -> int:
     """The time of the commit, which stands for the time of all that is made of it; of the file VERSION where
     git does not tell it."""
     try:
-        ran = subprocess.run(["git", "-C", top, "log", "-1", "--format=%ct"], capture_output=True, text=True)
+        ran = subprocess.run(
+            ["git", "-C", top, "log", "-1", "--format=%ct"], capture_output=True, text=True
+        )
         return int(ran.stdout)
     except (OSError, ValueError):
         return int((top / "VERSION").stat().st_mtime)

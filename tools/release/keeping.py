@@ -22,7 +22,9 @@ def keeping(toolchain: Path, to: Path, module: Path) -> Path:
     link_all(toolchain, to, "bin")
     link_all(toolchain / "bin", to / "bin", "clang")
     clang = to / "bin/clang"
-    clang.write_text(CLANG.format(module=str(module), clang=str(toolchain / "bin/clang")), encoding="utf-8")
+    clang.write_text(
+        CLANG.format(module=str(module), clang=str(toolchain / "bin/clang")), encoding="utf-8"
+    )
     clang.chmod(0o755)
     return to
 

@@ -43,7 +43,8 @@ def is_new(top: Path, path: Path) -> bool:
 
 def build(top: Path) -> None:
     """Proves and builds the archive: `rt ci` over the crates that it needs, in a folder of their own, which
-    takes what an earlier run on this machine proved, and then the toolchain's compiler over what that made."""
+    takes what an earlier run on this machine proved, and then the toolchain's compiler over what that made.
+    """
     if not shutil.which("rt"):
         raise Refused("there is no command rt on the PATH; README.md says where it comes from")
     program = Program(str(top), CRATE, "")
@@ -54,8 +55,18 @@ def build(top: Path) -> None:
         kept = Path(folder) / "module.bc"
         toolchain = keeping(kit() / "toolchain", Path(folder) / "toolchain", kept)
         with open(log, "wb") as said:
-            for words, where in ((["rt", "ci"], made), (compiler(program, made, toolchain), made / "crates" / CRATE)):
-                ran = subprocess.run(words, cwd=where, stdin=subprocess.DEVNULL, stdout=said, stderr=said, check=False)
+            for words, where in (
+                (["rt", "ci"], made),
+                (compiler(program, made, toolchain), made / "crates" / CRATE),
+            ):
+                ran = subprocess.run(
+                    words,
+                    cwd=where,
+                    stdin=subprocess.DEVNULL,
+                    stdout=said,
+                    stderr=said,
+                    check=False,
+                )
                 if ran.returncode:
                     raise Refused(f"{CRATE} could not be proved and built: {log} says why")
         archive(top).parent.mkdir(exist_ok=True)
@@ -69,13 +80,37 @@ def compiler(program: Program, made: Path, toolchain: Path) -> list[str]:
     """The command that compiles the crate to `archive`, beside the folder of the crates that `rt ci` proved."""
     own, lines = kit(), {crate_of(line): line for line in program.crate_lines()}
     used = lines.pop(CRATE).split(":")[1].split()
-    words = [f"{own}/bin/rattle", "build", "--crate-name", CRATE, "src/lib.rt", "--crate-type", "staticlib",
-             "--extern", f"std={own}/rlibs/std.rlib", "-L", f"dependency={own}/rlibs"]
+    words = [
+        f"{own}/bin/rattle",
+        "build",
+        "--crate-name",
+        CRATE,
+        "src/lib.rt",
+        "--crate-type",
+        "staticlib",
+        "--extern",
+        f"std={own}/rlibs/std.rlib",
+        "-L",
+        f"dependency={own}/rlibs",
+    ]
     for name in lines:
         folder = made / "crates" / name / "out/rlib"
-        words += [*(["--extern", f"{name}={folder / name}.rlib"] if name in used else []), "-L", f"dependency={folder}"]
-    return [*words, "--antt-project", f"{own}/rattle/logic/antt-project.json", "--logic-built", f"{own}/logic_built",
-            "--toolchain", str(toolchain), "-o", str(made.parent / "archive")]
+        words += [
+            *(["--extern", f"{name}={folder / name}.rlib"] if name in used else []),
+            "-L",
+            f"dependency={folder}",
+        ]
+    return [
+        *words,
+        "--antt-project",
+        f"{own}/rattle/logic/antt-project.json",
+        "--logic-built",
+        f"{own}/logic_built",
+        "--toolchain",
+        str(toolchain),
+        "-o",
+        str(made.parent / "archive"),
+    ]
 
 
 def kit() -> Path:
@@ -123,6 +158,21 @@ def join(work: Path, path: Path, archives: list[Path]) -> None:
 
 def link(exported: Path, static: Path, path: Path) -> None:
     """The shared object of the archive, which exports the one call alone."""
-    subprocess.run(["cc", "-shared", "-o", path, "-Wl,--whole-archive", static, "-Wl,--no-whole-archive", "-Wl,-z,defs",
-                    "-Wl,-soname,libratest.so", "-Wl,--build-id=none", "-Wl,--gc-sections",
-                    f"-Wl,--version-script={exported}"], timeout=SECONDS, check=True)
+    subprocess.run(
+        [
+            "cc",
+            "-shared",
+            "-o",
+            path,
+            "-Wl,--whole-archive",
+            static,
+            "-Wl,--no-whole-archive",
+            "-Wl,-z,defs",
+            "-Wl,-soname,libratest.so",
+            "-Wl,--build-id=none",
+            "-Wl,--gc-sections",
+            f"-Wl,--version-script={exported}",
+        ],
+        timeout=SECONDS,
+        check=True,
+    )

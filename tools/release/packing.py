@@ -46,7 +46,15 @@ RECOMMENDED = {
     "grade --hosts": ("openssh-client", "parallel", "rsync"),
     "import and grade with PostgreSQL": ("postgresql-client", "python3-psycopg"),
     "grade where a database tries, mutants, pick": ("python3-sqlglot",),
-    "serve": ("graphviz", "libjs-codemirror", "python3-flask", "python3-jinja2", "python3-limits", "python3-markdown-it", "python3-waitress"),
+    "serve": (
+        "graphviz",
+        "libjs-codemirror",
+        "python3-flask",
+        "python3-jinja2",
+        "python3-limits",
+        "python3-markdown-it",
+        "python3-waitress",
+    ),
     "tables of the package ratest": ("python3-pandas",),
 }
 CHANGES = """ratest ({version}) unstable; urgency=medium
@@ -98,8 +106,11 @@ def pack(top: Path, output: Path) -> list[Path]:
         build.write_text(texts.version_text(str(top), "ratest", "proved"))
         packed = (archive, package, wheel_file, build)
         sums = made / "SHA256SUMS"
-        sums.write_text("".join(f"{hashlib.sha256(path.read_bytes()).hexdigest()}  {path.name}\n"
-                                for path in packed))
+        sums.write_text(
+            "".join(
+                f"{hashlib.sha256(path.read_bytes()).hexdigest()}  {path.name}\n" for path in packed
+            )
+        )
         output.mkdir(parents=True, exist_ok=True)
         for path in (*packed, sums):
             copy(path, output / path.name)
@@ -127,10 +138,22 @@ def write_package(top: Path, root: Path, path: Path, version: str, commit: str) 
     tree.lay_out(top, root / "usr", zsh="vendor-completions", python="python3")
     seconds = moment(top)
     about = root / "usr/share/doc/ratest"
-    maintainer = subprocess.run(["git", "-C", top, "log", "-1", "--format=%an <%ae>"], capture_output=True, text=True,
-                                check=True).stdout.strip()
-    facts = {"version": f"{version}-1", "maintainer": maintainer, "commit": commit,
-             "date": formatdate(seconds), "libc": libc(root), "recommended": ", ".join(sorted({it for packages in RECOMMENDED.values() for it in packages}))}
+    maintainer = subprocess.run(
+        ["git", "-C", top, "log", "-1", "--format=%an <%ae>"],
+        capture_output=True,
+        text=True,
+        check=True,
+    ).stdout.strip()
+    facts = {
+        "version": f"{version}-1",
+        "maintainer": maintainer,
+        "commit": commit,
+        "date": formatdate(seconds),
+        "libc": libc(root),
+        "recommended": ", ".join(
+            sorted({it for packages in RECOMMENDED.values() for it in packages})
+        ),
+    }
     put(copyright_text(about).encode(), about / "copyright")
     for name in ("LICENSE", "LICENSE-circular_buffer"):
         (about / name).unlink()
@@ -146,16 +169,24 @@ def write_package(top: Path, root: Path, path: Path, version: str, commit: str) 
     put(sums.encode(), root / "DEBIAN/md5sums")
     settle(root, seconds)
     if not shutil.which("dpkg-deb"):
-        raise Refused("there is no program dpkg-deb, which makes the Debian package: apt-get install dpkg")
-    subprocess.run(["dpkg-deb", "--root-owner-group", "-Zxz", "--threads-max=1", "--build", root, path], check=True,
-                   stdout=subprocess.DEVNULL, timeout=SECONDS,
-                   env={**os.environ, "SOURCE_DATE_EPOCH": str(seconds)})
+        raise Refused(
+            "there is no program dpkg-deb, which makes the Debian package: apt-get install dpkg"
+        )
+    subprocess.run(
+        ["dpkg-deb", "--root-owner-group", "-Zxz", "--threads-max=1", "--build", root, path],
+        check=True,
+        stdout=subprocess.DEVNULL,
+        timeout=SECONDS,
+        env={**os.environ, "SOURCE_DATE_EPOCH": str(seconds)},
+    )
 
 
 def libc(root: Path) -> str:
     """The least version of the C library that the programs and the shared object ask for."""
-    found = [re.findall(rb"\0GLIBC_(\d+)\.(\d+)", (root / "usr/lib/ratest" / name).read_bytes())
-             for name in (*tree.NAMES, SHARED)]
+    found = [
+        re.findall(rb"\0GLIBC_(\d+)\.(\d+)", (root / "usr/lib/ratest" / name).read_bytes())
+        for name in (*tree.NAMES, SHARED)
+    ]
     most = max((int(major), int(minor)) for versions in found for major, minor in versions)
     return f"{most[0]}.{most[1]}"
 
@@ -172,4 +203,6 @@ def copyright_text(about: Path) -> str:
         return plain, "\n".join(f" {line}" if line.strip() else " ." for line in rest)
 
     circular, circular_license = spaced("LICENSE-circular_buffer")
-    return COPYRIGHT.format(license=spaced("LICENSE")[1], circular=circular, circular_license=circular_license)
+    return COPYRIGHT.format(
+        license=spaced("LICENSE")[1], circular=circular, circular_license=circular_license
+    )

@@ -48,9 +48,14 @@ def lay_out_program(top: Path, to: Path, name: str) -> None:
     put((top / "tools/release/front").read_bytes(), to / "bin" / name, executable=True)
     for kind, text in texts.packed(str(top), name).items():
         put(text.encode(), to / f"share/ratest/{name}.{kind}")
-    page = manual_page(name, texts.manual(str(top), name), (top / "VERSION").read_text().strip(), moment(top))
+    page = manual_page(
+        name, texts.manual(str(top), name), (top / "VERSION").read_text().strip(), moment(top)
+    )
     put(gzip.compress(page, mtime=0), to / f"share/man/man1/{name}.1.gz")
-    put((top / "tools/completions/ratest.bash").read_bytes(), to / "share/bash-completion/completions" / name)
+    put(
+        (top / "tools/completions/ratest.bash").read_bytes(),
+        to / "share/bash-completion/completions" / name,
+    )
 
 
 def lay_out_library(top: Path, to: Path) -> None:
@@ -58,8 +63,13 @@ def lay_out_library(top: Path, to: Path) -> None:
     with tempfile.TemporaryDirectory() as folder:
         made = library.make(top, Path(folder))
         for path in made:
-            put(path.read_bytes(), to / ("include" if path.suffix == ".h" else "lib/ratest") / path.name)
-    text = (top / "c/ratest.pc").read_text().replace("VERSION", (top / "VERSION").read_text().strip())
+            put(
+                path.read_bytes(),
+                to / ("include" if path.suffix == ".h" else "lib/ratest") / path.name,
+            )
+    text = (
+        (top / "c/ratest.pc").read_text().replace("VERSION", (top / "VERSION").read_text().strip())
+    )
     put(text.encode(), to / "share/pkgconfig/ratest.pc")
 
 
@@ -68,7 +78,10 @@ def lay_out_packages(top: Path, to: Path, python: str) -> None:
     for package in PACKAGES:
         for path in sorted((top / "python" / package).rglob("*")):
             if path.is_file() and path.suffix != ".pyc":
-                put(path.read_bytes(), to / "lib" / python / "dist-packages" / path.relative_to(top / "python"))
+                put(
+                    path.read_bytes(),
+                    to / "lib" / python / "dist-packages" / path.relative_to(top / "python"),
+                )
 
 
 def lay_out_classroom(top: Path, to: Path, python: str) -> None:
@@ -78,8 +91,14 @@ def lay_out_classroom(top: Path, to: Path, python: str) -> None:
         raise Refused("the script classroom does not find its package as it did")
     place = f'os.path.join(os.path.dirname(os.path.dirname(os.path.realpath(__file__))), "lib/{python}/dist-packages")'
     put(script.replace(FOUND, place).encode(), to / "bin/classroom", executable=True)
-    said = subprocess.run([sys.executable, top / "classroom", "--help"], capture_output=True, text=True, timeout=SECONDS,
-                          check=True, env={**os.environ, "COLUMNS": "80", "PYTHONDONTWRITEBYTECODE": "1"}).stdout
+    said = subprocess.run(
+        [sys.executable, top / "classroom", "--help"],
+        capture_output=True,
+        text=True,
+        timeout=SECONDS,
+        check=True,
+        env={**os.environ, "COLUMNS": "80", "PYTHONDONTWRITEBYTECODE": "1"},
+    ).stdout
     page = manual_page("classroom", said, (top / "VERSION").read_text().strip(), moment(top))
     put(gzip.compress(page, mtime=0), to / "share/man/man1/classroom.1.gz")
 
@@ -115,4 +134,9 @@ def examples_and_documents(top: Path) -> list[Path]:
         ran = subprocess.run(["git", "-C", top, "ls-files", "-z", *FOLDERS], capture_output=True)
         if ran.returncode == 0:
             return [Path(os.fsdecode(name)) for name in ran.stdout.split(b"\0") if name]
-    return sorted(path.relative_to(top) for folder in FOLDERS for path in (top / folder).rglob("*") if path.is_file())
+    return sorted(
+        path.relative_to(top)
+        for folder in FOLDERS
+        for path in (top / folder).rglob("*")
+        if path.is_file()
+    )

@@ -31,15 +31,30 @@ def write_wheel(top: Path, path: Path) -> None:
         lay_out(top, source)
         seconds = moment(top)
         settle(source, seconds)
-        ran = subprocess.run([sys.executable, "-c", BUILD, made], cwd=source, capture_output=True, text=True, timeout=SECONDS,
-                             env={**os.environ, "SOURCE_DATE_EPOCH": str(seconds)}, stdin=subprocess.DEVNULL, umask=0o022, check=False)
+        ran = subprocess.run(
+            [sys.executable, "-c", BUILD, made],
+            cwd=source,
+            capture_output=True,
+            text=True,
+            timeout=SECONDS,
+            env={**os.environ, "SOURCE_DATE_EPOCH": str(seconds)},
+            stdin=subprocess.DEVNULL,
+            umask=0o022,
+            check=False,
+        )
         if "No module named" in ran.stderr:
-            raise Refused("setuptools or wheel, which make the wheel, are not there: apt-get install python3-setuptools python3-wheel")
+            raise Refused(
+                "setuptools or wheel, which make the wheel, are not there: apt-get install python3-setuptools python3-wheel"
+            )
         found = sorted(made.glob("*.whl")) if made.is_dir() else []
         if ran.returncode or len(found) != 1:
-            raise Refused(f"the wheel could not be made: {ran.stderr.strip().splitlines()[-1:] or [it.name for it in found]}")
+            raise Refused(
+                f"the wheel could not be made: {ran.stderr.strip().splitlines()[-1:] or [it.name for it in found]}"
+            )
         if found[0].name != path.name:
-            raise Refused(f"python/ratest/installed.py has another version than VERSION: {found[0].name}")
+            raise Refused(
+                f"python/ratest/installed.py has another version than VERSION: {found[0].name}"
+            )
         copy(found[0], path)
 
 

@@ -7,7 +7,18 @@ from dataclasses import dataclass
 from web.failed import Changed
 
 HEAD = b"\0asm\1\0\0\0"
-CUSTOM, TYPES, IMPORTS, FUNCTIONS, TABLES, MEMORIES, EXPORTS, ELEMENTS, CODE, DATA = 0, 1, 2, 3, 4, 5, 7, 9, 10, 11
+CUSTOM, TYPES, IMPORTS, FUNCTIONS, TABLES, MEMORIES, EXPORTS, ELEMENTS, CODE, DATA = (
+    0,
+    1,
+    2,
+    3,
+    4,
+    5,
+    7,
+    9,
+    10,
+    11,
+)
 
 
 @dataclass
@@ -27,7 +38,7 @@ class Reader:
 
     def take(self, size: int) -> bytes:
         self.at += size
-        return self.content[self.at - size:self.at]
+        return self.content[self.at - size : self.at]
 
     def number(self) -> int:
         """A number in groups of seven bits, the lowest first."""

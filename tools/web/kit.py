@@ -60,13 +60,23 @@ def kit_here(top: Path) -> Kit:
 
 def run(words: Sequence[str | Path], seconds: float) -> str:
     """Runs a program within limits of time and memory, and gives what it printed."""
+
     def limit() -> None:
         resource.setrlimit(resource.RLIMIT_AS, (MEMORY, MEMORY))
 
     name = Path(words[0]).name
     try:
-        ran = subprocess.run(words, stdin=subprocess.DEVNULL, stdout=subprocess.PIPE, stderr=subprocess.STDOUT, text=True,
-                             errors="replace", timeout=seconds, check=False, preexec_fn=limit)
+        ran = subprocess.run(
+            words,
+            stdin=subprocess.DEVNULL,
+            stdout=subprocess.PIPE,
+            stderr=subprocess.STDOUT,
+            text=True,
+            errors="replace",
+            timeout=seconds,
+            check=False,
+            preexec_fn=limit,
+        )
     except subprocess.TimeoutExpired:
         raise Failed(f"{name} has not ended within {seconds:g} seconds") from None
     if ran.returncode:

@@ -8,8 +8,21 @@ from __future__ import annotations
 
 from collections.abc import Callable
 
-from web.binary import (CODE, CUSTOM, DATA, ELEMENTS, FUNCTIONS, HEAD, MEMORIES, TABLES, TYPES, Reader, number, sections,
-                        signed)
+from web.binary import (
+    CODE,
+    CUSTOM,
+    DATA,
+    ELEMENTS,
+    FUNCTIONS,
+    HEAD,
+    MEMORIES,
+    TABLES,
+    TYPES,
+    Reader,
+    number,
+    sections,
+    signed,
+)
 from web.failed import Changed
 
 IS_WIDE = 4
@@ -17,7 +30,15 @@ MOST_PAGES = 1 << 16
 I32, I64, F32, F64 = 0x7F, 0x7E, 0x7D, 0x7C
 GET, SET = b"\x20", b"\x21"
 WRAP, EXTEND, EXTEND_SIGN = b"\xa7", b"\xad", b"\xac"
-END, BR_TABLE, CALL_INDIRECT, SELECT_OF, I32_CONST, I64_CONST, PREFIX = 0x0B, 0x0E, 0x11, 0x1C, 0x41, 0x42, 0xFC
+END, BR_TABLE, CALL_INDIRECT, SELECT_OF, I32_CONST, I64_CONST, PREFIX = (
+    0x0B,
+    0x0E,
+    0x11,
+    0x1C,
+    0x41,
+    0x42,
+    0xFC,
+)
 LOADS, STORES, SIZE, GROW = range(0x28, 0x36), range(0x36, 0x3F), 0x3F, 0x40
 # The types of what the stores take, by their opcodes.
 STORED = dict(zip(STORES, (I32, I64, F32, F64, I32, I32, I64, I64, I64)))
@@ -119,7 +140,9 @@ def element(reader: Reader) -> bytes:
         raise Changed("the linked module has elements of another form")
     begins = place(reader)
     count = reader.number()
-    return number(0) + begins + number(count) + b"".join(number(reader.number()) for _ in range(count))
+    return (
+        number(0) + begins + number(count) + b"".join(number(reader.number()) for _ in range(count))
+    )
 
 
 def segment(reader: Reader) -> bytes:
@@ -138,7 +161,11 @@ def body(reader: Reader, parameters: int) -> bytes:
     while reader.has_more:
         code.append(instruction(reader, reader.byte(), own))
     groups += [(1, kind) for kind in own.added]
-    made = number(len(groups)) + b"".join(number(count) + bytes([kind]) for count, kind in groups) + b"".join(code)
+    made = (
+        number(len(groups))
+        + b"".join(number(count) + bytes([kind]) for count, kind in groups)
+        + b"".join(code)
+    )
     return number(len(made)) + made
 
 
@@ -198,8 +225,35 @@ def prefixed(reader: Reader, which: int, own: Locals) -> bytes:
         return code
     if which == COPY:
         size, source = own.of(I64), own.of(I64, 1)
-        return SET + size + SET + source + WRAP + GET + source + WRAP + GET + size + WRAP + code + reader.take(2)
+        return (
+            SET
+            + size
+            + SET
+            + source
+            + WRAP
+            + GET
+            + source
+            + WRAP
+            + GET
+            + size
+            + WRAP
+            + code
+            + reader.take(2)
+        )
     if which == FILL:
         size, value = own.of(I64), own.of(I32)
-        return SET + size + SET + value + WRAP + GET + value + GET + size + WRAP + code + reader.take(1)
+        return (
+            SET
+            + size
+            + SET
+            + value
+            + WRAP
+            + GET
+            + value
+            + GET
+            + size
+            + WRAP
+            + code
+            + reader.take(1)
+        )
     raise Changed(f"the linked module has the instruction 0xfc {which:#04x}")

@@ -48,16 +48,23 @@ def page_of(top: Path, module: bytes) -> bytes:
     """The page with a WebAssembly module."""
     script = joined(SCRIPTS)
     template = Template((PARTS / "template.html").read_text(encoding="utf-8"))
-    style = (top / "python/ratest/witness.css", top / "python/classroom/views/templates/style.css", PARTS / "page.css")
+    style = (
+        top / "python/ratest/witness.css",
+        top / "python/classroom/views/templates/style.css",
+        PARTS / "page.css",
+    )
     return template.substitute(
         digest=f"sha256-{base64.b64encode(hashlib.sha256(script.encode()).digest()).decode()}",
         style="".join(path.read_text(encoding="utf-8") for path in style),
         version=(top / "VERSION").read_text(encoding="utf-8").strip(),
         # A text that no parser of HTML can take for a tag.
-        exercises=json.dumps(list(map(asdict, exercises(top / "examples"))), ensure_ascii=False).replace("<", "\\u003c"),
+        exercises=json.dumps(
+            list(map(asdict, exercises(top / "examples"))), ensure_ascii=False
+        ).replace("<", "\\u003c"),
         worker=joined(WORKER),
         module=base64.b64encode(gzip.compress(module, 9, mtime=0)).decode(),
-        script=script).encode()
+        script=script,
+    ).encode()
 
 
 def joined(names: tuple[str, ...]) -> str:
@@ -72,7 +79,9 @@ def exercises(folder: Path) -> Iterator[Exercise]:
     for schema in sorted(folder.glob("*/schema.sql")):
         found = tuple(queries(schema.parent))
         if found:
-            tables = tuple(Table(path.stem, text_of(path)) for path in sorted(schema.parent.glob("*.csv")))
+            tables = tuple(
+                Table(path.stem, text_of(path)) for path in sorted(schema.parent.glob("*.csv"))
+            )
             yield Exercise(text_of(schema), tables, found)
 
 

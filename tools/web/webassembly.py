@@ -16,9 +16,21 @@ HEAP = Path(__file__).with_name("heap.c")
 SECONDS = 1800.0
 STACK = 8 << 20
 EXPORTS = {"memory", "ask", "room", "limit", "size"}
-PLAIN = ("--no-default-config", "-no-canonical-prefixes", "-fintegrated-cc1", "-Werror", "-Wno-override-module")
-TARGET = (f"--target={retarget.TARGET.decode()}", *PLAIN, "-mcpu=lime1", "-mbulk-memory", "-ffunction-sections",
-          "-fdata-sections")
+PLAIN = (
+    "--no-default-config",
+    "-no-canonical-prefixes",
+    "-fintegrated-cc1",
+    "-Werror",
+    "-Wno-override-module",
+)
+TARGET = (
+    f"--target={retarget.TARGET.decode()}",
+    *PLAIN,
+    "-mcpu=lime1",
+    "-mbulk-memory",
+    "-ffunction-sections",
+    "-fdata-sections",
+)
 # Integers of more than 64 bits are divided, and floats made of them, in place: there is no library of such calls.
 IN_PLACE = ("-mllvm", "-expand-div-rem-bits=64", "-mllvm", "-expand-fp-convert-bits=64")
 
@@ -39,8 +51,21 @@ def binary_here(top: Path, kit: Kit) -> Path:
 def binary_of(kit: Kit, module: Path, folder: Path) -> bytes:
     """The WebAssembly module of an LLVM module; the folder is for what is needed meanwhile."""
     linked = folder / "linked.wasm"
-    run([kit.linker, "--target", retarget.TARGET.decode(), "--toolchain", kit.llvm, "--stack", str(STACK), "-o", linked,
-         archive_of(kit, module, folder)], SECONDS)
+    run(
+        [
+            kit.linker,
+            "--target",
+            retarget.TARGET.decode(),
+            "--toolchain",
+            kit.llvm,
+            "--stack",
+            str(STACK),
+            "-o",
+            linked,
+            archive_of(kit, module, folder),
+        ],
+        SECONDS,
+    )
     content = linked.read_bytes()
     check(content)
     return narrowed(content)
@@ -48,14 +73,49 @@ def binary_of(kit: Kit, module: Path, folder: Path) -> bytes:
 
 def archive_of(kit: Kit, module: Path, folder: Path) -> Path:
     """A static library of the module and the heap, for the other target."""
-    text, objects, archive = folder / "module.ll", (folder / "module.o", folder / "heap.o"), folder / "library.a"
-    run([kit.clang, "--target=x86_64-unknown-linux-gnu", *PLAIN, "-x", "ir", module, "-S", "-emit-llvm", "-Xclang",
-         "-disable-llvm-passes", "-o", text], SECONDS)
+    text, objects, archive = (
+        folder / "module.ll",
+        (folder / "module.o", folder / "heap.o"),
+        folder / "library.a",
+    )
+    run(
+        [
+            kit.clang,
+            "--target=x86_64-unknown-linux-gnu",
+            *PLAIN,
+            "-x",
+            "ir",
+            module,
+            "-S",
+            "-emit-llvm",
+            "-Xclang",
+            "-disable-llvm-passes",
+            "-o",
+            text,
+        ],
+        SECONDS,
+    )
     text.write_bytes(retarget.retargeted(text.read_bytes()))
     run([kit.clang, *TARGET, *IN_PLACE, "-O3", "-c", "-x", "ir", text, "-o", objects[0]], SECONDS)
     text.unlink()
-    run([kit.clang, *TARGET, "-std=c17", "-Wall", "-Wextra", "-O2", "-ffreestanding", "-fno-builtin", "-nostdinc",
-         "-c", HEAP, "-o", objects[1]], SECONDS)
+    run(
+        [
+            kit.clang,
+            *TARGET,
+            "-std=c17",
+            "-Wall",
+            "-Wextra",
+            "-O2",
+            "-ffreestanding",
+            "-fno-builtin",
+            "-nostdinc",
+            "-c",
+            HEAP,
+            "-o",
+            objects[1],
+        ],
+        SECONDS,
+    )
     run([kit.archiver, "--format=gnu", "rcsD", archive, *objects], SECONDS)
     return archive
 

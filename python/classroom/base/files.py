@@ -74,7 +74,9 @@ class Folder:
         if self.is_link(name):
             raise NotRead("a link, which is not followed")
         try:
-            descriptor = os.open(name, FLAGS | os.O_DIRECTORY | os.O_NOFOLLOW, dir_fd=self._descriptor)
+            descriptor = os.open(
+                name, FLAGS | os.O_DIRECTORY | os.O_NOFOLLOW, dir_fd=self._descriptor
+            )
         except OSError as fault:
             raise NotRead(fault.strerror or str(fault)) from None
         try:
@@ -135,7 +137,11 @@ class Written:
     def names(self) -> set[str]:
         """The files that were written, by the list."""
         try:
-            return {str(name) for name in json.loads((self.folder / LIST).read_bytes()) if "/" not in str(name)}
+            return {
+                str(name)
+                for name in json.loads((self.folder / LIST).read_bytes())
+                if "/" not in str(name)
+            }
         except (OSError, ValueError, TypeError):
             return set()
 

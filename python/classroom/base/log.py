@@ -39,7 +39,12 @@ def progress(count: int, is_shown: bool) -> Iterator[Callable[[], None]]:
         if is_shown and (now - shown >= 0.2 or done == count):
             shown = now
             left = round((now - begun) / done * (count - done))
-            print(f"\r{done} of {count}, {done * 100 // count}%, {left} s left   ", end="", file=sys.stderr, flush=True)
+            print(
+                f"\r{done} of {count}, {done * 100 // count}%, {left} s left   ",
+                end="",
+                file=sys.stderr,
+                flush=True,
+            )
 
     try:
         yield step

@@ -26,9 +26,16 @@ SUMMARY = "tell what is kept of what was asked, and remove it"
 
 def add_arguments(parser: argparse.ArgumentParser) -> None:
     options.exercise(parser)
-    parser.add_argument("--asked-file", metavar="FILE", type=Path, help="what was asked (EXERCISE/results/asked.db)")
+    parser.add_argument(
+        "--asked-file", metavar="FILE", type=Path, help="what was asked (EXERCISE/results/asked.db)"
+    )
     parser.add_argument("--forget", action="store_true", help="remove it")
-    parser.add_argument("--before", metavar="DAY", type=day, help="only what was asked before this day, as 2026-10-01")
+    parser.add_argument(
+        "--before",
+        metavar="DAY",
+        type=day,
+        help="only what was asked before this day, as 2026-10-01",
+    )
     parser.add_argument("--hand-ins", action="store_true", help="what was handed in, too")
     parser.add_argument("--yes", action="store_true", help="without asking")
 
@@ -51,8 +58,14 @@ def run(arguments: argparse.Namespace) -> int:
         print(line)
     if not arguments.forget:
         return 0
-    going = "what was asked and handed in" if arguments.hand_ins else "what was asked, and not what was handed in,"
-    print(f"{going} {f'before {arguments.before} ' if arguments.before else ''}is removed", flush=True)
+    going = (
+        "what was asked and handed in"
+        if arguments.hand_ins
+        else "what was asked, and not what was handed in,"
+    )
+    print(
+        f"{going} {f'before {arguments.before} ' if arguments.before else ''}is removed", flush=True
+    )
     if not arguments.yes and not agreed():
         raise Fault("nothing was removed: --yes removes it without asking")
     forgetting.forget(files, arguments.before, arguments.hand_ins)

@@ -47,17 +47,50 @@ log = logging.getLogger(__name__)
 
 
 def add_arguments(parser: argparse.ArgumentParser) -> None:
-    parser.add_argument("source", metavar="SOURCE", type=Path, nargs="?", help="the archive of the platform, or its folder")
-    parser.add_argument("exercise", metavar="EXERCISE", type=Path, help="the folder of the exercise")
-    parser.add_argument("--form", choices=sorted(forms.FORMS), help="the form of the archive, where its names don't tell it")
+    parser.add_argument(
+        "source",
+        metavar="SOURCE",
+        type=Path,
+        nargs="?",
+        help="the archive of the platform, or its folder",
+    )
+    parser.add_argument(
+        "exercise", metavar="EXERCISE", type=Path, help="the folder of the exercise"
+    )
+    parser.add_argument(
+        "--form",
+        choices=sorted(forms.FORMS),
+        help="the form of the archive, where its names don't tell it",
+    )
     parser.add_argument("--task", metavar="T", help="all files are answers to this task")
-    parser.add_argument("--task-pattern", metavar="RE", type=pattern, default=re.compile(placing.SPLIT, re.M | re.I),
-                        help="what begins the answer to a task in a file with several: a regular expression, whose first group is the task")
-    parser.add_argument("--students", metavar="FILE", type=Path, help="the class list (what `students` of exercise.toml names, else EXERCISE/class/students.csv)")
-    parser.add_argument("--asked", action="store_true", help="what was handed in at the page of `classroom serve`")
-    parser.add_argument("--asked-file", metavar="FILE", type=Path, help="the --asked-file of the server (EXERCISE/results/asked.db)")
-    parser.add_argument("--force", action="store_true", help="write over answers that are there with another text")
-    parser.add_argument("--dry-run", action="store_true", help="write nothing, and tell what would be done")
+    parser.add_argument(
+        "--task-pattern",
+        metavar="RE",
+        type=pattern,
+        default=re.compile(placing.SPLIT, re.M | re.I),
+        help="what begins the answer to a task in a file with several: a regular expression, whose first group is the task",
+    )
+    parser.add_argument(
+        "--students",
+        metavar="FILE",
+        type=Path,
+        help="the class list (what `students` of exercise.toml names, else EXERCISE/class/students.csv)",
+    )
+    parser.add_argument(
+        "--asked", action="store_true", help="what was handed in at the page of `classroom serve`"
+    )
+    parser.add_argument(
+        "--asked-file",
+        metavar="FILE",
+        type=Path,
+        help="the --asked-file of the server (EXERCISE/results/asked.db)",
+    )
+    parser.add_argument(
+        "--force", action="store_true", help="write over answers that are there with another text"
+    )
+    parser.add_argument(
+        "--dry-run", action="store_true", help="write nothing, and tell what would be done"
+    )
 
 
 def pattern(word: str) -> re.Pattern[str]:
@@ -86,24 +119,41 @@ def run(arguments: argparse.Namespace) -> int:
     else:
         answers, rest = of_archive(arguments, tuple(tasks), listed)
         source = arguments.source.name
-    done = collecting.collect(given.folder, {name: task.folder for name, task in tasks.items()}, answers, source, arguments.force,
-                              not arguments.dry_run)
+    done = collecting.collect(
+        given.folder,
+        {name: task.folder for name, task in tasks.items()},
+        answers,
+        source,
+        arguments.force,
+        not arguments.dry_run,
+    )
     return tell(answers, rest, done, listed)
 
 
-def of_archive(arguments: argparse.Namespace, tasks: tuple[str, ...],
-               listed: students.ClassList) -> tuple[list[placing.Placed], list[placing.NotPlaced]]:
+def of_archive(
+    arguments: argparse.Namespace, tasks: tuple[str, ...], listed: students.ClassList
+) -> tuple[list[placing.Placed], list[placing.NotPlaced]]:
     """The answers in an archive, and what could not be placed."""
     found = list(archive.members(arguments.source))
     unread = [placing.NotPlaced(one.label, one.fault) for one in found if one.fault]
     readable = [one for one in found if not one.fault]
     handed, others = forms.handed(readable, arguments.form or forms.form_of(readable))
-    answers, rest = placing.placed(handed, placing.Rules(tasks, listed, arguments.task, arguments.task_pattern))
-    return answers, [*rest, *unread, *(placing.NotPlaced(one.label, "its name has not the form of the others") for one in others)]
+    answers, rest = placing.placed(
+        handed, placing.Rules(tasks, listed, arguments.task, arguments.task_pattern)
+    )
+    return answers, [
+        *rest,
+        *unread,
+        *(
+            placing.NotPlaced(one.label, "its name has not the form of the others")
+            for one in others
+        ),
+    ]
 
 
-def of_page(path: Path, given: exercise.Exercise,
-            listed: students.ClassList) -> tuple[list[placing.Placed], list[placing.NotPlaced]]:
+def of_page(
+    path: Path, given: exercise.Exercise, listed: students.ClassList
+) -> tuple[list[placing.Placed], list[placing.NotPlaced]]:
     """What was handed in at the page in time."""
     tasks = {task.label for task in given.tasks}
     answers, rest = [], []
@@ -116,22 +166,43 @@ def of_page(path: Path, given: exercise.Exercise,
             rest.append(placing.NotPlaced(label, why))
         else:
             member = Member((label,), one.text.encode("utf-8", "replace"))
-            answers.append(placing.Placed(one.task, name, member.content, Handed(member, "id", name, name, label), student is not None))
+            answers.append(
+                placing.Placed(
+                    one.task,
+                    name,
+                    member.content,
+                    Handed(member, "id", name, name, label),
+                    student is not None,
+                )
+            )
     return answers, rest
 
 
-def tell(answers: list[placing.Placed], rest: list[placing.NotPlaced], done: collecting.Collected,
-         listed: students.ClassList) -> int:
+def tell(
+    answers: list[placing.Placed],
+    rest: list[placing.NotPlaced],
+    done: collecting.Collected,
+    listed: students.ClassList,
+) -> int:
     """Prints what was done; gives the exit status."""
     for one in sorted(rest, key=lambda one: one.label):
         log.warning("not placed: %s: %s", shown(one.label), one.why)
     for answer in done.kept:
-        log.warning("kept: the answer of %s to task %s is there with another text; --force writes it over",
-                    shown(answer.student), shown(answer.task))
-    strangers = sorted({answer.student for answer in answers if not answer.listed}) if listed.students else []
+        log.warning(
+            "kept: the answer of %s to task %s is there with another text; --force writes it over",
+            shown(answer.student),
+            shown(answer.task),
+        )
+    strangers = (
+        sorted({answer.student for answer in answers if not answer.listed})
+        if listed.students
+        else []
+    )
     if strangers:
         log.warning("not in the class list: %s", shown(*strangers))
     people = len({answer.student for answer in answers})
-    print(f"{counted(people, 'student')}, {counted(len(answers), 'answer')}: {done.new} new, {done.replaced} replaced, {done.same} as they were, "
-          f"{len(done.kept)} kept")
+    print(
+        f"{counted(people, 'student')}, {counted(len(answers), 'answer')}: {done.new} new, {done.replaced} replaced, {done.same} as they were, "
+        f"{len(done.kept)} kept"
+    )
     return 1 if rest or done.kept or strangers else 0

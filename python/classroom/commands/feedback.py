@@ -34,9 +34,9 @@ from classroom.people import roster as students
 from classroom.exercise.exercise import Exercise
 from classroom.base.errors import Fault, shown
 from classroom.views import markdown
-from classroom.platforms import tables as platforms
+from classroom.platforms import grade_tables as tables as platforms
 from classroom.views import for_student as sheet
-from classroom.platforms.tables import Back
+from classroom.platforms.grade_tables import Back
 from classroom.platforms import collect as collecting
 from classroom.hints.find_mistakes import Mistakes
 from classroom.grading.store import Results
@@ -49,14 +49,39 @@ log = logging.getLogger(__name__)
 
 def add_arguments(parser: argparse.ArgumentParser) -> None:
     options.exercise(parser, ", graded")
-    parser.add_argument("--students", metavar="FILE", type=Path,
-                        help="the class list (what `students` of exercise.toml names, else EXERCISE/class/students.csv)")
-    parser.add_argument("--reference", action="store_true", help="with the references, for after the deadline")
-    parser.add_argument("--zip", choices=sorted(platforms.FOLDERS), action="append", default=[], help="the pages in an archive for this platform")
-    parser.add_argument("--for", choices=[*sorted(platforms.TABLES), platforms.GRADESCOPE], action="append", default=[], dest="tables",
-                        help="the points in the form of this platform")
-    parser.add_argument("--visibility", choices=platforms.VISIBILITIES, default="visible", help="of the tests at Gradescope (visible)")
-    parser.add_argument("--assignment", metavar="NAME", help="how the platform calls the exercise (its title)")
+    parser.add_argument(
+        "--students",
+        metavar="FILE",
+        type=Path,
+        help="the class list (what `students` of exercise.toml names, else EXERCISE/class/students.csv)",
+    )
+    parser.add_argument(
+        "--reference", action="store_true", help="with the references, for after the deadline"
+    )
+    parser.add_argument(
+        "--zip",
+        choices=sorted(platforms.FOLDERS),
+        action="append",
+        default=[],
+        help="the pages in an archive for this platform",
+    )
+    parser.add_argument(
+        "--for",
+        choices=[*sorted(platforms.TABLES), platforms.GRADESCOPE],
+        action="append",
+        default=[],
+        dest="tables",
+        help="the points in the form of this platform",
+    )
+    parser.add_argument(
+        "--visibility",
+        choices=platforms.VISIBILITIES,
+        default="visible",
+        help="of the tests at Gradescope (visible)",
+    )
+    parser.add_argument(
+        "--assignment", metavar="NAME", help="how the platform calls the exercise (its title)"
+    )
 
 
 def run(arguments: argparse.Namespace) -> int:
@@ -72,9 +97,19 @@ def run(arguments: argparse.Namespace) -> int:
     backs = []
     for of in found:
         made = sheet.sheet(given, of, arguments.reference, mistakes)
-        backs.append(Back(of, made, template.render(page=made).encode("utf-8", "replace"), members.get(of.student.id, ())))
+        backs.append(
+            Back(
+                of,
+                made,
+                template.render(page=made).encode("utf-8", "replace"),
+                members.get(of.student.id, ()),
+            )
+        )
     files = {f"{stem(back.sheet.id)}.html": back.page for back in backs}
-    files |= {f"{stem(back.sheet.id)}.md": markdown.text_of(back.sheet).encode("utf-8", "replace") for back in backs}
+    files |= {
+        f"{stem(back.sheet.id)}.md": markdown.text_of(back.sheet).encode("utf-8", "replace")
+        for back in backs
+    }
     missing = add_platforms(files, backs, arguments, arguments.assignment or given.title)
     Written(given.results / FOLDER).put(files)
     print(f"{draw.counted(len(backs), 'student')}: see {shown(str(given.results / FOLDER))}")
@@ -83,13 +118,19 @@ def run(arguments: argparse.Namespace) -> int:
 
 def stem(name: str) -> str:
     """The name of a student's files, a digest where the own one is too long for a file."""
-    return name if len(name.encode()) <= students.MOST_ID else hashlib.sha256(name.encode()).hexdigest()
+    return (
+        name
+        if len(name.encode()) <= students.MOST_ID
+        else hashlib.sha256(name.encode()).hexdigest()
+    )
 
 
 def check_closed(given: Exercise) -> None:
     closes = given.settings.closes
     if closes and datetime.now(timezone.utc) < closes:
-        raise Fault(f"the exercise closes at {closes.isoformat(' ')}: --reference is for afterwards")
+        raise Fault(
+            f"the exercise closes at {closes.isoformat(' ')}: --reference is for afterwards"
+        )
 
 
 def members_of(folder: Path) -> dict[str, tuple[str, ...]]:
@@ -100,14 +141,29 @@ def members_of(folder: Path) -> dict[str, tuple[str, ...]]:
     return found
 
 
-def add_platforms(files: dict[str, bytes], backs: list[Back], arguments: argparse.Namespace, assignment: str) -> int:
+def add_platforms(
+    files: dict[str, bytes], backs: list[Back], arguments: argparse.Namespace, assignment: str
+) -> int:
     """Adds the files for platforms; gives how many students are missing in one."""
-    made = {f"{name}.csv": platforms.TABLES[name](backs, assignment) for name in arguments.tables if name in platforms.TABLES}
+    made = {
+        f"{name}.csv": platforms.TABLES[name](backs, assignment)
+        for name in arguments.tables
+        if name in platforms.TABLES
+    }
     if platforms.GRADESCOPE in arguments.tables:
-        made[f"{platforms.GRADESCOPE}.json"] = platforms.gradescope_json(backs, assignment, arguments.visibility)
-    made |= {f"{name}.zip": platforms.archive(backs, platforms.FOLDERS[name], assignment) for name in arguments.zip}
+        made[f"{platforms.GRADESCOPE}.json"] = platforms.gradescope_json(
+            backs, assignment, arguments.visibility
+        )
+    made |= {
+        f"{name}.zip": platforms.archive(backs, platforms.FOLDERS[name], assignment)
+        for name in arguments.zip
+    }
     for name, one in made.items():
         files[name] = one.content
         if one.without:
-            log.warning("%s: without a number there, and left out: %s", name, shown(*(student.id for student in one.without)))
+            log.warning(
+                "%s: without a number there, and left out: %s",
+                name,
+                shown(*(student.id for student in one.without)),
+            )
     return sum(len(one.without) for one in made.values())

@@ -51,8 +51,12 @@ log = logging.getLogger(__name__)
 def add_arguments(parser: argparse.ArgumentParser) -> None:
     options.exercise(parser)
     options.jobs(parser, ", on each machine")
-    parser.add_argument("--hosts", metavar="FILE", type=Path,
-                        help="grade on these hosts; FILE is an --sshloginfile of GNU parallel")
+    parser.add_argument(
+        "--hosts",
+        metavar="FILE",
+        type=Path,
+        help="grade on these hosts; FILE is an --sshloginfile of GNU parallel",
+    )
     options.limits(parser, "an answer", 60)
     tried.add_arguments(parser)
 
@@ -70,7 +74,10 @@ def run(arguments: argparse.Namespace) -> int:
     opened = opening.opened(arguments, 60.0)
     given = opened.given
     for path in given.ignored:
-        log.warning("%s is not graded: its name is not that of an answer, NAME.sql", shown(str(path.relative_to(given.folder))))
+        log.warning(
+            "%s is not graded: its name is not that of an answer, NAME.sql",
+            shown(str(path.relative_to(given.folder))),
+        )
     entries = entries_of(opened)
     trial = tried.wanted(arguments, given, opened.limits.seconds)
     listed = students.read(given.folder / given.settings.students)
@@ -79,23 +86,48 @@ def run(arguments: argparse.Namespace) -> int:
         means = parallel.Means(opened.limits, arguments.jobs, arguments.hosts, sys.stderr.isatty())
         run_all(opened, entries, results, means, work)
         trials = try_all(trial, given, entries, results, means.jobs) if trial else {}
-        untried = {of.key: of for of in entries if of.key and not tried.says_of_answer(results.trial(trials.get(id(of), "")))}
+        untried = {
+            of.key: of
+            for of in entries
+            if of.key and not tried.says_of_answer(results.trial(trials.get(id(of), "")))
+        }
         ask_database(opened, untried, results, means, work)
-        graded = [results.graded_one(of.task, of.answer, given, of.key, trials.get(id(of), "")) for of in entries]
+        graded = [
+            results.graded_one(of.task, of.answer, given, of.key, trials.get(id(of), ""))
+            for of in entries
+        ]
         results.publish(given, graded)
-        write(results.folder / "class.csv", standing.class_csv(given, standing.standings(given, graded, listed)))
+        write(
+            results.folder / "class.csv",
+            standing.class_csv(given, standing.standings(given, graded, listed)),
+        )
         publish_page(given, results, graded, listed)
     return tell(given, graded)
 
 
 def entries_of(opened: Opened) -> list[Entry]:
-    common = digest(FORMAT, opened.ratest.read_bytes(), opened.given.digest.encode(), *(word.encode() for word in opened.options))
-    return [Entry(task, answer, "" if task.fault or answer.fault else
-                  digest(common.encode(), task.reference, answer.text.query))
-            for task in opened.given.tasks for answer in task.answers]
+    common = digest(
+        FORMAT,
+        opened.ratest.read_bytes(),
+        opened.given.digest.encode(),
+        *(word.encode() for word in opened.options),
+    )
+    return [
+        Entry(
+            task,
+            answer,
+            ""
+            if task.fault or answer.fault
+            else digest(common.encode(), task.reference, answer.text.query),
+        )
+        for task in opened.given.tasks
+        for answer in task.answers
+    ]
 
 
-def run_all(opened: Opened, entries: Sequence[Entry], results: Results, means: parallel.Means, work: Path) -> None:
+def run_all(
+    opened: Opened, entries: Sequence[Entry], results: Results, means: parallel.Means, work: Path
+) -> None:
     """Runs what has no record yet."""
     given = opened.given
     keys = {of.key: of for of in entries if of.key}
@@ -108,15 +140,24 @@ def run_all(opened: Opened, entries: Sequence[Entry], results: Results, means: p
     for key, of in pending.items():
         files = (references[of.task.name], f"{key}.answer")
         jobs.append(parallel.Job(key, ("schema.sql", ".", *files, *opened.options), files))
-    texts = {**{references[task.name]: task.reference for task in given.tasks},
-             **{f"{key}.answer": of.answer.text.query for key, of in pending.items()}}
+    texts = {
+        **{references[task.name]: task.reference for task in given.tasks},
+        **{f"{key}.answer": of.answer.text.query for key, of in pending.items()},
+    }
     for key, ran in parallel.run(jobs, {"ratest": opened.ratest}, given.files, texts, means, work):
         results.keep(key, ran, opened.limits)
 
 
-def try_all(trial: Trial, given: Exercise, entries: Sequence[Entry], results: Results, jobs: int | None) -> dict[int, str]:
+def try_all(
+    trial: Trial, given: Exercise, entries: Sequence[Entry], results: Results, jobs: int | None
+) -> dict[int, str]:
     """Tries what has no record yet; gives the keys of the records by the entries."""
-    questions = {id(of): tried.question(trial, of.task, of.answer, results.run(of.key) if of.key else None, given) for of in entries}
+    questions = {
+        id(of): tried.question(
+            trial, of.task, of.answer, results.run(of.key) if of.key else None, given
+        )
+        for of in entries
+    }
     asked = {of.key: of for of in questions.values() if of}
     results.will_write(trial_name(key) for key in asked)
     left = {key: of.pair for key, of in asked.items() if results.trial(key) is None}
@@ -133,18 +174,26 @@ def try_all(trial: Trial, given: Exercise, entries: Sequence[Entry], results: Re
     return {entry: of.key for entry, of in questions.items() if of}
 
 
-def ask_database(opened: Opened, keys: dict[str, Entry], results: Results, means: parallel.Means, work: Path) -> None:
+def ask_database(
+    opened: Opened, keys: dict[str, Entry], results: Results, means: parallel.Means, work: Path
+) -> None:
     """Asks SQLite about each text that may be wrong SQL, unless its record says it."""
     asked = {}
     for key, of in keys.items():
         ran = results.run(key)
-        if ran and grades.may_be_wrong(witness.read(ran, opened.given.tables)) and results.refusal(key, wrong.ENGINE) is None:
+        if (
+            ran
+            and grades.may_be_wrong(witness.read(ran, opened.given.tables))
+            and results.refusal(key, wrong.ENGINE) is None
+        ):
             asked[key] = of.answer.text.query
     for key, fault in wrong.refused(asked, opened.given.tables, means.jobs, work):
         results.note_refusal(key, wrong.ENGINE, fault)
 
 
-def publish_page(given: Exercise, results: Results, graded: Sequence[Graded], listed: students.ClassList) -> None:
+def publish_page(
+    given: Exercise, results: Results, graded: Sequence[Graded], listed: students.ClassList
+) -> None:
     """The page, but where its library is missing."""
     try:
         write(results.folder / "page.html", classpage.page_of(given, graded, listed))
@@ -162,7 +211,10 @@ def tell(given: Exercise, graded: Sequence[Graded]) -> int:
     sys.stdout.flush()
     over = sum(grades.passes_limit(of) for of in graded)
     if over:
-        log.warning("%s past a limit: `classroom pick` keeps the few rows that tell the mistakes", counted(over, "answer"))
+        log.warning(
+            "%s past a limit: `classroom pick` keeps the few rows that tell the mistakes",
+            counted(over, "answer"),
+        )
     if left:
         log.warning("%d of %d answers are to be graded by hand", left, len(graded))
     decided = {of.task.name for of in graded if of.is_tried}

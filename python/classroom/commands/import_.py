@@ -29,16 +29,24 @@ from classroom.exercise import guards as guard
 from classroom.sql.schema import MOST_ROWS
 
 SUMMARY = "make an exercise of a database"
-GUARD_ROWS = 100    # of each table
+GUARD_ROWS = 100  # of each table
 log = logging.getLogger(__name__)
 
 
 def add_arguments(parser: argparse.ArgumentParser) -> None:
     parser.add_argument("source", metavar="SOURCE", help="an SQLite file, or a PostgreSQL database")
-    parser.add_argument("exercise", metavar="EXERCISE", type=Path, help="the folder that is written")
-    parser.add_argument("tables", metavar="TABLE", nargs="*", help="the tables, all where none is named")
-    parser.add_argument("--rows", metavar="N", type=rows,
-                        help="the first N rows of each table, and the rows that they refer to")
+    parser.add_argument(
+        "exercise", metavar="EXERCISE", type=Path, help="the folder that is written"
+    )
+    parser.add_argument(
+        "tables", metavar="TABLE", nargs="*", help="the tables, all where none is named"
+    )
+    parser.add_argument(
+        "--rows",
+        metavar="N",
+        type=rows,
+        help="the first N rows of each table, and the rows that they refer to",
+    )
 
 
 def rows(word: str) -> int:
@@ -48,8 +56,15 @@ def rows(word: str) -> int:
 
 
 def run(arguments: argparse.Namespace) -> int:
-    for note in export(opened(arguments.source), arguments.exercise, arguments.tables, arguments.rows):
+    for note in export(
+        opened(arguments.source), arguments.exercise, arguments.tables, arguments.rows
+    ):
         log.warning("%s", note)
     if arguments.rows is not None and arguments.rows < GUARD_ROWS:
-        export(opened(arguments.source), arguments.exercise / guard.FOLDER, arguments.tables, GUARD_ROWS)
+        export(
+            opened(arguments.source),
+            arguments.exercise / guard.FOLDER,
+            arguments.tables,
+            GUARD_ROWS,
+        )
     return 0

@@ -37,7 +37,9 @@ def add_arguments(parser: argparse.ArgumentParser) -> None:
     options.exercise(parser, ", graded")
     parser.add_argument("--task", metavar="T", help="of this task alone")
     options.jobs(parser)
-    parser.add_argument("--deep", action="store_true", help="look for two changes where one is not enough")
+    parser.add_argument(
+        "--deep", action="store_true", help="look for two changes where one is not enough"
+    )
 
 
 def run(arguments: argparse.Namespace) -> int:
@@ -48,7 +50,9 @@ def run(arguments: argparse.Namespace) -> int:
     results = Results((loaded := exercise.load(arguments.exercise)).results)
     given, graded = results.graded(loaded)
     some = [of for of in graded if arguments.task in (None, of.task.name, of.task.label)]
-    if arguments.task is not None and not any(arguments.task in (task.name, task.label) for task in given.tasks):
+    if arguments.task is not None and not any(
+        arguments.task in (task.name, task.label) for task in given.tasks
+    ):
         raise Fault(f"there is no task {shown(arguments.task)}")
     looked = whole.Mistakes(given, arguments.deep)
     with results.held():
@@ -61,7 +65,11 @@ def run(arguments: argparse.Namespace) -> int:
     for line in table.told([one for one in made if one.task in {of.task.label for of in some}]):
         print(line)
     print(f"see {shown(str(results.folder / 'mistakes.csv'))}")
-    left = [of for of in some if looked.is_asked(of) and (of.record not in found or found[of.record].fault)]
+    left = [
+        of
+        for of in some
+        if looked.is_asked(of) and (of.record not in found or found[of.record].fault)
+    ]
     if left:
         log.warning("%d of the answers could not be looked at", len(left))
     return 1 if left else 0

@@ -66,7 +66,9 @@ def run(arguments: argparse.Namespace) -> int:
     with results.held() as work:
         verdicts = grading.Verdicts(results.runs, given.files, opened.options)
         back = {task.label: questions.written_back(task) for task in tasks}
-        found = verdicts.grade([*back.values(), *(of for one in asked.values() for of in one)], means, work)
+        found = verdicts.grade(
+            [*back.values(), *(of for one in asked.values() for of in one)], means, work
+        )
         for label, of in back.items():
             try:
                 told.check_written_back([of], [found[verdicts.key(of)]])
@@ -94,7 +96,11 @@ def run(arguments: argparse.Namespace) -> int:
 def is_tried(task: Task) -> bool:
     """Whether its mutants are tried; a reference that passes a limit alone is told in one line."""
     if task.limit:
-        log.warning("task %s: the reference alone passes a limit, so no mutant is tried: %s", shown(task.name), shown(task.limit))
+        log.warning(
+            "task %s: the reference alone passes a limit, so no mutant is tried: %s",
+            shown(task.name),
+            shown(task.limit),
+        )
     return not (task.fault or task.limit)
 
 

@@ -23,17 +23,32 @@ def seconds(word: str) -> float:
 
 
 def exercise(parser: argparse.ArgumentParser, note: str = "") -> None:
-    parser.add_argument("exercise", metavar="EXERCISE", type=Path, help=f"the folder of the exercise{note}")
+    parser.add_argument(
+        "exercise", metavar="EXERCISE", type=Path, help=f"the folder of the exercise{note}"
+    )
 
 
 def jobs(parser: argparse.ArgumentParser, note: str = "") -> None:
-    parser.add_argument("--jobs", metavar="N", type=count, help=f"calls at once{note}; all cores where it isn't said")
+    parser.add_argument(
+        "--jobs",
+        metavar="N",
+        type=count,
+        help=f"calls at once{note}; all cores where it isn't said",
+    )
 
 
-def limits(parser: argparse.ArgumentParser, noun: str, time: int, conflicts: int | None = None) -> None:
+def limits(
+    parser: argparse.ArgumentParser, noun: str, time: int, conflicts: int | None = None
+) -> None:
     """What one call may take. Where a word isn't said, `exercise.toml` says it, else what is told here."""
     parser.add_argument("--time", metavar="S", type=seconds, help=f"seconds for {noun} ({time})")
-    parser.add_argument("--memory", metavar="MB", type=count, default=2000, help=f"megabytes for {noun} (2000)")
+    parser.add_argument(
+        "--memory", metavar="MB", type=count, default=2000, help=f"megabytes for {noun} (2000)"
+    )
     parser.add_argument("--work", metavar="N", type=count, help="as `ratest` takes it")
-    parser.add_argument("--conflicts", metavar="N", type=count,
-                        help=f"as `ratest` takes it{f' ({conflicts})' if conflicts else ''}")
+    parser.add_argument(
+        "--conflicts",
+        metavar="N",
+        type=count,
+        help=f"as `ratest` takes it{f' ({conflicts})' if conflicts else ''}",
+    )

@@ -30,11 +30,16 @@ SUMMARY = "make the page of a class"
 
 def add_arguments(parser: argparse.ArgumentParser) -> None:
     options.exercise(parser, ", graded")
-    parser.add_argument("--no-reference", action="store_true",
-                        help="for students: no reference, and no text of an answer but of those that differ")
+    parser.add_argument(
+        "--no-reference",
+        action="store_true",
+        help="for students: no reference, and no text of an answer but of those that differ",
+    )
     parser.add_argument("--no-names", action="store_true", help="no name of an answer")
     parser.add_argument("--asked", action="store_true", help="make the page of what was asked")
-    parser.add_argument("--asked-file", metavar="FILE", type=Path, help="what was asked (EXERCISE/results/asked.db)")
+    parser.add_argument(
+        "--asked-file", metavar="FILE", type=Path, help="what was asked (EXERCISE/results/asked.db)"
+    )
     parser.add_argument("--output", metavar="FILE", type=Path, help="write the page here")
 
 
@@ -43,10 +48,20 @@ def run(arguments: argparse.Namespace) -> int:
     showing = Showing(not arguments.no_reference, not arguments.no_names)
     if arguments.asked or arguments.asked_file:
         asked = arguments.asked_file or given.results / LOG
-        write(arguments.output or given.results / "asked.html", askedpage.page_of(given, asked, showing))
+        write(
+            arguments.output or given.results / "asked.html",
+            askedpage.page_of(given, asked, showing),
+        )
         return 0
     given, graded = Results(given.results).graded(given)
     # Students know one another by the names of the files at most.
-    listed = students.read(given.folder / given.settings.students) if showing.solutions else students.ClassList()
-    write(arguments.output or given.results / "page.html", classpage.page_of(given, graded, listed, showing))
+    listed = (
+        students.read(given.folder / given.settings.students)
+        if showing.solutions
+        else students.ClassList()
+    )
+    write(
+        arguments.output or given.results / "page.html",
+        classpage.page_of(given, graded, listed, showing),
+    )
     return 0

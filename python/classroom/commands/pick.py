@@ -33,13 +33,26 @@ SUMMARY = "pick the few rows that tell every mistake"
 def add_arguments(parser: argparse.ArgumentParser) -> None:
     parser.add_argument("source", metavar="SOURCE", help="a database, or the folder of an exercise")
     options.exercise(parser, " that gets the rows")
-    parser.add_argument("--rows", metavar="N", type=options.count,
-                        help="at most N rows, those that tell the most; as many as are needed where it isn't said")
-    parser.add_argument("--seed", metavar="N", type=options.count, default=1, help="of the rows at random (1)")
+    parser.add_argument(
+        "--rows",
+        metavar="N",
+        type=options.count,
+        help="at most N rows, those that tell the most; as many as are needed where it isn't said",
+    )
+    parser.add_argument(
+        "--seed", metavar="N", type=options.count, default=1, help="of the rows at random (1)"
+    )
     options.jobs(parser)
-    parser.add_argument("--work", metavar="N", type=options.count, default=2_000_000,
-                        help="as `ratest` takes it: what passes it is asked over a smaller part (2000000)")
-    parser.add_argument("--conflicts", metavar="N", type=options.count, default=1000, help="in the same way (1000)")
+    parser.add_argument(
+        "--work",
+        metavar="N",
+        type=options.count,
+        default=2_000_000,
+        help="as `ratest` takes it: what passes it is asked over a smaller part (2000000)",
+    )
+    parser.add_argument(
+        "--conflicts", metavar="N", type=options.count, default=1000, help="in the same way (1000)"
+    )
     tried.add_arguments(parser)
 
 
@@ -48,6 +61,13 @@ def run(arguments: argparse.Namespace) -> int:
     from classroom.picking.pick import Wanted, pick
 
     limits = opening.options_of(arguments.work, arguments.conflicts)
-    wanted = Wanted(arguments.rows, str(arguments.seed), arguments.jobs, limits, sys.stderr.isatty(), arguments.only_proved,
-                    arguments.engine)
+    wanted = Wanted(
+        arguments.rows,
+        str(arguments.seed),
+        arguments.jobs,
+        limits,
+        sys.stderr.isatty(),
+        arguments.only_proved,
+        arguments.engine,
+    )
     return pick(arguments.source, arguments.exercise, wanted)

@@ -43,7 +43,14 @@ from classroom.exercise import guards as guard
 from classroom.process import isolation as child
 from classroom.web.questions import Log, foundation_of
 from classroom.web.ask import MOST_BYTES, Asker, Budget, Decided
-from classroom.web.course import Course, Served, check_apart, folders, place_of_hand_ins, place_of_log
+from classroom.web.course import (
+    Course,
+    Served,
+    check_apart,
+    folders,
+    place_of_hand_ins,
+    place_of_log,
+)
 from classroom.web.hand_ins import HandIns
 from classroom.web.cache import Recent
 from classroom.web.served_exercise import copied
@@ -65,28 +72,95 @@ log = logging.getLogger(__name__)
 
 
 def add_arguments(parser: argparse.ArgumentParser) -> None:
-    parser.add_argument("exercise", metavar="COURSE", type=Path, help="the folder of an exercise, or one with exercises")
-    parser.add_argument("--port", metavar="N", type=port, default=8000, help="the port (8000); 0 for a free one")
-    parser.add_argument("--host", metavar="ADDRESS", default="127.0.0.1", help="the address (127.0.0.1, so this machine alone)")
-    parser.add_argument("--socket", metavar="PATH", type=Path, help="a Unix socket in place of the port, for a web server in front")
-    parser.add_argument("--socket-mode", metavar="MODE", type=mode, default=0o660, help="its mode, as chmod takes it (660)")
+    parser.add_argument(
+        "exercise",
+        metavar="COURSE",
+        type=Path,
+        help="the folder of an exercise, or one with exercises",
+    )
+    parser.add_argument(
+        "--port", metavar="N", type=port, default=8000, help="the port (8000); 0 for a free one"
+    )
+    parser.add_argument(
+        "--host",
+        metavar="ADDRESS",
+        default="127.0.0.1",
+        help="the address (127.0.0.1, so this machine alone)",
+    )
+    parser.add_argument(
+        "--socket",
+        metavar="PATH",
+        type=Path,
+        help="a Unix socket in place of the port, for a web server in front",
+    )
+    parser.add_argument(
+        "--socket-mode",
+        metavar="MODE",
+        type=mode,
+        default=0o660,
+        help="its mode, as chmod takes it (660)",
+    )
     options.jobs(parser)
-    parser.add_argument("--queue", metavar="N", type=options.count, default=64, help="questions that may wait (64)")
+    parser.add_argument(
+        "--queue", metavar="N", type=options.count, default=64, help="questions that may wait (64)"
+    )
     options.limits(parser, "a question", SECONDS, CONFLICTS)
     tried.add_arguments(parser)
     showing = parser.add_mutually_exclusive_group()
-    showing.add_argument("--hourly", metavar="N", type=whole, default=HOURLY,
-                         help=f"show a student N different counterexamples an hour ({HOURLY}); 0 for any number")
-    showing.add_argument("--only-verdict", action="store_true", help="tell only whether a query agrees")
-    parser.add_argument("--asked-file", metavar="FILE", type=Path,
-                        help="keep what is asked here (EXERCISE/results/asked.db); of a course a folder")
-    parser.add_argument("--asked-size", metavar="MB", type=options.count, default=1000, help="megabytes that it may have (1000)")
-    parser.add_argument("--keep-days", metavar="N", type=whole, default=KEEP_DAYS, help=f"days that questions are kept ({KEEP_DAYS}); 0 for ever")
-    parser.add_argument("--proxy", metavar="ADDRESS", help="the address of a web server in front, whose X-Forwarded-For is believed")
-    parser.add_argument("--user-header", metavar="NAME", help="the header in which that server sends the name of a login, which is wanted then")
-    parser.add_argument("--frame-ancestors", metavar="SITE", action="append", default=[], type=site,
-                        help="a site in whose frames the page may stand, as https://moodle.example.org")
-    parser.add_argument("--teacher-port", metavar="N", type=port, help="the teacher's page, at this port of 127.0.0.1 alone")
+    showing.add_argument(
+        "--hourly",
+        metavar="N",
+        type=whole,
+        default=HOURLY,
+        help=f"show a student N different counterexamples an hour ({HOURLY}); 0 for any number",
+    )
+    showing.add_argument(
+        "--only-verdict", action="store_true", help="tell only whether a query agrees"
+    )
+    parser.add_argument(
+        "--asked-file",
+        metavar="FILE",
+        type=Path,
+        help="keep what is asked here (EXERCISE/results/asked.db); of a course a folder",
+    )
+    parser.add_argument(
+        "--asked-size",
+        metavar="MB",
+        type=options.count,
+        default=1000,
+        help="megabytes that it may have (1000)",
+    )
+    parser.add_argument(
+        "--keep-days",
+        metavar="N",
+        type=whole,
+        default=KEEP_DAYS,
+        help=f"days that questions are kept ({KEEP_DAYS}); 0 for ever",
+    )
+    parser.add_argument(
+        "--proxy",
+        metavar="ADDRESS",
+        help="the address of a web server in front, whose X-Forwarded-For is believed",
+    )
+    parser.add_argument(
+        "--user-header",
+        metavar="NAME",
+        help="the header in which that server sends the name of a login, which is wanted then",
+    )
+    parser.add_argument(
+        "--frame-ancestors",
+        metavar="SITE",
+        action="append",
+        default=[],
+        type=site,
+        help="a site in whose frames the page may stand, as https://moodle.example.org",
+    )
+    parser.add_argument(
+        "--teacher-port",
+        metavar="N",
+        type=port,
+        help="the teacher's page, at this port of 127.0.0.1 alone",
+    )
 
 
 def port(word: str) -> int:
@@ -112,38 +186,64 @@ def site(word: str) -> str:
 
 
 def run(arguments: argparse.Namespace) -> int:
-    for name, package in (("flask", "python3-flask"), ("waitress", "python3-waitress"), ("limits", "python3-limits")):
+    for name, package in (
+        ("flask", "python3-flask"),
+        ("waitress", "python3-waitress"),
+        ("limits", "python3-limits"),
+    ):
         library(name, package)
     from classroom.web.server import Address, Running, serve
     from classroom.web.login import SOCKET_PEER, Front
 
     peers = {SOCKET_PEER} if arguments.socket else {arguments.proxy} if arguments.proxy else set()
     if arguments.user_header and not peers:
-        raise Fault("--user-header needs --socket or --proxy: from anybody else the header is not believed")
+        raise Fault(
+            "--user-header needs --socket or --proxy: from anybody else the header is not believed"
+        )
     front = Front(frozenset(peers), arguments.user_header or "")
     jobs = arguments.jobs or len(os.sched_getaffinity(0))
     with contextlib.ExitStack() as stack:
         work = Path(stack.enter_context(tempfile.TemporaryDirectory(prefix="classroom-")))
         course, watched = served(arguments, work, jobs, stack)
         address = Address(arguments.host, arguments.port, arguments.socket, arguments.socket_mode)
-        serve(Running(course, watched, front, address, 2 * jobs + arguments.queue, arguments.hourly or None, arguments.only_verdict,
-                      tuple(arguments.frame_ancestors), arguments.keep_days or None, arguments.teacher_port))
+        serve(
+            Running(
+                course,
+                watched,
+                front,
+                address,
+                2 * jobs + arguments.queue,
+                arguments.hourly or None,
+                arguments.only_verdict,
+                tuple(arguments.frame_ancestors),
+                arguments.keep_days or None,
+                arguments.teacher_port,
+            )
+        )
     return 0
 
 
-def served(arguments: argparse.Namespace, work: Path, jobs: int,
-           stack: contextlib.ExitStack) -> tuple[Course, dict[str, tuple[opening.Opened, Path]]]:
+def served(
+    arguments: argparse.Namespace, work: Path, jobs: int, stack: contextlib.ExitStack
+) -> tuple[Course, dict[str, tuple[opening.Opened, Path]]]:
     """The course, each exercise copied below `work`, with what has to be closed on the stack; and for the teacher each
     exercise with its file."""
-    from classroom.web.hint_buttons import hinter  # with itsdangerous, which other commands do without
+    from classroom.web.hint_buttons import (
+        hinter,
+    )  # with itsdangerous, which other commands do without
 
     places = Places(jobs, arguments.queue, WAITING_SECONDS)
     kept: Recent[Decided] = Recent(KEPT_BYTES)
     has_network = keeps_network()
     # What tries with SQLite does so without the network; all exercises share it.
-    around: dict[str, list[str]] = {SQLITE: [] if has_network else [*child.namespace(), "--"], POSTGRESQL: []}
-    processes = {product: stack.enter_context(contextlib.closing(asking.forks(TRIAL_SECONDS, work, words)))
-                 for product, words in around.items()}
+    around: dict[str, list[str]] = {
+        SQLITE: [] if has_network else [*child.namespace(), "--"],
+        POSTGRESQL: [],
+    }
+    processes = {
+        product: stack.enter_context(contextlib.closing(asking.forks(TRIAL_SECONDS, work, words)))
+        for product, words in around.items()
+    }
     made, watched = [], {}
     all_folders = folders(arguments.exercise)
     if arguments.asked_file:
@@ -163,15 +263,33 @@ def served(arguments: argparse.Namespace, work: Path, jobs: int,
         limits = found.limits._replace(output=MOST_BYTES / 1_000_000)
         budget = Budget(found.conflicts or CONFLICTS, found.work)
         material = copied(found.given, place, by_trying)
-        asker = Asker(material, child.around(found.ratest, has_network), limits, budget, places, kept,
-                      foundation(material.digest, found.ratest, limits, budget, trial.digest if trial else ""),
-                      trial, trier)
+        asker = Asker(
+            material,
+            child.around(found.ratest, has_network),
+            limits,
+            budget,
+            places,
+            kept,
+            foundation(
+                material.digest, found.ratest, limits, budget, trial.digest if trial else ""
+            ),
+            trial,
+            trier,
+        )
         path = place_of_log(name, folder, arguments.asked_file)
-        kept_in = stack.enter_context(contextlib.closing(Log(path, arguments.asked_size, arguments.keep_days or None)))
-        hand_ins = stack.enter_context(contextlib.closing(HandIns(place_of_hand_ins(path)))) if arguments.user_header else None
+        kept_in = stack.enter_context(
+            contextlib.closing(Log(path, arguments.asked_size, arguments.keep_days or None))
+        )
+        hand_ins = (
+            stack.enter_context(contextlib.closing(HandIns(place_of_hand_ins(path))))
+            if arguments.user_header
+            else None
+        )
         other_rows = work / f"{number}-{guard.FOLDER}"
         other_rows.mkdir()
-        pythons = child.around(Path(sys.executable), has_network), child.around(Path(sys.executable), True)
+        pythons = child.around(Path(sys.executable), has_network), child.around(
+            Path(sys.executable), True
+        )
         hints = hinter(found.given, material, other_rows, pythons, places, trial)
         made.append(Served(name, asker, kept_in, hand_ins, hints))
         watched[name] = (found, path)
@@ -183,7 +301,9 @@ def served(arguments: argparse.Namespace, work: Path, jobs: int,
 
 def opened(arguments: argparse.Namespace, folder: Path) -> opening.Opened:
     # The time of `exercise.toml` is that of a grading, for which nobody waits.
-    words = argparse.Namespace(**{**vars(arguments), "exercise": folder, "time": arguments.time or SECONDS})
+    words = argparse.Namespace(
+        **{**vars(arguments), "exercise": folder, "time": arguments.time or SECONDS}
+    )
     return opening.opened(words, SECONDS, CONFLICTS)
 
 
@@ -205,7 +325,11 @@ def tried_tasks(tasks: Sequence[Task], trier: Trier, jobs: int) -> frozenset[str
     """The labels of those whose reference `ratest` refuses and the database answers."""
     left = [task for task in tasks if task.fault and task.reference]
     with ThreadPoolExecutor(jobs) as threads:
-        return frozenset(task.label for task, answers in zip(left, threads.map(lambda task: is_answered(task, trier), left)) if answers)
+        return frozenset(
+            task.label
+            for task, answers in zip(left, threads.map(lambda task: is_answered(task, trier), left))
+            if answers
+        )
 
 
 def is_answered(task: Task, trier: Trier) -> bool:
@@ -225,12 +349,16 @@ def is_answered(task: Task, trier: Trier) -> bool:
 
 def foundation(exercise: str, ratest: Path, limits: Limits, budget: Budget, engine: str) -> str:
     """What verdicts rest on: see `foundation_of`."""
-    return foundation_of(exercise, digest(ratest.read_bytes()), engine, [*map(str, limits), *budget.options()])
+    return foundation_of(
+        exercise, digest(ratest.read_bytes()), engine, [*map(str, limits), *budget.options()]
+    )
 
 
 def keeps_network() -> bool:
     """Whether a call has to keep the network, which is then told."""
     if child.can_be_alone():
         return False
-    log.warning("this machine lets no process give up its network (unshare --map-root-user --net): `ratest` runs with it")
+    log.warning(
+        "this machine lets no process give up its network (unshare --map-root-user --net): `ratest` runs with it"
+    )
     return True

@@ -10,7 +10,14 @@ from classroom.sql.scopes import is_star, name_in_from, name_of, sources
 from classroom.sql.spans import Span
 from classroom.sql.tree import Node, bare, conjuncts
 
-OPPOSITE: dict[type[Node], str] = {exp.EQ: "<>", exp.NEQ: "=", exp.LT: ">=", exp.GTE: "<", exp.GT: "<=", exp.LTE: ">"}
+OPPOSITE: dict[type[Node], str] = {
+    exp.EQ: "<>",
+    exp.NEQ: "=",
+    exp.LT: ">=",
+    exp.GTE: "<",
+    exp.GT: "<=",
+    exp.LTE: ">",
+}
 
 
 class Block:
@@ -31,24 +38,34 @@ class Block:
     @property
     def is_plain(self) -> bool:
         """Whether its tables are joined by conditions alone, and it is no list of groups."""
-        return not any(join.side or join.args.get("natural") or join.args.get("using") for join in self.joins) \
-            and not self.select.args.get("group")
+        return not any(
+            join.side or join.args.get("natural") or join.args.get("using") for join in self.joins
+        ) and not self.select.args.get("group")
 
     @property
     def all_conditions(self) -> list[Node]:
         """Those of WHERE, and then those of ON."""
-        return [*self.conditions, *(part for join in self.joins for part in conjuncts(join.args.get("on")))]
+        return [
+            *self.conditions,
+            *(part for join in self.joins for part in conjuncts(join.args.get("on"))),
+        ]
 
     def names(self) -> list[str]:
         return [name_in_from(source) for source in self.sources]
 
     def shown_names(self) -> set[str]:
         """The tables that SELECT takes columns from."""
-        return {self.query.scopes.source_of(column)[0] or name_of(column.args.get("table"))
-                for item in self.select.expressions for column in item.find_all(exp.Column)}
+        return {
+            self.query.scopes.source_of(column)[0] or name_of(column.args.get("table"))
+            for item in self.select.expressions
+            for column in item.find_all(exp.Column)
+        }
 
     def mentions(self, condition: Node, name: str) -> bool:
-        return any(self.query.scopes.source_of(column)[0] == name for column in condition.find_all(exp.Column))
+        return any(
+            self.query.scopes.source_of(column)[0] == name
+            for column in condition.find_all(exp.Column)
+        )
 
     def begin_text(self) -> Span:
         """FROM with its sources and joins."""
@@ -66,16 +83,16 @@ class Block:
         for begin, end, text in sorted(pieces):
             made += [query.text[at:begin], text]
             at = end
-        return "".join([*made, query.text[at:span.end]])
+        return "".join([*made, query.text[at : span.end]])
 
     def written(self, tables: str, conditions: Iterable[str]) -> str:
         """The SELECT over other tables and conditions, each column with its table before it."""
         query, whole = self.query, self.query.span(self.select)
         first = query.span(self.select.expressions[0]).begin
         behind = query.span(self.where).end if self.where else self.begin_text().end
-        parts = [query.text[whole.begin:first], self.items(), " FROM ", tables]
+        parts = [query.text[whole.begin : first], self.items(), " FROM ", tables]
         where = " AND ".join(conditions)
-        return "".join([*parts, f" WHERE {where}" if where else "", query.text[behind:whole.end]])
+        return "".join([*parts, f" WHERE {where}" if where else "", query.text[behind : whole.end]])
 
     def replaced(self, conditions: Sequence[str]) -> tuple[Span, str]:
         """WHERE of other conditions, and what it takes the place of; none of no conditions."""

@@ -42,13 +42,13 @@ class Kind(enum.Enum):
 class Change:
     """What stands between two places of a text gets another one."""
 
-    mistake: str     # as `< for <=`
+    mistake: str  # as `< for <=`
     kind: Kind
-    cost: int        # the least is the likeliest mistake
-    instead: Span    # of the text that goes
-    text: str        # that comes
-    place: Span      # what is shown of the text
+    cost: int  # the least is the likeliest mistake
+    instead: Span  # of the text that goes
+    text: str  # that comes
+    place: Span  # what is shown of the text
 
     def on(self, text: str) -> str:
         """The text with this change."""
-        return text[:self.instead.begin] + self.text + text[self.instead.end:]
+        return text[: self.instead.begin] + self.text + text[self.instead.end :]

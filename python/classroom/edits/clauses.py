@@ -10,17 +10,36 @@ from classroom.sql.spans import Span
 from classroom.sql.tree import SETS, Node
 
 WHERE, FROM, SELECT, SET, GROUP, HAVING, ORDER, WHOLE = (
-    "WHERE", "FROM", "SELECT", "set operator", "GROUP BY", "HAVING", "ORDER BY", "query")
-ORDINALS = ("first", "second", "third", "fourth", "fifth", "sixth", "seventh", "eighth", "ninth", "tenth")
+    "WHERE",
+    "FROM",
+    "SELECT",
+    "set operator",
+    "GROUP BY",
+    "HAVING",
+    "ORDER BY",
+    "query",
+)
+ORDINALS = (
+    "first",
+    "second",
+    "third",
+    "fourth",
+    "fifth",
+    "sixth",
+    "seventh",
+    "eighth",
+    "ninth",
+    "tenth",
+)
 
 
 @dataclass(frozen=True)
 class Clause:
     """A clause of a SELECT, or a set operator."""
 
-    name: str      # one of those above; WHOLE where the place is not in one
-    number: int    # of the SELECT in the text, from 0
-    depth: int     # how many SELECTs are around it
+    name: str  # one of those above; WHOLE where the place is not in one
+    number: int  # of the SELECT in the text, from 0
+    depth: int  # how many SELECTs are around it
 
 
 class Clauses:
@@ -58,7 +77,9 @@ class Clauses:
         if sum((depth > 0) == (clause.depth > 0) for depth in depths) == 1:
             which = f"the {'inner' if clause.depth else 'outer'} query"
             return f"{which}'s {what}" if what else which
-        which = f"the {ORDINALS[clause.number]} SELECT" if clause.number < len(ORDINALS) else "a SELECT"
+        which = (
+            f"the {ORDINALS[clause.number]} SELECT" if clause.number < len(ORDINALS) else "a SELECT"
+        )
         return f"the {what} of {which}" if what else which
 
 
@@ -76,7 +97,13 @@ def depth_of(select: Node) -> int:
 
 def parts(select: Node, query: Query) -> list[tuple[Span, str]]:
     found = []
-    for key, name in (("where", WHERE), ("from", FROM), ("group", GROUP), ("having", HAVING), ("order", ORDER)):
+    for key, name in (
+        ("where", WHERE),
+        ("from", FROM),
+        ("group", GROUP),
+        ("having", HAVING),
+        ("order", ORDER),
+    ):
         node = select.args.get(key)
         if node is not None and id(node) in query.spans.of:
             found.append((query.span(node), name))

@@ -3,7 +3,14 @@ from __future__ import annotations
 
 from classroom.edits.query import Query
 from classroom.sql.tree import parsed
-from classroom.edits.vocabulary import Vocabulary, classes_of, compared_in, constants_of, never_null, of_tables
+from classroom.edits.vocabulary import (
+    Vocabulary,
+    classes_of,
+    compared_in,
+    constants_of,
+    never_null,
+    of_tables,
+)
 from classroom.sql.schema import tables_of
 
 
@@ -25,8 +32,16 @@ class Words:
         """A Fault where sqlglot doesn't read the answer."""
         trees = (self.reference.tree, parsed(answer))
         numbers, texts = constants_of(trees)
-        return Vocabulary(self.tables, self.classes, compared_in(trees, self.tables), self.whole, numbers, texts,
-                          self.wanted, self.reference)
+        return Vocabulary(
+            self.tables,
+            self.classes,
+            compared_in(trees, self.tables),
+            self.whole,
+            numbers,
+            texts,
+            self.wanted,
+            self.reference,
+        )
 
 
 def vocabulary(schema: str, reference: str, answer: str) -> Vocabulary:

@@ -13,7 +13,7 @@ from classroom.sql.tree import Node, nodes, parsed, written
 from classroom.edits.vocabulary import Vocabulary
 from classroom.sql.schema import spelled
 
-Insertion = tuple[int, int, str]    # what stands between two places gets this text
+Insertion = tuple[int, int, str]  # what stands between two places gets this text
 
 
 class Query:
@@ -66,7 +66,7 @@ class Query:
 
     def next_to(self, at: int) -> int:
         """Behind one blank."""
-        return at + self.text[at:at + 1].isspace()
+        return at + self.text[at : at + 1].isspace()
 
     def qualified(self, node: Node, renamed: dict[str, str] | None = None) -> str:
         """The text of a node in which each column has the name of its table before it, or another for it."""
@@ -85,8 +85,16 @@ class Query:
                 first = self.span(column.args["table"])
                 yield first.begin, first.end, spelled(renamed[table])
 
-    def instead(self, node: Node, mistake: str, kind: Kind, cost: int, text: str, is_connector: bool = False,
-                place: Span | None = None) -> Change:
+    def instead(
+        self,
+        node: Node,
+        mistake: str,
+        kind: Kind,
+        cost: int,
+        text: str,
+        is_connector: bool = False,
+        place: Span | None = None,
+    ) -> Change:
         """A text in the place of a node, in parentheses where it would be read otherwise there."""
         where = node
         if id(node) in self.spans.inner_not and isinstance(node.parent, exp.Not):

@@ -13,7 +13,7 @@ from classroom.sql.scopes import is_star, name_in_from, sources
 from classroom.sql.tree import COMPARISONS, Node, conjuncts
 from classroom.sql.schema import spelled
 
-MOST_WAYS = 12    # to choose the tables of one condition
+MOST_WAYS = 12  # to choose the tables of one condition
 
 
 @dataclass(frozen=True)
@@ -21,10 +21,10 @@ class Transplant:
     """One condition of the reference, or all of a SELECT's."""
 
     text: str
-    count: int        # of conditions
+    count: int  # of conditions
     subqueries: int
-    is_link: bool     # a comparison of two columns
-    is_far: bool      # it names no table of the SELECT itself, but one around it
+    is_link: bool  # a comparison of two columns
+    is_far: bool  # it names no table of the SELECT itself, but one around it
 
 
 def transplants(block: Block, is_whole: bool) -> Iterator[Transplant]:
@@ -42,8 +42,13 @@ def transplants(block: Block, is_whole: bool) -> Iterator[Transplant]:
         groups = [conditions] if is_whole else [[one] for one in conditions]
         for group in groups:
             subqueries = sum(1 for one in group for _ in one.find_all(exp.Select))
-            is_link = len(group) == 1 and isinstance(group[0], COMPARISONS) and all(
-                isinstance(side, exp.Column) for side in (group[0].this, group[0].expression))
+            is_link = (
+                len(group) == 1
+                and isinstance(group[0], COMPARISONS)
+                and all(
+                    isinstance(side, exp.Column) for side in (group[0].this, group[0].expression)
+                )
+            )
             for text, names in over(group, reference, here):
                 if text not in seen:
                     seen.add(text)
@@ -51,9 +56,16 @@ def transplants(block: Block, is_whole: bool) -> Iterator[Transplant]:
                     yield Transplant(text, len(group), subqueries, is_link, is_far)
 
 
-def over(group: list[Node], reference: Query, here: list[tuple[str, str]]) -> Iterator[tuple[str, set[str]]]:
+def over(
+    group: list[Node], reference: Query, here: list[tuple[str, str]]
+) -> Iterator[tuple[str, set[str]]]:
     """The conditions over each choice of tables here that are those of the reference, with their names here."""
-    inner = {name_in_from(source) for one in group for select in one.find_all(exp.Select) for source in sources(select)}
+    inner = {
+        name_in_from(source)
+        for one in group
+        for select in one.find_all(exp.Select)
+        for source in sources(select)
+    }
     tables: dict[str, str] = {}
     for one in group:
         for column in one.find_all(exp.Column):
@@ -66,7 +78,9 @@ def over(group: list[Node], reference: Query, here: list[tuple[str, str]]) -> It
     for way in itertools.islice(itertools.product(*ways), MOST_WAYS):
         if len(set(way)) == len(way):
             names = {**dict(zip(tables, way)), **renamed}
-            yield " AND ".join(part(one, written_over(one, reference, names)) for one in group), set(way)
+            yield " AND ".join(
+                part(one, written_over(one, reference, names)) for one in group
+            ), set(way)
 
 
 def written_over(condition: Node, reference: Query, names: dict[str, str]) -> str:
@@ -75,7 +89,9 @@ def written_over(condition: Node, reference: Query, names: dict[str, str]) -> st
     for source in condition.find_all(exp.Table):
         name = name_in_from(source)
         if names.get(name, name) != name:
-            pieces.append((*reference.span(source), f"{spelled(table_in(source))} {spelled(names[name])}"))
+            pieces.append(
+                (*reference.span(source), f"{spelled(table_in(source))} {spelled(names[name])}")
+            )
     return reference.source(condition, pieces)
 
 
@@ -93,4 +109,6 @@ def tables_here(block: Block) -> list[tuple[str, str]]:
 
 
 def fresh(name: str, taken: set[str]) -> str:
-    return next(made for made in (f"{name}{number}" for number in itertools.count(2)) if made not in taken)
+    return next(
+        made for made in (f"{name}{number}" for number in itertools.count(2)) if made not in taken
+    )

@@ -15,7 +15,7 @@ from classroom.sql.schema import Table, items_of
 if TYPE_CHECKING:
     from classroom.edits.query import Query
 
-Place = tuple[str, str]    # a table and a column
+Place = tuple[str, str]  # a table and a column
 # Words that begin a rule of a table.
 RULES = ("constraint", "primary", "unique", "foreign", "check", "dependency")
 
@@ -24,13 +24,15 @@ RULES = ("constraint", "primary", "unique", "foreign", "check", "dependency")
 class Vocabulary:
     """Over the tables of a schema; without the rest only the changes that need none are made."""
 
-    tables: Mapping[str, Mapping[str, str | None]]                 # the kinds of columns
-    classes: Mapping[Place, Place] = field(default_factory=dict)   # one of those that a column means the same as
-    compared: frozenset[frozenset[Place]] = frozenset()            # columns that a query compares
-    whole: frozenset[Place] = frozenset()                          # columns that are never NULL
+    tables: Mapping[str, Mapping[str, str | None]]  # the kinds of columns
+    classes: Mapping[Place, Place] = field(
+        default_factory=dict
+    )  # one of those that a column means the same as
+    compared: frozenset[frozenset[Place]] = frozenset()  # columns that a query compares
+    whole: frozenset[Place] = frozenset()  # columns that are never NULL
     numbers: tuple[int, ...] = ()
     texts: tuple[str, ...] = ()
-    wanted: frozenset[int | str] = frozenset()                     # the constants of the reference
+    wanted: frozenset[int | str] = frozenset()  # the constants of the reference
     reference: Query | None = None
 
     def are_linked(self, one: Place, other: Place) -> bool:
@@ -40,8 +42,13 @@ class Vocabulary:
     def are_related(self, one: Place, other: Place) -> bool:
         """Whether it can mean something to compare two columns: they are linked or have one name, or a query
         compares them. Columns of derived tables are taken as related to all."""
-        return not one[0] or not other[0] or one[1] == other[1] or self.are_linked(one, other) \
+        return (
+            not one[0]
+            or not other[0]
+            or one[1] == other[1]
+            or self.are_linked(one, other)
             or frozenset((one, other)) in self.compared
+        )
 
     def constants(self, kind: str | None) -> Sequence[int | str]:
         if kind == "INTEGER":
@@ -50,7 +57,9 @@ class Vocabulary:
 
 
 def of_tables(tables: Iterable[Table]) -> Vocabulary:
-    return Vocabulary({table.name: {column.name: column.kind for column in table.columns} for table in tables})
+    return Vocabulary(
+        {table.name: {column.name: column.kind for column in table.columns} for table in tables}
+    )
 
 
 def classes_of(schema: str, tables: Sequence[Table]) -> dict[Place, Place]:
@@ -71,7 +80,11 @@ def classes_of(schema: str, tables: Sequence[Table]) -> dict[Place, Place]:
 
 def never_null(schema: str, tables: Sequence[Table]) -> frozenset[Place]:
     """The columns of primary keys, and those that are NOT NULL."""
-    found = {(table.name, column) for table, rules in zip(tables, rules_of(schema)) for column in rules.primary}
+    found = {
+        (table.name, column)
+        for table, rules in zip(tables, rules_of(schema))
+        for column in rules.primary
+    }
     for name, items in items_of(schema):
         for item in items:
             words = [token.text if token.kind == "word" else "" for token in item]
@@ -93,7 +106,9 @@ def constants_of(trees: Iterable[Node]) -> tuple[tuple[int, ...], tuple[str, ...
     return tuple(sorted(numbers)), tuple(sorted(texts))
 
 
-def compared_in(trees: Iterable[Node], tables: Mapping[str, Mapping[str, str | None]]) -> frozenset[frozenset[Place]]:
+def compared_in(
+    trees: Iterable[Node], tables: Mapping[str, Mapping[str, str | None]]
+) -> frozenset[frozenset[Place]]:
     """The pairs of columns that queries compare."""
     scopes = Scopes(tables)
     found = set()

@@ -31,7 +31,7 @@ from classroom.verdict.verdict import Barred, Passed, Verdict, WrongSql
 # Of the processor beyond the time in which is tried: to begin, and to end a step.
 MORE_SECONDS = 10.0
 ENGINES = {SQLITE: ("classroom.trial.sqlite",), POSTGRESQL: ("classroom.trial.postgres", "psycopg")}
-DEPTH = 20_000    # of calls, for trees of queries that are nested deep
+DEPTH = 20_000  # of calls, for trees of queries that are nested deep
 
 
 def main() -> int:
@@ -70,10 +70,17 @@ def tried(material: Material, question: dict[str, Any], parts: Parts | None = No
             engine = opened(material, parts, question)
             label = engine.label
             wanted = Wanted(
-                float(question.get("seconds", 10.0)), bool(question.get("duplicates")), bool(question.get("order")),
-                int(question.get("random_parts", RANDOM_PARTS)), int(question.get("shrinkings", SHRINKINGS)), bool(question.get("agrees")),
-                int(question.get("looks", 0)))
-            search = Search(engine, parts, material, (question["reference"], question["answer"]), wanted)
+                float(question.get("seconds", 10.0)),
+                bool(question.get("duplicates")),
+                bool(question.get("order")),
+                int(question.get("random_parts", RANDOM_PARTS)),
+                int(question.get("shrinkings", SHRINKINGS)),
+                bool(question.get("agrees")),
+                int(question.get("looks", 0)),
+            )
+            search = Search(
+                engine, parts, material, (question["reference"], question["answer"]), wanted
+            )
             outcome = search.outcome()
             return Verdict(label, outcome, search.remarks())
         except Stopped as stopped:
@@ -97,6 +104,7 @@ def label_of(material: Material) -> str:
     if material.product == POSTGRESQL:
         return POSTGRESQL
     import sqlite3
+
     return f"sqlite {sqlite3.sqlite_version}"
 
 
@@ -104,8 +112,10 @@ def opened(material: Material, parts: Parts, question: dict[str, Any]) -> Engine
     queries = question["reference"], question["answer"]
     if material.product == POSTGRESQL:
         from classroom.engines.postgres import Postgres
+
         return Postgres(material, parts, *queries, question["engine"], question["asker"])
     from classroom.engines.sqlite import Sqlite
+
     return Sqlite(material, parts, *queries)
 
 

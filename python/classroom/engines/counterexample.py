@@ -7,22 +7,44 @@ from dataclasses import dataclass, field
 
 from classroom.engines import join_tuples as joins
 from classroom.verdict import verdict
-from classroom.verdict.compare import COLUMNS, DUPLICATES, FAILURE, ORDER, ROWS, Answer, difference, plain, rounded
+from classroom.verdict.compare import (
+    COLUMNS,
+    DUPLICATES,
+    FAILURE,
+    ORDER,
+    ROWS,
+    Answer,
+    difference,
+    plain,
+    rounded,
+)
 from classroom.engines.engine import ANSWER, REFERENCE, Engine
 from classroom.exercise.cells import Cell, Cells
 from classroom.exercise.typed_rows import Material
 from classroom.exercise.part_masks import Mask, Parts, bits
-from classroom.verdict.verdict import ALL, EACH, JOINS, NOTHING, Differs, WitnessRow, NoDifference, NotDetermined, Remark, Shown, Side
+from classroom.verdict.verdict import (
+    ALL,
+    EACH,
+    JOINS,
+    NOTHING,
+    Differs,
+    WitnessRow,
+    NoDifference,
+    NotDetermined,
+    Remark,
+    Shown,
+    Side,
+)
 
 SHRINKINGS = 20
 RANDOM_PARTS = 1000
-FEW_RANDOM = 200          # of queries that are known to agree
-MOST_RANDOM = 16          # rows of a random part
-FEW_LAWFUL = 3_000        # so many lawful parts are all tried, whatever the queries join
-FEW_UNIONS = 3_000        # so many unions are tried where no difference is known
-MOST_UNIONS = 400_000     # unions that are remembered at once
+FEW_RANDOM = 200  # of queries that are known to agree
+MOST_RANDOM = 16  # rows of a random part
+FEW_LAWFUL = 3_000  # so many lawful parts are all tried, whatever the queries join
+FEW_UNIONS = 3_000  # so many unions are tried where no difference is known
+MOST_UNIONS = 400_000  # unions that are remembered at once
 MOST_TUPLES = 50_000
-MOST_LOOKS = 200_000      # parts whose outcome is remembered
+MOST_LOOKS = 200_000  # parts whose outcome is remembered
 SEED = "rows"
 
 
@@ -35,12 +57,15 @@ class Wanted:
     counts_order: bool = False
     random_parts: int = RANDOM_PARTS
     shrinkings: int = SHRINKINGS
-    agrees: bool = False    # the queries are known to agree as sets
-    looks: int = 0          # that stand for the seconds; 0: the engine's clock counts
+    agrees: bool = False  # the queries are known to agree as sets
+    looks: int = 0  # that stand for the seconds; 0: the engine's clock counts
 
     def kinds(self) -> frozenset[str]:
-        return frozenset((set() if self.agrees else {COLUMNS, FAILURE, ROWS}) | ({DUPLICATES} if self.counts_duplicates else set())
-                         | ({ORDER} if self.counts_order else set()))
+        return frozenset(
+            (set() if self.agrees else {COLUMNS, FAILURE, ROWS})
+            | ({DUPLICATES} if self.counts_duplicates else set())
+            | ({ORDER} if self.counts_order else set())
+        )
 
 
 @dataclass
@@ -50,28 +75,51 @@ class Looks:
     known: dict[Mask, str] = field(default_factory=dict)
     tried: int = 0
     undetermined: list[bool] = field(default_factory=lambda: [False, False])
-    slight: dict[str, Mask] = field(default_factory=dict)    # a first part for each kind that counts for nothing
+    slight: dict[str, Mask] = field(
+        default_factory=dict
+    )  # a first part for each kind that counts for nothing
 
 
 class Search:
     """A reference and an answer over an engine."""
 
-    def __init__(self, engine: Engine, parts: Parts, material: Material, queries: tuple[str, str], wanted: Wanted) -> None:
-        self.engine, self.parts, self.material, self.queries, self.wanted = engine, parts, material, queries, wanted
+    def __init__(
+        self,
+        engine: Engine,
+        parts: Parts,
+        material: Material,
+        queries: tuple[str, str],
+        wanted: Wanted,
+    ) -> None:
+        self.engine, self.parts, self.material, self.queries, self.wanted = (
+            engine,
+            parts,
+            material,
+            queries,
+            wanted,
+        )
         self.counts = wanted.kinds()
         self.tables = engine.tables
         self.whole = parts.of_tables(self.tables)
         self.dialect = "sqlite" if material.product == "sqlite" else "postgres"
         self.is_ordered = joins.is_ordered(queries[REFERENCE], self.dialect)
         self.looks = Looks()
-        self.few_parts, self.few_unions = (round(few * engine.pace) for few in (FEW_LAWFUL, FEW_UNIONS))
+        self.few_parts, self.few_unions = (
+            round(few * engine.pace) for few in (FEW_LAWFUL, FEW_UNIONS)
+        )
         self.most_looks = wanted.looks * engine.pace
         self.until = self.clock() + wanted.seconds
-        self.few_random = round((FEW_RANDOM if wanted.agrees else wanted.random_parts) * engine.pace)
+        self.few_random = round(
+            (FEW_RANDOM if wanted.agrees else wanted.random_parts) * engine.pace
+        )
 
     def clock(self) -> float:
         """The seconds by which the time is told: the engine's, or as many as the looks at parts stand for."""
-        return self.looks.tried / self.most_looks * self.wanted.seconds if self.most_looks else self.engine.clock()
+        return (
+            self.looks.tried / self.most_looks * self.wanted.seconds
+            if self.most_looks
+            else self.engine.clock()
+        )
 
     def kind(self, part: Mask) -> str:
         """How the queries differ on a part; "" where they don't, or where it depends on the order in which the
@@ -96,7 +144,9 @@ class Search:
             self.looks.undetermined[which] |= not stable[which]
         if not all(stable):
             return ""
-        if ORDER in (found, again) and rounded(ahead[REFERENCE].lines) != rounded(back[REFERENCE].lines):
+        if ORDER in (found, again) and rounded(ahead[REFERENCE].lines) != rounded(
+            back[REFERENCE].lines
+        ):
             found, again = ("" if kind == ORDER else kind for kind in (found, again))
         kind = found or again
         if kind not in self.counts and (kind in (DUPLICATES, ORDER) or kind and self.wanted.agrees):
@@ -143,7 +193,9 @@ class Search:
                 break
         else:
             is_whole = True
-        return self.none(NoDifference(0, tried, self.whole.bit_count() + 1 if is_whole else below, is_joined))
+        return self.none(
+            NoDifference(0, tried, self.whole.bit_count() + 1 if is_whole else below, is_joined)
+        )
 
     def none(self, found: NoDifference) -> verdict.Outcome:
         if any(self.looks.undetermined):
@@ -171,7 +223,11 @@ class Search:
         """The rows that can matter together, and whether the queries' joins were understood."""
         schema = joins.Schema(
             [name.lower() for name in self.material.names()],
-            [frozenset(column.name.lower() for column in held.table.columns) for held in self.material.pool.held])
+            [
+                frozenset(column.name.lower() for column in held.table.columns)
+                for held in self.material.pool.held
+            ],
+        )
         texts = [*self.queries, *(view.query for view in self.material.views)]
         known = joins.understood(texts, schema, self.dialect)
         alone = set(known.alone)
@@ -195,13 +251,20 @@ class Search:
         alone &= self.tables
         # Of a table that no tuple has each row counts alone.
         alone |= self.tables - {table for tuples in known.tuples for table, _ in tuples.tables}
-        found |= {self.parts.up[at] for at in range(len(self.parts.rows)) if self.parts.table(at) in alone}
+        found |= {
+            self.parts.up[at] for at in range(len(self.parts.rows)) if self.parts.table(at) in alone
+        }
         return sorted(found), alone != self.tables
 
-    def unions(self, units: list[Mask], is_joined: bool, less_than: int, most: int | None = None) -> Iterator[Mask | None]:
+    def unions(
+        self, units: list[Mask], is_joined: bool, less_than: int, most: int | None = None
+    ) -> Iterator[Mask | None]:
         """The parts of fewer rows than that by which all can be told; None where there are more than `most`."""
-        made: Iterator[Mask | None] = (joins.unions(units, less_than, MOST_UNIONS, most and most + 1) if is_joined
-                                       else self.parts.below(self.tables, less_than))
+        made: Iterator[Mask | None] = (
+            joins.unions(units, less_than, MOST_UNIONS, most and most + 1)
+            if is_joined
+            else self.parts.below(self.tables, less_than)
+        )
         for count, part in enumerate(made):
             if most is not None and count >= most:
                 yield None
@@ -211,7 +274,9 @@ class Search:
     def witness(self, part: Mask) -> Differs:
         """The smallest part that is found from one on which they differ."""
         shrink_until = self.clock() + (self.until - self.clock()) / 2
-        best, is_least = self.shrunk(part, self.differs, None, max(shrink_until, self.clock() + 0.2))
+        best, is_least = self.shrunk(
+            part, self.differs, None, max(shrink_until, self.clock() + 0.2)
+        )
         chance = random.Random(SEED)
         for _ in range(self.wanted.shrinkings - 1):
             if self.clock() > shrink_until or best.bit_count() <= 1:
@@ -248,8 +313,9 @@ class Search:
                 return None, "", 0
         return None, how, count
 
-    def shrunk(self, part: Mask, holds: Callable[[Mask], bool], chance: random.Random | None,
-               until: float) -> tuple[Mask, bool]:
+    def shrunk(
+        self, part: Mask, holds: Callable[[Mask], bool], chance: random.Random | None, until: float
+    ) -> tuple[Mask, bool]:
         """A part for which it holds, and no longer without any one row and what refers to it, if the time was
         enough for that."""
         size = max(1, part.bit_count() // 2)
@@ -259,7 +325,7 @@ class Search:
                 chance.shuffle(order)
             is_changed = False
             for begin in range(0, len(order), size):
-                gone = [at for at in order[begin:begin + size] if part >> at & 1]
+                gone = [at for at in order[begin : begin + size] if part >> at & 1]
                 if not gone:
                     continue
                 less = self.parts.without(part, gone)
@@ -283,9 +349,24 @@ class Search:
             kept.append(WitnessRow(held.table.name, row.number + 1, held.rows[row.number]))
         used = self.tables | {self.parts.table(at) for at in bits(part)}
         tables = tuple(
-            Shown(held.table.name, tuple(column.name for column in held.table.columns), self.material.statements[at])
-            for at, held in enumerate(self.material.pool.held) if at in used)
-        return Differs(kind, tuple(kept), side(ahead[REFERENCE]), side(ahead[ANSWER]), lines(*ahead), least, count, tables)
+            Shown(
+                held.table.name,
+                tuple(column.name for column in held.table.columns),
+                self.material.statements[at],
+            )
+            for at, held in enumerate(self.material.pool.held)
+            if at in used
+        )
+        return Differs(
+            kind,
+            tuple(kept),
+            side(ahead[REFERENCE]),
+            side(ahead[ANSWER]),
+            lines(*ahead),
+            least,
+            count,
+            tables,
+        )
 
     def remarks(self) -> tuple[Remark, ...]:
         """What differs in duplicates or order alone, each with a part as small as one shrinking makes it."""

@@ -20,8 +20,8 @@ class Stopped(Exception):
         super().__init__(message)
         self.which = which
         self.message = message
-        self.place = place    # the character of the query, from 0
-        self.engine = ""      # its label, where it is known
+        self.place = place  # the character of the query, from 0
+        self.engine = ""  # its label, where it is known
 
 
 class Refused(Stopped):
@@ -39,8 +39,8 @@ class TooMuch(Stopped):
 class Engine(Protocol):
     """Both queries over one pool of rows, of which it holds a part."""
 
-    label: str    # as `sqlite 3.40.1`
-    pace: float   # of the parts that SQLite tries, how many this one does
+    label: str  # as `sqlite 3.40.1`
+    pace: float  # of the parts that SQLite tries, how many this one does
 
     @staticmethod
     def clock() -> float:
@@ -53,8 +53,11 @@ class Engine(Protocol):
     def answers(self, part: Mask, backwards: bool = False) -> tuple[Answer, Answer]:
         """What both queries answer on a part, whose rows are stored in their order or the other way round."""
 
-    def joined(self, tables: Sequence[tuple[int, str]], condition: str) -> Iterator[tuple[int, ...]]:
+    def joined(
+        self, tables: Sequence[tuple[int, str]], condition: str
+    ) -> Iterator[tuple[int, ...]]:
         """The places of the rows of each tuple of some tables, given by their numbers and the names that they
         have in the condition, which holds for it, over all rows."""
 
-    def close(self) -> None: ...
+    def close(self) -> None:
+        ...

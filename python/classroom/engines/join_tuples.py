@@ -20,14 +20,14 @@ from classroom.sql.tree import Node, nodes
 from classroom.sql.lookup import tokens
 
 COMPARISONS = (exp.EQ, exp.NEQ, exp.LT, exp.LTE, exp.GT, exp.GTE)
-MOST_TABLES = 8    # in one tuple
+MOST_TABLES = 8  # in one tuple
 
 
 @dataclass(frozen=True)
 class Tuples:
     """The tuples of some tables for which a condition holds."""
 
-    tables: tuple[tuple[int, str], ...]    # their numbers, and their names in the condition
+    tables: tuple[tuple[int, str], ...]  # their numbers, and their names in the condition
     condition: str
 
 
@@ -43,14 +43,14 @@ class Source(NamedTuple):
     """A table in a FROM."""
 
     table: int
-    alias: str     # in small letters
+    alias: str  # in small letters
 
 
 @dataclass(frozen=True)
 class Joined:
     """A table in a FROM with how it is joined."""
 
-    source: Source | None      # None for what is no table of the schema
+    source: Source | None  # None for what is no table of the schema
     is_left: bool
     conditions: tuple[Node, ...]
 
@@ -87,8 +87,12 @@ def understood(queries: Sequence[str], schema: Schema, dialect: str) -> Understo
         # A name that is no table of a FROM that was read may be one in a place that isn't known.
         made.alone |= {table for table, count in seen.items() if count}
         made.alone |= {numbers[name] for name in gone if name in numbers}
-        made.alone |= {numbers[name_of(table.this)] for table in found(tree, exp.Table)
-                       if (table.args.get("db") or table.args.get("catalog")) and name_of(table.this) in numbers}
+        made.alone |= {
+            numbers[name_of(table.this)]
+            for table in found(tree, exp.Table)
+            if (table.args.get("db") or table.args.get("catalog"))
+            and name_of(table.this) in numbers
+        }
     return made
 
 
@@ -99,7 +103,9 @@ def named(text: str, numbers: Mapping[str, int], dialect: str) -> frozenset[int]
         if tree is None:
             raise ValueError
         names = [name_of(table.this) for table in found(tree, exp.Table)]
-        names += [name_of(node.args["field"]) for node in found(tree, exp.In) if node.args.get("field")]
+        names += [
+            name_of(node.args["field"]) for node in found(tree, exp.In) if node.args.get("field")
+        ]
         return frozenset(numbers[name] for name in names if name in numbers)
     except (SqlglotError, RecursionError, ValueError, AttributeError):
         return frozenset(mentions(text, numbers))
@@ -130,24 +136,34 @@ def no_tables(tree: Node) -> Iterator[str]:
     """The names in a query that stand for a column, or that it gives itself, without a dot beside."""
     for node in found(tree, exp.Column):
         # SQLite has X IN TABLE.
-        if node.args.get("table") is None and not (isinstance(node.parent, exp.In) and node.arg_key == "field"):
+        if node.args.get("table") is None and not (
+            isinstance(node.parent, exp.In) and node.arg_key == "field"
+        ):
             yield name_of(node.this)
     for node in found(tree, exp.Alias):
         yield name_of(node.args.get("alias"))
     for node in found(tree, exp.TableAlias):
         yield name_of(node.this)
     for node in found(tree, exp.Join):
-        yield from (name_of(name) for name in node.args.get("using") or [] if isinstance(name, exp.Identifier))
+        yield from (
+            name_of(name)
+            for name in node.args.get("using") or []
+            if isinstance(name, exp.Identifier)
+        )
 
 
-def block(select: Node, numbers: Mapping[str, int], gone: set[str], schema: Schema,
-          dialect: str) -> tuple[list[Tuples], list[Source]]:
+def block(
+    select: Node, numbers: Mapping[str, int], gone: set[str], schema: Schema, dialect: str
+) -> tuple[list[Tuples], list[Source]]:
     """The tuples of one SELECT, and the tables of its FROM that they account for."""
     items = joined(select, numbers, gone, schema)
     if items is None:
         return [], []
     sources = [item.source for item in items if item.source]
-    if len({source.alias for source in sources}) < len(sources) or not 0 < len(sources) <= MOST_TABLES:
+    if (
+        len({source.alias for source in sources}) < len(sources)
+        or not 0 < len(sources) <= MOST_TABLES
+    ):
         return [], []
     plain = len(sources) == len(items)
     where = select.args.get("where")
@@ -156,7 +172,11 @@ def block(select: Node, numbers: Mapping[str, int], gone: set[str], schema: Sche
     conditions += conjuncts(where.this) if where else []
     write = Writer({source.alias: source.table for source in sources}, schema, dialect, plain)
     first = [item.source for item in base if item.source]
-    made = [Tuples(tuple(first), write.all_of(conditions, {source.alias for source in first}))] if first else []
+    made = (
+        [Tuples(tuple(first), write.all_of(conditions, {source.alias for source in first}))]
+        if first
+        else []
+    )
     needs: dict[str, set[str]] = {}
     outer: dict[str, Joined] = {}
     for item in items:
@@ -164,20 +184,31 @@ def block(select: Node, numbers: Mapping[str, int], gone: set[str], schema: Sche
             continue
         own = item.source.alias
         # Where a comparison with another outer table holds, that one has a row.
-        met = {alias for part in item.conditions if isinstance(part, COMPARISONS)
-               for alias in write.aliases(part) or () if alias in outer and write.is_known(part)}
+        met = {
+            alias
+            for part in item.conditions
+            if isinstance(part, COMPARISONS)
+            for alias in write.aliases(part) or ()
+            if alias in outer and write.is_known(part)
+        }
         needs[own] = met.union(*(needs[alias] for alias in met)) if met else set()
         outer[own] = item
         members = [*first, *(outer[alias].source for alias in sorted(needs[own])), item.source]
         with_tables = tuple(source for source in members if source)
         names = {source.alias for source in with_tables}
         held = [part for alias in (*sorted(needs[own]), own) for part in outer[alias].conditions]
-        base_part = [part for part in conditions if (write.aliases(part) or {own}) <= {source.alias for source in first}]
+        base_part = [
+            part
+            for part in conditions
+            if (write.aliases(part) or {own}) <= {source.alias for source in first}
+        ]
         made.append(Tuples(with_tables, write.all_of([*base_part, *held], names)))
     return made, sources
 
 
-def joined(select: Node, numbers: Mapping[str, int], gone: set[str], schema: Schema) -> list[Joined] | None:
+def joined(
+    select: Node, numbers: Mapping[str, int], gone: set[str], schema: Schema
+) -> list[Joined] | None:
     """The tables of a FROM with how they are joined; None where it isn't of a form that is understood."""
     begin = select.args.get("from")
     if begin is None or select.args.get("laterals"):
@@ -185,8 +216,15 @@ def joined(select: Node, numbers: Mapping[str, int], gone: set[str], schema: Sch
     items = [Joined(source_of(node, numbers, gone), False, ()) for node in begin.expressions]
     nodes = list(begin.expressions)
     for join in select.args.get("joins") or []:
-        side, kind = str(join.args.get("side") or "").upper(), str(join.args.get("kind") or "").upper()
-        if join.args.get("natural") or side not in ("", "LEFT") or kind not in ("", "INNER", "CROSS", "OUTER"):
+        side, kind = (
+            str(join.args.get("side") or "").upper(),
+            str(join.args.get("kind") or "").upper(),
+        )
+        if (
+            join.args.get("natural")
+            or side not in ("", "LEFT")
+            or kind not in ("", "INNER", "CROSS", "OUTER")
+        ):
             return None
         if kind == "OUTER" and side != "LEFT":
             return None
@@ -208,18 +246,28 @@ def joined(select: Node, numbers: Mapping[str, int], gone: set[str], schema: Sch
     return items
 
 
-def using(names: Sequence[str], source: Source | None, before: Sequence[Joined], schema: Schema) -> list[Node]:
+def using(
+    names: Sequence[str], source: Source | None, before: Sequence[Joined], schema: Schema
+) -> list[Node]:
     """The comparisons of USING where just one table before has the column."""
     made: list[Node] = []
     for name in names:
-        holders = [item.source for item in before if item.source and name in schema.columns[item.source.table]]
+        holders = [
+            item.source
+            for item in before
+            if item.source and name in schema.columns[item.source.table]
+        ]
         if source and len(holders) == 1 and all(item.source for item in before):
-            made.append(exp.EQ(this=column(holders[0].alias, name), expression=column(source.alias, name)))
+            made.append(
+                exp.EQ(this=column(holders[0].alias, name), expression=column(source.alias, name))
+            )
     return made
 
 
 def column(alias: str, name: str) -> Node:
-    return exp.Column(this=exp.Identifier(this=name, quoted=True), table=exp.Identifier(this=alias, quoted=True))
+    return exp.Column(
+        this=exp.Identifier(this=name, quoted=True), table=exp.Identifier(this=alias, quoted=True)
+    )
 
 
 def source_of(node: Node, numbers: Mapping[str, int], gone: set[str]) -> Source | None:
@@ -253,16 +301,22 @@ def conjuncts(condition: Node) -> list[Node]:
 class Writer:
     """Writes the conditions of one FROM that are understood, all columns with the name of their table."""
 
-    def __init__(self, tables: Mapping[str, int], schema: Schema, dialect: str, is_plain: bool) -> None:
+    def __init__(
+        self, tables: Mapping[str, int], schema: Schema, dialect: str, is_plain: bool
+    ) -> None:
         self.tables, self.schema, self.dialect = tables, schema, dialect
-        self.is_plain = is_plain    # the FROM has tables of the schema alone
+        self.is_plain = is_plain  # the FROM has tables of the schema alone
 
     def owner(self, node: Node) -> str | None:
         """The name of the table that a column is of; None where it isn't known."""
         name, table = name_of(node.this), node.args.get("table")
         if table is not None:
             alias = name_of(table)
-            return alias if alias in self.tables and name in self.schema.columns[self.tables[alias]] else None
+            return (
+                alias
+                if alias in self.tables and name in self.schema.columns[self.tables[alias]]
+                else None
+            )
         if not self.is_plain:
             return None
         holders = [alias for alias, of in self.tables.items() if name in self.schema.columns[of]]
@@ -289,9 +343,18 @@ class Writer:
         if isinstance(node, exp.Between):
             return all(self.is_value(node.args.get(part)) for part in ("this", "low", "high"))
         if isinstance(node, exp.In):
-            return not node.args.get("query") and not node.args.get("unnest") and not node.args.get("field") and all(
-                map(self.is_value, [node.this, *node.expressions])) and bool(node.expressions)
-        return isinstance(node, exp.Like) and self.is_value(node.this) and self.is_value(node.expression)
+            return (
+                not node.args.get("query")
+                and not node.args.get("unnest")
+                and not node.args.get("field")
+                and all(map(self.is_value, [node.this, *node.expressions]))
+                and bool(node.expressions)
+            )
+        return (
+            isinstance(node, exp.Like)
+            and self.is_value(node.this)
+            and self.is_value(node.expression)
+        )
 
     def is_value(self, node: Node | None) -> bool:
         if isinstance(node, exp.Paren):
@@ -300,7 +363,11 @@ class Writer:
             return isinstance(node.this, exp.Literal)
         if isinstance(node, (exp.Add, exp.Sub, exp.Mul)):
             return self.is_value(node.this) and self.is_value(node.expression)
-        return isinstance(node, exp.Literal) or isinstance(node, exp.Column) and self.owner(node) is not None
+        return (
+            isinstance(node, exp.Literal)
+            or isinstance(node, exp.Column)
+            and self.owner(node) is not None
+        )
 
     def all_of(self, conditions: Sequence[Node], names: set[str]) -> str:
         """The AND of those conditions that are known and name these tables alone."""
@@ -344,10 +411,16 @@ def ordered_by_tokens(text: str) -> bool:
     return False
 
 
-def unions(masks: Sequence[int], less_than: int, most: int, wanted: int | None = None) -> Iterator[int | None]:
+def unions(
+    masks: Sequence[int], less_than: int, most: int, wanted: int | None = None
+) -> Iterator[int | None]:
     """All unions of masks that have fewer rows than that, the smallest first, each once; None, and then no
-    more, where more than `most` would have to be remembered, or as many as are wanted were found."""
-    own = sorted({mask for mask in masks if mask and mask.bit_count() < less_than}, key=lambda mask: (mask.bit_count(), mask))
+    more, where more than `most` would have to be remembered, or as many as are wanted were found.
+    """
+    own = sorted(
+        {mask for mask in masks if mask and mask.bit_count() < less_than},
+        key=lambda mask: (mask.bit_count(), mask),
+    )
     by_row: dict[int, list[int]] = {}
     for mask in own:
         rest = mask
@@ -365,7 +438,7 @@ def unions(masks: Sequence[int], less_than: int, most: int, wanted: int | None =
         for part in sorted(sizes[size]):
             yield part
             if wanted is not None and total >= wanted and size + 1 >= less_than - 1:
-                is_cut = True    # what it would bring comes behind all that are wanted
+                is_cut = True  # what it would bring comes behind all that are wanted
                 continue
             near: Sequence[int] | set[int] = own
             if size and size + least >= less_than:
@@ -385,7 +458,11 @@ def unions(masks: Sequence[int], less_than: int, most: int, wanted: int | None =
                     sizes[count].add(union)
                     found[count] += 1
                     held, total = held + 1, total + 1
-                    while wanted is not None and count < less_than - 1 and total - found[less_than - 1] >= wanted:
+                    while (
+                        wanted is not None
+                        and count < less_than - 1
+                        and total - found[less_than - 1] >= wanted
+                    ):
                         less_than, is_cut = less_than - 1, True
                         held, total = held - len(sizes[less_than]), total - found[less_than]
             if held > most:

@@ -16,7 +16,16 @@ from classroom.base.errors import Fault, library, shown
 from classroom.sql.schema import quoted
 from classroom.engines.only_reads import MOST_TEXT
 from classroom.verdict.compare import Answer
-from classroom.engines.engine import ANSWER, MOST_LINES, QUERY_SECONDS, REFERENCE, Bars, Refused, Stopped, TooMuch
+from classroom.engines.engine import (
+    ANSWER,
+    MOST_LINES,
+    QUERY_SECONDS,
+    REFERENCE,
+    Bars,
+    Refused,
+    Stopped,
+    TooMuch,
+)
 from classroom.engines.join_tuples import mentions
 from classroom.exercise.typed_rows import Material
 from classroom.exercise.part_masks import Mask, Parts, bits
@@ -28,21 +37,46 @@ SCHEMA = "ratest_trial_"
 STALE = 3600
 # Parts after which the tables are emptied of the rows that are deleted in them.
 REFRESH = 500
-TEXTS = ("date", "time", "timetz", "timestamp", "timestamptz", "interval", "json", "jsonb", "uuid", "inet", "cidr",
-         "xml", "money", "point")
+TEXTS = (
+    "date",
+    "time",
+    "timetz",
+    "timestamp",
+    "timestamptz",
+    "interval",
+    "json",
+    "jsonb",
+    "uuid",
+    "inet",
+    "cidr",
+    "xml",
+    "money",
+    "point",
+)
 PREPARE = "PREPARE query AS "
 # What an asker may do that it shouldn't, with what is told then.
 RIGHTS = (
-    ("SELECT rolsuper OR rolcreaterole OR rolcreatedb OR rolbypassrls OR rolreplication FROM pg_roles "
-     "WHERE rolname = current_user", "is a superuser, or may make roles or databases"),
-    ("SELECT has_database_privilege(current_database(), 'CREATE') OR has_database_privilege(current_database(), 'TEMP')",
-     "may create in the database"),
-    ("SELECT bool_or(has_schema_privilege(oid, 'CREATE')) FROM pg_namespace", "may create in a schema"),
-    ("SELECT count(*) > 0 FROM pg_proc WHERE prokind IN ('f', 'p', 'w') AND has_function_privilege(oid, 'EXECUTE') AND "
-     "(provolatile = 'v' OR proname IN ('pg_stat_get_activity', 'pg_prepared_statement', 'pg_cursor', 'txid_current', "
-     "'pg_current_xact_id'))",
-     "may execute volatile routines, or see other sessions"),
-    ("SELECT current_setting('temp_file_limit') = '-1'", "has no temp_file_limit"))
+    (
+        "SELECT rolsuper OR rolcreaterole OR rolcreatedb OR rolbypassrls OR rolreplication FROM pg_roles "
+        "WHERE rolname = current_user",
+        "is a superuser, or may make roles or databases",
+    ),
+    (
+        "SELECT has_database_privilege(current_database(), 'CREATE') OR has_database_privilege(current_database(), 'TEMP')",
+        "may create in the database",
+    ),
+    (
+        "SELECT bool_or(has_schema_privilege(oid, 'CREATE')) FROM pg_namespace",
+        "may create in a schema",
+    ),
+    (
+        "SELECT count(*) > 0 FROM pg_proc WHERE prokind IN ('f', 'p', 'w') AND has_function_privilege(oid, 'EXECUTE') AND "
+        "(provolatile = 'v' OR proname IN ('pg_stat_get_activity', 'pg_prepared_statement', 'pg_cursor', 'txid_current', "
+        "'pg_current_xact_id'))",
+        "may execute volatile routines, or see other sessions",
+    ),
+    ("SELECT current_setting('temp_file_limit') = '-1'", "has no temp_file_limit"),
+)
 LOADER_RIGHT = "SELECT rolsuper FROM pg_roles WHERE rolname = current_user"
 
 
@@ -58,7 +92,9 @@ class Server:
         self.loader = self.connected(loader, "engine")
         if self.one(self.loader, LOADER_RIGHT):
             self.close()
-            raise Fault("engine: its user is a superuser; docs/GUIDE.md tells how to make one that is none")
+            raise Fault(
+                "engine: its user is a superuser; docs/GUIDE.md tells how to make one that is none"
+            )
         self.schema = f"{SCHEMA}{int(time.time())}_{secrets.token_hex(6)}"
         self.label = f"postgresql {str(self.one(self.loader, 'SHOW server_version')).split()[0]}"
 
@@ -68,7 +104,9 @@ class Server:
         if seconds:
             options += " -c default_transaction_read_only=on -c work_mem=4MB -c plan_cache_mode=force_generic_plan"
         try:
-            session = self.psycopg.connect(address, autocommit=True, options=options, connect_timeout=10)
+            session = self.psycopg.connect(
+                address, autocommit=True, options=options, connect_timeout=10
+            )
         except self.psycopg.Error as fault:
             raise Fault(f"{key}: {shown(str(fault).strip().splitlines()[0])}") from None
         self.sessions.append(session)
@@ -83,9 +121,13 @@ class Server:
         try:
             for query, told in RIGHTS:
                 if self.one(session, query):
-                    raise Fault(f"{key}: its user {told}; docs/GUIDE.md tells how to make one that only reads")
+                    raise Fault(
+                        f"{key}: its user {told}; docs/GUIDE.md tells how to make one that only reads"
+                    )
             # The catalogue was asked without, since on a busy machine it takes its time.
-            session.execute(f"SET statement_timeout = {round(seconds * 1000)}; SET lock_timeout = '1s'")
+            session.execute(
+                f"SET statement_timeout = {round(seconds * 1000)}; SET lock_timeout = '1s'"
+            )
         except self.psycopg.Error as fault:
             raise Fault(f"{key}: {shown(str(fault).strip().splitlines()[0])}") from None
 
@@ -93,26 +135,41 @@ class Server:
         return session.execute(query).fetchone()[0]
 
     def make_tables(self) -> None:
-        old = [name for name, in self.loader.execute(
-            "SELECT nspname FROM pg_namespace WHERE nspname LIKE %s", (SCHEMA.replace("_", "\\_") + "%",)).fetchall()]
+        old = [
+            name
+            for name, in self.loader.execute(
+                "SELECT nspname FROM pg_namespace WHERE nspname LIKE %s",
+                (SCHEMA.replace("_", "\\_") + "%",),
+            ).fetchall()
+        ]
         for name in old:
             began = re.match(rf"{SCHEMA}(\d+)_", name)
             if began and int(began[1]) < time.time() - STALE:
                 self.loader.execute(f"DROP SCHEMA IF EXISTS {quoted(name)} CASCADE")
         user = self.one(self.askers[0], "SELECT current_user")
-        self.loader.execute(f"CREATE SCHEMA {self.schema}; GRANT USAGE ON SCHEMA {self.schema} TO {quoted(user)}; "
-                            f"SET search_path = {self.schema}")
+        self.loader.execute(
+            f"CREATE SCHEMA {self.schema}; GRANT USAGE ON SCHEMA {self.schema} TO {quoted(user)}; "
+            f"SET search_path = {self.schema}"
+        )
         if self.material.before:
             self.loader.execute(self.material.before)
         for statement in self.material.statements:
-            self.loader.execute(re.sub(r"(?i)\A\s*CREATE TABLE\b", "CREATE UNLOGGED TABLE", statement))
+            self.loader.execute(
+                re.sub(r"(?i)\A\s*CREATE TABLE\b", "CREATE UNLOGGED TABLE", statement)
+            )
         for view in self.material.views:
             self.loader.execute(view.statement)
         self.loader.execute(f"GRANT SELECT ON ALL TABLES IN SCHEMA {self.schema} TO {quoted(user)}")
         for session in self.askers:
             session.execute(f"SET search_path = {self.schema}")
-        columns = [", ".join(quoted(column.name) for column in held.table.columns) for held in self.material.pool.held]
-        self.begins = [f"INSERT INTO {name} ({columns[at]}) OVERRIDING SYSTEM VALUE VALUES " for at, name in enumerate(self.names)]
+        columns = [
+            ", ".join(quoted(column.name) for column in held.table.columns)
+            for held in self.material.pool.held
+        ]
+        self.begins = [
+            f"INSERT INTO {name} ({columns[at]}) OVERRIDING SYSTEM VALUE VALUES "
+            for at, name in enumerate(self.names)
+        ]
 
     def close(self) -> None:
         for session in self.sessions[1:]:
@@ -122,7 +179,7 @@ class Server:
                 if hasattr(self, "schema"):
                     self.loader.execute(f"DROP SCHEMA IF EXISTS {self.schema} CASCADE")
             except self.psycopg.Error:
-                pass    # the next trial removes it
+                pass  # the next trial removes it
             self.sessions[0].close()
 
 
@@ -136,8 +193,16 @@ class Postgres(Server):
         """The server's work counts."""
         return time.monotonic()
 
-    def __init__(self, material: Material, parts: Parts, reference: str, answer: str, loader: str, asker: str,
-                 seconds: float = QUERY_SECONDS) -> None:
+    def __init__(
+        self,
+        material: Material,
+        parts: Parts,
+        reference: str,
+        answer: str,
+        loader: str,
+        asker: str,
+        seconds: float = QUERY_SECONDS,
+    ) -> None:
         super().__init__(material, loader)
         self.parts, self.seconds = parts, seconds
         self.queries = (reference, answer)
@@ -146,10 +211,16 @@ class Postgres(Server):
                 look(which, self.queries[which])
             self.askers = [self.connected(asker, "engine_asker", seconds) for _ in self.queries]
             self.make_tables()
-            self.values = ["(" + ", ".join(map(literal, self.material.pool.held[row.table].rows[row.number])) + ")"
-                           for row in self.parts.rows]
-            self.masks = [sum(1 << at for at, row in enumerate(self.parts.rows) if row.table == table)
-                          for table in range(len(self.names))]
+            self.values = [
+                "("
+                + ", ".join(map(literal, self.material.pool.held[row.table].rows[row.number]))
+                + ")"
+                for row in self.parts.rows
+            ]
+            self.masks = [
+                sum(1 << at for at, row in enumerate(self.parts.rows) if row.table == table)
+                for table in range(len(self.names))
+            ]
             self.part, self.backwards, self.loads = 0, False, 0
             for which in (REFERENCE, ANSWER):
                 self.prepare(which)
@@ -168,8 +239,12 @@ class Postgres(Server):
             at = fault.diag.statement_position
             place = int(at) - 1 - len(PREPARE) if at and at.isdigit() else None
             told = self.stopped(which, fault)
-            raise told or Refused(which, shown(fault.diag.message_primary or str(fault)), place) from None
-        answer = self.ask(which)    # over no rows; of the reference first, so that its text stands nowhere any more
+            raise told or Refused(
+                which, shown(fault.diag.message_primary or str(fault)), place
+            ) from None
+        answer = self.ask(
+            which
+        )  # over no rows; of the reference first, so that its text stands nowhere any more
         if answer.failure:
             raise Refused(which, answer.failure)
 
@@ -208,7 +283,11 @@ class Postgres(Server):
     def tables(self) -> frozenset[int]:
         """The tables that the queries name; where they name a view, those of all views too."""
         numbers = places(self.material)
-        return frozenset(table for text in with_views(self.queries, self.material) for table in mentions(text, numbers))
+        return frozenset(
+            table
+            for text in with_views(self.queries, self.material)
+            for table in mentions(text, numbers)
+        )
 
     def load(self, part: Mask, backwards: bool = False) -> None:
         """Makes these the rows of the tables, as they are stored or the other way round."""
@@ -225,7 +304,10 @@ class Postgres(Server):
                 texts.append(f"DELETE FROM {self.names[table]}")
             if now:
                 rows = list(bits(now))
-                texts.append(self.begins[table] + ", ".join(self.values[at] for at in (reversed(rows) if backwards else rows)))
+                texts.append(
+                    self.begins[table]
+                    + ", ".join(self.values[at] for at in (reversed(rows) if backwards else rows))
+                )
         if is_new:
             texts.insert(0, f"TRUNCATE {', '.join(self.names)}")
         if texts:
@@ -236,7 +318,9 @@ class Postgres(Server):
         self.load(part, backwards)
         return self.ask(REFERENCE), self.ask(ANSWER)
 
-    def joined(self, tables: Sequence[tuple[int, str]], condition: str) -> Iterator[tuple[int, ...]]:
+    def joined(
+        self, tables: Sequence[tuple[int, str]], condition: str
+    ) -> Iterator[tuple[int, ...]]:
         whole = (1 << len(self.parts.rows)) - 1
         self.loads = REFRESH - 1
         self.part = -1
@@ -244,14 +328,19 @@ class Postgres(Server):
         known: dict[tuple[int, str], int] = {}
         for table in {table for table, _ in tables}:
             rows = list(bits(self.masks[table]))
-            found = self.loader.execute(f"SELECT ctid::text FROM {self.names[table]} ORDER BY ctid").fetchall()
+            found = self.loader.execute(
+                f"SELECT ctid::text FROM {self.names[table]} ORDER BY ctid"
+            ).fetchall()
             known.update({(table, place): at for at, (place,) in zip(rows, found)})
         ids = ", ".join(f"{quoted(alias)}.ctid::text" for _, alias in tables)
         begin = ", ".join(f"{self.names[table]} AS {quoted(alias)}" for table, alias in tables)
         try:
             self.loader.execute(f"SET statement_timeout = {round(self.seconds * 1000)}")
-            lines = self.loader.execute(f"SELECT {ids} FROM {begin}" + (f" WHERE {condition}" if condition else "")
-                                        + f" LIMIT {MOST_LINES}").fetchall()
+            lines = self.loader.execute(
+                f"SELECT {ids} FROM {begin}"
+                + (f" WHERE {condition}" if condition else "")
+                + f" LIMIT {MOST_LINES}"
+            ).fetchall()
         except self.psycopg.Error as fault:
             raise ValueError(str(fault)) from None
         finally:
@@ -260,6 +349,7 @@ class Postgres(Server):
             raise ValueError("too many tuples")
         for line in lines:
             yield tuple(known[table, place] for (table, _), place in zip(tables, line))
+
 
 def look(which: int, text: str) -> None:
     """Refuses a text that is no query before the server gets it."""

@@ -12,7 +12,7 @@ from classroom.exercise.typed_rows import Material
 from classroom.engines.postgres import Server, literal, look
 
 QUERY_SECONDS = 1.0
-STEPS = 250_000    # that a second counts as
+STEPS = 250_000  # that a second counts as
 
 
 class Tables(Server):

@@ -9,7 +9,7 @@ from classroom.base.errors import Fault
 from classroom.process.limits import Limits
 from ratest import printed
 
-MOST_IN_LIST = 256    # that the program takes
+MOST_IN_LIST = 256  # that the program takes
 # Below those of a process that looks for mistakes.
 LIMITS = Limits(60.0, 1000, 32)
 OPTIONS = ("--conflicts", "2000")
@@ -29,7 +29,7 @@ class Prover:
         """For each query whether it is proved to agree with the one."""
         found: list[bool] = []
         for start in range(0, len(queries), MOST_IN_LIST):
-            found += self.in_list(with_query, queries[start:start + MOST_IN_LIST])
+            found += self.in_list(with_query, queries[start : start + MOST_IN_LIST])
         return found
 
     def in_list(self, with_query: str, queries: Sequence[str]) -> list[bool]:
@@ -37,7 +37,9 @@ class Prover:
         (self.folder / "one.query").write_bytes(with_query.encode("utf-8", "replace"))
         for name, query in zip(names, queries):
             (self.folder / name).write_bytes(query.encode("utf-8", "replace"))
-        (self.folder / "queries.list").write_text("".join(f"{name}\n" for name in names), encoding="ascii")
+        (self.folder / "queries.list").write_text(
+            "".join(f"{name}\n" for name in names), encoding="ascii"
+        )
         words = ("grade", "schema.sql", ".", "one.query", "queries.list", *OPTIONS)
         ran = program.run(self.program, words, self.limits, self.folder)
         if not ran.passed and ran.status == printed.FINE:
@@ -52,4 +54,6 @@ class Prover:
             return [False]
         # A query that passes the limits takes its list with it.
         middle = len(queries) // 2
-        return self.in_list(with_query, queries[:middle]) + self.in_list(with_query, queries[middle:])
+        return self.in_list(with_query, queries[:middle]) + self.in_list(
+            with_query, queries[middle:]
+        )

@@ -32,7 +32,9 @@ def find(name: str = "ratest") -> Path:
     built = installed.REPOSITORY / "crates" / name / "out" / name
     if launcher.is_file():
         if not built.is_file():
-            subprocess.run([launcher, "--build"], stdin=subprocess.DEVNULL, stdout=sys.stderr, check=False)
+            subprocess.run(
+                [launcher, "--build"], stdin=subprocess.DEVNULL, stdout=sys.stderr, check=False
+            )
         if not built.is_file():
             raise Fault(f"the program {name} is not built: {launcher} --build")
         return built
@@ -41,7 +43,9 @@ def find(name: str = "ratest") -> Path:
         return beside
     on_path = shutil.which(name)
     if on_path is None:
-        raise Fault(f"the program {name} is not there: neither the variable {name.upper()} nor PATH names it")
+        raise Fault(
+            f"the program {name} is not there: neither the variable {name.upper()} nor PATH names it"
+        )
     return Path(on_path).absolute()
 
 
@@ -54,6 +58,8 @@ def there(name: str) -> Path:
     return find(name)
 
 
-def run(program: Path, words: Sequence[str], limits: Limits = Limits(), folder: Path | None = None) -> Ran:
+def run(
+    program: Path, words: Sequence[str], limits: Limits = Limits(), folder: Path | None = None
+) -> Ran:
     """One call of a program within limits. Paths in the words are taken from the folder."""
     return limited.run([os.fspath(program), *words], limits, os.fspath(folder) if folder else None)

@@ -37,7 +37,7 @@ class Options:
     counts_order: bool = False
     engine: str = ""
     asker: str = ""
-    looks: int = 0    # at parts, that stand for the seconds, so that each run finds the same; 0: the clock counts
+    looks: int = 0  # at parts, that stand for the seconds, so that each run finds the same; 0: the clock counts
 
 
 class Failed(Fault):
@@ -52,14 +52,19 @@ class Failed(Fault):
 def forks(seconds: float, folder: Path, around: Sequence[str] = ()) -> Forks:
     """What makes the processes of questions that have so many seconds; `around` are the words before those of the
     process that makes them."""
-    return Forks([*around, sys.executable, "-I", os.fspath(CHILD)], os.fspath(folder), Limits(
-        TIMES * seconds + MORE_SECONDS, MEGABYTES, OUTPUT))
+    return Forks(
+        [*around, sys.executable, "-I", os.fspath(CHILD)],
+        os.fspath(folder),
+        Limits(TIMES * seconds + MORE_SECONDS, MEGABYTES, OUTPUT),
+    )
 
 
 class Trier:
     """Tries answers over one material, from any number of threads."""
 
-    def __init__(self, material: Material, folder: Path, options: Options, processes: Forks) -> None:
+    def __init__(
+        self, material: Material, folder: Path, options: Options, processes: Forks
+    ) -> None:
         """The folder is for the material, and stays as long as this is used."""
         self.product = material.product
         self.options, self.processes = options, processes
@@ -68,13 +73,23 @@ class Trier:
 
     def ask(self, reference: str, answer: str, agrees: bool = False) -> Verdict:
         """The verdict of one question; a Fault where the engine can't be had, Failed where its process ended without a
-        verdict. Of two queries that are known to agree as sets only duplicates and order are looked at."""
+        verdict. Of two queries that are known to agree as sets only duplicates and order are looked at.
+        """
         question = {
-            "reference": reference, "answer": answer, "seconds": self.options.seconds, "looks": self.options.looks,
-            "duplicates": self.options.counts_duplicates, "order": self.options.counts_order,
-            "engine": self.options.engine, "asker": self.options.asker, "agrees": agrees}
+            "reference": reference,
+            "answer": answer,
+            "seconds": self.options.seconds,
+            "looks": self.options.looks,
+            "duplicates": self.options.counts_duplicates,
+            "order": self.options.counts_order,
+            "engine": self.options.engine,
+            "asker": self.options.asker,
+            "agrees": agrees,
+        }
         try:
-            ran = self.processes.ask(os.fspath(self.material.absolute()), json.dumps(question).encode("ascii"))
+            ran = self.processes.ask(
+                os.fspath(self.material.absolute()), json.dumps(question).encode("ascii")
+            )
         except (Ended, OSError) as fault:
             raise Failed("its process could not be begun", str(fault)) from None
         if ran.passed or ran.status == -signal.SIGXCPU:
@@ -98,7 +113,9 @@ class Trier:
 def trier(material: Material, options: Options = Options()) -> Iterator[Trier]:
     """A Trier with a folder and processes of its own."""
     with tempfile.TemporaryDirectory(prefix="trial-") as name:
-        with closing(Trier(material, Path(name), options, forks(options.seconds, Path(name)))) as made:
+        with closing(
+            Trier(material, Path(name), options, forks(options.seconds, Path(name)))
+        ) as made:
             yield made
 
 

@@ -23,7 +23,7 @@ SHARES = (0.3, 0.5, 0.7, 0.85)
 # A query has this many times STEPS steps of SQLite's machine, and this many rows.
 MOST_STEPS, MOST_ROWS = 10_000, 20_000
 STEPS = 200
-FEW = 20    # changes that are looked at further where many steps were needed
+FEW = 20  # changes that are looked at further where many steps were needed
 
 # How many columns, and the rows in the database's order; None where the query is refused or passes a limit.
 Listed = Optional[tuple[int, Sequence[tuple[Any, ...]]]]
@@ -35,7 +35,7 @@ Answer = Optional[tuple[int, Any]]
 class Holds(Protocol):
     """Some rows of a pool in a database, from which queries only read."""
 
-    all_steps: int    # of all queries so far, some 250 in a millisecond
+    all_steps: int  # of all queries so far, some 250 in a millisecond
 
     def lawful(self) -> frozenset[Row]:
         """The rows that meet all rules of the schema together, the earlier of two that don't."""
@@ -53,13 +53,22 @@ class Holds(Protocol):
 class Base:
     """The lawful rows of a pool, with random parts of them, the smallest first, of which one is loaded at a time."""
 
-    def __init__(self, pool: Pool, parts: int = PARTS, seed: str = "1", kind: str = ROWS, database: Holds | None = None) -> None:
+    def __init__(
+        self,
+        pool: Pool,
+        parts: int = PARTS,
+        seed: str = "1",
+        kind: str = ROWS,
+        database: Holds | None = None,
+    ) -> None:
         """`kind`: as what rows are compared; the database is SQLite where none is given."""
         self.pool = pool
         self.kind = kind
         self.database = database or Database(pool)
         self.rows = self.database.lawful()
-        self.parts = sorted(set(drawn(pool, self.rows, parts, seed)), key=lambda part: (len(part), sorted(part)))
+        self.parts = sorted(
+            set(drawn(pool, self.rows, parts, seed)), key=lambda part: (len(part), sorted(part))
+        )
         # How many changes were asked on a part, and how many it rejected.
         self.asked = [0] * len(self.parts)
         self.rejected = [0] * len(self.parts)
@@ -84,18 +93,29 @@ class Base:
         """Whether a query has these answers on the parts; a part of which none is known says nothing."""
         return bool(self.passing([query], wanted))
 
-    def passing(self, queries: Sequence[str], wanted: Sequence[Answer], steps: int | None = None) -> list[int]:
+    def passing(
+        self, queries: Sequence[str], wanted: Sequence[Answer], steps: int | None = None
+    ) -> list[int]:
         """The places of the queries with these answers. Where so many steps were needed, of those that are left
         the first few alone are looked at further."""
         texts = [self.database.written(query) for query in queries]
         return self.left(len(texts), wanted, lambda at, part: self.answer(part, texts[at]), steps)
 
-    def left(self, count: int, wanted: Sequence[Answer], answer: Callable[[int, int], Answer], steps: int | None = None) -> list[int]:
+    def left(
+        self,
+        count: int,
+        wanted: Sequence[Answer],
+        answer: Callable[[int, int], Answer],
+        steps: int | None = None,
+    ) -> list[int]:
         """Those of so many that have these answers, by what gives the answer of one on a part. The parts that
         rejected most so far are asked first."""
         most = None if steps is None else self.database.all_steps + steps
         left = list(range(count))
-        order = sorted(range(len(self.parts)), key=lambda part: -(self.rejected[part] + 1) / (self.asked[part] + 2))
+        order = sorted(
+            range(len(self.parts)),
+            key=lambda part: -(self.rejected[part] + 1) / (self.asked[part] + 2),
+        )
         for part in order:
             if wanted[part] is None or not left:
                 continue
@@ -121,12 +141,14 @@ class Database:
         self.pool = pool
         self.part: frozenset[Row] = frozenset()
         self.backwards = False
-        self.steps = self.all_steps = 0    # of the last query, and of all, in STEPS
+        self.steps = self.all_steps = 0  # of the last query, and of all, in STEPS
         self.is_strict = False
         self.connection = in_memory()
         self.puts = []
         for held in pool.held:
-            columns = ", ".join(f"{quoted(column.name)} {column.kind}" for column in held.table.columns)
+            columns = ", ".join(
+                f"{quoted(column.name)} {column.kind}" for column in held.table.columns
+            )
             self.connection.execute(f"CREATE TABLE {quoted(held.table.name)} ({columns})")
             marks = ", ".join("?" * len(held.table.columns))
             self.puts.append(f"INSERT INTO {quoted(held.table.name)} VALUES ({marks})")
@@ -134,8 +156,14 @@ class Database:
         self.connection.set_authorizer(self.may)
         self.connection.set_progress_handler(self.step, STEPS)
 
-    def may(self, action: int, one: str | None, two: str | None, base: str | None, inside: str | None) -> int:
-        return sqlite3.SQLITE_DENY if self.is_strict and barred(action, one, two) else sqlite3.SQLITE_OK
+    def may(
+        self, action: int, one: str | None, two: str | None, base: str | None, inside: str | None
+    ) -> int:
+        return (
+            sqlite3.SQLITE_DENY
+            if self.is_strict and barred(action, one, two)
+            else sqlite3.SQLITE_OK
+        )
 
     def lawful(self) -> frozenset[Row]:
         return lawful(self.pool)
@@ -155,7 +183,9 @@ class Database:
             if at in had:
                 self.connection.execute(f"DELETE FROM {quoted(held.table.name)}")
             numbers = by_table.get(at, [])
-            self.connection.executemany(put, [held.rows[number] for number in (numbers[::-1] if backwards else numbers)])
+            self.connection.executemany(
+                put, [held.rows[number] for number in (numbers[::-1] if backwards else numbers)]
+            )
         self.part, self.backwards = part, backwards
 
     def step(self) -> int:
@@ -187,7 +217,7 @@ def lawful(pool: Pool) -> frozenset[Row]:
     try:
         connection.executescript(text)
     except sqlite3.Error:
-        connection = sqlite3.connect(":memory:")    # the rules of the pool alone are looked at
+        connection = sqlite3.connect(":memory:")  # the rules of the pool alone are looked at
     primary = [rules.primary for rules in rules_of(pool.schema.decode("utf-8", "replace"))]
     kept: set[Row] = set()
     seen: dict[tuple[object, ...], tuple[Cell, ...]] = {}
@@ -225,5 +255,3 @@ def drawn(pool: Pool, rows: frozenset[Row], parts: int, seed: str) -> Iterator[f
         gone = [row for row in in_order if chance.random() >= share]
         yield rows - pool.with_sources(gone)
     yield rows
-
-

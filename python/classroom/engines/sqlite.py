@@ -14,7 +14,15 @@ from contextlib import contextmanager
 from classroom.engines.only_reads import MOST_TEXT, OTHERWISE, READ, barred, bound, in_memory
 from classroom.sql.schema import quoted
 from classroom.verdict.compare import Answer
-from classroom.engines.engine import ANSWER, MOST_LINES, QUERY_SECONDS, REFERENCE, Bars, Refused, TooMuch
+from classroom.engines.engine import (
+    ANSWER,
+    MOST_LINES,
+    QUERY_SECONDS,
+    REFERENCE,
+    Bars,
+    Refused,
+    TooMuch,
+)
 from classroom.engines.join_tuples import named
 from classroom.exercise.typed_rows import Material
 from classroom.exercise.part_masks import Mask, Parts, bits
@@ -23,20 +31,27 @@ from classroom.sql.lookup import begins_as_query, clock, tokens, unknown_name
 
 # Steps of SQLite's machine between two looks at the time.
 STEPS = 200
-FAR = 1 << 40    # rowids of rows that are stored the other way round
+FAR = 1 << 40  # rowids of rows that are stored the other way round
 
 
 class Stored:
     """A database with the tables, in whose order the rows are stored or the other way round."""
 
     def __init__(self, material: Material, parts: Parts, backwards: bool, seconds: float) -> None:
-        self.material, self.parts, self.backwards, self.seconds = material, parts, backwards, seconds
+        self.material, self.parts, self.backwards, self.seconds = (
+            material,
+            parts,
+            backwards,
+            seconds,
+        )
         self.db = in_memory()
         for statement in material.statements:
             self.db.execute(turned(statement) if backwards else with_rowid(statement))
         self.puts: list[str] = []
         self.takes: list[str] = []
-        self.aliases: list[tuple[int | None, str]] = []    # the column that is the rowid, and the rowid's name
+        self.aliases: list[
+            tuple[int | None, str]
+        ] = []  # the column that is the rowid, and the rowid's name
         for held in material.pool.held:
             self.prepare(held.table.name, [column.name for column in held.table.columns])
         for view in material.views:
@@ -51,23 +66,37 @@ class Stored:
     def prepare(self, table: str, columns: Sequence[str]) -> None:
         """The statements that put and take a row, which is known by its rowid."""
         of = quoted(table)
-        info = self.db.execute(f"SELECT name, type, pk FROM pragma_table_info({quoted_text(table)})").fetchall()
+        info = self.db.execute(
+            f"SELECT name, type, pk FROM pragma_table_info({quoted_text(table)})"
+        ).fetchall()
         keys = [(name, kind) for name, kind, place in info if place]
         alias = None
-        if len(keys) == 1 and keys[0][1].upper() == "INTEGER" and keys[0][0] in columns and self.is_alias(of, keys[0][0]):
+        if (
+            len(keys) == 1
+            and keys[0][1].upper() == "INTEGER"
+            and keys[0][0] in columns
+            and self.is_alias(of, keys[0][0])
+        ):
             alias = list(columns).index(keys[0][0])
         names = [quoted(name) for name in columns]
-        rowid = next(name for name in ("rowid", "_rowid_", "oid") if name not in {one.lower() for one, _, _ in info})
+        rowid = next(
+            name
+            for name in ("rowid", "_rowid_", "oid")
+            if name not in {one.lower() for one, _, _ in info}
+        )
         if alias is None:
             names.append(rowid)
-        self.puts.append(f"INSERT INTO {of} ({', '.join(names)}) VALUES ({', '.join('?' * len(names))})")
+        self.puts.append(
+            f"INSERT INTO {of} ({', '.join(names)}) VALUES ({', '.join('?' * len(names))})"
+        )
         self.takes.append(f"DELETE FROM {of} WHERE {rowid} = ?")
         self.aliases.append((alias, rowid))
 
     def is_alias(self, of: str, name: str) -> bool:
         """Whether a column is the rowid: then NULL in it becomes a number."""
         return not self.db.execute(
-            "SELECT 1 FROM pragma_index_list(?) WHERE origin = 'pk'", (of[1:-1].replace('""', '"'),)).fetchall()
+            "SELECT 1 FROM pragma_index_list(?) WHERE origin = 'pk'", (of[1:-1].replace('""', '"'),)
+        ).fetchall()
 
     def rowid(self, at: int) -> int:
         row = self.parts.rows[at]
@@ -80,7 +109,10 @@ class Stored:
     def put(self, at: int) -> None:
         row = self.parts.rows[at]
         cells = self.material.pool.held[row.table].rows[row.number]
-        self.db.execute(self.puts[row.table], cells if self.aliases[row.table][0] is not None else (*cells, self.rowid(at)))
+        self.db.execute(
+            self.puts[row.table],
+            cells if self.aliases[row.table][0] is not None else (*cells, self.rowid(at)),
+        )
 
     def load(self, part: Mask) -> None:
         """Makes these the rows of the database."""
@@ -92,7 +124,9 @@ class Stored:
             self.put(at)
         self.part = part
 
-    def may(self, action: int, one: str | None, two: str | None, base: str | None, inside: str | None) -> int:
+    def may(
+        self, action: int, one: str | None, two: str | None, base: str | None, inside: str | None
+    ) -> int:
         """The authorizer: a query reads tables, and calls what is not barred."""
         why = barred(action, one, two) if self.is_strict else ""
         if self.is_strict and action == READ and not why:
@@ -153,8 +187,14 @@ class Sqlite:
         """What others do on the machine doesn't count."""
         return time.process_time()
 
-    def __init__(self, material: Material, parts: Parts, reference: str, answer: str,
-                 seconds: float = QUERY_SECONDS) -> None:
+    def __init__(
+        self,
+        material: Material,
+        parts: Parts,
+        reference: str,
+        answer: str,
+        seconds: float = QUERY_SECONDS,
+    ) -> None:
         self.label = f"sqlite {sqlite3.sqlite_version}"
         self.material, self.parts = material, parts
         self.queries = (reference, answer)
@@ -178,12 +218,25 @@ class Sqlite:
         answer = first.ask(which, text)
         if answer.failure:
             raise Refused(which, *told(answer.failure, text))
-        names = {name for held in self.material.pool.held for name in (
-            held.table.name, *(column.name for column in held.table.columns))}
-        names |= {str(name) for held in self.material.pool.held for name, in first.db.execute(
-            f"SELECT name FROM pragma_table_xinfo({quoted_text(held.table.name)})")}
-        names |= {str(name) for view in self.material.views for name, in first.db.execute(
-            f"SELECT name FROM pragma_table_info({quoted_text(view.name)})")} | {view.name for view in self.material.views}
+        names = {
+            name
+            for held in self.material.pool.held
+            for name in (held.table.name, *(column.name for column in held.table.columns))
+        }
+        names |= {
+            str(name)
+            for held in self.material.pool.held
+            for name, in first.db.execute(
+                f"SELECT name FROM pragma_table_xinfo({quoted_text(held.table.name)})"
+            )
+        }
+        names |= {
+            str(name)
+            for view in self.material.views
+            for name, in first.db.execute(
+                f"SELECT name FROM pragma_table_info({quoted_text(view.name)})"
+            )
+        } | {view.name for view in self.material.views}
         unknown = unknown_name(text, names)
         if unknown:
             raise Refused(which, f"no such column: {unknown[0]}", unknown[1])
@@ -193,14 +246,19 @@ class Sqlite:
         """Those that SQLite reads columns of, and, since it doesn't tell all of USING, those that are named."""
         numbers = places(self.material)
         return frozenset(numbers[name] for name in self.stored[0].read if name in numbers).union(
-            *(named(text, numbers, "sqlite") for text in with_views(self.queries, self.material)))
+            *(named(text, numbers, "sqlite") for text in with_views(self.queries, self.material))
+        )
 
     def answers(self, part: Mask, backwards: bool = False) -> tuple[Answer, Answer]:
         stored = self.stored[backwards]
         stored.load(part)
-        return stored.ask(REFERENCE, self.queries[REFERENCE]), stored.ask(ANSWER, self.queries[ANSWER])
+        return stored.ask(REFERENCE, self.queries[REFERENCE]), stored.ask(
+            ANSWER, self.queries[ANSWER]
+        )
 
-    def joined(self, tables: Sequence[tuple[int, str]], condition: str) -> Iterator[tuple[int, ...]]:
+    def joined(
+        self, tables: Sequence[tuple[int, str]], condition: str
+    ) -> Iterator[tuple[int, ...]]:
         stored = self.stored[0]
         stored.load((1 << len(self.parts.rows)) - 1)
         known = {(row.table, stored.rowid(at)): at for at, row in enumerate(self.parts.rows)}
@@ -209,7 +267,9 @@ class Sqlite:
         begin = ", ".join(f"{names[table]} AS {quoted(alias)}" for table, alias in tables)
         with stored.strictly():
             try:
-                cursor = stored.db.execute(f"SELECT {ids} FROM {begin}" + (f" WHERE {condition}" if condition else ""))
+                cursor = stored.db.execute(
+                    f"SELECT {ids} FROM {begin}" + (f" WHERE {condition}" if condition else "")
+                )
             except sqlite3.Error as fault:
                 raise ValueError(str(fault)) from None
         for line in cursor:
@@ -223,19 +283,28 @@ class Sqlite:
 def told(failure: str, text: str) -> tuple[str, int | None]:
     """A message of SQLite with the place that it names by what stands there."""
     near = re.match(r'near "(.*)": syntax error\Z', failure, re.DOTALL)
-    named = re.match(r"(?:no such (?:column|table|function)|ambiguous column name): (.*)\Z", failure, re.DOTALL)
+    named = re.match(
+        r"(?:no such (?:column|table|function)|ambiguous column name): (.*)\Z", failure, re.DOTALL
+    )
     wanted = near or named
     place = None
     if wanted:
         word = wanted[1].split(".")[-1].lower()
-        found = [token.start for token in tokens(text) if token.text.lower() == word or token.name.lower() == word]
+        found = [
+            token.start
+            for token in tokens(text)
+            if token.text.lower() == word or token.name.lower() == word
+        ]
         place = found[0] if len(found) == 1 else None
     return failure, place
 
 
 # Words before a rule that can't stand in the table that is stored the other way round.
-WORD = re.compile(r"""(?P<gap>\s+|--[^\n]*|/\*.*?\*/)|(?P<text>'(?:[^']|'')*')|(?P<name>"(?:[^"]|"")*"|`(?:[^`]|``)*`|\[[^\]]*\])
-    |(?P<word>[^\W\d]\w*)|(?P<number>\d[\w.]*)|(?P<other>.)""", re.VERBOSE | re.DOTALL)
+WORD = re.compile(
+    r"""(?P<gap>\s+|--[^\n]*|/\*.*?\*/)|(?P<text>'(?:[^']|'')*')|(?P<name>"(?:[^"]|"")*"|`(?:[^`]|``)*`|\[[^\]]*\])
+    |(?P<word>[^\W\d]\w*)|(?P<number>\d[\w.]*)|(?P<other>.)""",
+    re.VERBOSE | re.DOTALL,
+)
 
 
 def words(statement: str) -> list[tuple[str, str]]:
@@ -292,7 +361,9 @@ def turned(statement: str) -> str:
 
 def unnamed(made: list[str]) -> str:
     """Takes away CONSTRAINT NAME before a rule that is left out."""
-    solid = [at for at, text in enumerate(made) if text.strip() and not text.startswith(("--", "/*"))]
+    solid = [
+        at for at, text in enumerate(made) if text.strip() and not text.startswith(("--", "/*"))
+    ]
     if len(solid) > 1 and made[solid[-2]].upper() == "CONSTRAINT":
         made[solid[-2]] = made[solid[-1]] = ""
     return ""

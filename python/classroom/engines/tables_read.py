@@ -15,4 +15,7 @@ def places(material: Material) -> dict[str, int]:
 def with_views(queries: Sequence[str], material: Material) -> list[str]:
     """The queries; where one names a view, those of all views too."""
     views = {view.name.lower(): at for at, view in enumerate(material.views)}
-    return [*queries, *(view.query for view in material.views if any(mentions(text, views) for text in queries))]
+    return [
+        *queries,
+        *(view.query for view in material.views if any(mentions(text, views) for text in queries)),
+    ]

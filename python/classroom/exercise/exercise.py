@@ -35,7 +35,7 @@ class Answer:
 
     name: str
     text: Text = Text()
-    fault: str = ""    # why it is not read; then the text is empty
+    fault: str = ""  # why it is not read; then the text is empty
 
     @property
     def label(self) -> str:
@@ -51,8 +51,8 @@ class Task:
     folder: Path
     answers: tuple[Answer, ...] = ()
     reference: bytes = b""
-    fault: str = ""     # why no answer can be graded
-    limit: str = ""     # that the reference alone passes over these rows
+    fault: str = ""  # why no answer can be graded
+    limit: str = ""  # that the reference alone passes over these rows
     settings: TaskSettings = TaskSettings()
 
     @property
@@ -71,9 +71,11 @@ class Exercise:
 
     folder: Path
     tasks: tuple[Task, ...]
-    ignored: tuple[Path, ...]     # files among the answers that are none, by their names
-    files: Mapping[str, bytes]    # schema.sql and the CSV file of each table, by their names in the folder
-    tables: tuple[Table, ...]     # none where they can't be read of the schema
+    ignored: tuple[Path, ...]  # files among the answers that are none, by their names
+    files: Mapping[
+        str, bytes
+    ]  # schema.sql and the CSV file of each table, by their names in the folder
+    tables: tuple[Table, ...]  # none where they can't be read of the schema
     settings: Settings = field(default_factory=Settings)
 
     @property
@@ -105,12 +107,22 @@ def load(folder: Path) -> Exercise:
     try:
         tables = tables_of(schema.decode("utf-8", "replace"))
     except Fault:
-        tables = ()    # `ratest`, which is asked before anything else, tells the place
-    return Exercise(folder, tasks, ignored, {"schema.sql": schema, **dict(_rows(folder, tables))}, tables, said)
+        tables = ()  # `ratest`, which is asked before anything else, tells the place
+    return Exercise(
+        folder, tasks, ignored, {"schema.sql": schema, **dict(_rows(folder, tables))}, tables, said
+    )
 
 
 def _with_settings(task: Task, said: Settings) -> Task:
-    return Task(task.name, task.folder, task.answers, task.reference, task.fault, task.limit, said.of_task(task.name))
+    return Task(
+        task.name,
+        task.folder,
+        task.answers,
+        task.reference,
+        task.fault,
+        task.limit,
+        said.of_task(task.name),
+    )
 
 
 def _rows(folder: Path, tables: tuple[Table, ...]) -> Iterator[tuple[str, bytes]]:
@@ -119,7 +131,9 @@ def _rows(folder: Path, tables: tuple[Table, ...]) -> Iterator[tuple[str, bytes]
         if "/" in table.name or "\0" in table.name:
             raise Fault(f"{shown(table.name)}: no file can have the name of this table")
         if not (folder / name).is_file():
-            raise Fault(f"{shown(str(folder))}: the table {shown(table.name)} has no file {shown(name)}")
+            raise Fault(
+                f"{shown(str(folder))}: the table {shown(table.name)} has no file {shown(name)}"
+            )
         yield name, read(folder / name)
 
 
@@ -137,12 +151,19 @@ def tasks_of(folder: Path) -> tuple[tuple[Task, ...], tuple[Path, ...]]:
 
 
 def _tasks(folder: Path, top: Folder, ignored: list[Path]) -> Iterator[Task]:
-    inner = [name for name in sorted(top.names(), key=in_order)
-             if name not in (RESULTS, ANSWERS) and not name.startswith(".") and top.is_folder(name)
-             and any(os.path.lexists(folder / name / part) for part in (REFERENCE, ANSWERS))]
+    inner = [
+        name
+        for name in sorted(top.names(), key=in_order)
+        if name not in (RESULTS, ANSWERS)
+        and not name.startswith(".")
+        and top.is_folder(name)
+        and any(os.path.lexists(folder / name / part) for part in (REFERENCE, ANSWERS))
+    ]
     if top.holds(REFERENCE) or top.holds(ANSWERS):
         if inner:
-            raise Fault(f"{shown(str(folder))}: a task at the top and tasks in folders, as {shown(inner[0])}")
+            raise Fault(
+                f"{shown(str(folder))}: a task at the top and tasks in folders, as {shown(inner[0])}"
+            )
         yield _task(folder.resolve().name or "task", folder, top, ignored)
     for name in inner:
         try:
@@ -206,4 +227,10 @@ def digest(*parts: bytes) -> str:
 
 def digest_of(files: Mapping[str, bytes]) -> str:
     """One digest of files with their names."""
-    return digest(*(part for name, text in files.items() for part in (name.encode("utf-8", "surrogateescape"), text)))
+    return digest(
+        *(
+            part
+            for name, text in files.items()
+            for part in (name.encode("utf-8", "surrogateescape"), text)
+        )
+    )

@@ -11,15 +11,17 @@ from classroom.exercise.rules import rules_of
 from classroom.sql.sqlite_schema import for_sqlite
 from classroom.sql.schema import Column, quoted
 
-ROWS = 80         # about so many in all tables together
-FEWEST = 5        # in one
-TRIES = 15        # for a row
+ROWS = 80  # about so many in all tables together
+FEWEST = 5  # in one
+TRIES = 15  # for a row
 NULLS = 0.12
-LIKED = 0.3       # of the rows refer to one that has a constant of the queries
+LIKED = 0.3  # of the rows refer to one that has a constant of the queries
 SMALL = (0, 1, 2, 3)
 
 
-def pool_of(rows: Pool, numbers: Sequence[int], texts: Sequence[str], seed: str, about: int = ROWS) -> Pool | None:
+def pool_of(
+    rows: Pool, numbers: Sequence[int], texts: Sequence[str], seed: str, about: int = ROWS
+) -> Pool | None:
     """Rows for the schema of a pool, with its values and with constants of queries; None where the schema
     can't be had in SQLite or takes no rows."""
     schema = rows.schema.decode("utf-8", "replace")
@@ -36,7 +38,13 @@ def pool_of(rows: Pool, numbers: Sequence[int], texts: Sequence[str], seed: str,
     connection.close()
     if not any(made.rows):
         return None
-    return Pool(rows.schema, [Held(held.table, made.rows[at], held.keys, held.foreigns) for at, held in enumerate(rows.held)])
+    return Pool(
+        rows.schema,
+        [
+            Held(held.table, made.rows[at], held.keys, held.foreigns)
+            for at, held in enumerate(rows.held)
+        ],
+    )
 
 
 def order_of(tables: Sequence[Held]) -> list[int]:
@@ -44,15 +52,26 @@ def order_of(tables: Sequence[Held]) -> list[int]:
     found: list[int] = []
     left = list(range(len(tables)))
     while left:
-        free = [at for at in left if all(foreign.table in found or foreign.table == at for foreign in tables[at].foreigns)]
+        free = [
+            at
+            for at in left
+            if all(foreign.table in found or foreign.table == at for foreign in tables[at].foreigns)
+        ]
         found.append((free or left)[0])
         left.remove(found[-1])
     return found
 
 
 class _Maker:
-    def __init__(self, pool: Pool, numbers: Sequence[int], texts: Sequence[str], connection: sqlite3.Connection,
-                 seed: str, about: int) -> None:
+    def __init__(
+        self,
+        pool: Pool,
+        numbers: Sequence[int],
+        texts: Sequence[str],
+        connection: sqlite3.Connection,
+        seed: str,
+        about: int,
+    ) -> None:
         self.pool = pool
         self.about = about
         self.chance = random.Random(seed)
@@ -63,12 +82,25 @@ class _Maker:
         self.texts = list(texts)
         self.constants = {*numbers, *texts}
         self.referred = {foreign.table for held in pool.held for foreign in held.foreigns}
-        self.values = {column_key(column): self.of_column(column) for held in pool.held for column in held.table.columns}
+        self.values = {
+            column_key(column): self.of_column(column)
+            for held in pool.held
+            for column in held.table.columns
+        }
 
     def of_column(self, like: Column) -> list[Cell]:
         """A few values of the columns of one name and kind, which are told from one another by most queries."""
-        there = sorted({row[place] for held in self.pool.held for place, column in enumerate(held.table.columns)
-                        if column_key(column) == column_key(like) for row in held.rows if row[place] is not None}, key=str)
+        there = sorted(
+            {
+                row[place]
+                for held in self.pool.held
+                for place, column in enumerate(held.table.columns)
+                if column_key(column) == column_key(like)
+                for row in held.rows
+                if row[place] is not None
+            },
+            key=str,
+        )
         some: list[Cell] = list(self.chance.sample(there, min(4, len(there))))
         if like.kind == "INTEGER":
             return [*some, *self.chance.sample(SMALL, 2), *self.numbers]
@@ -77,16 +109,26 @@ class _Maker:
     def fill(self, at: int) -> None:
         held = self.pool.held[at]
         is_root = at in self.referred and not held.foreigns
-        wanted = FEWEST + self.about // 20 if is_root else max(FEWEST, self.about // max(1, len(self.pool.held) - len(self.referred) // 2))
+        wanted = (
+            FEWEST + self.about // 20
+            if is_root
+            else max(FEWEST, self.about // max(1, len(self.pool.held) - len(self.referred) // 2))
+        )
         marks = ", ".join("?" * len(held.table.columns))
         for _ in range(wanted * TRIES):
             if len(self.rows[at]) >= wanted:
                 break
             row = self.row(at)
-            if any(row[place] is None for place, column in enumerate(held.table.columns) if column.name in self.primary[at]):
+            if any(
+                row[place] is None
+                for place, column in enumerate(held.table.columns)
+                if column.name in self.primary[at]
+            ):
                 continue
             try:
-                self.connection.execute(f"INSERT INTO {quoted(held.table.name)} VALUES ({marks})", row)
+                self.connection.execute(
+                    f"INSERT INTO {quoted(held.table.name)} VALUES ({marks})", row
+                )
             except (sqlite3.Error, OverflowError):
                 continue
             self.rows[at].append(row)

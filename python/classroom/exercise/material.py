@@ -40,21 +40,35 @@ def of_sqlite(path: Path) -> Material:
     try:
         statements, found = [], []
         for table in tables.values():
-            (statement,), = database.execute(
-                f"SELECT sql FROM sqlite_schema WHERE type = 'table' AND name = {literal(table.name)}").fetchall()
+            ((statement,),) = database.execute(
+                f"SELECT sql FROM sqlite_schema WHERE type = 'table' AND name = {literal(table.name)}"
+            ).fetchall()
             statements.append(without_comments(str(statement)))
-            names = database.execute(f"SELECT name, type FROM pragma_table_xinfo({literal(table.name)}) WHERE hidden = 0 "
-                                     "ORDER BY cid").fetchall()
-            rows = database.execute(f"SELECT {', '.join(quoted(name) for name, _ in names)} FROM {quoted(table.name)} "
-                                    f"ORDER BY {', '.join(table.order)}").fetchall()
+            names = database.execute(
+                f"SELECT name, type FROM pragma_table_xinfo({literal(table.name)}) WHERE hidden = 0 "
+                "ORDER BY cid"
+            ).fetchall()
+            rows = database.execute(
+                f"SELECT {', '.join(quoted(name) for name, _ in names)} FROM {quoted(table.name)} "
+                f"ORDER BY {', '.join(table.order)}"
+            ).fetchall()
             found.append((table, [Column(name, kind) for name, kind in names], rows))
-        views = [Made(name, sql, sql) for name, sql in database.execute(
-            "SELECT name, sql FROM sqlite_schema WHERE type = 'view' ORDER BY rowid")]
+        views = [
+            Made(name, sql, sql)
+            for name, sql in database.execute(
+                "SELECT name, sql FROM sqlite_schema WHERE type = 'view' ORDER BY rowid"
+            )
+        ]
     except sqlite3.Error as fault:
         raise Fault(f"{shown(str(path))}: {shown(str(fault))}") from None
     finally:
         database.close()
-    return Material(SQLITE, pool_of(found), tuple(statements), tuple(replace(view, query=query_of(view.query)) for view in views))
+    return Material(
+        SQLITE,
+        pool_of(found),
+        tuple(statements),
+        tuple(replace(view, query=query_of(view.query)) for view in views),
+    )
 
 
 def pool_of(found: Sequence[tuple[model.Table, list[Column], list[Any]]]) -> Pool:
@@ -62,16 +76,32 @@ def pool_of(found: Sequence[tuple[model.Table, list[Column], list[Any]]]) -> Poo
     held = []
     for table, columns, rows in found:
         names = [column.name for column in columns]
-        keys = [tuple(names.index(name) for name in key.columns) for key in table.keys if set(key.columns) <= set(names)]
+        keys = [
+            tuple(names.index(name) for name in key.columns)
+            for key in table.keys
+            if set(key.columns) <= set(names)
+        ]
         foreigns = []
         for foreign in table.foreigns:
             if foreign.table not in order or not foreign.to:
                 continue
             to = [column.name for column in found[order.index(foreign.table)][1]]
             if set(foreign.columns) <= set(names) and set(foreign.to) <= set(to):
-                foreigns.append(Foreign(tuple(map(names.index, foreign.columns)), order.index(foreign.table),
-                                        tuple(map(to.index, foreign.to))))
-        held.append(Held(Table(written(table.name), tuple(columns)), cast("list[Cells]", rows), keys, foreigns))
+                foreigns.append(
+                    Foreign(
+                        tuple(map(names.index, foreign.columns)),
+                        order.index(foreign.table),
+                        tuple(map(to.index, foreign.to)),
+                    )
+                )
+        held.append(
+            Held(
+                Table(written(table.name), tuple(columns)),
+                cast("list[Cells]", rows),
+                keys,
+                foreigns,
+            )
+        )
     return Pool(b"", held)
 
 
@@ -79,7 +109,7 @@ def query_of(statement: str) -> str:
     """The query of a CREATE VIEW."""
     found = tokens(statement)
     at = next((at for at, token in enumerate(found) if token.text.lower() == "as"), len(found) - 1)
-    return statement[found[at].start + len(found[at].text):].strip().removesuffix(";")
+    return statement[found[at].start + len(found[at].text) :].strip().removesuffix(";")
 
 
 def of_script(script: bytes) -> Material:
@@ -106,13 +136,20 @@ def of_script(script: bytes) -> Material:
             views.append(Made(named[2].name, plain, query_of(plain)))
         elif words[:1] == ["COPY"]:
             name = named[1].name
-            columns[name] = [Column(token.name, "") for token in named[3:named_end(named)] if token.text != ","]
+            columns[name] = [
+                Column(token.name, "") for token in named[3 : named_end(named)] if token.text != ","
+            ]
             rows[name] = [tuple(map(field, line.split("\t"))) for line in data]
         elif words[:2] == ["ALTER", "TABLE"] and "CONSTRAINT" in words:
             constraint(named, plain, tables, statements)
     order = list(tables)
-    return Material(POSTGRESQL, pool_of([(tables[name], columns.get(name, []), rows.get(name, [])) for name in order]),
-                    tuple(";\n".join(statements[name]) for name in order), tuple(views), ";\n".join(before))
+    return Material(
+        POSTGRESQL,
+        pool_of([(tables[name], columns.get(name, []), rows.get(name, [])) for name in order]),
+        tuple(";\n".join(statements[name]) for name in order),
+        tuple(views),
+        ";\n".join(before),
+    )
 
 
 def part_of(script: bytes, numbers: Mapping[str, Sequence[int]]) -> bytes:
@@ -121,7 +158,9 @@ def part_of(script: bytes, numbers: Mapping[str, Sequence[int]]) -> bytes:
     for statement, data in parts(script.decode("utf-8", "surrogateescape")):
         made.append(f"{statement};\n")
         if statement.startswith("COPY "):
-            wanted = set(numbers.get(written(tokens(unqualified(statement, tokens(statement)))[1].name), ()))
+            wanted = set(
+                numbers.get(written(tokens(unqualified(statement, tokens(statement)))[1].name), ())
+            )
             made += [f"{line}\n" for number, line in enumerate(data, 1) if number in wanted]
             made.append("\\.\n")
         made.append("\n")
@@ -149,17 +188,24 @@ def parts(text: str) -> Iterator[tuple[str, list[str]]]:
 
 def is_whole(text: str) -> bool:
     """Whether no text and no name is open at the end."""
-    return not any(token.text[0] in "'\"" and (len(token.text) < 2 or token.text[-1] != token.text[0])
-                   for token in tokens(text))
+    return not any(
+        token.text[0] in "'\"" and (len(token.text) < 2 or token.text[-1] != token.text[0])
+        for token in tokens(text)
+    )
 
 
 def unqualified(statement: str, found: Sequence[Token]) -> str:
     """The statement without the names of schemas before those of tables and types."""
     made, end = [], 0
     for at, token in enumerate(found[:-2]):
-        if token.kind in ("word", "quoted") and found[at + 1].text == "." and found[at - 1].text != "." \
-                and token.name != "pg_catalog" and is_schema(found, at):
-            made.append(statement[end:token.start])
+        if (
+            token.kind in ("word", "quoted")
+            and found[at + 1].text == "."
+            and found[at - 1].text != "."
+            and token.name != "pg_catalog"
+            and is_schema(found, at)
+        ):
+            made.append(statement[end : token.start])
             end = found[at + 1].start + 1
     return "".join([*made, statement[end:]])
 
@@ -167,21 +213,49 @@ def unqualified(statement: str, found: Sequence[Token]) -> str:
 def is_schema(found: Sequence[Token], at: int) -> bool:
     """Whether a name with a dot behind it is a schema's: it stands where a table or a type does."""
     before = found[at - 1].text.upper() if at else ""
-    if before in ("TABLE", "ONLY", "VIEW", "TYPE", "DOMAIN", "REFERENCES", "FROM", "JOIN", "COPY", "AS", "::", "COLLATE"):
+    if before in (
+        "TABLE",
+        "ONLY",
+        "VIEW",
+        "TYPE",
+        "DOMAIN",
+        "REFERENCES",
+        "FROM",
+        "JOIN",
+        "COPY",
+        "AS",
+        "::",
+        "COLLATE",
+    ):
         return True
     # A column's type behind its name, or a table behind a comma or a parenthesis of FROM.
-    return found[at - 1].kind in ("word", "quoted") and before not in WORDS or (
-        before in ("(", ",") and at + 3 < len(found) and found[at + 3].text not in (",", ")", "=", ".") and found[at + 3].kind in ("word", "quoted"))
+    return (
+        found[at - 1].kind in ("word", "quoted")
+        and before not in WORDS
+        or (
+            before in ("(", ",")
+            and at + 3 < len(found)
+            and found[at + 3].text not in (",", ")", "=", ".")
+            and found[at + 3].kind in ("word", "quoted")
+        )
+    )
 
 
-WORDS = frozenset("SELECT AND OR NOT ON WHERE BY CASE WHEN THEN ELSE IN IS LIKE BETWEEN DISTINCT HAVING".split())
+WORDS = frozenset(
+    "SELECT AND OR NOT ON WHERE BY CASE WHEN THEN ELSE IN IS LIKE BETWEEN DISTINCT HAVING".split()
+)
 
 
 def named_end(found: Sequence[Token]) -> int:
     return next((at for at, token in enumerate(found) if token.text == ")"), len(found))
 
 
-def constraint(found: Sequence[Token], statement: str, tables: dict[str, model.Table], statements: dict[str, list[str]]) -> None:
+def constraint(
+    found: Sequence[Token],
+    statement: str,
+    tables: dict[str, model.Table],
+    statements: dict[str, list[str]],
+) -> None:
     """A key, which the table gets, or what its rows refer to."""
     words = [token.text.upper() for token in found]
     at = words.index("ADD")
@@ -191,10 +265,18 @@ def constraint(found: Sequence[Token], statement: str, tables: dict[str, model.T
     lists: list[list[str]] = []
     for number, token in enumerate(found):
         if token.text == "(":
-            lists.append([one.name for one in found[number + 1:] if one.start < ending(found, number) and one.text != ","])
+            lists.append(
+                [
+                    one.name
+                    for one in found[number + 1 :]
+                    if one.start < ending(found, number) and one.text != ","
+                ]
+            )
     if "FOREIGN" in words[at:]:
         target = found[words.index("REFERENCES") + 1].name
-        tables[name].foreigns.append(model.Foreign(lists[0], target, lists[1] if len(lists) > 1 else []))
+        tables[name].foreigns.append(
+            model.Foreign(lists[0], target, lists[1] if len(lists) > 1 else [])
+        )
     elif lists:
         statements[name].append(statement)
         if "UNIQUE" in words[at:] or "PRIMARY" in words[at:]:

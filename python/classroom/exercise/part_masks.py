@@ -17,7 +17,7 @@ class Unit(NamedTuple):
     other tables that it needs."""
 
     gained: Mask
-    needed: Mask    # what has to be there before
+    needed: Mask  # what has to be there before
 
 
 class Parts:
@@ -27,10 +27,13 @@ class Parts:
         self.pool = pool
         self.rows: list[Row] = sorted(pool.lawful)
         self.index = {row: at for at, row in enumerate(self.rows)}
-        self.up = [self.mask(pool.with_targets(row)) for row in self.rows]        # with what it refers to
+        self.up = [self.mask(pool.with_targets(row)) for row in self.rows]  # with what it refers to
         # With what refers to it; rows that are in no part refer to it too.
         self.down = [self.mask(pool.with_sources([row]) & pool.lawful) for row in self.rows]
-        self.listed: tuple[Mask, list[int]] = (0, [])    # the places of the part that random ones were last taken of
+        self.listed: tuple[Mask, list[int]] = (
+            0,
+            [],
+        )  # the places of the part that random ones were last taken of
 
     def mask(self, rows: Collection[Row]) -> Mask:
         return sum(1 << self.index[row] for row in set(rows))

@@ -16,7 +16,8 @@ class Numbered(Protocol):
     """A row of a witness."""
 
     @property
-    def table(self) -> str: ...
+    def table(self) -> str:
+        ...
 
     @property
     def number(self) -> int:
@@ -59,11 +60,13 @@ class Pool:
     schema: bytes
     held: list[Held]
     lawful: set[Row] = field(default_factory=set)
-    targets: dict[Row, list[Row]] = field(default_factory=dict)      # the rows that a row refers to
-    sources: dict[Row, list[Row]] = field(default_factory=dict)      # the rows that refer to it
+    targets: dict[Row, list[Row]] = field(default_factory=dict)  # the rows that a row refers to
+    sources: dict[Row, list[Row]] = field(default_factory=dict)  # the rows that refer to it
 
     def __post_init__(self) -> None:
-        self.lawful = {Row(at, number) for at, held in enumerate(self.held) for number in range(len(held.rows))}
+        self.lawful = {
+            Row(at, number) for at, held in enumerate(self.held) for number in range(len(held.rows))
+        }
         for at, held in enumerate(self.held):
             for places in held.keys:
                 self.lawful -= set(repeated(at, held.rows, places))
@@ -92,7 +95,9 @@ class Pool:
     def wanted(self, row: Row) -> int:
         """To how many rows a row refers by its values."""
         held = self.held[row.table]
-        return sum(None not in picked(held.rows[row.number], foreign.places) for foreign in held.foreigns)
+        return sum(
+            None not in picked(held.rows[row.number], foreign.places) for foreign in held.foreigns
+        )
 
     @property
     def total(self) -> int:
@@ -118,8 +123,10 @@ class Pool:
 
     def named(self, kept: Iterable[Numbered], rows: Collection[Row]) -> frozenset[Row]:
         """The rows of a witness over the files of these rows."""
-        by_table = {held.table.name: [row for row in sorted(rows) if row.table == at]
-                    for at, held in enumerate(self.held)}
+        by_table = {
+            held.table.name: [row for row in sorted(rows) if row.table == at]
+            for at, held in enumerate(self.held)
+        }
         return frozenset(by_table[row.table][row.number - 1] for row in kept)
 
 

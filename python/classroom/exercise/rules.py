@@ -11,7 +11,9 @@ class Rules:
     """Of one table; columns by their names."""
 
     keys: list[list[str]] = field(default_factory=list)
-    foreigns: list[tuple[list[str], str, list[str]]] = field(default_factory=list)    # columns, table, its columns
+    foreigns: list[tuple[list[str], str, list[str]]] = field(
+        default_factory=list
+    )  # columns, table, its columns
     primary: list[str] = field(default_factory=list)
 
 
@@ -55,11 +57,13 @@ def key(rules: Rules, columns: list[str], is_primary: bool) -> None:
 def foreign(rules: Rules, columns: list[str], item: list[Token]) -> None:
     at = item.index(Token("word", "references"))
     has_columns = at + 2 < len(item) and item[at + 2] == Token("other", "(")
-    rules.foreigns.append((columns, item[at + 1].text, names(item[at + 2:]) if has_columns else []))
+    rules.foreigns.append(
+        (columns, item[at + 1].text, names(item[at + 2 :]) if has_columns else [])
+    )
 
 
 def names(item: list[Token]) -> list[str]:
     """The names in the first parentheses."""
     start = item.index(Token("other", "("))
     stop = item.index(Token("other", ")"))
-    return [token.text for token in item[start + 1:stop] if token.kind in ("word", "quoted")]
+    return [token.text for token in item[start + 1 : stop] if token.kind in ("word", "quoted")]

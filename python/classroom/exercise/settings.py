@@ -23,8 +23,8 @@ class TaskSettings:
     """The keys of one task."""
 
     title: str = ""
-    points: float = 1                    # of a right answer
-    question: str = "question.txt"       # a file in the folder of the task
+    points: float = 1  # of a right answer
+    question: str = "question.txt"  # a file in the folder of the task
 
 
 @dataclass(frozen=True)
@@ -32,22 +32,22 @@ class Settings:
     """The keys of an exercise; None where one is not said and has no value of its own."""
 
     title: str = ""
-    time: float | None = None            # seconds for an answer
+    time: float | None = None  # seconds for an answer
     work: int | None = None
     conflicts: int | None = None
-    engine: str | None = None            # "sqlite", or the connection of a scratch database
-    engine_asker: str = ""               # the connection of the role that only reads
+    engine: str | None = None  # "sqlite", or the connection of a scratch database
+    engine_asker: str = ""  # the connection of the role that only reads
     tried: str = "right"
     duplicates: str = "report"
     order: str = "report"
     students: str = "class/students.csv"
-    hints: int = 2                       # the highest step
-    hints_from: datetime | None = None   # moments have a zone
+    hints: int = 2  # the highest step
+    hints_from: datetime | None = None  # moments have a zone
     opens: datetime | None = None
     closes: datetime | None = None
     after_close: str = "nothing"
-    task: Mapping[str, TaskSettings] = field(default_factory=dict)    # by the names of tasks
-    said: frozenset[str] = frozenset()   # the keys that the file has
+    task: Mapping[str, TaskSettings] = field(default_factory=dict)  # by the names of tasks
+    said: frozenset[str] = frozenset()  # the keys that the file has
 
     def of_task(self, name: str) -> TaskSettings:
         return self.task.get(name, TaskSettings())
@@ -90,7 +90,9 @@ def settings_of(found: Mapping[str, Any], tasks: Iterable[str]) -> Settings:
     return settings
 
 
-def checked(found: Mapping[str, Any], known: Mapping[str, Callable[[Any, str], Any]], prefix: str) -> dict[str, Any]:
+def checked(
+    found: Mapping[str, Any], known: Mapping[str, Callable[[Any, str], Any]], prefix: str
+) -> dict[str, Any]:
     values = {}
     for key, value in found.items():
         if key not in known:
@@ -114,8 +116,11 @@ def text(value: Any, key: str) -> str:
 def one_of(*choices: str) -> Callable[[Any, str], str]:
     def check(value: Any, key: str) -> str:
         if value not in choices or not isinstance(value, str):
-            raise Fault(f"{shown(key)}: {' or '.join(map(repr, choices)).replace(chr(39), chr(34))} is wanted")
+            raise Fault(
+                f"{shown(key)}: {' or '.join(map(repr, choices)).replace(chr(39), chr(34))} is wanted"
+            )
         return value
+
     return check
 
 
@@ -124,14 +129,20 @@ def whole(least: int, most: int) -> Callable[[Any, str], int]:
         if type(value) is not int or not least <= value <= most:
             raise Fault(f"{shown(key)}: a whole number from {least} to {most} is wanted")
         return value
+
     return check
 
 
 def number(least: float, most: float, noun: str) -> Callable[[Any, str], float]:
     def check(value: Any, key: str) -> float:
-        if type(value) not in (int, float) or not math.isfinite(value) or not least <= value <= most:
+        if (
+            type(value) not in (int, float)
+            or not math.isfinite(value)
+            or not least <= value <= most
+        ):
             raise Fault(f"{shown(key)}: {noun} from {least:g} to {most:g} is wanted")
-        return value    # type: ignore[no-any-return]
+        return value  # type: ignore[no-any-return]
+
     return check
 
 
@@ -151,12 +162,26 @@ def path(value: Any, key: str) -> str:
 
 MOST = 10**18 - 1
 EXERCISE: dict[str, Callable[[Any, str], Any]] = {
-    "title": text, "time": number(0.001, 1e6, "a number of seconds"), "work": whole(1, MOST), "conflicts": whole(1, MOST),
-    "engine": text, "engine_asker": text, "tried": one_of("right", "by hand"),
-    "duplicates": one_of("ignore", "report", "wrong"), "order": one_of("ignore", "report", "wrong"), "students": path,
-    "hints": whole(0, 3), "hints_from": moment, "opens": moment, "closes": moment,
-    "after_close": one_of("reference", "nothing")}
+    "title": text,
+    "time": number(0.001, 1e6, "a number of seconds"),
+    "work": whole(1, MOST),
+    "conflicts": whole(1, MOST),
+    "engine": text,
+    "engine_asker": text,
+    "tried": one_of("right", "by hand"),
+    "duplicates": one_of("ignore", "report", "wrong"),
+    "order": one_of("ignore", "report", "wrong"),
+    "students": path,
+    "hints": whole(0, 3),
+    "hints_from": moment,
+    "opens": moment,
+    "closes": moment,
+    "after_close": one_of("reference", "nothing"),
+}
 TASK: dict[str, Callable[[Any, str], Any]] = {
-    "title": text, "points": number(0, 1e6, "a number"), "question": path}
+    "title": text,
+    "points": number(0, 1e6, "a number"),
+    "question": path,
+}
 assert {*EXERCISE, "task", "said"} == {one.name for one in fields(Settings)}
 assert set(TASK) == {one.name for one in fields(TaskSettings)}

@@ -37,11 +37,21 @@ def of_database(name: str) -> tuple[Pool, list[str]]:
     held = []
     for table in chosen.values():
         columns = tuple(Column(column.written, column.kind or "TEXT") for column in table.columns)
-        held.append(Held(
-            Table(table.written, columns), [table.rows[number] for number in sorted(table.rows)],
-            [tuple(table.places(key.columns)) for key in table.keys],
-            [Foreign(tuple(table.places(foreign.columns)), order.index(foreign.table),
-                     tuple(chosen[foreign.table].places(foreign.to))) for foreign in table.foreigns]))
+        held.append(
+            Held(
+                Table(table.written, columns),
+                [table.rows[number] for number in sorted(table.rows)],
+                [tuple(table.places(key.columns)) for key in table.keys],
+                [
+                    Foreign(
+                        tuple(table.places(foreign.columns)),
+                        order.index(foreign.table),
+                        tuple(chosen[foreign.table].places(foreign.to)),
+                    )
+                    for foreign in table.foreigns
+                ],
+            )
+        )
     return Pool(export.schema_text(chosen).encode(), held), notes
 
 
@@ -49,18 +59,33 @@ def of_exercise(folder: Path) -> Pool:
     text = exercise.read(folder / "schema.sql")
     tables = tables_of(text.decode("utf-8", "replace"))
     names = [table.name for table in tables]
-    places = [{column.name: place for place, column in enumerate(table.columns)} for table in tables]
+    places = [
+        {column.name: place for place, column in enumerate(table.columns)} for table in tables
+    ]
     held = []
     try:
-        for at, (table, rules) in enumerate(zip(tables, rules_of(text.decode("utf-8", "replace")), strict=True)):
-            held.append(Held(
-                table, rows_of(folder / f"{table.name}.csv", table),
-                [tuple(places[at][name] for name in key) for key in rules.keys],
-                [Foreign(tuple(places[at][name] for name in columns), names.index(target),
-                         tuple(places[names.index(target)][name] for name in to))
-                 for columns, target, to in rules.foreigns]))
+        for at, (table, rules) in enumerate(
+            zip(tables, rules_of(text.decode("utf-8", "replace")), strict=True)
+        ):
+            held.append(
+                Held(
+                    table,
+                    rows_of(folder / f"{table.name}.csv", table),
+                    [tuple(places[at][name] for name in key) for key in rules.keys],
+                    [
+                        Foreign(
+                            tuple(places[at][name] for name in columns),
+                            names.index(target),
+                            tuple(places[names.index(target)][name] for name in to),
+                        )
+                        for columns, target, to in rules.foreigns
+                    ],
+                )
+            )
     except (KeyError, IndexError, ValueError):
-        raise Fault(f"{shown(str(folder))}: schema.sql can't be read: `ratest` tells what is wrong with it") from None
+        raise Fault(
+            f"{shown(str(folder))}: schema.sql can't be read: `ratest` tells what is wrong with it"
+        ) from None
     return Pool(text, held)
 
 
@@ -74,8 +99,12 @@ def rows_of(path: Path, table: Table) -> list[tuple[Cell, ...]]:
     rows: list[tuple[Cell, ...]] = []
     for number, line in enumerate(lines[1:], 1):
         if len(line) != len(table.columns):
-            raise Fault(f"{shown(str(path))}: row {number} has {len(line)} fields, not {len(table.columns)}")
-        rows.append(tuple(cell(value, column, path, number) for value, column in zip(line, table.columns)))
+            raise Fault(
+                f"{shown(str(path))}: row {number} has {len(line)} fields, not {len(table.columns)}"
+            )
+        rows.append(
+            tuple(cell(value, column, path, number) for value, column in zip(line, table.columns))
+        )
     return rows
 
 

@@ -14,8 +14,22 @@ from classroom.exercise.cells import cell, encoded
 SQLITE, POSTGRESQL = PRODUCTS = ("sqlite", "postgresql")
 SIGNS = frozenset("<>=!|")
 # Of no product: SQLite, in which no column fills itself.
-KINDS = {SQLITE: {"INTEGER": "INTEGER"}, POSTGRESQL: {"INTEGER": "bigint", "TEXT": 'text COLLATE "C"'}, "": {"INTEGER": "INT"}}
-__all__ = ["POSTGRESQL", "PRODUCTS", "SQLITE", "Made", "Material", "from_json", "of_rows", "of_schema", "to_json"]
+KINDS = {
+    SQLITE: {"INTEGER": "INTEGER"},
+    POSTGRESQL: {"INTEGER": "bigint", "TEXT": 'text COLLATE "C"'},
+    "": {"INTEGER": "INT"},
+}
+__all__ = [
+    "POSTGRESQL",
+    "PRODUCTS",
+    "SQLITE",
+    "Made",
+    "Material",
+    "from_json",
+    "of_rows",
+    "of_schema",
+    "to_json",
+]
 
 
 @dataclass(frozen=True)
@@ -24,18 +38,18 @@ class Made:
 
     name: str
     statement: str
-    query: str = ""    # of a view
+    query: str = ""  # of a view
 
 
 @dataclass(frozen=True)
 class Material:
     """Tables by the numbers that they have in the pool, and rows in the numbering of the CSV files."""
 
-    product: str                    # one of PRODUCTS
+    product: str  # one of PRODUCTS
     pool: Pool
-    statements: tuple[str, ...]     # one CREATE TABLE a table
+    statements: tuple[str, ...]  # one CREATE TABLE a table
     views: tuple[Made, ...] = ()
-    before: str = ""                # of PostgreSQL, types that the tables need
+    before: str = ""  # of PostgreSQL, types that the tables need
 
     def names(self) -> list[str]:
         return [held.table.name for held in self.pool.held]
@@ -50,8 +64,10 @@ def of_schema(pool: Pool, product: str) -> Material:
     checks, filled = checks_of(text), filled_of(text)
 
     def statements(of: str) -> tuple[str, ...]:
-        return tuple(statement(held, rules.primary, checks[held.table.name], filled[held.table.name], of)
-                     for held, rules in zip(pool.held, rules_of(text), strict=True))
+        return tuple(
+            statement(held, rules.primary, checks[held.table.name], filled[held.table.name], of)
+            for held, rules in zip(pool.held, rules_of(text), strict=True)
+        )
 
     broken: set[Row] = set()
     database = sqlite3.connect(":memory:")
@@ -72,21 +88,36 @@ def of_rows(whole: Material, rows: Collection[Row]) -> Material:
     """The material of some rows, in their order."""
     pool = whole.pool
     kept = [[row.number for row in sorted(rows) if row.table == at] for at in range(len(pool.held))]
-    made = Pool(pool.schema, [replace(held, rows=[held.rows[number] for number in numbers])
-                              for held, numbers in zip(pool.held, kept, strict=True)])
-    made.lawful &= {Row(at, place) for at, numbers in enumerate(kept) for place, number in enumerate(numbers)
-                    if Row(at, number) in pool.lawful}
+    made = Pool(
+        pool.schema,
+        [
+            replace(held, rows=[held.rows[number] for number in numbers])
+            for held, numbers in zip(pool.held, kept, strict=True)
+        ],
+    )
+    made.lawful &= {
+        Row(at, place)
+        for at, numbers in enumerate(kept)
+        for place, number in enumerate(numbers)
+        if Row(at, number) in pool.lawful
+    }
     return replace(whole, pool=made)
 
 
-def statement(held: Held, primary: Sequence[str], checks: Sequence[str], filled: Collection[str], product: str) -> str:
+def statement(
+    held: Held, primary: Sequence[str], checks: Sequence[str], filled: Collection[str], product: str
+) -> str:
     kinds = KINDS[product]
     names = [quoted(column.name) for column in held.table.columns]
-    items = [f"{name} {kinds.get(column.kind, column.kind)}{' NOT NULL' if column.name in filled else ''}"
-             for name, column in zip(names, held.table.columns)]
+    items = [
+        f"{name} {kinds.get(column.kind, column.kind)}{' NOT NULL' if column.name in filled else ''}"
+        for name, column in zip(names, held.table.columns)
+    ]
     for key in held.keys:
         is_primary = [held.table.columns[place].name for place in key] == list(primary)
-        items.append(f"{'PRIMARY KEY' if is_primary else 'UNIQUE'} ({', '.join(names[place] for place in key)})")
+        items.append(
+            f"{'PRIMARY KEY' if is_primary else 'UNIQUE'} ({', '.join(names[place] for place in key)})"
+        )
     items += [f"CHECK ({check})" for check in checks]
     return f"CREATE TABLE {quoted(held.table.name)} ({', '.join(items)})"
 
@@ -97,7 +128,11 @@ def checks_of(text: str) -> dict[str, list[str]]:
     for name, items in items_of(text):
         for item in items:
             for at, token in enumerate(item):
-                if token == Token("word", "check") and at + 1 < len(item) and item[at + 1] == Token("other", "("):
+                if (
+                    token == Token("word", "check")
+                    and at + 1 < len(item)
+                    and item[at + 1] == Token("other", "(")
+                ):
                     found[name].append(condition(item, at + 2))
     return found
 
@@ -105,13 +140,17 @@ def checks_of(text: str) -> dict[str, list[str]]:
 def filled_of(text: str) -> dict[str, set[str]]:
     """The columns of each table that are NOT NULL; those of a primary key are."""
     found: dict[str, set[str]] = {}
-    rules = {table.name: rules for table, rules in zip(tables_of(text), rules_of(text), strict=True)}
+    rules = {
+        table.name: rules for table, rules in zip(tables_of(text), rules_of(text), strict=True)
+    }
     for name, items in items_of(text):
         found[name] = set(rules[name].primary)
         for item in items:
             words = [token.text if token.kind == "word" else "" for token in item]
-            before_check = words[1:words.index("check")] if "check" in words else words[1:]
-            if ("not", "null") in zip(before_check, before_check[1:]) or ("not", "null") in zip(words[-2:], words[-1:]):
+            before_check = words[1 : words.index("check")] if "check" in words else words[1:]
+            if ("not", "null") in zip(before_check, before_check[1:]) or ("not", "null") in zip(
+                words[-2:], words[-1:]
+            ):
                 found[name].add(item[0].text)
     return found
 
@@ -126,7 +165,11 @@ def condition(item: Sequence[Token], at: int) -> str:
             break
         word = quoted(token.text) if token.kind == "quoted" else token.text
         is_joined = token.kind == "other" and (
-            token.text in SIGNS and before in SIGNS or token.text.isdigit() and (before.isdigit() or before == "-"))
+            token.text in SIGNS
+            and before in SIGNS
+            or token.text.isdigit()
+            and (before.isdigit() or before == "-")
+        )
         words.append(word if is_joined else f" {word}")
         before = token.text if token.kind == "other" else ""
         at += 1
@@ -135,23 +178,48 @@ def condition(item: Sequence[Token], at: int) -> str:
 
 def to_json(of: Material) -> dict[str, Any]:
     return {
-        "product": of.product, "statements": list(of.statements), "before": of.before,
-        "lawful": [sorted(row.number for row in of.pool.lawful if row.table == at) for at in range(len(of.pool.held))],
+        "product": of.product,
+        "statements": list(of.statements),
+        "before": of.before,
+        "lawful": [
+            sorted(row.number for row in of.pool.lawful if row.table == at)
+            for at in range(len(of.pool.held))
+        ],
         "views": [[view.name, view.statement, view.query] for view in of.views],
-        "tables": [{
-            "name": held.table.name, "columns": [[column.name, column.kind] for column in held.table.columns],
-            "rows": encoded(held.rows), "keys": encoded(held.keys),
-            "foreigns": [[list(foreign.places), foreign.table, list(foreign.to)] for foreign in held.foreigns],
-        } for held in of.pool.held]}
+        "tables": [
+            {
+                "name": held.table.name,
+                "columns": [[column.name, column.kind] for column in held.table.columns],
+                "rows": encoded(held.rows),
+                "keys": encoded(held.keys),
+                "foreigns": [
+                    [list(foreign.places), foreign.table, list(foreign.to)]
+                    for foreign in held.foreigns
+                ],
+            }
+            for held in of.pool.held
+        ],
+    }
 
 
 def from_json(text: dict[str, Any]) -> Material:
-    held = [Held(
-        Table(of["name"], tuple(Column(name, kind) for name, kind in of["columns"])),
-        cast("list[Cells]", [tuple(map(cell, row)) for row in of["rows"]]),
-        [tuple(key) for key in of["keys"]],
-        [Foreign(tuple(places), table, tuple(to)) for places, table, to in of["foreigns"]]) for of in text["tables"]]
+    held = [
+        Held(
+            Table(of["name"], tuple(Column(name, kind) for name, kind in of["columns"])),
+            cast("list[Cells]", [tuple(map(cell, row)) for row in of["rows"]]),
+            [tuple(key) for key in of["keys"]],
+            [Foreign(tuple(places), table, tuple(to)) for places, table, to in of["foreigns"]],
+        )
+        for of in text["tables"]
+    ]
     pool = Pool(b"", held)
-    pool.lawful &= {Row(at, number) for at, numbers in enumerate(text["lawful"]) for number in numbers}
-    return Material(text["product"], pool, tuple(text["statements"]),
-                    tuple(Made(*view) for view in text["views"]), text["before"])
+    pool.lawful &= {
+        Row(at, number) for at, numbers in enumerate(text["lawful"]) for number in numbers
+    }
+    return Material(
+        text["product"],
+        pool,
+        tuple(text["statements"]),
+        tuple(Made(*view) for view in text["views"]),
+        text["before"],
+    )

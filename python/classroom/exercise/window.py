@@ -11,7 +11,7 @@ class Window:
 
     opens: datetime | None = None
     closes: datetime | None = None
-    shows_references: bool = False    # after it closes
+    shows_references: bool = False  # after it closes
 
     def state(self, now: datetime | None = None) -> str:
         """before, open or after."""

@@ -20,7 +20,14 @@ from classroom.exercise.settings import Settings
 from classroom.verdict import sentences as words
 from classroom.verdict.compare import COLUMNS as COLUMNS_DIFFER
 from classroom.verdict.compare import DUPLICATES, ORDER
-from classroom.verdict.verdict import Differs, NoDifference, NotDetermined, Passed, Verdict, WrongSql
+from classroom.verdict.verdict import (
+    Differs,
+    NoDifference,
+    NotDetermined,
+    Passed,
+    Verdict,
+    WrongSql,
+)
 from classroom.verdict.witness import Outcome
 from ratest.draw import counted
 from ratest.schema import Table
@@ -30,18 +37,22 @@ class Grade(StrEnum):
     """What an answer comes to, in the order in which it is told."""
 
     AGREES = "agrees"
-    NO_DIFFERENCE = "no difference found"    # by trying
+    NO_DIFFERENCE = "no difference found"  # by trying
     DIFFERS = "differs"
-    WRONG_SQL = "wrong SQL"      # the database refuses it too
-    NOT_READ = "not read"        # `ratest` refuses it, or its file is no text of one statement
-    NOT_DETERMINED = "not determined"    # it depends on the order in which the rows are stored
-    NO_VERDICT = "no verdict"    # a limit of size, work, time or memory, or the budget without a result
-    NOT_GRADED = "not graded"    # the task's own reference is refused
+    WRONG_SQL = "wrong SQL"  # the database refuses it too
+    NOT_READ = "not read"  # `ratest` refuses it, or its file is no text of one statement
+    NOT_DETERMINED = "not determined"  # it depends on the order in which the rows are stored
+    NO_VERDICT = (
+        "no verdict"  # a limit of size, work, time or memory, or the budget without a result
+    )
+    NOT_GRADED = "not graded"  # the task's own reference is refused
 
     @property
     def share(self) -> float | None:
         """Of the task's points; None where there is no score."""
-        return {Grade.AGREES: 1, Grade.NO_DIFFERENCE: 1, Grade.DIFFERS: 0, Grade.WRONG_SQL: 0}.get(self)
+        return {Grade.AGREES: 1, Grade.NO_DIFFERENCE: 1, Grade.DIFFERS: 0, Grade.WRONG_SQL: 0}.get(
+            self
+        )
 
     @property
     def css(self) -> str:
@@ -54,17 +65,29 @@ class Grade(StrEnum):
 
 
 COUNTED = {
-    Grade.AGREES: ("agrees", "agree"), Grade.DIFFERS: ("differs", "differ"),
+    Grade.AGREES: ("agrees", "agree"),
+    Grade.DIFFERS: ("differs", "differ"),
     Grade.NO_DIFFERENCE: ("has no difference that was found", "have no difference that was found"),
     Grade.NOT_DETERMINED: ("is not determined", "are not determined"),
-    Grade.WRONG_SQL: ("is wrong SQL", "are wrong SQL"), Grade.NOT_READ: ("is not read", "are not read"),
-    Grade.NO_VERDICT: ("has no verdict", "have no verdict"), Grade.NOT_GRADED: ("is not graded", "are not graded")}
+    Grade.WRONG_SQL: ("is wrong SQL", "are wrong SQL"),
+    Grade.NOT_READ: ("is not read", "are not read"),
+    Grade.NO_VERDICT: ("has no verdict", "have no verdict"),
+    Grade.NOT_GRADED: ("is not graded", "are not graded"),
+}
 LIMIT = "passes a limit: "
 PROVED = "proved"
 OTHER_COLUMNS, PERHAPS_FEWER = "other columns", "perhaps on fewer rows"
 # What `ratest` says of a text that a database, too, might refuse.
-WRONG = ("syntax fault", "unexpected byte", "text without end", "comment without end", "unknown table",
-         "unknown column", "ambiguous column", "numbers of columns differ")
+WRONG = (
+    "syntax fault",
+    "unexpected byte",
+    "text without end",
+    "comment without end",
+    "unknown table",
+    "unknown column",
+    "ambiguous column",
+    "numbers of columns differ",
+)
 # What differs from one answer to the next: places in the text, and what it would cost.
 PLACE = re.compile(r" (?:near byte|at byte|from byte|at) [0-9]+|(?<=work) [0-9]+(?= is above)")
 MOST_NAMES = 8
@@ -78,20 +101,24 @@ class Graded:
     answer: Answer
     grade: Grade
     outcome: Outcome
-    fault: str = ""                   # why it is refused or has no verdict; empty where nothing has to be said
-    remarks: tuple[str, ...] = ()     # as PERHAPS_FEWER, or that it was read as Latin-1
-    ran: Ran | None = None            # None where it was not run
-    key: str = ""                     # of the record of its run
-    trial: Verdict | None = None      # what a database said of it
-    trial_key: str = ""               # of the record of that
-    is_open: bool = False             # whether the teacher wants to look at it all the same
-    of_reference: str = ""            # why a database can't answer the reference, which no student is told
+    fault: str = ""  # why it is refused or has no verdict; empty where nothing has to be said
+    remarks: tuple[str, ...] = ()  # as PERHAPS_FEWER, or that it was read as Latin-1
+    ran: Ran | None = None  # None where it was not run
+    key: str = ""  # of the record of its run
+    trial: Verdict | None = None  # what a database said of it
+    trial_key: str = ""  # of the record of that
+    is_open: bool = False  # whether the teacher wants to look at it all the same
+    of_reference: str = ""  # why a database can't answer the reference, which no student is told
 
     @property
     def is_tried(self) -> bool:
         """Whether the grade comes from trying."""
-        return self.trial is not None and self.grade not in (Grade.AGREES, Grade.NOT_GRADED, Grade.NOT_READ) \
-            and not self.of_reference and not isinstance(self.trial.outcome, Passed)
+        return (
+            self.trial is not None
+            and self.grade not in (Grade.AGREES, Grade.NOT_GRADED, Grade.NOT_READ)
+            and not self.of_reference
+            and not isinstance(self.trial.outcome, Passed)
+        )
 
     @property
     def record(self) -> str:
@@ -103,11 +130,21 @@ class Graded:
         """Where the grade comes from: PROVED or an engine; empty where there is no verdict."""
         if self.trial and self.is_tried:
             return self.trial.engine
-        return PROVED if self.grade in (Grade.AGREES, Grade.DIFFERS) else wrong.ENGINE if self.grade == Grade.WRONG_SQL else ""
+        return (
+            PROVED
+            if self.grade in (Grade.AGREES, Grade.DIFFERS)
+            else wrong.ENGINE
+            if self.grade == Grade.WRONG_SQL
+            else ""
+        )
 
     @property
     def tried_witness(self) -> Differs | None:
-        return self.trial.outcome if self.trial and self.is_tried and isinstance(self.trial.outcome, Differs) else None
+        return (
+            self.trial.outcome
+            if self.trial and self.is_tried and isinstance(self.trial.outcome, Differs)
+            else None
+        )
 
     @property
     def rows(self) -> int | None:
@@ -127,7 +164,11 @@ class Graded:
     @property
     def points(self) -> float | None:
         """None where there is no score."""
-        return None if self.grade.share is None or self.is_open else self.grade.share * self.most_points
+        return (
+            None
+            if self.grade.share is None or self.is_open
+            else self.grade.share * self.most_points
+        )
 
     @property
     def why(self) -> str:
@@ -137,12 +178,16 @@ class Graded:
     @property
     def whole_fault(self) -> str:
         """The fault with what is of the reference, for the teacher."""
-        return "; ".join(filter(None, (self.fault, self.of_reference and f"reference.sql: {self.of_reference}")))
+        return "; ".join(
+            filter(None, (self.fault, self.of_reference and f"reference.sql: {self.of_reference}"))
+        )
 
     @property
     def reason(self) -> str:
         """Why it has no score, without what is of this text alone."""
-        why = self.whole_fault or (self.remarks[-1] if self.grade == Grade.AGREES and self.remarks else "")
+        why = self.whole_fault or (
+            self.remarks[-1] if self.grade == Grade.AGREES and self.remarks else ""
+        )
         return f"{self.grade}: {PLACE.sub('', why)}" if why else str(self.grade)
 
 
@@ -163,7 +208,10 @@ def verdict_of(outcome: Outcome, status: int = 0, is_wrong: bool = False) -> Mea
     if isinstance(outcome, witness.Undecided):
         if outcome.best is not None:
             return Meaning(Grade.DIFFERS, remarks=(PERHAPS_FEWER,))
-        return Meaning(Grade.NO_VERDICT, f"{counted(outcome.conflicts, 'conflict')} {'was' if outcome.conflicts == 1 else 'were'} not enough")
+        return Meaning(
+            Grade.NO_VERDICT,
+            f"{counted(outcome.conflicts, 'conflict')} {'was' if outcome.conflicts == 1 else 'were'} not enough",
+        )
     if isinstance(outcome, witness.Refused):
         if outcome.part == "queries" and outcome.fault == "numbers of columns differ":
             return Meaning(Grade.DIFFERS, remarks=(OTHER_COLUMNS,))
@@ -179,16 +227,28 @@ def verdict_of(outcome: Outcome, status: int = 0, is_wrong: bool = False) -> Mea
 
 def passes_limit(of: Graded) -> bool:
     """Whether over fewer rows it might have a verdict."""
-    return of.grade == Grade.NO_VERDICT and (of.fault.startswith(LIMIT) or bool(of.ran and of.ran.passed))
+    return of.grade == Grade.NO_VERDICT and (
+        of.fault.startswith(LIMIT) or bool(of.ran and of.ran.passed)
+    )
 
 
 def may_be_wrong(outcome: Outcome) -> bool:
     """Whether the answer is refused for what a database, too, might refuse."""
-    return isinstance(outcome, witness.Refused) and outcome.part == "query 2" and outcome.fault.startswith(WRONG)
+    return (
+        isinstance(outcome, witness.Refused)
+        and outcome.part == "query 2"
+        and outcome.fault.startswith(WRONG)
+    )
 
 
-def graded(task: Task, answer: Answer, tables: Sequence[Table], ran: Ran | None = None, key: str = "",
-           is_wrong: bool = False) -> Graded:
+def graded(
+    task: Task,
+    answer: Answer,
+    tables: Sequence[Table],
+    ran: Ran | None = None,
+    key: str = "",
+    is_wrong: bool = False,
+) -> Graded:
     """The grade of an answer by its run over these tables, None where there was none."""
     outcome: Outcome = witness.NoVerdict("")
     if task.fault:
@@ -201,10 +261,23 @@ def graded(task: Task, answer: Answer, tables: Sequence[Table], ran: Ran | None 
         outcome = witness.read(ran, tables)
         verdict = verdict_of(outcome, ran.status, is_wrong)
     fault = verdict.fault
-    if isinstance(outcome, witness.Refused) and outcome.part == "query 2" and outcome.place is not None:
+    if (
+        isinstance(outcome, witness.Refused)
+        and outcome.part == "query 2"
+        and outcome.place is not None
+    ):
         odd = texts.odd_character(answer.text.query.decode("utf-8", "replace"), outcome.place)
         fault = f"{fault}: {odd}" if odd else fault
-    return Graded(task, answer, verdict.grade, outcome, fault, (*verdict.remarks, *answer.text.remarks), ran, key)
+    return Graded(
+        task,
+        answer,
+        verdict.grade,
+        outcome,
+        fault,
+        (*verdict.remarks, *answer.text.remarks),
+        ran,
+        key,
+    )
 
 
 def with_trial(of: Graded, found: Verdict, said: Settings, key: str = "") -> Graded:
@@ -213,34 +286,64 @@ def with_trial(of: Graded, found: Verdict, said: Settings, key: str = "") -> Gra
     outcome = found.outcome
     if of.grade == Grade.AGREES:
         if isinstance(outcome, Differs):
-            return replace(of, grade=Grade.DIFFERS, remarks=(*of.remarks, words.KINDS[outcome.difference]))
-        others = [remark for remark in found.remarks if remark.difference not in (DUPLICATES, ORDER)]
+            return replace(
+                of, grade=Grade.DIFFERS, remarks=(*of.remarks, words.KINDS[outcome.difference])
+            )
+        others = [
+            remark for remark in found.remarks if remark.difference not in (DUPLICATES, ORDER)
+        ]
         if others:
             # As a time that is compared as a text in the CSV files: whoever is right, a teacher looks at it.
-            return replace(of, remarks=(*of.remarks, f"agrees {words.remark(others[0])}"), is_open=True)
+            return replace(
+                of, remarks=(*of.remarks, f"agrees {words.remark(others[0])}"), is_open=True
+            )
         return replace(of, remarks=(*of.remarks, *slight(found, said, "agrees as a set")))
     if isinstance(outcome, Differs):
-        told = [words.KINDS[outcome.difference]] if outcome.difference != COLUMNS_DIFFER else [OTHER_COLUMNS]
-        return replace(of, grade=Grade.DIFFERS, fault=words.failure(outcome), remarks=(*of.answer.text.remarks, *told))
+        told = (
+            [words.KINDS[outcome.difference]]
+            if outcome.difference != COLUMNS_DIFFER
+            else [OTHER_COLUMNS]
+        )
+        return replace(
+            of,
+            grade=Grade.DIFFERS,
+            fault=words.failure(outcome),
+            remarks=(*of.answer.text.remarks, *told),
+        )
     if isinstance(outcome, NoDifference):
-        return replace(of, grade=Grade.NO_DIFFERENCE, fault="", is_open=said.tried == "by hand",
-                       remarks=(*of.answer.text.remarks, *slight(found, said, "the same as a set")))
+        return replace(
+            of,
+            grade=Grade.NO_DIFFERENCE,
+            fault="",
+            is_open=said.tried == "by hand",
+            remarks=(*of.answer.text.remarks, *slight(found, said, "the same as a set")),
+        )
     if isinstance(outcome, NotDetermined):
         return replace(of, grade=Grade.NOT_DETERMINED, fault=words.not_determined(outcome))
     why = words.refusal(outcome, found.engine)
     if outcome.is_reference:
         return replace(of, grade=Grade.NOT_GRADED if of.task.fault else of.grade, of_reference=why)
     if isinstance(outcome, WrongSql):
-        return replace(of, grade=Grade.WRONG_SQL, fault=f"{why}{place_of(of.answer.text.query, outcome.place)}")
+        return replace(
+            of, grade=Grade.WRONG_SQL, fault=f"{why}{place_of(of.answer.text.query, outcome.place)}"
+        )
     if isinstance(outcome, Passed):
         return replace(of, grade=Grade.NO_VERDICT, fault=why)
-    return replace(of, grade=Grade.NOT_READ, fault=f"{of.fault}; {why}" if of.fault and not of.task.fault else why)
+    return replace(
+        of,
+        grade=Grade.NOT_READ,
+        fault=f"{of.fault}; {why}" if of.fault and not of.task.fault else why,
+    )
 
 
 def slight(found: Verdict, said: Settings, begin: str, tells_rows: bool = True) -> list[str]:
     """What differs in duplicates or order alone, as far as it is wanted."""
     wanted = {DUPLICATES: said.duplicates, ORDER: said.order}
-    return [f"{begin}; {words.remark(remark, tells_rows)}" for remark in found.remarks if wanted.get(remark.difference, "ignore") != "ignore"]
+    return [
+        f"{begin}; {words.remark(remark, tells_rows)}"
+        for remark in found.remarks
+        if wanted.get(remark.difference, "ignore") != "ignore"
+    ]
 
 
 def place_of(query: bytes, place: int | None) -> str:
@@ -248,7 +351,7 @@ def place_of(query: bytes, place: int | None) -> str:
     if place is None:
         return ""
     text = query.decode("utf-8", "replace").removeprefix("\ufeff")
-    before = text[:len(text) - len(text.lstrip()) + place]
+    before = text[: len(text) - len(text.lstrip()) + place]
     return f" (line {before.count(chr(10)) + 1}, column {len(before) - before.rfind(chr(10))})"
 
 
@@ -291,10 +394,18 @@ def number(points: float) -> str:
 
 def results_json(graded: Sequence[Graded]) -> bytes:
     """For an autograder, as Gradescope reads it: one test an answer that has a score, with what decided it."""
-    tests = [{
-        "name": f"{of.task.label}/{of.answer.label}", "score": of.points, "max_score": of.most_points,
-        "status": "passed" if of.grade.share else "failed", "decided_by": of.decided_by, "output": output(of),
-    } for of in graded if of.points is not None]
+    tests = [
+        {
+            "name": f"{of.task.label}/{of.answer.label}",
+            "score": of.points,
+            "max_score": of.most_points,
+            "status": "passed" if of.grade.share else "failed",
+            "decided_by": of.decided_by,
+            "output": output(of),
+        }
+        for of in graded
+        if of.points is not None
+    ]
     return (json.dumps({"tests": tests}, indent=1) + "\n").encode("ascii")
 
 

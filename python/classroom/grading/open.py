@@ -44,8 +44,12 @@ class Opened:
 
 
 def options_of(work: int | None, conflicts: int | None) -> tuple[str, ...]:
-    return tuple(word for name, value in (("work", work), ("conflicts", conflicts)) if value
-                 for word in (f"--{name}", str(value)))
+    return tuple(
+        word
+        for name, value in (("work", work), ("conflicts", conflicts))
+        if value
+        for word in (f"--{name}", str(value))
+    )
 
 
 def opened(arguments: argparse.Namespace, seconds: float, conflicts: int | None = None) -> Opened:
@@ -57,21 +61,36 @@ def opened(arguments: argparse.Namespace, seconds: float, conflicts: int | None 
     said = given.settings
     if said.without_effect:
         log.warning("%s: without effect so far: %s", FILE, ", ".join(said.without_effect))
-    work, conflicts = arguments.work or said.work, arguments.conflicts or said.conflicts or conflicts
+    work, conflicts = (
+        arguments.work or said.work,
+        arguments.conflicts or said.conflicts or conflicts,
+    )
     limits = Limits(arguments.time or said.time or seconds, arguments.memory)
     ratest = program.find()
     tries = not getattr(arguments, "only_proved", True)
-    made = Opened(asked(given, ratest, limits, options_of(work, conflicts), tries and has_full(given.folder)),
-                  ratest, limits, work, conflicts)
+    made = Opened(
+        asked(given, ratest, limits, options_of(work, conflicts), tries and has_full(given.folder)),
+        ratest,
+        limits,
+        work,
+        conflicts,
+    )
     for task in made.given.tasks:
         if task.fault:
             is_tried = tries and task.reference
-            log.log(logging.INFO if is_tried else logging.WARNING, "task %s is not %s: %s", shown(task.name),
-                    "proved" if is_tried else "graded", shown(task.fault))
+            log.log(
+                logging.INFO if is_tried else logging.WARNING,
+                "task %s is not %s: %s",
+                shown(task.name),
+                "proved" if is_tried else "graded",
+                shown(task.fault),
+            )
     return made
 
 
-def asked(given: Exercise, ratest: Path, limits: Limits, options: Sequence[str], goes_on: bool = False) -> Exercise:
+def asked(
+    given: Exercise, ratest: Path, limits: Limits, options: Sequence[str], goes_on: bool = False
+) -> Exercise:
     """The exercise with what is found of each reference. Where the schema or a row is refused, it is a Fault; if
     it goes on it is that of each task."""
     limits = limits._replace(seconds=min(limits.seconds, REFERENCE_SECONDS))
@@ -83,7 +102,9 @@ def asked(given: Exercise, ratest: Path, limits: Limits, options: Sequence[str],
         for task in given.tasks:
             # Not the name of a table's file.
             (work / "reference").write_bytes(task.reference)
-            ran = program.run(ratest, ["schema.sql", ".", "reference", "reference", *options], limits, work)
+            ran = program.run(
+                ratest, ["schema.sql", ".", "reference", "reference", *options], limits, work
+            )
             tasks.append(found(given, task, ran, options, goes_on))
     return replace(given, tasks=tuple(tasks))
 
@@ -94,7 +115,9 @@ def found(given: Exercise, task: Task, ran: Ran, options: Sequence[str], goes_on
         raise Fault(f"`ratest` doesn't take {' '.join(options)}")
     outcome = witness.read(ran, given.tables)
     line = ran.stderr.decode("utf-8", "replace").strip().removeprefix("ratest: ")
-    if isinstance(outcome, witness.Refused) and (outcome.part == "schema" or outcome.part.startswith("table ")):
+    if isinstance(outcome, witness.Refused) and (
+        outcome.part == "schema" or outcome.part.startswith("table ")
+    ):
         if not goes_on:
             raise Fault(f"{shown(str(given.folder))}: {shown(line)}")
         return task if task.fault else replace(task, fault=line)

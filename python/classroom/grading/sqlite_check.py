@@ -10,11 +10,28 @@ import json
 import sqlite3
 import sys
 
-ALLOWED = (sqlite3.SQLITE_SELECT, sqlite3.SQLITE_READ, sqlite3.SQLITE_FUNCTION, sqlite3.SQLITE_RECURSIVE)
+ALLOWED = (
+    sqlite3.SQLITE_SELECT,
+    sqlite3.SQLITE_READ,
+    sqlite3.SQLITE_FUNCTION,
+    sqlite3.SQLITE_RECURSIVE,
+)
 # The beginnings, or parts, of what SQLite says where the fault is the query's and no limit of its own.
-REFUSALS = ("no such table", "no such column", "syntax error", "unrecognized token", "incomplete input",
-            "ambiguous column name", "do not have the same number of result columns", "misuse of aggregate",
-            "columns assigned", "row value misused", "no tables specified", "HAVING clause", "sub-select returns")
+REFUSALS = (
+    "no such table",
+    "no such column",
+    "syntax error",
+    "unrecognized token",
+    "incomplete input",
+    "ambiguous column name",
+    "do not have the same number of result columns",
+    "misuse of aggregate",
+    "columns assigned",
+    "row value misused",
+    "no tables specified",
+    "HAVING clause",
+    "sub-select returns",
+)
 
 
 def fault_of(tables: list[tuple[str, list[str]]], query: str) -> str | None:
@@ -24,7 +41,9 @@ def fault_of(tables: list[tuple[str, list[str]]], query: str) -> str | None:
             database.execute(f"CREATE TABLE {quoted(name)} ({', '.join(map(quoted, columns))})")
     except sqlite3.Error:
         return None
-    database.set_authorizer(lambda action, *_: sqlite3.SQLITE_OK if action in ALLOWED else sqlite3.SQLITE_DENY)
+    database.set_authorizer(
+        lambda action, *_: sqlite3.SQLITE_OK if action in ALLOWED else sqlite3.SQLITE_DENY
+    )
     try:
         database.execute(f"EXPLAIN {query}")
     except (sqlite3.Error, ValueError, sqlite3.Warning) as fault:
@@ -38,7 +57,9 @@ def quoted(name: str) -> str:
 
 
 def main() -> int:
-    with open(sys.argv[1], encoding="utf-8") as tables, open(sys.argv[2], encoding="utf-8") as query:
+    with open(sys.argv[1], encoding="utf-8") as tables, open(
+        sys.argv[2], encoding="utf-8"
+    ) as query:
         print(json.dumps(fault_of(json.load(tables), query.read())))
     return 0
 

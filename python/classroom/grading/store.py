@@ -71,7 +71,11 @@ class Results:
         """Removes what a run that was killed left unfinished."""
         for path in self.folder.glob(f"{WORK}*"):
             shutil.rmtree(path, ignore_errors=True)
-        for path in [path for depth in ("", "*/", "*/*/") for path in self.folder.glob(f"{depth}{UNFINISHED}*")]:
+        for path in [
+            path
+            for depth in ("", "*/", "*/*/")
+            for path in self.folder.glob(f"{depth}{UNFINISHED}*")
+        ]:
             path.unlink(missing_ok=True)
 
     def path(self, key: str) -> Path:
@@ -80,10 +84,19 @@ class Results:
     def keep(self, key: str, ran: Ran, limits: Limits) -> None:
         """Writes the record of a run."""
         record = json.loads(worker.line(key, ran))
-        write(self.path(key), _json({
-            "status": record[1], "passed": record[5], "seconds": record[4],
-            "limits": {"seconds": limits.seconds, "megabytes": limits.megabytes},
-            "stdout": record[2], "stderr": record[3]}))
+        write(
+            self.path(key),
+            _json(
+                {
+                    "status": record[1],
+                    "passed": record[5],
+                    "seconds": record[4],
+                    "limits": {"seconds": limits.seconds, "megabytes": limits.megabytes},
+                    "stdout": record[2],
+                    "stderr": record[3],
+                }
+            ),
+        )
 
     def run(self, key: str) -> Ran | None:
         """The run of a key; None where there is no record that can be read."""
@@ -100,7 +113,9 @@ class Results:
         if not record:
             return False
         if record["passed"]:
-            return bool(record.get("limits") == {"seconds": limits.seconds, "megabytes": limits.megabytes})
+            return bool(
+                record.get("limits") == {"seconds": limits.seconds, "megabytes": limits.megabytes}
+            )
         return 0 <= int(record["status"]) < FILE_FAULT
 
     def _record(self, key: str) -> dict[str, Any] | None:
@@ -136,24 +151,50 @@ class Results:
         """Writes what is made of all records, and removes what was written before and belongs to no answer any
         more. What else there is in the folder is left alone."""
         texts = {f"tasks/{of.task.name}/{of.answer.name}.txt": of for of in graded}
-        wanted = {*texts, *(f"runs/{of.key}.json" for of in graded if of.key),
-                  *(trial_name(of.trial_key) for of in graded if of.trial_key)}
+        wanted = {
+            *texts,
+            *(f"runs/{of.key}.json" for of in graded if of.key),
+            *(trial_name(of.trial_key) for of in graded if of.trial_key),
+        }
         written = self._written()
         self.will_write(wanted)
         write(self.folder / "grades.csv", grades.grades_csv(graded))
         write(self.folder / "results.json", grades.results_json(graded))
-        write(self.folder / "answers.json", _json({
-            "shared": given.digest,
-            "references": {task.name: {"text": digest(task.reference), "fault": task.fault, "limit": task.limit}
-                           for task in given.tasks},
-            "answers": [{"task": of.task.name, "answer": of.answer.name, "text": digest(of.answer.text.whole),
-                         "fault": of.answer.fault, "run": of.key, "trial": of.trial_key} for of in graded]}))
+        write(
+            self.folder / "answers.json",
+            _json(
+                {
+                    "shared": given.digest,
+                    "references": {
+                        task.name: {
+                            "text": digest(task.reference),
+                            "fault": task.fault,
+                            "limit": task.limit,
+                        }
+                        for task in given.tasks
+                    },
+                    "answers": [
+                        {
+                            "task": of.task.name,
+                            "answer": of.answer.name,
+                            "text": digest(of.answer.text.whole),
+                            "fault": of.answer.fault,
+                            "run": of.key,
+                            "trial": of.trial_key,
+                        }
+                        for of in graded
+                    ],
+                }
+            ),
+        )
         for name, of in texts.items():
             path = self.folder / name
             try:
                 path.parent.mkdir(parents=True, exist_ok=True)
             except (FileExistsError, NotADirectoryError):
-                raise Fault(f"{shown(str(path.parent))}: no folder, so the texts of its answers are not written") from None
+                raise Fault(
+                    f"{shown(str(path.parent))}: no folder, so the texts of its answers are not written"
+                ) from None
             write(path, grades.answer_text(of))
         for name in written - wanted:
             self._remove(name)
@@ -168,13 +209,21 @@ class Results:
     def _written(self) -> set[str]:
         """The files below the folder that a run has written, by the list; where there is none yet, by answers.json."""
         try:
-            return {str(name) for name in json.loads((self.folder / WRITTEN).read_bytes()) if _is_ours(str(name))}
+            return {
+                str(name)
+                for name in json.loads((self.folder / WRITTEN).read_bytes())
+                if _is_ours(str(name))
+            }
         except (OSError, ValueError, TypeError):
             pass
         try:
             answers = json.loads((self.folder / "answers.json").read_bytes())["answers"]
-            return {name for of in answers for name in (
-                f"tasks/{of['task']}/{of['answer']}.txt", f"runs/{of['run']}.json") if _is_ours(name)}
+            return {
+                name
+                for of in answers
+                for name in (f"tasks/{of['task']}/{of['answer']}.txt", f"runs/{of['run']}.json")
+                if _is_ours(name)
+            }
         except (OSError, ValueError, KeyError, TypeError):
             return set()
 
@@ -185,7 +234,7 @@ class Results:
             if path.parent != self.runs:
                 path.parent.rmdir()
         except OSError:
-            pass    # a folder in which something else stands, or a file in place of a folder
+            pass  # a folder in which something else stands, or a file in place of a folder
 
     def graded(self, given: Exercise) -> tuple[Exercise, list[Graded]]:
         """The exercise with what was found of its references, and the grades, as they were published; a Fault
@@ -193,10 +242,15 @@ class Results:
         try:
             kept = json.loads((self.folder / "answers.json").read_bytes())
             known = {(of["task"], of["answer"]): of for of in kept["answers"]}
-            references = {name: (of["text"], of["fault"], of["limit"]) for name, of in kept["references"].items()}
+            references = {
+                name: (of["text"], of["fault"], of["limit"])
+                for name, of in kept["references"].items()
+            }
             shared = kept["shared"]
         except (OSError, ValueError, KeyError, TypeError, AttributeError):
-            raise Fault(f"{shown(str(given.folder))} is not graded: classroom grade does that") from None
+            raise Fault(
+                f"{shown(str(given.folder))} is not graded: classroom grade does that"
+            ) from None
         again = "has changed since it was graded: classroom grade grades it anew"
         if shared != given.digest:
             raise Fault(f"{shown(str(given.folder))}: the schema or a row {again}")
@@ -209,16 +263,33 @@ class Results:
             for answer in task.answers:
                 of = known.pop((task.name, answer.name), None)
                 key = str(of["run"]) if of else ""
-                if not of or of["text"] != digest(answer.text.whole) or of["fault"] != answer.fault or key and not self.run(key):
+                if (
+                    not of
+                    or of["text"] != digest(answer.text.whole)
+                    or of["fault"] != answer.fault
+                    or key
+                    and not self.run(key)
+                ):
                     raise Fault(f"task {shown(task.name)}: the answer {shown(answer.name)} {again}")
-                found.append(self.graded_one(tasks[-1], answer, given, key, str(of.get("trial", ""))))
+                found.append(
+                    self.graded_one(tasks[-1], answer, given, key, str(of.get("trial", "")))
+                )
         return replace(given, tasks=tuple(tasks)), found
 
-    def graded_one(self, task: Task, answer: Answer, given: Exercise, key: str, trial_key: str = "") -> Graded:
+    def graded_one(
+        self, task: Task, answer: Answer, given: Exercise, key: str, trial_key: str = ""
+    ) -> Graded:
         """The grade of an answer by the records of its run and of its trial."""
         record = self._record(key) if key else None
         ran = _ran(record) if record else None
-        made = grades.graded(task, answer, given.tables, ran, key if ran else "", bool(_refusal(record, wrong.ENGINE)))
+        made = grades.graded(
+            task,
+            answer,
+            given.tables,
+            ran,
+            key if ran else "",
+            bool(_refusal(record, wrong.ENGINE)),
+        )
         found = self.trial(trial_key) if trial_key else None
         return grades.with_trial(made, found, given.settings, trial_key) if found else made
 
@@ -237,7 +308,9 @@ def trial_name(key: str) -> str:
 def _is_ours(name: str) -> bool:
     """Whether it names a text of an answer or a record, and nothing outside of their folders."""
     parts = name.split("/")
-    return ".." not in parts and (len(parts) == 3 and parts[0] == "tasks" or len(parts) == 2 and parts[0] == "runs")
+    return ".." not in parts and (
+        len(parts) == 3 and parts[0] == "tasks" or len(parts) == 2 and parts[0] == "runs"
+    )
 
 
 def _json(value: object) -> bytes:
@@ -246,9 +319,15 @@ def _json(value: object) -> bytes:
 
 def _refusal(record: dict[str, Any] | None, engine: str) -> str | None:
     said = record.get("database") if record else None
-    return str(said.get("fault", "")) if isinstance(said, dict) and said.get("engine") == engine else None
+    return (
+        str(said.get("fault", ""))
+        if isinstance(said, dict) and said.get("engine") == engine
+        else None
+    )
 
 
 def _ran(record: dict[str, Any]) -> Ran:
     texts = [str(record[name]).encode("utf-8", "surrogateescape") for name in ("stdout", "stderr")]
-    return Ran(int(record["status"]), texts[0], texts[1], float(record["seconds"]), str(record["passed"]))
+    return Ran(
+        int(record["status"]), texts[0], texts[1], float(record["seconds"]), str(record["passed"])
+    )

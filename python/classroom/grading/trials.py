@@ -44,9 +44,17 @@ log = logging.getLogger(__name__)
 
 
 def add_arguments(parser: argparse.ArgumentParser) -> None:
-    parser.add_argument("--only-proved", action="store_true", help="try nothing: only what `ratest` proves has a verdict")
-    parser.add_argument("--engine", metavar="ENGINE", help="what tries the answers that `ratest` doesn't decide: sqlite, or the "
-                        "connection of an empty database of PostgreSQL; else as exercise.toml says")
+    parser.add_argument(
+        "--only-proved",
+        action="store_true",
+        help="try nothing: only what `ratest` proves has a verdict",
+    )
+    parser.add_argument(
+        "--engine",
+        metavar="ENGINE",
+        help="what tries the answers that `ratest` doesn't decide: sqlite, or the "
+        "connection of an empty database of PostgreSQL; else as exercise.toml says",
+    )
 
 
 @dataclass(frozen=True)
@@ -55,13 +63,17 @@ class Trial:
 
     material: Material
     options: Options
-    rest: tuple[object, ...]    # of what decides a verdict what is neither of the material nor of the two queries
-    reports: bool               # whether what differs in duplicates or order is looked for
+    rest: tuple[
+        object, ...
+    ]  # of what decides a verdict what is neither of the material nor of the two queries
+    reports: bool  # whether what differs in duplicates or order is looked for
 
     @cached_property
     def digest(self) -> str:
         """Of all that decides a verdict but the two queries."""
-        whole = json.dumps([material.to_json(self.material), self.options.seconds, self.options.looks, *self.rest])
+        whole = json.dumps(
+            [material.to_json(self.material), self.options.seconds, self.options.looks, *self.rest]
+        )
         return digest(FORMAT, whole.encode("utf-8", "surrogatepass"))
 
     def over(self, rows: Material) -> Trial:
@@ -69,7 +81,9 @@ class Trial:
         return replace(self, material=rows)
 
     def key(self, task: Task, answer: Answer, agrees: bool) -> str:
-        return digest(self.digest.encode(), task.reference, answer.text.query, b"agrees" if agrees else b"")
+        return digest(
+            self.digest.encode(), task.reference, answer.text.query, b"agrees" if agrees else b""
+        )
 
     def asked(self, task: Task, answer: Answer) -> bool:
         """Whether there are two texts."""
@@ -90,7 +104,13 @@ def trial_of(given: Exercise, seconds: float, engine: str | None = None) -> Tria
     return trial_over(held, lambda: of_exercise(given.folder), given.settings, seconds, engine)
 
 
-def trial_over(held: Material | None, plain: Callable[[], Pool], said: Settings, seconds: float, engine: str | None = None) -> Trial:
+def trial_over(
+    held: Material | None,
+    plain: Callable[[], Pool],
+    said: Settings,
+    seconds: float,
+    engine: str | None = None,
+) -> Trial:
     """How is tried over the rows as a database had them; where there are none of the engine's product, over the plain
     rows of the CSV files."""
     library("sqlglot", "python3-sqlglot")
@@ -99,11 +119,19 @@ def trial_over(held: Material | None, plain: Callable[[], Pool], said: Settings,
     if held is None or held.product != product:
         held = material.of_schema(plain(), product)
     if product == POSTGRESQL and (word == POSTGRESQL or not said.engine_asker):
-        raise Fault("exercise.toml: engine and engine_asker: the connections of two roles of PostgreSQL are wanted, as docs/GUIDE.md tells")
+        raise Fault(
+            "exercise.toml: engine and engine_asker: the connections of two roles of PostgreSQL are wanted, as docs/GUIDE.md tells"
+        )
     wants = [said.duplicates == "wrong", said.order == "wrong"]
     loader, asker = (word, said.engine_asker) if product == POSTGRESQL else ("", "")
     options = Options(max(LEAST_SECONDS, min(SECONDS, seconds)), wants[0], wants[1], loader, asker)
-    rest = (*wants, said.duplicates, said.order, word, sqlite3.sqlite_version if product == SQLITE else "")
+    rest = (
+        *wants,
+        said.duplicates,
+        said.order,
+        word,
+        sqlite3.sqlite_version if product == SQLITE else "",
+    )
     return Trial(held, options, rest, {said.duplicates, said.order} != {"ignore"})
 
 
@@ -122,7 +150,11 @@ def is_same(held: Material, given: Exercise) -> bool:
     """Whether each table of schema.sql has as many rows in the CSV file as in the picture of the database."""
     counts = {of.table.name: len(of.rows) for of in held.pool.held}
     for table in given.tables:
-        lines = csv.reader(io.StringIO(given.files.get(f"{table.name}.csv", b"").decode("utf-8", "replace"), newline=""))
+        lines = csv.reader(
+            io.StringIO(
+                given.files.get(f"{table.name}.csv", b"").decode("utf-8", "replace"), newline=""
+            )
+        )
         if counts.get(table.name) != sum(1 for line in lines if line) - 1:
             return False
     return True
@@ -133,7 +165,9 @@ def product_of(word: str) -> str:
         return word
     if "=" in word or re.match("postgres(ql)?://", word):
         return POSTGRESQL
-    raise Fault(f"engine: {shown(word)}: sqlite is wanted, or a connection as postgresql://USER@HOST/DATABASE")
+    raise Fault(
+        f"engine: {shown(word)}: sqlite is wanted, or a connection as postgresql://USER@HOST/DATABASE"
+    )
 
 
 def is_open(outcome: Outcome) -> bool:
@@ -156,8 +190,12 @@ class Question:
 
     @property
     def pair(self) -> Pair:
-        return Pair(self.task.reference, self.answer.text.query, f"task {shown(self.task.label)}: the answer {shown(self.answer.label)}",
-                    self.agrees)
+        return Pair(
+            self.task.reference,
+            self.answer.text.query,
+            f"task {shown(self.task.label)}: the answer {shown(self.answer.label)}",
+            self.agrees,
+        )
 
 
 class Pair(NamedTuple):
@@ -169,7 +207,9 @@ class Pair(NamedTuple):
     agrees: bool = False
 
 
-def question(trial: Trial, task: Task, answer: Answer, ran: Ran | None, given: Exercise) -> Question | None:
+def question(
+    trial: Trial, task: Task, answer: Answer, ran: Ran | None, given: Exercise
+) -> Question | None:
     """What is tried of an answer by its run; None where nothing is."""
     if not trial.asked(task, answer):
         return None
@@ -182,13 +222,19 @@ def question(trial: Trial, task: Task, answer: Answer, ran: Ran | None, given: E
 
 def says_of_answer(found: Verdict | None) -> bool:
     """Whether a trial says something of the answer, and not only why the reference can't be tried."""
-    return found is not None and not (isinstance(found.outcome, (WrongSql, Barred, Passed)) and found.outcome.is_reference)
+    return found is not None and not (
+        isinstance(found.outcome, (WrongSql, Barred, Passed)) and found.outcome.is_reference
+    )
 
 
-def verdicts(trial: Trial, asked: Mapping[str, Pair], jobs: int | None) -> Iterator[tuple[str, Verdict]]:
+def verdicts(
+    trial: Trial, asked: Mapping[str, Pair], jobs: int | None
+) -> Iterator[tuple[str, Verdict]]:
     """The verdicts by the keys of the pairs, as they come. An engine that can't be had ends it with a Fault; a
     question whose process fails has no verdict, which is told."""
-    with asking.trier(trial.material, trial.options) as trier, asking.threads(trier, jobs) as threads:
+    with asking.trier(trial.material, trial.options) as trier, asking.threads(
+        trier, jobs
+    ) as threads:
 
         def one(key: str, of: Pair) -> tuple[str, Verdict | Failed]:
             try:

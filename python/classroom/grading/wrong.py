@@ -21,20 +21,33 @@ LIMITS = Limits(10.0, 1000, 1)
 ENGINE = f"sqlite {sqlite3.sqlite_version}"
 
 
-def refused(queries: Mapping[str, bytes], tables: Sequence[Table], jobs: int | None, work: Path) -> Iterator[tuple[str, str]]:
+def refused(
+    queries: Mapping[str, bytes], tables: Sequence[Table], jobs: int | None, work: Path
+) -> Iterator[tuple[str, str]]:
     """By keys, what SQLite says of the queries that it refuses, and an empty text for the others.
 
     `work` is a folder for what is needed meanwhile.
     """
-    shared = {"tables": json.dumps([[table.name, [column.name for column in table.columns]] for table in tables]).encode(),
-              "check.py": Path(sqlite_check.__file__).read_bytes()}
+    shared = {
+        "tables": json.dumps(
+            [[table.name, [column.name for column in table.columns]] for table in tables]
+        ).encode(),
+        "check.py": Path(sqlite_check.__file__).read_bytes(),
+    }
     texts = {key: query.decode("utf-8", "replace") for key, query in queries.items()}
     # SQLite has no `::`; another database does, and reads the rest.
-    asked = {f"{key}.query": backquoted(text).encode() for key, text in texts.items() if "::" not in text}
-    calls = [Job(key, ("-I", "-S", "check.py", "tables", f"{key}.query"), (f"{key}.query",), "python")
-             for key in texts if f"{key}.query" in asked]
+    asked = {
+        f"{key}.query": backquoted(text).encode() for key, text in texts.items() if "::" not in text
+    }
+    calls = [
+        Job(key, ("-I", "-S", "check.py", "tables", f"{key}.query"), (f"{key}.query",), "python")
+        for key in texts
+        if f"{key}.query" in asked
+    ]
     yield from ((key, "") for key in texts if f"{key}.query" not in asked)
-    for key, ran in parallel.run(calls, {"python": Path(sys.executable)}, shared, asked, Means(LIMITS, jobs), work):
+    for key, ran in parallel.run(
+        calls, {"python": Path(sys.executable)}, shared, asked, Means(LIMITS, jobs), work
+    ):
         try:
             yield key, str(json.loads(ran.stdout) or "")
         except ValueError:

@@ -26,9 +26,9 @@ from classroom.base.files import write
 from classroom.exercise.typed_rows import POSTGRESQL, SQLITE
 from classroom.grading.trials import Trial
 
-FOLDER = "mistakes"      # below the results
+FOLDER = "mistakes"  # below the results
 FORMAT = b"3"
-IN_BATCH = 16            # answers of one task that one process looks at
+IN_BATCH = 16  # answers of one task that one process looks at
 log = logging.getLogger(__name__)
 TRIED_AGAIN = (asking.LATE, asking.FAILED)
 
@@ -38,7 +38,7 @@ class Batch(NamedTuple):
 
     how: Looked
     reference: str
-    texts: dict[str, str]    # by the keys of what is kept
+    texts: dict[str, str]  # by the keys of what is kept
 
 
 class Mistakes:
@@ -49,8 +49,12 @@ class Mistakes:
         self.folder = given.results / FOLDER
         self.guard = given.folder / guard.FOLDER if guard.kept(given.folder) else None
         files = sorted(self.guard.iterdir()) if self.guard else []
-        self.common = digest(FORMAT, b"deep" if is_deep else b"", given.digest.encode(), *(
-            path.read_bytes() for path in files if path.is_file()))
+        self.common = digest(
+            FORMAT,
+            b"deep" if is_deep else b"",
+            given.digest.encode(),
+            *(path.read_bytes() for path in files if path.is_file()),
+        )
         self.is_deep = is_deep
 
     def key(self, of: Graded) -> str:
@@ -58,7 +62,9 @@ class Mistakes:
 
     def kept(self, of: Graded) -> Mistake | None:
         try:
-            return records.from_json(json.loads((self.folder / f"{self.key(of)}.json").read_bytes()))
+            return records.from_json(
+                json.loads((self.folder / f"{self.key(of)}.json").read_bytes())
+            )
         except (OSError, ValueError, KeyError, TypeError):
             return None
 
@@ -67,18 +73,36 @@ class Mistakes:
         self.folder.mkdir(parents=True, exist_ok=True)
         program.find("ratest_plus")
         left = {self.key(of): of for of in graded if self.is_asked(of) and not self.kept(of)}
-        batches = [batch for batch in self.batches(left) if batch.how.product != POSTGRESQL or self.trial]
+        batches = [
+            batch for batch in self.batches(left) if batch.how.product != POSTGRESQL or self.trial
+        ]
         means = asking.Means(self.given.folder, self.guard, True, self.is_deep)
         running = parallel.Running()
         threads = ThreadPoolExecutor(jobs or parallel.cores())
         try:
             with tell.progress(len(left), shows_progress) as step:
-                for done in as_completed([threads.submit(
-                        asking.ask, replace(means, how=of.how, trial=self.trial if of.how.product == POSTGRESQL else None),
-                        of.reference, of.texts, started=running.add) for of in batches]):
+                for done in as_completed(
+                    [
+                        threads.submit(
+                            asking.ask,
+                            replace(
+                                means,
+                                how=of.how,
+                                trial=self.trial if of.how.product == POSTGRESQL else None,
+                            ),
+                            of.reference,
+                            of.texts,
+                            started=running.add,
+                        )
+                        for of in batches
+                    ]
+                ):
                     for key, found in done.result().items():
                         if found.fault not in TRIED_AGAIN:
-                            write(self.folder / f"{key}.json", (json.dumps(records.to_json(found)) + "\n").encode("ascii"))
+                            write(
+                                self.folder / f"{key}.json",
+                                (json.dumps(records.to_json(found)) + "\n").encode("ascii"),
+                            )
                         step()
         finally:
             threads.shutdown(wait=False, cancel_futures=True)
@@ -103,7 +127,9 @@ class Mistakes:
             log.warning("mistakes are not looked for where PostgreSQL decides: %s", fault)
             return None
         if found.material.product != POSTGRESQL:
-            log.warning("mistakes are not looked for where PostgreSQL decides: exercise.toml has no engine and engine_asker")
+            log.warning(
+                "mistakes are not looked for where PostgreSQL decides: exercise.toml has no engine and engine_asker"
+            )
             return None
         return found
 
@@ -118,9 +144,12 @@ class Mistakes:
             keys = list(group)
             size = min(IN_BATCH, max(1, len(left) // (2 * parallel.cores())))
             for start in range(0, len(keys), size):
-                some = keys[start:start + size]
-                yield Batch(how, text_of(group[some[0]].task.reference), {
-                    key: text_of(group[key].answer.text.query) for key in some})
+                some = keys[start : start + size]
+                yield Batch(
+                    how,
+                    text_of(group[some[0]].task.reference),
+                    {key: text_of(group[key].answer.text.query) for key in some},
+                )
 
     def of(self, graded: Sequence[Graded]) -> dict[str, Mistake]:
         """What is kept, by the keys of the answers' records."""

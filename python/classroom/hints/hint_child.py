@@ -28,7 +28,7 @@ from classroom.hints.mistake import Mistake
 from classroom.hints.repairs import Ground, Search
 from classroom.exercise import typed_rows as material
 
-DEPTH = 20_000    # of calls, for trees of queries that are nested deep
+DEPTH = 20_000  # of calls, for trees of queries that are nested deep
 
 
 def main(words: list[str]) -> int:
@@ -63,18 +63,27 @@ def ground_of(question: dict[str, Any], work: Path, stack: contextlib.ExitStack)
     if not question["material"]:
         return Ground(rows, guard, work, kind=question["kind"])
     from classroom.engines.postgres_sample import Tables
+
     of = material.from_json(question["material"])
-    tables = stack.enter_context(contextlib.closing(Tables(of, question["engine"], question["asker"])))
+    tables = stack.enter_context(
+        contextlib.closing(Tables(of, question["engine"], question["asker"]))
+    )
     # The schema of the CSV files says what columns mean, the database what types they have.
     pool = replace(of.pool, schema=rows.schema)
     pool.lawful &= of.pool.lawful
-    return Ground(pool, guard, work, kind=question["kind"], holds=tables.holding, engine=tables.label)
+    return Ground(
+        pool, guard, work, kind=question["kind"], holds=tables.holding, engine=tables.label
+    )
 
 
 def mistake(search: Search, answer: str, question: dict[str, Any]) -> Mistake:
     repairs = search.repairs(answer)
     classes = search.classes(answer) if question["classes"] else None
-    pair = deep.pair(search, answer, question["deep"]) if question["deep"] and not repairs.edits and not search.is_tried else ()
+    pair = (
+        deep.pair(search, answer, question["deep"])
+        if question["deep"] and not repairs.edits and not search.is_tried
+        else ()
+    )
     return recording.of_found(repairs, classes, pair)
 
 

@@ -13,12 +13,12 @@ PROVED = "proved"
 class Told:
     """One change."""
 
-    mistake: str    # as `< for <=`
+    mistake: str  # as `< for <=`
     kind: str
-    where: str      # as `the inner query's WHERE`
-    text: str       # the whole text with the change
-    place: str      # the text that is changed
-    begin: int      # of it, by characters; of a text that is written back these are places there
+    where: str  # as `the inner query's WHERE`
+    text: str  # the whole text with the change
+    place: str  # the text that is changed
+    begin: int  # of it, by characters; of a text that is written back these are places there
     end: int
 
 
@@ -28,7 +28,7 @@ class Step:
 
     step: int
     text: str
-    begin: int | None    # of the place in the student's text
+    begin: int | None  # of the place in the student's text
     end: int | None
 
 
@@ -36,12 +36,14 @@ class Step:
 class Mistake:
     """What is found for one answer."""
 
-    repairs: tuple[Told, ...] = ()    # changes of the answer, the best first
-    classes: tuple[Told, ...] = ()    # changes of the reference
-    steps: tuple[Step, ...] = ()      # for the student
-    pair: tuple[str, ...] = ()        # two changes that make the answer right together, where one does not
-    decided_by: str = PROVED          # or the database that tried
-    fault: str = ""                   # why nothing could be looked for
+    repairs: tuple[Told, ...] = ()  # changes of the answer, the best first
+    classes: tuple[Told, ...] = ()  # changes of the reference
+    steps: tuple[Step, ...] = ()  # for the student
+    pair: tuple[
+        str, ...
+    ] = ()  # two changes that make the answer right together, where one does not
+    decided_by: str = PROVED  # or the database that tried
+    fault: str = ""  # why nothing could be looked for
 
     @property
     def name(self) -> str:
@@ -52,8 +54,14 @@ class Mistake:
             if first.mistake == "always empty":
                 return first.mistake
             of_parts = first.kind in ("operand too many", "set operator")
-            return f"as the reference with {first.mistake}" + ("" if of_parts else f" in {first.where}")
-        return f"right with {self.repairs[0].mistake} in {self.repairs[0].where}" if self.repairs else ""
+            return f"as the reference with {first.mistake}" + (
+                "" if of_parts else f" in {first.where}"
+            )
+        return (
+            f"right with {self.repairs[0].mistake} in {self.repairs[0].where}"
+            if self.repairs
+            else ""
+        )
 
     @property
     def is_tried(self) -> bool:
@@ -61,7 +69,9 @@ class Mistake:
 
     @property
     def kind(self) -> str:
-        return self.repairs[0].kind if self.repairs else self.classes[0].kind if self.classes else ""
+        return (
+            self.repairs[0].kind if self.repairs else self.classes[0].kind if self.classes else ""
+        )
 
     @property
     def where(self) -> str:
@@ -70,12 +80,23 @@ class Mistake:
 
 
 def to_json(of: Mistake) -> dict[str, Any]:
-    return {"repairs": [vars(one) for one in of.repairs], "classes": [vars(one) for one in of.classes],
-            "steps": [vars(one) for one in of.steps], "pair": list(of.pair), "decided_by": of.decided_by, "fault": of.fault}
+    return {
+        "repairs": [vars(one) for one in of.repairs],
+        "classes": [vars(one) for one in of.classes],
+        "steps": [vars(one) for one in of.steps],
+        "pair": list(of.pair),
+        "decided_by": of.decided_by,
+        "fault": of.fault,
+    }
 
 
 def from_json(read: Mapping[str, Any]) -> Mistake:
     """KeyError, TypeError or ValueError where it is no such value."""
     return Mistake(
-        tuple(Told(**one) for one in read["repairs"]), tuple(Told(**one) for one in read["classes"]),
-        tuple(Step(**one) for one in read["steps"]), tuple(map(str, read["pair"])), str(read["decided_by"]), str(read["fault"]))
+        tuple(Told(**one) for one in read["repairs"]),
+        tuple(Told(**one) for one in read["classes"]),
+        tuple(Step(**one) for one in read["steps"]),
+        tuple(map(str, read["pair"])),
+        str(read["decided_by"]),
+        str(read["fault"]),
+    )

@@ -23,11 +23,11 @@ class Line:
 
     task: str
     mistake: str
-    place: str          # the most frequent one in the answers
+    place: str  # the most frequent one in the answers
     kind: str
     decided_by: str
     names: tuple[str, ...]
-    repair: str         # the text of the first answer with its best change; empty where there is none
+    repair: str  # the text of the first answer with its best change; empty where there is none
 
 
 def lines(graded: Sequence[Graded], found: Mapping[str, Mistake]) -> list[Line]:
@@ -35,10 +35,14 @@ def lines(graded: Sequence[Graded], found: Mapping[str, Mistake]) -> list[Line]:
     for of in graded:
         if of.record in found:
             name = name_of(found[of.record])
-            groups.setdefault((of.task.label, name, found[of.record].decided_by if name != NOT_FOUND else ""), []).append(of)
+            groups.setdefault(
+                (of.task.label, name, found[of.record].decided_by if name != NOT_FOUND else ""), []
+            ).append(of)
     order = list(dict.fromkeys(of.task.label for of in graded))
     made = [line(task, mistake, members, found) for (task, mistake, _), members in groups.items()]
-    return sorted(made, key=lambda one: (order.index(one.task), one.mistake == NOT_FOUND, -len(one.names)))
+    return sorted(
+        made, key=lambda one: (order.index(one.task), one.mistake == NOT_FOUND, -len(one.names))
+    )
 
 
 def name_of(mistake: Mistake) -> str:
@@ -51,9 +55,23 @@ def line(task: str, mistake: str, members: Sequence[Graded], found: Mapping[str,
     own = [found[of.record] for of in members]
     places = Counter(one.where for one in own if one.where)
     kinds = Counter(one.kind for one in own if one.kind)
-    repair = next((one.repairs[0].text if one.repairs else one.pair[-1] for one in own if one.repairs or one.pair), "")
-    return Line(task, mistake, most_frequent(places), most_frequent(kinds), own[0].decided_by if mistake != NOT_FOUND else "",
-                tuple(of.answer.label for of in members), repair)
+    repair = next(
+        (
+            one.repairs[0].text if one.repairs else one.pair[-1]
+            for one in own
+            if one.repairs or one.pair
+        ),
+        "",
+    )
+    return Line(
+        task,
+        mistake,
+        most_frequent(places),
+        most_frequent(kinds),
+        own[0].decided_by if mistake != NOT_FOUND else "",
+        tuple(of.answer.label for of in members),
+        repair,
+    )
 
 
 def most_frequent(counts: Counter[str]) -> str:
@@ -65,7 +83,16 @@ def csv_of(made: Sequence[Line]) -> bytes:
     writer = csv.writer(text, lineterminator="\n")
     writer.writerow(COLUMNS)
     for one in made:
-        cells = (one.task, one.mistake, str(len(one.names)), one.place, one.kind, one.decided_by, "; ".join(one.names), one.repair)
+        cells = (
+            one.task,
+            one.mistake,
+            str(len(one.names)),
+            one.place,
+            one.kind,
+            one.decided_by,
+            "; ".join(one.names),
+            one.repair,
+        )
         writer.writerow([safe(cell) for cell in cells])
     return text.getvalue().encode("utf-8", "replace")
 

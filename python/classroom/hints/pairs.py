@@ -15,9 +15,9 @@ from classroom.engines.sample import Answer
 from classroom.hints.repairs import Search
 from classroom.sql.dialect import for_sqlite
 
-FIRST = 40          # first changes that are followed
-MOST_SECOND = 4     # the cost of a second one
-STEPS = 100_000     # of SQLite's machine for the second changes to one first, in hundreds of two
+FIRST = 40  # first changes that are followed
+MOST_SECOND = 4  # the cost of a second one
+STEPS = 100_000  # of SQLite's machine for the second changes to one first, in hundreds of two
 
 
 def pair(search: Search, answer: str, seconds: float) -> tuple[Edit, ...]:
@@ -33,14 +33,25 @@ def pair(search: Search, answer: str, seconds: float) -> tuple[Edit, ...]:
             continue
         if time.monotonic() > end:
             break
-        more = [second for second in edits(query) if second.cost <= MOST_SECOND and second.text not in seen]
+        more = [
+            second
+            for second in edits(query)
+            if second.cost <= MOST_SECOND and second.text not in seen
+        ]
         seen |= {second.text for second in more}
-        for at in search.ground.base.passing([second.text for second in more], search.wanted, STEPS):
+        for at in search.ground.base.passing(
+            [second.text for second in more], search.wanted, STEPS
+        ):
             found.append((first, more[at]))
     found.sort(key=lambda two: two[0].cost + two[1].cost)
     agree = search.ground.prover.agree(search.reference, [second.text for _, second in found])
     for two, agrees in zip(found, agree):
-        if agrees and search.guarded(Query(two[0].text, search.words.of(two[0].text)), [two[1]], search.reference).edits:
+        if (
+            agrees
+            and search.guarded(
+                Query(two[0].text, search.words.of(two[0].text)), [two[1]], search.reference
+            ).edits
+        ):
             return two
     return ()
 
@@ -59,7 +70,11 @@ def best(search: Search, answer: str, end: float) -> list[Edit]:
             if score is not None:
                 near = nearness(search.ground.base.answer(part, text), want)
                 scores[at] = None if near is None else score + near
-    ranked = [(-score, edit.cost, at) for at, (edit, score) in enumerate(zip(made, scores)) if score is not None]
+    ranked = [
+        (-score, edit.cost, at)
+        for at, (edit, score) in enumerate(zip(made, scores))
+        if score is not None
+    ]
     return [made[at] for _, _, at in sorted(ranked)[:FIRST]]
 
 

@@ -7,7 +7,7 @@ from classroom.hints import steps as hints
 from classroom.hints.mistake import PROVED, Mistake, Step, Told
 from classroom.hints.repairs import Found
 
-MOST_TOLD = 20    # changes that are kept of one answer
+MOST_TOLD = 20  # changes that are kept of one answer
 
 
 def told(found: Found) -> tuple[Told, ...]:
@@ -17,10 +17,26 @@ def told(found: Found) -> tuple[Told, ...]:
 
 def one(edit: Edit, text: str, clauses: Clauses) -> Told:
     begin, end = edit.place
-    return Told(edit.mistake, edit.kind.value, hints.where(edit, clauses), edit.text, text[begin:end], begin, end)
+    return Told(
+        edit.mistake,
+        edit.kind.value,
+        hints.where(edit, clauses),
+        edit.text,
+        text[begin:end],
+        begin,
+        end,
+    )
 
 
 def of_found(repairs: Found, classes: Found | None, pair: tuple[Edit, ...] = ()) -> Mistake:
-    steps = tuple(Step(hint.step, hint.text, *(hint.place or (None, None))) for hint in hints.hints(repairs, hints.KIND))
-    return Mistake(told(repairs), told(classes) if classes else (), steps, tuple(edit.mistake for edit in pair) + (
-        (pair[-1].text,) if pair else ()), repairs.engine if repairs.tried else PROVED)
+    steps = tuple(
+        Step(hint.step, hint.text, *(hint.place or (None, None)))
+        for hint in hints.hints(repairs, hints.KIND)
+    )
+    return Mistake(
+        told(repairs),
+        told(classes) if classes else (),
+        steps,
+        tuple(edit.mistake for edit in pair) + ((pair[-1].text,) if pair else ()),
+        repairs.engine if repairs.tried else PROVED,
+    )

@@ -31,7 +31,7 @@ MOST_STEPS = 500_000
 # Of the rows that are made, with few parts each: several sets show more than one that is larger.
 SEEDS = tuple(str(number) for number in range(1, 13))
 PARTS = 6
-TRIED_PARTS = 150    # of the exercise's rows, where nothing is proved
+TRIED_PARTS = 150  # of the exercise's rows, where nothing is proved
 
 
 ENGINE = f"sqlite {sqlite3.sqlite_version}"
@@ -41,12 +41,12 @@ ENGINE = f"sqlite {sqlite3.sqlite_version}"
 class Found:
     """The changes of a query that agree, the best first."""
 
-    query: Query                # that they are changes of
-    edits: tuple[Edit, ...]     # that no guard refutes
-    refuted: int                # how many agree on the exercise's rows, and a guard refutes them
-    is_guarded: bool            # whether there was a guard
-    tried: int = 0              # on so many parts of the rows, and not proved; 0 where it is proved
-    engine: str = ENGINE        # that tried
+    query: Query  # that they are changes of
+    edits: tuple[Edit, ...]  # that no guard refutes
+    refuted: int  # how many agree on the exercise's rows, and a guard refutes them
+    is_guarded: bool  # whether there was a guard
+    tried: int = 0  # on so many parts of the rows, and not proved; 0 where it is proved
+    engine: str = ENGINE  # that tried
 
     @property
     def best(self) -> Edit | None:
@@ -56,8 +56,16 @@ class Found:
 class Ground:
     """The rows of an exercise, and the guards that all of its tasks share."""
 
-    def __init__(self, rows: Pool, guard: Pool | None, work: Path, limits: Limits = LIMITS, kind: str = ROWS,
-                 holds: Callable[[Pool], Holds] = Database, engine: str = ENGINE) -> None:
+    def __init__(
+        self,
+        rows: Pool,
+        guard: Pool | None,
+        work: Path,
+        limits: Limits = LIMITS,
+        kind: str = ROWS,
+        holds: Callable[[Pool], Holds] = Database,
+        engine: str = ENGINE,
+    ) -> None:
         """`guard` are other rows of the schema, as those that an exercise was picked of; `work` is an empty
         folder for as long as the ground is used. `kind`: as what rows are compared; `holds` are the databases that hold
         them, of this engine."""
@@ -93,14 +101,17 @@ class Search:
         self.ground = ground
         self.is_tried = is_tried
         self.base = ground.wide if is_tried else ground.base
-        self.families, self.of_classes = (families_of(REPAIRS, ground.kind), families_of(CLASSES, ground.kind)) if is_tried else (
-            REPAIRS, CLASSES)
+        self.families, self.of_classes = (
+            (families_of(REPAIRS, ground.kind), families_of(CLASSES, ground.kind))
+            if is_tried
+            else (REPAIRS, CLASSES)
+        )
         self.reference = reference
         self.words = Words(ground.schema, reference)
         self.wanted = self.base.answers(reference)
         if is_tried and not any(self.wanted):
             raise Fault(f"{ground.engine} does not answer the reference over these rows")
-        self.known: dict[tuple[int, str], list[Answer]] = {}    # what guards answer to the reference
+        self.known: dict[tuple[int, str], list[Answer]] = {}  # what guards answer to the reference
         self.plain = self.words.of(reference)
         self.changed = Changed(Query.of(reference, self.plain), self.base, self.of_classes)
 
@@ -119,7 +130,9 @@ class Search:
         query = Query.of(answer, self.words.of(answer))
         made_of = edits(query, self.families)
         left = self.base.passing([edit.text for edit in made_of], self.wanted, MOST_STEPS)
-        return self.guarded(query, self.proved(self.reference, [made_of[at] for at in left]), self.reference)
+        return self.guarded(
+            query, self.proved(self.reference, [made_of[at] for at in left]), self.reference
+        )
 
     def classes(self, answer: str) -> Found:
         """Changes of the reference that agree with the answer."""
@@ -133,7 +146,9 @@ class Search:
             query = Query.of(self.reference, words)
             known = {edit.text for edit in self.changed.edits}
             more = [edit for edit in edits(query, self.of_classes) if edit.text not in known]
-            left += [more[at] for at in base.passing([edit.text for edit in more], wanted, MOST_STEPS)]
+            left += [
+                more[at] for at in base.passing([edit.text for edit in more], wanted, MOST_STEPS)
+            ]
         left.sort(key=lambda edit: edit.rank)
         return self.guarded(query, self.proved(answer, left), answer)
 
@@ -149,7 +164,14 @@ class Search:
         for at in range(len(self.guards) if kept else 0):
             kept = self.left_by(at, kept, with_query)
         tried = len(self.wanted) - self.wanted.count(None) if self.is_tried else 0
-        return Found(query, tuple(kept), len(found) - len(kept), not found or bool(self.guards), tried, self.ground.engine)
+        return Found(
+            query,
+            tuple(kept),
+            len(found) - len(kept),
+            not found or bool(self.guards),
+            tried,
+            self.ground.engine,
+        )
 
     def left_by(self, guard: int, found: Sequence[Edit], with_query: str) -> list[Edit]:
         """What one guard does not refute."""
@@ -160,13 +182,21 @@ class Search:
             wanted = rows.answers(with_query)
             if key[1]:
                 self.known[key] = wanted
-        return [found[at] for at in rows.passing([edit.text for edit in found], wanted)] if wanted else []
+        return (
+            [found[at] for at in rows.passing([edit.text for edit in found], wanted)]
+            if wanted
+            else []
+        )
 
 
 def families_of(families: Sequence[Family], kind: str) -> tuple[Family, ...]:
     """With those of queries beyond the proved language; of answers that differ in duplicates those of duplicates too, and
     of those that differ in order those of order alone."""
-    return ORDERED if kind == ORDER else (*families, *TRIED_REPAIRS, *(BAGS if kind == DUPLICATES else ()))
+    return (
+        ORDERED
+        if kind == ORDER
+        else (*families, *TRIED_REPAIRS, *(BAGS if kind == DUPLICATES else ()))
+    )
 
 
 class Changed:
@@ -181,7 +211,10 @@ class Changed:
 
     def passing(self, wanted: Sequence[Answer]) -> list[Edit]:
         """Those with these answers."""
-        return [self.edits[at] for at in self.base.left(len(self.edits), wanted, self.answer, MOST_STEPS)]
+        return [
+            self.edits[at]
+            for at in self.base.left(len(self.edits), wanted, self.answer, MOST_STEPS)
+        ]
 
     def answer(self, at: int, part: int) -> Answer:
         if (at, part) not in self.answers:

@@ -13,7 +13,7 @@ from classroom.edits.edits import Edit
 from classroom.sql.spans import Span
 from classroom.hints.repairs import Found
 
-CLAUSE, PLACE, KIND = 1, 2, 3    # the steps
+CLAUSE, PLACE, KIND = 1, 2, 3  # the steps
 ADDED = (Kind.CONDITION_MISSING, Kind.JOIN_CONDITION_MISSING, Kind.WHERE)
 SENTENCES = {
     Kind.COMPARISON: "Look at the comparison.",
@@ -42,10 +42,18 @@ SENTENCES = {
     Kind.HAVING: "Look at which groups are kept.",
     Kind.ORDER: "Look at the order of the rows.",
 }
-SOME, NONE = ("You ask whether some row exists; ask that none does.", "You ask that no row exists; ask whether some does.")
-SOME_ROW, NO_ROW = ("You ask for some row; ask that there is none.", "You ask that there is no row; ask for some.")
-PROVED = ("One change in {where} is enough: with it your query answers rightly, apart from duplicates and order, on "
-          "every part of these rows.")
+SOME, NONE = (
+    "You ask whether some row exists; ask that none does.",
+    "You ask that no row exists; ask whether some does.",
+)
+SOME_ROW, NO_ROW = (
+    "You ask for some row; ask that there is none.",
+    "You ask that there is no row; ask for some.",
+)
+PROVED = (
+    "One change in {where} is enough: with it your query answers rightly, apart from duplicates and order, on "
+    "every part of these rows."
+)
 TRIED = "One change in {where} is enough, as far as was tried: with it your query answered rightly on {count} parts of these rows."
 OTHERS = "There are other places where one change would do."
 
@@ -56,7 +64,7 @@ class Hint:
 
     step: int
     text: str
-    place: Span | None = None    # in the student's text, by characters
+    place: Span | None = None  # in the student's text, by characters
 
 
 def highest(found: Found) -> int:
@@ -72,11 +80,18 @@ def hints(found: Found, most: int) -> list[Hint]:
     if best is None:
         return []
     clauses = Clauses(found.query)
-    sentence = TRIED.format(where=where(best, clauses), count=found.tried) if found.tried else \
-        PROVED.format(where=where(best, clauses))
+    sentence = (
+        TRIED.format(where=where(best, clauses), count=found.tried)
+        if found.tried
+        else PROVED.format(where=where(best, clauses))
+    )
     several = f" {OTHERS}" if has_others(found) else ""
-    steps = [Hint(CLAUSE, f"{sentence}{several}"), Hint(PLACE, "Here:", best.place), Hint(KIND, sentence_of(best, found))]
-    return steps[:min(most, highest(found))]
+    steps = [
+        Hint(CLAUSE, f"{sentence}{several}"),
+        Hint(PLACE, "Here:", best.place),
+        Hint(KIND, sentence_of(best, found)),
+    ]
+    return steps[: min(most, highest(found))]
 
 
 def where(edit: Edit, clauses: Clauses) -> str:
@@ -99,7 +114,7 @@ def apart(one: Span, other: Span) -> bool:
 def sentence_of(edit: Edit, found: Found) -> str:
     if edit.kind is not Kind.QUANTIFIER:
         return SENTENCES[edit.kind]
-    own = found.query.text[edit.place.begin:edit.place.end].lower()
+    own = found.query.text[edit.place.begin : edit.place.end].lower()
     was_negated = "not" in own.split("(")[0].split()
     if "exists" in own:
         return NONE if was_negated else SOME

@@ -16,7 +16,9 @@ def are_open(most: int, begins: datetime | None, now: datetime | None = None) ->
 
 def told(of: Mistake | None, settings: Settings) -> tuple[Step, ...]:
     """The steps that a student is told now of a mistake, as `exercise.toml` says."""
-    return of.steps[:settings.hints] if of and are_open(settings.hints, settings.hints_from) else ()
+    return (
+        of.steps[: settings.hints] if of and are_open(settings.hints, settings.hints_from) else ()
+    )
 
 
 def place_of(step: Step, text: str) -> Place | None:
@@ -26,4 +28,10 @@ def place_of(step: Step, text: str) -> Place | None:
     # It was looked for in the text without what stands before its first word.
     begin, end = (at + asking.begins(text) for at in (step.begin, step.end))
     before = text[:begin]
-    return Place(before.count("\n") + 1, begin - (before.rfind("\n") + 1) + 1, before, text[begin:end], text[end:])
+    return Place(
+        before.count("\n") + 1,
+        begin - (before.rfind("\n") + 1) + 1,
+        before,
+        text[begin:end],
+        text[end:],
+    )

@@ -13,8 +13,8 @@ from classroom.verdict.verdict import Differs, Verdict
 class Looked:
     """How answers are compared."""
 
-    kind: str = ROWS     # or DUPLICATES, or ORDER
-    engine: str = ""     # the database that tries; empty where it is proved
+    kind: str = ROWS  # or DUPLICATES, or ORDER
+    engine: str = ""  # the database that tries; empty where it is proved
 
     @property
     def product(self) -> str:
@@ -33,12 +33,21 @@ def looked(is_proved: bool, trial: Verdict | None, said: Settings) -> Looked | N
         kind = trial.outcome.difference
         return Looked(kind if kind in (DUPLICATES, ORDER) else ROWS, trial.engine)
     wanted = {DUPLICATES: said.duplicates, ORDER: said.order}
-    found = [remark.difference for remark in trial.remarks if wanted.get(remark.difference, "ignore") != "ignore"]
-    return Looked(min(found), trial.engine) if found else None    # duplicates before order
+    found = [
+        remark.difference
+        for remark in trial.remarks
+        if wanted.get(remark.difference, "ignore") != "ignore"
+    ]
+    return Looked(min(found), trial.engine) if found else None  # duplicates before order
 
 
 def of_graded(of: Graded, said: Settings) -> Looked | None:
     """The same of an answer that is graded; None too where it has no rows on which it differs."""
-    if not of.record or of.grade not in (Grade.DIFFERS, Grade.AGREES, Grade.NO_DIFFERENCE) or of.grade == Grade.DIFFERS and of.rows is None:
+    if (
+        not of.record
+        or of.grade not in (Grade.DIFFERS, Grade.AGREES, Grade.NO_DIFFERENCE)
+        or of.grade == Grade.DIFFERS
+        and of.rows is None
+    ):
         return None
     return looked(of.grade == Grade.DIFFERS and not of.is_tried, of.trial, said)

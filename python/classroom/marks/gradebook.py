@@ -40,8 +40,10 @@ def standings(given: Exercise, graded: Sequence[Graded], listed: ClassList) -> l
     for of in graded:
         by_name.setdefault(of.answer.label, {})[of.task.name] = of
     others = [Student(name, name) for name in by_name if name not in listed.by_id]
-    return [Standing(student, tuple(by_name.get(student.id, {}).get(task.name) for task in given.tasks))
-            for student in (*listed.students, *others)]
+    return [
+        Standing(student, tuple(by_name.get(student.id, {}).get(task.name) for task in given.tasks))
+        for student in (*listed.students, *others)
+    ]
 
 
 def most_points(given: Exercise) -> float:
@@ -61,5 +63,13 @@ def class_csv(given: Exercise, found: Sequence[Standing]) -> bytes:
     lines = csv.writer(text, lineterminator="\n")
     lines.writerow(["id", "name", *(safe(task.label) for task in given.tasks), "points", "open"])
     for of in found:
-        lines.writerow([safe(of.student.id), safe(of.student.name), *map(cell, of.answers), number(of.points), of.open])
+        lines.writerow(
+            [
+                safe(of.student.id),
+                safe(of.student.name),
+                *map(cell, of.answers),
+                number(of.points),
+                of.open,
+            ]
+        )
     return text.getvalue().encode("utf-8", "replace")

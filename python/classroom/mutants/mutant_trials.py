@@ -20,7 +20,9 @@ from classroom.verdict.verdict import Differs, NoDifference, Passed
 from classroom.grading.trials import Pair, Trial, verdicts
 
 
-def mutants(trial: Trial, task: Task, said: Settings, results: Results, jobs: int | None) -> list[Judged]:
+def mutants(
+    trial: Trial, task: Task, said: Settings, results: Results, jobs: int | None
+) -> list[Judged]:
     """The mutants of a task with their verdicts; a Fault where they can't be made or tried."""
     back, made = of_task(task, [held.table for held in trial.material.pool.held], said)
     check_back(task, asked(trial, [back], results, jobs).get(back))
@@ -31,7 +33,12 @@ def mutants(trial: Trial, task: Task, said: Settings, results: Results, jobs: in
 def of_task(task: Task, tables: Sequence[Table], said: Settings) -> tuple[Question, list[Question]]:
     """A task's reference as it is written back, and its mutants; a Fault where they can't be made. Those of duplicates
     and of order are made where these count."""
-    families = (*MISTAKES, *TRIED, *(BAGS if said.duplicates == "wrong" else ()), *(LISTS if said.order == "wrong" else ()))
+    families = (
+        *MISTAKES,
+        *TRIED,
+        *(BAGS if said.duplicates == "wrong" else ()),
+        *(LISTS if said.order == "wrong" else ()),
+    )
     made = questions.of_mutants(task, tables, families)
     return tried(questions.written_back(task)), [tried(of) for of in made]
 
@@ -54,10 +61,16 @@ def keys(trial: Trial, made: Iterable[Question]) -> dict[Question, str]:
     return {of: digest(trial.digest.encode(), of.reference, of.text) for of in made}
 
 
-def asked(trial: Trial, made: Sequence[Question], results: Results, jobs: int | None) -> dict[Question, verdict.Verdict]:
+def asked(
+    trial: Trial, made: Sequence[Question], results: Results, jobs: int | None
+) -> dict[Question, verdict.Verdict]:
     """The verdicts that are kept, and those of the database; none where its process failed, which is told."""
     known = keys(trial, made)
-    left = {key: Pair(of.reference, of.text, f"task {shown(of.label)}") for of, key in known.items() if results.trial(key) is None}
+    left = {
+        key: Pair(of.reference, of.text, f"task {shown(of.label)}")
+        for of, key in known.items()
+        if results.trial(key) is None
+    }
     for key, new in verdicts(trial, left, jobs) if left else ():
         results.keep_trial(key, new)
     return {of: found for of, key in known.items() if (found := results.trial(key))}

@@ -24,7 +24,9 @@ def plain(query: str) -> str:
     return written(parsed(query))
 
 
-def mutants(query: str, tables: Sequence[Table], families: Sequence[Family] = MISTAKES) -> list[Mutant]:
+def mutants(
+    query: str, tables: Sequence[Table], families: Sequence[Family] = MISTAKES
+) -> list[Mutant]:
     """The mutants of a query over these tables, each text once: by their places in the query, and at one
     place by the families. A Fault where sqlglot doesn't read it."""
     whole = Query.plain(query, of_tables(tables))

@@ -25,7 +25,9 @@ def check_written_back(back: Sequence[Question], verdicts: Sequence[Verdict]) ->
     """A Fault where sqlglot doesn't write a reference back as it means: its mutants would be others."""
     for of, verdict in zip(back, verdicts):
         if verdict.kind in (TOLD, REFUSED):
-            raise Fault(f"task {shown(of.task)}: sqlglot writes reference.sql back as another query")
+            raise Fault(
+                f"task {shown(of.task)}: sqlglot writes reference.sql back as another query"
+            )
 
 
 def csv_of(made: Sequence[Judged]) -> bytes:
@@ -33,8 +35,21 @@ def csv_of(made: Sequence[Judged]) -> bytes:
     lines = csv.writer(text, lineterminator="\n")
     lines.writerow(("task", "mutant", "mistake", "verdict", "rows", "why", "query", "decided_by"))
     for one in kept(made):
-        lines.writerow(map(safe, (one.of.task, one.of.name, one.of.mistake, one.verdict.kind, str(one.verdict.rows or ""),
-                                  one.verdict.why, one.of.text.decode("utf-8", "replace"), one.verdict.decided_by)))
+        lines.writerow(
+            map(
+                safe,
+                (
+                    one.of.task,
+                    one.of.name,
+                    one.of.mistake,
+                    one.verdict.kind,
+                    str(one.verdict.rows or ""),
+                    one.verdict.why,
+                    one.of.text.decode("utf-8", "replace"),
+                    one.verdict.decided_by,
+                ),
+            )
+        )
     return text.getvalue().encode("utf-8", "replace")
 
 
@@ -58,9 +73,14 @@ def untold(made: Sequence[Judged]) -> Iterator[str]:
 def summary(made: Sequence[Judged], noun: str = "mutant") -> str:
     """As `46 of 48 mutants told, 9 of 11 mutants told (tried)`: what is proved and what is tried are never one count."""
     read = kept(made)
-    proved, tried = ([one for one in read if one.of.is_tried == is_tried] for is_tried in (False, True))
-    return ", ".join(f"{sum(one.verdict.kind == TOLD for one in group)} of {counted(len(group), noun)} told{label}"
-                     for group, label in ((proved, ""), (tried, " (tried)")) if group or not (tried or label))
+    proved, tried = (
+        [one for one in read if one.of.is_tried == is_tried] for is_tried in (False, True)
+    )
+    return ", ".join(
+        f"{sum(one.verdict.kind == TOLD for one in group)} of {counted(len(group), noun)} told{label}"
+        for group, label in ((proved, ""), (tried, " (tried)"))
+        if group or not (tried or label)
+    )
 
 
 def by_whom(made: Sequence[Judged]) -> str:
@@ -80,5 +100,9 @@ def open_ones(made: Sequence[Judged]) -> int:
 
 def rows_of(files: Mapping[str, bytes]) -> int:
     """How many rows the tables have."""
-    texts = [text.decode("utf-8", "replace") for name, text in files.items() if name != "schema.sql"]
-    return sum(sum(1 for line in csv.reader(io.StringIO(text, newline="")) if line) - 1 for text in texts)
+    texts = [
+        text.decode("utf-8", "replace") for name, text in files.items() if name != "schema.sql"
+    ]
+    return sum(
+        sum(1 for line in csv.reader(io.StringIO(text, newline="")) if line) - 1 for text in texts
+    )

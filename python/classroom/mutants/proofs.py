@@ -15,7 +15,7 @@ from classroom.mutants.question import Question
 from classroom.base.files import write
 from ratest import printed
 
-MOST_IN_LIST = 256    # that the program takes
+MOST_IN_LIST = 256  # that the program takes
 # In few lists a core may wait for one with the slow queries; in many the rows are read more often.
 SHORT_LIST = 8
 AGREES, TOLD, REFUSED, OPEN = "agrees", "told", "refused", "no verdict"
@@ -27,14 +27,14 @@ NOT_FOUND, NOT_DETERMINED = "no difference found", "not determined"
 class Verdict:
     """What is known of a query."""
 
-    kind: str         # AGREES, TOLD, REFUSED, or OPEN where a limit was passed; of trying also NOT_FOUND, NOT_DETERMINED
-    rows: int = 0     # of the witness
-    why: str = ""     # it is refused or open
+    kind: str  # AGREES, TOLD, REFUSED, or OPEN where a limit was passed; of trying also NOT_FOUND, NOT_DETERMINED
+    rows: int = 0  # of the witness
+    why: str = ""  # it is refused or open
     engine: str = ""  # of a database that tried; empty of what `ratest` says
 
     @property
     def decided_by(self) -> str:
-        """"proved" or the engine; empty where there is no verdict."""
+        """ "proved" or the engine; empty where there is no verdict."""
         return "" if self.kind in (OPEN, REFUSED) else self.engine or "proved"
 
 
@@ -46,8 +46,16 @@ class Verdicts:
         self.files = files
         self.options = tuple(options)
         self.program = program.find("ratest_plus")
-        self.common = digest(b"1", self.program.read_bytes(), *(word.encode() for word in options), *(
-            part for name, text in files.items() for part in (name.encode("utf-8", "surrogateescape"), text)))
+        self.common = digest(
+            b"1",
+            self.program.read_bytes(),
+            *(word.encode() for word in options),
+            *(
+                part
+                for name, text in files.items()
+                for part in (name.encode("utf-8", "surrogateescape"), text)
+            ),
+        )
         folder.mkdir(parents=True, exist_ok=True)
 
     def key(self, of: Question) -> str:
@@ -62,17 +70,23 @@ class Verdicts:
     def keep(self, key: str, verdict: Verdict) -> None:
         write(self.folder / f"{key}.json", (json.dumps(asdict(verdict)) + "\n").encode("ascii"))
 
-    def grade(self, asked: Sequence[Question], means: parallel.Means, work: Path) -> dict[str, Verdict]:
+    def grade(
+        self, asked: Sequence[Question], means: parallel.Means, work: Path
+    ) -> dict[str, Verdict]:
         """The verdicts by their keys. What passes a limit of time or memory in a list is asked once more alone."""
         found = {self.key(of): verdict for of in asked if (verdict := self.kept(of))}
         for most in (SHORT_LIST, 1):
             left = {self.key(of): of for of in asked if self.key(of) not in found}
             found.update(self.graded(left, most, means, work))
         for of in asked:
-            found.setdefault(self.key(of), Verdict(OPEN, why="no verdict within the limits of time and memory"))
+            found.setdefault(
+                self.key(of), Verdict(OPEN, why="no verdict within the limits of time and memory")
+            )
         return found
 
-    def graded(self, left: Mapping[str, Question], most: int, means: parallel.Means, work: Path) -> dict[str, Verdict]:
+    def graded(
+        self, left: Mapping[str, Question], most: int, means: parallel.Means, work: Path
+    ) -> dict[str, Verdict]:
         lists = lists_of(left, most, means)
         jobs, files, members = [], {}, {}
         for number, keys in enumerate(lists):
@@ -81,11 +95,18 @@ class Verdicts:
             files[f"{number}.list"] = "".join(f"{key}\n" for key in keys).encode()
             files.update({key: left[key].text for key in keys})
             members[str(number)] = keys
-            jobs.append(parallel.Job(
-                str(number), ("grade", "schema.sql", ".", reference, f"{number}.list", *self.options),
-                (reference, f"{number}.list", *keys), "ratest_plus"))
+            jobs.append(
+                parallel.Job(
+                    str(number),
+                    ("grade", "schema.sql", ".", reference, f"{number}.list", *self.options),
+                    (reference, f"{number}.list", *keys),
+                    "ratest_plus",
+                )
+            )
         found: dict[str, Verdict] = {}
-        for job, ran in parallel.run(jobs, {"ratest_plus": self.program}, self.files, files, means, work):
+        for job, ran in parallel.run(
+            jobs, {"ratest_plus": self.program}, self.files, files, means, work
+        ):
             for key, verdict in read(ran, members[job]).items():
                 found[key] = verdict
                 self.keep(key, verdict)
@@ -99,7 +120,11 @@ def lists_of(left: Mapping[str, Question], most: int, means: parallel.Means) -> 
         by_reference.setdefault(of.reference, []).append(key)
     cores = means.jobs or os.cpu_count() or 1
     size = min(MOST_IN_LIST, most, 1 + len(left) // (2 * cores))
-    return [keys[start:start + size] for keys in by_reference.values() for start in range(0, len(keys), size)]
+    return [
+        keys[start : start + size]
+        for keys in by_reference.values()
+        for start in range(0, len(keys), size)
+    ]
 
 
 def read(ran: Ran, keys: Sequence[str]) -> dict[str, Verdict]:

@@ -31,8 +31,8 @@ class Student:
 
     id: str
     name: str
-    moodle: str = ""    # the participant's number
-    canvas: str = ""    # the user's number
+    moodle: str = ""  # the participant's number
+    canvas: str = ""  # the user's number
     email: str = ""
 
 
@@ -52,8 +52,12 @@ class ClassList:
 
     @cached_property
     def _by(self) -> Mapping[tuple[str, str], Student]:
-        return {(column, getattr(student, column)): student for student in self.students for column in ("id", *NUMBERS)
-                if getattr(student, column)}
+        return {
+            (column, getattr(student, column)): student
+            for student in self.students
+            for column in ("id", *NUMBERS)
+            if getattr(student, column)
+        }
 
 
 def read(path: Path) -> ClassList:
@@ -74,7 +78,11 @@ def read(path: Path) -> ClassList:
 def list_of(text: str) -> ClassList:
     """The class list of a text; a Fault names the line that is wrong."""
     head = text.partition("\n")[0]
-    lines = csv.reader(io.StringIO(text, newline=""), delimiter=";" if ";" in head and "," not in head else ",", strict=True)
+    lines = csv.reader(
+        io.StringIO(text, newline=""),
+        delimiter=";" if ";" in head and "," not in head else ",",
+        strict=True,
+    )
     header = [cell.strip().casefold() for cell in next(lines, [])]
     for name in NEEDED:
         if header.count(name) != 1:
@@ -109,7 +117,9 @@ def check_new(student: Student, seen: dict[tuple[str, str], int], line: int) -> 
     for column in ("id", *NUMBERS):
         value = getattr(student, column).casefold()
         if value and seen.setdefault((column, value), line) != line:
-            raise Fault(f"line {line}: {column} {shown(value)} stands in line {seen[column, value]} too")
+            raise Fault(
+                f"line {line}: {column} {shown(value)} stands in line {seen[column, value]} too"
+            )
 
 
 def fault_of_id(name: str) -> str:

@@ -30,17 +30,27 @@ class Proving:
     work: Path
     options: tuple[str, ...]
     ratest: Path
-    used: set[str]      # the keys of the records that this run needed
+    used: set[str]  # the keys of the records that this run needed
 
     def key(self, common: str, of: Question) -> str:
         return digest(common.encode(), of.reference, of.text)
 
     def common(self, files: Mapping[str, bytes], options: Sequence[str]) -> str:
-        return digest(b"pick 1", self.ratest.read_bytes(), *(word.encode() for word in options), *(
-            part for name, text in files.items() for part in (name.encode("utf-8", "surrogateescape"), text)))
+        return digest(
+            b"pick 1",
+            self.ratest.read_bytes(),
+            *(word.encode() for word in options),
+            *(
+                part
+                for name, text in files.items()
+                for part in (name.encode("utf-8", "surrogateescape"), text)
+            ),
+        )
 
     def over(self, rows: Collection[Row], asked: Sequence[Question]) -> dict[Question, Finding]:
-        return {of: self.finding(outcome, rows) for of, outcome in self.outcomes(rows, asked).items()}
+        return {
+            of: self.finding(outcome, rows) for of, outcome in self.outcomes(rows, asked).items()
+        }
 
     def finding(self, outcome: Outcome, rows: Collection[Row]) -> Finding:
         if isinstance(outcome, witness.Witness):
@@ -56,7 +66,9 @@ class Proving:
         common = self.common(files, options)
         keys = {self.key(common, of): of for of in asked}
         self.used.update(keys)
-        left = {key: of for key, of in keys.items() if not self.results.is_final(key, self.means.limits)}
+        left = {
+            key: of for key, of in keys.items() if not self.results.is_final(key, self.means.limits)
+        }
         texts = {f"{digest(of.reference)}.reference": of.reference for of in left.values()}
         texts.update({f"{key}.answer": of.text for key, of in left.items()})
         jobs = []
@@ -71,7 +83,11 @@ class Proving:
 
     def outcome(self, key: str) -> Outcome:
         ran = self.results.run(key)
-        return witness.read(ran, [held.table for held in self.pool.held]) if ran else witness.NoVerdict("it was not run")
+        return (
+            witness.read(ran, [held.table for held in self.pool.held])
+            if ran
+            else witness.NoVerdict("it was not run")
+        )
 
 
 @dataclass(frozen=True)

@@ -33,7 +33,8 @@ class Asker(Protocol):
     """Who is asked about queries over parts of a pool."""
 
     @property
-    def pool(self) -> Pool: ...
+    def pool(self) -> Pool:
+        ...
 
     def over(self, rows: Collection[Row], asked: Sequence[Question]) -> dict[Question, Finding]:
         """What each comes to over some rows."""

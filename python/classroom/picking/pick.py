@@ -40,10 +40,12 @@ class Wanted:
     rows: int | None
     seed: str
     jobs: int | None
-    options: tuple[str, ...]    # of `ratest`; they bound a call, and not seconds, so that each run finds the same
+    options: tuple[
+        str, ...
+    ]  # of `ratest`; they bound a call, and not seconds, so that each run finds the same
     shows_progress: bool
     only_proved: bool = False
-    engine: str | None = None   # that tries, where exercise.toml or the source shall not say it
+    engine: str | None = None  # that tries, where exercise.toml or the source shall not say it
 
     @property
     def means(self) -> parallel.Means:
@@ -60,7 +62,9 @@ class Wanted:
 def pick(source: str, folder: Path, wanted: Wanted) -> int:
     """Writes the picked rows into the folder, and prints what they tell; gives the exit status."""
     if folder.is_dir() and Path(source).is_dir() and folder.samefile(source):
-        raise Fault(f"{shown(source)}: the rows of this folder would be written over; take another one for the picked rows")
+        raise Fault(
+            f"{shown(source)}: the rows of this folder would be written over; take another one for the picked rows"
+        )
     pool, notes = sources.read(source)
     for note in notes:
         log.warning("%s", note)
@@ -80,7 +84,9 @@ def pick(source: str, folder: Path, wanted: Wanted) -> int:
         made = checked(folder, files, rows, tasks, found.refused, wanted)
         lost = [one.of for one in made if one.of in chosen and is_lost(one, chosen[one.of])]
         if lost:
-            raise Fault(f"{len(lost)} queries are not told by the picked rows as before, as {shown(lost[0].label)}")
+            raise Fault(
+                f"{len(lost)} queries are not told by the picked rows as before, as {shown(lost[0].label)}"
+            )
         for name, text in files.items():
             write(folder / name, text)
         held.keep(folder, rows)
@@ -88,10 +94,14 @@ def pick(source: str, folder: Path, wanted: Wanted) -> int:
         results.prune(used)
     for line in report(tasks.labels, made, pool, rows):
         print(line)
-    return 1 if len(tasks.labels) < len(given) or any(one.verdict.kind == OPEN for one in made) else 0
+    return (
+        1 if len(tasks.labels) < len(given) or any(one.verdict.kind == OPEN for one in made) else 0
+    )
 
 
-def tries(held: Picture, said: Settings, wanted: Wanted, results: Results, work: Path, used: set[str]) -> Trying | None:
+def tries(
+    held: Picture, said: Settings, wanted: Wanted, results: Results, work: Path, used: set[str]
+) -> Trying | None:
     """What tries the queries that `ratest` doesn't read; None where nothing is tried, or can't be, which is told."""
     if wanted.only_proved:
         return None
@@ -107,8 +117,14 @@ def is_lost(one: told.Judged, rows: frozenset[Row]) -> bool:
     return one.verdict.kind != TOLD or not one.of.is_tried and one.verdict.rows > len(rows)
 
 
-def checked(folder: Path, files: Mapping[str, bytes], rows: Collection[Row], tasks: Tasks, refused: Collection[Question],
-            wanted: Wanted) -> list[told.Judged]:
+def checked(
+    folder: Path,
+    files: Mapping[str, bytes],
+    rows: Collection[Row],
+    tasks: Tasks,
+    refused: Collection[Question],
+    wanted: Wanted,
+) -> list[told.Judged]:
     """All asked once more, on the picked rows; what is kept of it `classroom mutants` finds."""
     asked = [of for of in tasks.asked if of not in refused]
     proved, tried = ([of for of in asked if of.is_tried == is_tried] for is_tried in (False, True))
@@ -122,7 +138,9 @@ def checked(folder: Path, files: Mapping[str, bytes], rows: Collection[Row], tas
         return [made[of] for of in asked]
 
 
-def report(tasks: Sequence[str], made: Sequence[told.Judged], pool: Pool, rows: frozenset[Row]) -> Iterator[str]:
+def report(
+    tasks: Sequence[str], made: Sequence[told.Judged], pool: Pool, rows: frozenset[Row]
+) -> Iterator[str]:
     mutants = [one for one in made if one.of.mistake]
     answers = [one for one in made if not one.of.mistake]
     for task in tasks:

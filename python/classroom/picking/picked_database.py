@@ -28,16 +28,25 @@ class Picture:
 
     def part(self, rows: Collection[Row]) -> tuple[str, bytes] | None:
         """The name and the bytes of the file that has these rows alone; None where there is none, which is told."""
-        numbers = {held.table.name: sorted(row.number + 1 for row in rows if row.table == at)
-                   for at, held in enumerate(self.pool.held)}
+        numbers = {
+            held.table.name: sorted(row.number + 1 for row in rows if row.table == at)
+            for at, held in enumerate(self.pool.held)
+        }
         if self.script:
             return SCRIPT, full.part_of(self.script, numbers)
         return self.of_database(numbers) if self.database else None
 
     def of_database(self, numbers: Mapping[str, list[int]]) -> tuple[str, bytes] | None:
         database = opened(self.database)
-        tables = {table.written: table for table in database.tables(()).values() if table.written in numbers}
-        name, made = database.full(list(tables.values()), {table.name: numbers[written] for written, table in tables.items()})
+        tables = {
+            table.written: table
+            for table in database.tables(()).values()
+            if table.written in numbers
+        }
+        name, made = database.full(
+            list(tables.values()),
+            {table.name: numbers[written] for written, table in tables.items()},
+        )
         database.close()
         if isinstance(made, bytes):
             return name, made
@@ -46,7 +55,13 @@ class Picture:
 
     def material(self, work: Path) -> Material | None:
         """All rows to be tried; None where there is no picture."""
-        whole = self.part([Row(at, number) for at, held in enumerate(self.pool.held) for number in range(len(held.rows))])
+        whole = self.part(
+            [
+                Row(at, number)
+                for at, held in enumerate(self.pool.held)
+                for number in range(len(held.rows))
+            ]
+        )
         if whole is None:
             return None
         folder = work / "picture"

@@ -22,7 +22,7 @@ from classroom.picking.try_many import Trying
 from classroom.base.files import write
 from classroom.exercise.settings import Settings
 
-FEW_ROWS = 100    # over which the references are tried
+FEW_ROWS = 100  # over which the references are tried
 log = logging.getLogger(__name__)
 
 
@@ -41,7 +41,12 @@ def tasks_for(source: str, folder: Path) -> Sequence[Task]:
             write(place / exercise.REFERENCE, task.reference)
         for answer in task.answers:
             if answer.fault:
-                log.warning("task %s: the answer %s is not copied: %s", shown(task.name), shown(answer.name), answer.fault)
+                log.warning(
+                    "task %s: the answer %s is not copied: %s",
+                    shown(task.name),
+                    shown(answer.name),
+                    answer.fault,
+                )
             else:
                 write(place / exercise.ANSWERS / f"{answer.name}.sql", answer.text.whole)
     said = Path(source) / settings.FILE
@@ -57,7 +62,9 @@ class NotGraded(Fault):
 class Tasks:
     """The tasks that can be asked about, with what is asked of them."""
 
-    def __init__(self, proving: Proving, said: Settings, tries: Callable[[], Trying | None]) -> None:
+    def __init__(
+        self, proving: Proving, said: Settings, tries: Callable[[], Trying | None]
+    ) -> None:
         """`tries` is asked when something is to be tried, and no second time."""
         self.proving, self.said, self.tries = proving, said, tries
         self.trying: Trying | None = None
@@ -93,7 +100,11 @@ class Tasks:
             if not self.can_try():
                 raise NotGraded(f"reference.sql: {shown(outcome.fault)}")
         try:
-            return self.tried_mutants(task) if isinstance(outcome, witness.Refused) else self.proved_mutants(task)
+            return (
+                self.tried_mutants(task)
+                if isinstance(outcome, witness.Refused)
+                else self.proved_mutants(task)
+            )
         except Fault as fault:
             raise NotGraded(str(fault).removeprefix(f"task {shown(task.name)}: ")) from None
 
@@ -117,7 +128,10 @@ class Tasks:
         """Those of a task, each asked of who reads it."""
         made = questions.of_answers(task)
         found = self.proving.over(self.few(), made)
-        return [trying.tried(of) if found[of].kind == Kind.REFUSED and self.can_try() else of for of in made]
+        return [
+            trying.tried(of) if found[of].kind == Kind.REFUSED and self.can_try() else of
+            for of in made
+        ]
 
     def can_try(self) -> bool:
         """Whether there is a database that tries."""

@@ -8,21 +8,23 @@ from classroom.mutants.question import Question
 from classroom.exercise import parts
 from classroom.picking.finding import Asker, Kind, Rows
 
-FEWEST_ROWS = 15    # no part gets smaller than this
-MOST_PARTS = 8      # in a pass
+FEWEST_ROWS = 15  # no part gets smaller than this
+MOST_PARTS = 8  # in a pass
 
 
 @dataclass
 class Found:
     """What the passes found."""
 
-    told: dict[Question, Rows] = field(default_factory=dict)    # with a witness of the least size
+    told: dict[Question, Rows] = field(default_factory=dict)  # with a witness of the least size
     refused: set[Question] = field(default_factory=set)
-    most: dict[Question, int] = field(default_factory=dict)               # rows over which a query can be asked
-    agreed: set[Question] = field(default_factory=set)                    # on a part
+    most: dict[Question, int] = field(default_factory=dict)  # rows over which a query can be asked
+    agreed: set[Question] = field(default_factory=set)  # on a part
 
 
-def search(asking: Asker, asked: Sequence[Question], seed: str, tell: Callable[[str], None]) -> Found:
+def search(
+    asking: Asker, asked: Sequence[Question], seed: str, tell: Callable[[str], None]
+) -> Found:
     """Tells as many queries as it can, each with the rows of a witness."""
     found = Found(most={of: min(parts.MOST_ROWS, len(asking.pool.lawful)) for of in asked})
     step(asking, found, asked, "", tell)
@@ -31,15 +33,22 @@ def search(asking: Asker, asked: Sequence[Question], seed: str, tell: Callable[[
         number += 1
         before = len(found.told)
         for part in range(1, MOST_PARTS + 1):
-            left = [of for of in asked if of not in found.told and of not in found.refused
-                    and (part - 1) * found.most[of] < len(asking.pool.lawful) > found.most[of]]
+            left = [
+                of
+                for of in asked
+                if of not in found.told
+                and of not in found.refused
+                and (part - 1) * found.most[of] < len(asking.pool.lawful) > found.most[of]
+            ]
             if left:
                 step(asking, found, left, f"{seed} {number} {part}", tell)
         if len(found.told) == before:
             return found
 
 
-def step(asking: Asker, found: Found, asked: Sequence[Question], seed: str, tell: Callable[[str], None]) -> None:
+def step(
+    asking: Asker, found: Found, asked: Sequence[Question], seed: str, tell: Callable[[str], None]
+) -> None:
     """Asks over one part; what passes a limit over smaller and smaller ones."""
     waiting = list(asked)
     size = max(found.most[of] for of in waiting)

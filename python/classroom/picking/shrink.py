@@ -78,7 +78,7 @@ class Search:
                     taken[of] = other
         at = 0
         while at < len(unknown):
-            for of, outcome in self.asking.over(rows, unknown[at:at + AT_ONCE]).items():
+            for of, outcome in self.asking.over(rows, unknown[at : at + AT_ONCE]).items():
                 if not outcome.is_shown or len(outcome.rows) > len(self.now[of]):
                     return False
                 taken[of] = outcome.rows

@@ -17,9 +17,9 @@ from pathlib import Path
 from classroom.base.errors import Fault, shown
 
 MOST_MEMBERS = 50_000
-MOST_BYTES = 1_000_000_000    # of all members, unpacked
-MOST_OF_ONE = 1_000_000       # a longer one is no answer
-MOST_DEPTH = 16               # folders in one another
+MOST_BYTES = 1_000_000_000  # of all members, unpacked
+MOST_OF_ONE = 1_000_000  # a longer one is no answer
+MOST_DEPTH = 16  # folders in one another
 # What a computer adds by itself.
 JUNK = ("__MACOSX", "Thumbs.db", "desktop.ini")
 ENCRYPTED = 0x1
@@ -104,9 +104,21 @@ def _read(archive: zipfile.ZipFile, info: zipfile.ZipInfo, path: tuple[str, ...]
     try:
         with archive.open(info) as file:
             content = file.read(MOST_OF_ONE + 1)
-    except (zipfile.BadZipFile, zlib.error, EOFError, OSError, RuntimeError, NotImplementedError, ValueError) as fault:
+    except (
+        zipfile.BadZipFile,
+        zlib.error,
+        EOFError,
+        OSError,
+        RuntimeError,
+        NotImplementedError,
+        ValueError,
+    ) as fault:
         return Member(path, fault=f"it can't be unpacked: {fault}")
-    return Member(path, fault=f"more than {MOST_OF_ONE:,} bytes") if len(content) > MOST_OF_ONE else Member(path, content)
+    return (
+        Member(path, fault=f"more than {MOST_OF_ONE:,} bytes")
+        if len(content) > MOST_OF_ONE
+        else Member(path, content)
+    )
 
 
 def _below(source: Path) -> Iterator[Member]:
@@ -124,7 +136,9 @@ def _below(source: Path) -> Iterator[Member]:
         total += len(content)
         if total > MOST_BYTES:
             raise Fault(f"{shown(os.fspath(source))}: more than {MOST_BYTES:,} bytes")
-        yield Member(path, fault=f"more than {MOST_OF_ONE:,} bytes") if len(content) > MOST_OF_ONE else Member(path, content)
+        yield Member(path, fault=f"more than {MOST_OF_ONE:,} bytes") if len(
+            content
+        ) > MOST_OF_ONE else Member(path, content)
 
 
 def _walk(folder: int, path: tuple[str, ...]) -> Iterator[tuple[tuple[str, ...], str, int]]:
@@ -136,9 +150,14 @@ def _walk(folder: int, path: tuple[str, ...]) -> Iterator[tuple[tuple[str, ...],
                 continue
             kind = stat.S_IFMT(os.stat(name, dir_fd=folder, follow_symlinks=False).st_mode)
             if kind == stat.S_IFDIR and len(path) < MOST_DEPTH:
-                yield from _walk(os.open(name, os.O_RDONLY | os.O_DIRECTORY | os.O_NOFOLLOW, dir_fd=folder), inner)
+                yield from _walk(
+                    os.open(name, os.O_RDONLY | os.O_DIRECTORY | os.O_NOFOLLOW, dir_fd=folder),
+                    inner,
+                )
             elif kind == stat.S_IFREG:
-                yield inner, "", os.open(name, os.O_RDONLY | os.O_NOFOLLOW | os.O_NONBLOCK, dir_fd=folder)
+                yield inner, "", os.open(
+                    name, os.O_RDONLY | os.O_NOFOLLOW | os.O_NONBLOCK, dir_fd=folder
+                )
             else:
                 yield inner, "a link, which is not followed" if kind == stat.S_IFLNK else "no plain file", -1
     finally:

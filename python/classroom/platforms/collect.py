@@ -34,11 +34,17 @@ class Collected:
     new: int = 0
     replaced: int = 0
     same: int = 0
-    kept: list[Placed] = field(default_factory=list)    # others are there, which were left
+    kept: list[Placed] = field(default_factory=list)  # others are there, which were left
 
 
-def collect(folder: Path, places: Mapping[str, Path], answers: Sequence[Placed], source: str, overwrites: bool,
-            writes: bool = True) -> Collected:
+def collect(
+    folder: Path,
+    places: Mapping[str, Path],
+    answers: Sequence[Placed],
+    source: str,
+    overwrites: bool,
+    writes: bool = True,
+) -> Collected:
     """Writes the answers into the folders of the tasks, `places`, and notes their sources. Where it doesn't write it
     tells what it would do."""
     done = Collected()
@@ -75,8 +81,14 @@ def _place(task: Path, answer: Placed) -> Path:
 
 
 def line_of(answer: Placed, source: str) -> tuple[str, ...]:
-    return (answer.task, answer.student, source, answer.handed.member.label, "late" if answer.handed.is_late else "",
-            hashlib.sha256(answer.content).hexdigest())
+    return (
+        answer.task,
+        answer.student,
+        source,
+        answer.handed.member.label,
+        "late" if answer.handed.is_late else "",
+        hashlib.sha256(answer.content).hexdigest(),
+    )
 
 
 def read_list(folder: Path) -> dict[tuple[str, str], tuple[str, ...]]:

@@ -16,8 +16,12 @@ from dataclasses import dataclass
 
 from classroom.platforms.archive import Member
 
-MOODLE = re.compile(r"(?P<name>.+)_(?P<number>[0-9]+)_assignsubmission_(?P<kind>file|onlinetext)_(?P<file>.*)")
-CANVAS = re.compile(r"(?P<name>[^_]+)(?P<late>_LATE)?_(?P<number>[0-9]+)_(?P<order>[0-9]+)_(?P<file>.+)")
+MOODLE = re.compile(
+    r"(?P<name>.+)_(?P<number>[0-9]+)_assignsubmission_(?P<kind>file|onlinetext)_(?P<file>.*)"
+)
+CANVAS = re.compile(
+    r"(?P<name>[^_]+)(?P<late>_LATE)?_(?P<number>[0-9]+)_(?P<order>[0-9]+)_(?P<file>.+)"
+)
 # What Canvas adds to the name of a file that is handed in again.
 AGAIN = re.compile(r"-[0-9]+(?=(?:\.[^.]*)?$)")
 ONLINE = "onlinetext.html"
@@ -31,14 +35,14 @@ class Handed:
     """A file that somebody handed in."""
 
     member: Member
-    column: str         # of the class list, in which the number stands: moodle, canvas or id
+    column: str  # of the class list, in which the number stands: moodle, canvas or id
     number: str
-    name: str           # as the archive has it: a full name, or the number itself
-    file: str           # the name of the file, as it was handed in
-    order: int = 0      # of two for the same task the later has the greater one
+    name: str  # as the archive has it: a full name, or the number itself
+    file: str  # the name of the file, as it was handed in
+    order: int = 0  # of two for the same task the later has the greater one
     is_late: bool = False
     assignment: str = ""
-    others: tuple[str, ...] = ()    # other names that the file may have had
+    others: tuple[str, ...] = ()  # other names that the file may have had
 
     @property
     def is_online_text(self) -> bool:
@@ -50,7 +54,7 @@ def of_moodle(member: Member) -> Handed | None:
     for at, part in enumerate(member.path):
         found = MOODLE.fullmatch(part)
         if found:
-            file = "/".join(member.path[at + 1:]) or found["file"]
+            file = "/".join(member.path[at + 1 :]) or found["file"]
             return Handed(member, "moodle", found["number"], found["name"], file.rpartition("/")[2])
     return None
 
@@ -60,14 +64,22 @@ def of_canvas(member: Member) -> Handed | None:
     if not found:
         return None
     file = AGAIN.sub("", found["file"])
-    return Handed(member, "canvas", found["number"], found["name"], found["file"], int(found["order"]), bool(found["late"]),
-                  others=(file,) if file != found["file"] else ())
+    return Handed(
+        member,
+        "canvas",
+        found["number"],
+        found["name"],
+        found["file"],
+        int(found["order"]),
+        bool(found["late"]),
+        others=(file,) if file != found["file"] else (),
+    )
 
 
 def of_nbgrader(member: Member) -> Handed | None:
     path = member.path
     if SUBMITTED in path:
-        path = path[path.index(SUBMITTED) + 1:]
+        path = path[path.index(SUBMITTED) + 1 :]
     if len(path) < 3:
         return None
     return Handed(member, "id", path[0], path[0], path[-1], assignment=path[1])
@@ -79,7 +91,11 @@ def of_folder(member: Member) -> Handed | None:
 
 
 FORMS: dict[str, Callable[[Member], Handed | None]] = {
-    "moodle": of_moodle, "canvas": of_canvas, "nbgrader": of_nbgrader, "folders": of_folder}
+    "moodle": of_moodle,
+    "canvas": of_canvas,
+    "nbgrader": of_nbgrader,
+    "folders": of_folder,
+}
 
 
 def form_of(members: Sequence[Member]) -> str:

@@ -3,7 +3,9 @@ from __future__ import annotations
 
 from html.parser import HTMLParser
 
-BREAKS = frozenset(("br", "p", "div", "li", "pre", "tr", "h1", "h2", "h3", "h4", "h5", "h6", "blockquote"))
+BREAKS = frozenset(
+    ("br", "p", "div", "li", "pre", "tr", "h1", "h2", "h3", "h4", "h5", "h6", "blockquote")
+)
 HIDDEN = frozenset(("script", "style", "head", "title"))
 # Line ends count inside of these alone.
 KEEPS = frozenset(("pre", "textarea"))

@@ -26,10 +26,10 @@ class Placed:
     """The answer of a student to a task."""
 
     task: str
-    student: str      # the id, which names the file
+    student: str  # the id, which names the file
     content: bytes
     handed: Handed
-    listed: bool      # whether the class list has the student
+    listed: bool  # whether the class list has the student
 
 
 @dataclass(frozen=True)
@@ -46,8 +46,10 @@ class Rules:
 
     tasks: Sequence[str]
     students: ClassList
-    task: str | None = None      # that of all files
-    pattern: re.Pattern[str] = re.compile(SPLIT, re.MULTILINE | re.IGNORECASE)    # its first group is the task
+    task: str | None = None  # that of all files
+    pattern: re.Pattern[str] = re.compile(
+        SPLIT, re.MULTILINE | re.IGNORECASE
+    )  # its first group is the task
 
 
 def placed(found: Iterable[Handed], rules: Rules) -> tuple[list[Placed], list[NotPlaced]]:
@@ -66,7 +68,9 @@ def placed(found: Iterable[Handed], rules: Rules) -> tuple[list[Placed], list[No
             rest.append(NotPlaced(handed.member.label, parts))
             continue
         for task, content in parts:
-            answers.setdefault((task, who[0].casefold()), []).append(Placed(task, who[0], content, handed, who[1]))
+            answers.setdefault((task, who[0].casefold()), []).append(
+                Placed(task, who[0], content, handed, who[1])
+            )
     chosen = []
     for same in answers.values():
         kept = _last(same)
@@ -77,11 +81,15 @@ def placed(found: Iterable[Handed], rules: Rules) -> tuple[list[Placed], list[No
     return chosen, rest
 
 
-def _ids(found: Sequence[Handed], students: ClassList) -> Mapping[tuple[str, str, str], tuple[str, bool] | str]:
+def _ids(
+    found: Sequence[Handed], students: ClassList
+) -> Mapping[tuple[str, str, str], tuple[str, bool] | str]:
     """For each who handed something in the id, and whether the class list has it; or why there is none."""
     numbers: dict[str, set[tuple[str, str]]] = {}
     for handed in found:
-        numbers.setdefault(composed(handed.name).casefold(), set()).add((handed.column, composed(handed.number)))
+        numbers.setdefault(composed(handed.name).casefold(), set()).add(
+            (handed.column, composed(handed.number))
+        )
     ids: dict[tuple[str, str, str], tuple[str, bool] | str] = {}
     for handed in found:
         known = students.known(handed.column, composed(handed.number))
@@ -136,12 +144,14 @@ def _split(content: bytes, rules: Rules) -> list[tuple[str, bytes]] | str:
     try:
         text = content.decode("utf-8-sig")
     except UnicodeDecodeError:
-        text = content.decode("utf-16" if content[:2] in (b"\xff\xfe", b"\xfe\xff") else "latin-1", "replace")
+        text = content.decode(
+            "utf-16" if content[:2] in (b"\xff\xfe", b"\xfe\xff") else "latin-1", "replace"
+        )
     text = text.replace("\r\n", "\n")
     begins = list(rules.pattern.finditer(text))
     if not begins:
         return f"no task has its name, and no comment `-- task T` is in it; the tasks are {shown(*rules.tasks)}"
-    if COMMENT.fullmatch(text[:begins[0].start()]) is None:
+    if COMMENT.fullmatch(text[: begins[0].start()]) is None:
         return f"a query stands before the comment of the first task, in line {text[:begins[0].start()].count(chr(10)) + 1}"
     by_fold = {task.casefold(): task for task in rules.tasks}
     parts: dict[str, bytes] = {}
@@ -151,7 +161,7 @@ def _split(content: bytes, rules: Rules) -> list[tuple[str, bytes]] | str:
             return f"a comment names the task {shown(begin[1])}, which is none"
         if task in parts:
             return f"two comments name the task {shown(task)}"
-        part = text[begin.end():end.start() if end else len(text)].strip("\n")
+        part = text[begin.end() : end.start() if end else len(text)].strip("\n")
         if COMMENT.fullmatch(part) is None:
             parts[task] = f"{part}\n".encode()
     return list(parts.items()) or "no query is in it"
@@ -163,5 +173,8 @@ def _last(same: Sequence[Placed]) -> Placed | NotPlaced:
     last = [one for one in same if one.handed.order == most]
     if len({one.content for one in last}) > 1:
         labels = shown(*(one.handed.member.label for one in last))
-        return NotPlaced(labels, f"task {shown(last[0].task)} has {len(last)} different answers of {shown(last[0].student)}, and nothing says which came last")
+        return NotPlaced(
+            labels,
+            f"task {shown(last[0].task)} has {len(last)} different answers of {shown(last[0].student)}, and nothing says which came last",
+        )
     return last[-1]

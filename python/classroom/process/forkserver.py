@@ -26,7 +26,7 @@ from classroom.process.limits import ENVIRONMENT, MEGABYTE, OUT_OF_MEMORY, Limit
 PR_SET_PDEATHSIG = 1
 MOST_NAME = 4096
 FAILED = 1
-ENDS = 10.0    # seconds in which it ends once nobody can ask it
+ENDS = 10.0  # seconds in which it ends once nobody can ask it
 Subject = TypeVar("Subject")
 
 
@@ -59,15 +59,23 @@ class Forks:
             except TimeoutError:
                 passed = "time"
             except OSError:
-                pass    # it ended
+                pass  # it ended
         if self._is_closed:
             raise Ended
         if len(text) > self.limits.output * MEGABYTE:
             return Ran(-signal.SIGKILL, b"", b"", time.monotonic() - begun, "output")
-        said, _, last = text.removesuffix(b"\n").rpartition(b"\n") if text.endswith(b"\n") else (b"", b"", b"")
+        said, _, last = (
+            text.removesuffix(b"\n").rpartition(b"\n") if text.endswith(b"\n") else (b"", b"", b"")
+        )
         status = int(last) if last.lstrip(b"-").isdigit() else -signal.SIGKILL
         passed = passed or ("memory" if status == OUT_OF_MEMORY else "")
-        return Ran(status, b"" if status else said, said if status else b"", time.monotonic() - begun, passed)
+        return Ran(
+            status,
+            b"" if status else said,
+            said if status else b"",
+            time.monotonic() - begun,
+            passed,
+        )
 
     def _answer(self, ours: socket.socket, question: bytes, until: float) -> bytes:
         """What comes back, up to a byte more than there may be."""
@@ -101,8 +109,14 @@ class Forks:
         ours, theirs = socket.socketpair(socket.AF_UNIX, socket.SOCK_SEQPACKET)
         with theirs:
             self._process = subprocess.Popen(
-                [*bounded(self.limits), *self.words], stdin=theirs.fileno(), stdout=subprocess.DEVNULL, stderr=subprocess.DEVNULL,
-                cwd=self.folder, env=ENVIRONMENT, start_new_session=True)
+                [*bounded(self.limits), *self.words],
+                stdin=theirs.fileno(),
+                stdout=subprocess.DEVNULL,
+                stderr=subprocess.DEVNULL,
+                cwd=self.folder,
+                env=ENVIRONMENT,
+                start_new_session=True,
+            )
         return ours
 
     def _end(self) -> None:
@@ -112,7 +126,7 @@ class Forks:
             try:
                 self._process.wait(ENDS)
             except subprocess.TimeoutExpired:
-                self._process.kill()    # and its children with it
+                self._process.kill()  # and its children with it
                 self._process.wait()
         self._control = self._process = None
 
@@ -149,14 +163,20 @@ def serve(ready: Callable[[str], Subject], answer: Callable[[Subject, bytes], by
 class Server:
     """The loop of the process."""
 
-    def __init__(self, control: socket.socket, woken: socket.socket, wakes: socket.socket, ready: Callable[[str], Subject],
-                 answer: Callable[[Subject, bytes], bytes]) -> None:
+    def __init__(
+        self,
+        control: socket.socket,
+        woken: socket.socket,
+        wakes: socket.socket,
+        ready: Callable[[str], Subject],
+        answer: Callable[[Subject, bytes], bytes],
+    ) -> None:
         self.control, self.woken, self.wakes = control, woken, wakes
         self.own = os.getpid()
         self.poll = select.poll()
         self.poll.register(control, select.POLLIN)
         self.poll.register(woken, select.POLLIN)
-        self.running: dict[int, Asked] = {}    # by the number of the connection
+        self.running: dict[int, Asked] = {}  # by the number of the connection
         subjects: dict[str, Subject] = {}
 
         def of(name: str, question: bytes) -> bytes:
@@ -228,7 +248,12 @@ class Server:
                 os._exit(FAILED)
             signal.set_wakeup_fd(-1)
             signal.signal(signal.SIGCHLD, signal.SIG_DFL)
-            for other in (self.control, self.woken, self.wakes, *(of.connection for of in self.running.values())):
+            for other in (
+                self.control,
+                self.woken,
+                self.wakes,
+                *(of.connection for of in self.running.values()),
+            ):
                 other.close()
             with connection.makefile("rb") as lines:
                 question = lines.readline()
@@ -252,4 +277,4 @@ def finish(connection: socket.socket, text: bytes) -> None:
         try:
             connection.sendall(text)
         except OSError:
-            pass    # who asked waits no more
+            pass  # who asked waits no more

@@ -35,8 +35,14 @@ MAIN = "import sys\nfrom classroom.process.remote import main\nsys.exit(main(*sy
 log = logging.getLogger(__name__)
 
 
-def run(jobs: Sequence[Job], programs: Mapping[str, Path], shared: Mapping[str, bytes], files: Mapping[str, bytes],
-        means: Means, work: Path) -> Iterator[tuple[str, Ran]]:
+def run(
+    jobs: Sequence[Job],
+    programs: Mapping[str, Path],
+    shared: Mapping[str, bytes],
+    files: Mapping[str, bytes],
+    means: Means,
+    work: Path,
+) -> Iterator[tuple[str, Ran]]:
     """As `parallel.run`."""
     assert means.hosts
     parallel = gnu_parallel()
@@ -44,9 +50,26 @@ def run(jobs: Sequence[Job], programs: Mapping[str, Path], shared: Mapping[str, 
     batches = batches_of(jobs, means, len(hosts))
     write_bundle(work / "bundle.pyz", batches, programs, shared, files, means.limits)
     (work / "batches").write_text("".join(f"{number}\n" for number in range(len(batches))))
-    words = [*parallel, "--line-buffer", "--jobs", str(means.jobs or "100%"), "--arg-file", "batches",
-             "--sshloginfile", "hosts", "--ssh", SSH, "--basefile", "./bundle.pyz",
-             "--workdir", place_on_hosts(work), "--cleanup", "--retries", "3", "exec python3 bundle.pyz {}"]
+    words = [
+        *parallel,
+        "--line-buffer",
+        "--jobs",
+        str(means.jobs or "100%"),
+        "--arg-file",
+        "batches",
+        "--sshloginfile",
+        "hosts",
+        "--ssh",
+        SSH,
+        "--basefile",
+        "./bundle.pyz",
+        "--workdir",
+        place_on_hosts(work),
+        "--cleanup",
+        "--retries",
+        "3",
+        "exec python3 bundle.pyz {}",
+    ]
     try:
         yield from lines(words, work)
     finally:
@@ -56,7 +79,9 @@ def run(jobs: Sequence[Job], programs: Mapping[str, Path], shared: Mapping[str, 
 def gnu_parallel() -> list[str]:
     """The words that begin a call of GNU parallel, without anybody's own settings."""
     path = tool("parallel", "parallel")
-    version = subprocess.run([path, "--version"], stdin=subprocess.DEVNULL, capture_output=True, check=False)
+    version = subprocess.run(
+        [path, "--version"], stdin=subprocess.DEVNULL, capture_output=True, check=False
+    )
     if not version.stdout.startswith(b"GNU parallel"):
         raise Fault(f"{path} is not GNU parallel: apt-get install parallel")
     return [path, "--plain", "--will-cite"]
@@ -69,9 +94,15 @@ def environment(work: Path) -> dict[str, str]:
 def lines(words: Sequence[str], work: Path) -> Iterator[tuple[str, Ran]]:
     with tempfile.TemporaryFile(dir=work) as errors:
         process = subprocess.Popen(
-            [sys.executable, "-S", "-P", guard.__file__, str(os.getpid()), *words], stdin=subprocess.DEVNULL,
-            stdout=subprocess.PIPE, stderr=errors, cwd=work, env=environment(work),
-            encoding="ascii", errors="replace")
+            [sys.executable, "-S", "-P", guard.__file__, str(os.getpid()), *words],
+            stdin=subprocess.DEVNULL,
+            stdout=subprocess.PIPE,
+            stderr=errors,
+            cwd=work,
+            env=environment(work),
+            encoding="ascii",
+            errors="replace",
+        )
         assert process.stdout
         try:
             for text in process.stdout:
@@ -105,8 +136,14 @@ def batches_of(jobs: Sequence[Job], means: Means, hosts: int) -> list[Sequence[J
     return [jobs[start::count] for start in range(count)]
 
 
-def write_bundle(path: Path, batches: Sequence[Sequence[Job]], programs: Mapping[str, Path], shared: Mapping[str, bytes],
-                 files: Mapping[str, bytes], limits: Limits) -> None:
+def write_bundle(
+    path: Path,
+    batches: Sequence[Sequence[Job]],
+    programs: Mapping[str, Path],
+    shared: Mapping[str, bytes],
+    files: Mapping[str, bytes],
+    limits: Limits,
+) -> None:
     """Writes all that the jobs need."""
     with zipfile.ZipFile(path, "w", zipfile.ZIP_DEFLATED, compresslevel=1) as bundle:
         bundle.writestr("__main__.py", MAIN)
@@ -119,7 +156,8 @@ def write_bundle(path: Path, batches: Sequence[Sequence[Job]], programs: Mapping
         common = {
             "limits": limits,
             "programs": {name: f"programs/{name}" for name in programs},
-            "files": [(name, f"shared/{number}") for number, name in enumerate(shared)]}
+            "files": [(name, f"shared/{number}") for number, name in enumerate(shared)],
+        }
         for number, content in enumerate(shared.values()):
             bundle.writestr(f"shared/{number}", content)
         members = {}
@@ -128,9 +166,20 @@ def write_bundle(path: Path, batches: Sequence[Sequence[Job]], programs: Mapping
             bundle.writestr(members[name], content)
         bundle.writestr("common.json", json.dumps(common))
         for number, batch in enumerate(batches):
-            bundle.writestr(f"batches/{number}.json", json.dumps([
-                {"key": job.key, "program": job.program, "words": job.words,
-                 "files": [(name, members[name]) for name in job.files]} for job in batch]))
+            bundle.writestr(
+                f"batches/{number}.json",
+                json.dumps(
+                    [
+                        {
+                            "key": job.key,
+                            "program": job.program,
+                            "words": job.words,
+                            "files": [(name, members[name]) for name in job.files],
+                        }
+                        for job in batch
+                    ]
+                ),
+            )
 
 
 def reached(parallel: Sequence[str], path: Path, work: Path) -> list[str]:
@@ -168,10 +217,23 @@ def fault_of(parallel: Sequence[str], host: str, work: Path) -> str:
     """Why a host can't be used; empty where it can."""
     try:
         ran = subprocess.run(
-            [*parallel, "--nonall", "--ssh", SSH, "--sshlogin", host,
-             "for program in python3 rsync prlimit setpriv; do command -v $program >/dev/null || echo $program; done"],
-            stdin=subprocess.DEVNULL, capture_output=True, encoding="utf-8", errors="replace", timeout=40,
-            env=environment(work), check=False)
+            [
+                *parallel,
+                "--nonall",
+                "--ssh",
+                SSH,
+                "--sshlogin",
+                host,
+                "for program in python3 rsync prlimit setpriv; do command -v $program >/dev/null || echo $program; done",
+            ],
+            stdin=subprocess.DEVNULL,
+            capture_output=True,
+            encoding="utf-8",
+            errors="replace",
+            timeout=40,
+            env=environment(work),
+            check=False,
+        )
     except subprocess.TimeoutExpired:
         return "no answer within 40 seconds"
     if ran.returncode:
@@ -183,7 +245,13 @@ def sweep(parallel: Sequence[str], place: str, work: Path) -> None:
     """Removes the folder on the hosts; GNU parallel removes what it copied there and leaves the folder."""
     try:
         subprocess.run(
-            [*parallel, "--nonall", "--sshloginfile", "hosts", "--ssh", SSH, f"rm -rf {place}"], cwd=work,
-            stdin=subprocess.DEVNULL, capture_output=True, env=environment(work), check=True, timeout=60)
+            [*parallel, "--nonall", "--sshloginfile", "hosts", "--ssh", SSH, f"rm -rf {place}"],
+            cwd=work,
+            stdin=subprocess.DEVNULL,
+            capture_output=True,
+            env=environment(work),
+            check=True,
+            timeout=60,
+        )
     except (subprocess.TimeoutExpired, subprocess.CalledProcessError):
         log.warning("a host did not answer in the end; ~/%s may be left on it", place)

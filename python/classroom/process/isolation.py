@@ -15,8 +15,15 @@ def around(program: Path, has_network: bool) -> list[str]:
     is down.
     """
     alone = [] if has_network else [*namespace(), "--"]
-    return [*alone, tool("setpriv", "util-linux"), "--pdeathsig", "KILL", tool("env", "coreutils"), "-i",
-            os.fspath(program)]
+    return [
+        *alone,
+        tool("setpriv", "util-linux"),
+        "--pdeathsig",
+        "KILL",
+        tool("env", "coreutils"),
+        "-i",
+        os.fspath(program),
+    ]
 
 
 def namespace() -> list[str]:
@@ -26,8 +33,13 @@ def namespace() -> list[str]:
 def can_be_alone() -> bool:
     """Whether this machine lets a process give up its network."""
     try:
-        ran = subprocess.run([*namespace(), "true"], stdin=subprocess.DEVNULL, capture_output=True, timeout=20,
-                             check=False)
+        ran = subprocess.run(
+            [*namespace(), "true"],
+            stdin=subprocess.DEVNULL,
+            capture_output=True,
+            timeout=20,
+            check=False,
+        )
     except (OSError, subprocess.TimeoutExpired):
         return False
     return ran.returncode == 0

@@ -21,7 +21,10 @@ def main() -> int:
     if os.getppid() != int(sys.argv[1]):
         return 1
     process = subprocess.Popen(
-        sys.argv[2:], process_group=0, preexec_fn=lambda: signal.pthread_sigmask(signal.SIG_SETMASK, before))
+        sys.argv[2:],
+        process_group=0,
+        preexec_fn=lambda: signal.pthread_sigmask(signal.SIG_SETMASK, before),
+    )
     try:
         signal.pthread_sigmask(signal.SIG_SETMASK, before)
         return process.wait()

@@ -24,8 +24,14 @@ from classroom.process.limits import Ran
 __all__ = ["Job", "Means", "cores", "run"]
 
 
-def run(jobs: Sequence[Job], programs: Mapping[str, Path], shared: Mapping[str, bytes], files: Mapping[str, bytes],
-        means: Means, work: Path) -> Iterator[tuple[str, Ran]]:
+def run(
+    jobs: Sequence[Job],
+    programs: Mapping[str, Path],
+    shared: Mapping[str, bytes],
+    files: Mapping[str, bytes],
+    means: Means,
+    work: Path,
+) -> Iterator[tuple[str, Ran]]:
     """The results of jobs, as they come; no result of a job that could not be run.
 
     `work` is a folder for what is needed meanwhile. The jobs end with this process, however it ends.
@@ -33,7 +39,9 @@ def run(jobs: Sequence[Job], programs: Mapping[str, Path], shared: Mapping[str, 
     if not jobs:
         return
     with tell.progress(len(jobs), means.shows_progress) as step:
-        for result in (hosts.run if means.hosts else here)(jobs, programs, shared, files, means, work):
+        for result in (hosts.run if means.hosts else here)(
+            jobs, programs, shared, files, means, work
+        ):
             step()
             yield result
 
@@ -75,8 +83,14 @@ def end(process: subprocess.Popen[bytes]) -> None:
             pass
 
 
-def here(jobs: Sequence[Job], programs: Mapping[str, Path], shared: Mapping[str, bytes], files: Mapping[str, bytes],
-         means: Means, work: Path) -> Iterator[tuple[str, Ran]]:
+def here(
+    jobs: Sequence[Job],
+    programs: Mapping[str, Path],
+    shared: Mapping[str, bytes],
+    files: Mapping[str, bytes],
+    means: Means,
+    work: Path,
+) -> Iterator[tuple[str, Ran]]:
     """The results of jobs on this machine; each thread has a folder with the shared files."""
     most = min(len(jobs), means.jobs or cores())
     running = Running()
@@ -90,7 +104,12 @@ def here(jobs: Sequence[Job], programs: Mapping[str, Path], shared: Mapping[str,
             try:
                 for file in job.files:
                     (folder / file).write_bytes(files[file])
-                ran = limited.run([os.fspath(programs[job.program]), *job.words], means.limits, os.fspath(folder), running.add)
+                ran = limited.run(
+                    [os.fspath(programs[job.program]), *job.words],
+                    means.limits,
+                    os.fspath(folder),
+                    running.add,
+                )
                 for file in job.files:
                     (folder / file).unlink()
                 return job.key, ran
@@ -101,7 +120,9 @@ def here(jobs: Sequence[Job], programs: Mapping[str, Path], shared: Mapping[str,
         try:
             left, pending = iter(jobs), set[Future[tuple[str, Ran]]]()
             # Few results wait at a time.
-            while pending := pending | {threads.submit(one, job) for job in islice(left, 2 * most - len(pending))}:
+            while pending := pending | {
+                threads.submit(one, job) for job in islice(left, 2 * most - len(pending))
+            }:
                 done, pending = wait(pending, return_when=FIRST_COMPLETED)
                 for future in done:
                     yield future.result()

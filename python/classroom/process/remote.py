@@ -28,8 +28,10 @@ def main(bundle: str, batch: str) -> int:
         jobs: List[Dict[str, Any]] = json.loads(members.read(f"batches/{batch}.json"))
         place = os.path.dirname(os.path.abspath(bundle))
         with tempfile.TemporaryDirectory(prefix="run-", dir=place) as folder:
-            programs = {name: unpack(members, member, place_of(folder, name))
-                        for name, member in common["programs"].items()}
+            programs = {
+                name: unpack(members, member, place_of(folder, name))
+                for name, member in common["programs"].items()
+            }
             rows = os.path.join(folder, "files")
             os.mkdir(rows)
             for name, member in common["files"]:

@@ -15,22 +15,39 @@ from ratest.places import place_of
 MOST_BYTES = 65_536
 LATIN_1, WINDOWS, UTF_16 = "read as Latin-1", "read as Windows-1252", "read as UTF-16"
 # A text, a name or a comment without an end goes to the end.
-PIECE = re.compile(r"""(?P<gap>(?:[\s\ufeff]|--[^\n]*|/\*.*?\*/)++)|(?P<name>"(?:[^"]|"")*+")
-    |(?P<text>'(?:[^']|'')*+'|`[^`]*+`)|(?P<end>;)|(?P<other>[A-Za-z0-9_]+|['"`].*|/\*.*|.)""", re.VERBOSE | re.DOTALL)
+PIECE = re.compile(
+    r"""(?P<gap>(?:[\s\ufeff]|--[^\n]*|/\*.*?\*/)++)|(?P<name>"(?:[^"]|"")*+")
+    |(?P<text>'(?:[^']|'')*+'|`[^`]*+`)|(?P<end>;)|(?P<other>[A-Za-z0-9_]+|['"`].*|/\*.*|.)""",
+    re.VERBOSE | re.DOTALL,
+)
 # Characters that a word processor or another system puts where a query has others.
-ODD = {"\r": "a carriage return", "\t": "a tab", "\u00a0": "a no-break space", "\u202f": "a narrow no-break space",
-       "\u2007": "a figure space", "\u200b": "a space without width", "\u00b4": "an accent for a quote",
-       "\u2013": "a dash for a minus sign", "\u2014": "a dash for a minus sign", "\u2212": "a minus sign of its own",
-       "\u2026": "an ellipsis", **dict.fromkeys("\u2018\u2019\u201a\u201b\u201c\u201d\u201e\u201f\u00ab\u00bb\u2039\u203a",
-                                                 "a typographic quote")}
+ODD = {
+    "\r": "a carriage return",
+    "\t": "a tab",
+    "\u00a0": "a no-break space",
+    "\u202f": "a narrow no-break space",
+    "\u2007": "a figure space",
+    "\u200b": "a space without width",
+    "\u00b4": "an accent for a quote",
+    "\u2013": "a dash for a minus sign",
+    "\u2014": "a dash for a minus sign",
+    "\u2212": "a minus sign of its own",
+    "\u2026": "an ellipsis",
+    **dict.fromkeys(
+        "\u2018\u2019\u201a\u201b\u201c\u201d\u201e\u201f\u00ab\u00bb\u2039\u203a",
+        "a typographic quote",
+    ),
+}
 
 
 @dataclass(frozen=True)
 class Text:
     """A text that was handed in."""
 
-    whole: bytes = b""              # as UTF-8
-    query: bytes = b""              # the one statement in it, its bytes at the places that they have in the whole
+    whole: bytes = b""  # as UTF-8
+    query: bytes = (
+        b""  # the one statement in it, its bytes at the places that they have in the whole
+    )
     remarks: tuple[str, ...] = ()
 
 
@@ -79,15 +96,20 @@ def statement(text: str) -> str:
     if not filled or len(parts) == 1 or parts[0] and len(parts) == 2:
         return text
     start, stop = filled[0][0].start(), filled[0][-1].end()
-    before = "".join(" " if match.lastgroup == "end" else match[0] for match in PIECE.finditer(text[:start]))
+    before = "".join(
+        " " if match.lastgroup == "end" else match[0] for match in PIECE.finditer(text[:start])
+    )
     return before + text[start:stop]
 
 
 def backquoted(query: str) -> str:
     """The query with its names in backquotes, which SQLite never takes for texts."""
     return "".join(
-        "`" + match[0][1:-1].replace('""', '"').replace("`", "``") + "`" if match.lastgroup == "name" else match[0]
-        for match in PIECE.finditer(query))
+        "`" + match[0][1:-1].replace('""', '"').replace("`", "``") + "`"
+        if match.lastgroup == "name"
+        else match[0]
+        for match in PIECE.finditer(query)
+    )
 
 
 def odd_character(query: str, byte: int) -> str:

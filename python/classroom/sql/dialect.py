@@ -16,7 +16,9 @@ def for_sqlite(query: str) -> str:
     found = tokens(query)
     made = _Writer(query, found)
     text, at = made.chain(0)
-    return text + "".join(query[token.begin:token.end] for token in found[at:] if token.word != ";")
+    return text + "".join(
+        query[token.begin : token.end] for token in found[at:] if token.word != ";"
+    )
 
 
 class _Writer:
@@ -54,8 +56,8 @@ class _Writer:
                 last = place
                 while last < len(signs) and signs[last].lower() == "intersect":
                     last += 1
-                inner = " INTERSECT ".join(operands[place:last + 1])
-                operands[place:last + 1], signs[place:last] = [f"SELECT * FROM ({inner})"], []
+                inner = " INTERSECT ".join(operands[place : last + 1])
+                operands[place : last + 1], signs[place:last] = [f"SELECT * FROM ({inner})"], []
             else:
                 place += 1
         text = operands[0]
@@ -82,6 +84,6 @@ class _Writer:
             else:
                 depth += (word == "(") - (word == ")")
                 token = self.found[at]
-                parts.append(self.text[token.begin:token.end])
+                parts.append(self.text[token.begin : token.end])
             at += 1
         return " ".join(parts), at

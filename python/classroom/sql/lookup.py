@@ -5,19 +5,22 @@ import re
 from collections.abc import Collection
 from typing import NamedTuple
 
-TOKEN = re.compile(r"""(?P<gap>\s+|--[^\n]*|/\*.*?(?:\*/|\Z))
+TOKEN = re.compile(
+    r"""(?P<gap>\s+|--[^\n]*|/\*.*?(?:\*/|\Z))
     |(?P<text>'(?:[^']|'')*'?)
     |(?P<quoted>"(?:[^"]|"")*"?|`(?:[^`]|``)*`?|\[[^\]]*\]?)
     |(?P<word>[^\W\d][\w$]*)
     |(?P<number>\d[\w.]*)
-    |(?P<other><>|<=|>=|!=|==|\|\||::|.)""", re.VERBOSE | re.DOTALL)
+    |(?P<other><>|<=|>=|!=|==|\|\||::|.)""",
+    re.VERBOSE | re.DOTALL,
+)
 CLOCKS = {"date": 0, "time": 0, "datetime": 0, "julianday": 0, "unixepoch": 0, "strftime": 1}
 
 
 class Token(NamedTuple):
-    kind: str     # text, quoted, word, number or other
-    text: str     # as it stands
-    start: int    # its first character, from 0
+    kind: str  # text, quoted, word, number or other
+    text: str  # as it stands
+    start: int  # its first character, from 0
 
     @property
     def name(self) -> str:
@@ -30,13 +33,19 @@ class Token(NamedTuple):
 
 def tokens(text: str) -> list[Token]:
     """The tokens of a query, without white space and comments."""
-    return [Token(match.lastgroup or "other", match[0], match.start())
-            for match in TOKEN.finditer(text) if match.lastgroup != "gap"]
+    return [
+        Token(match.lastgroup or "other", match[0], match.start())
+        for match in TOKEN.finditer(text)
+        if match.lastgroup != "gap"
+    ]
 
 
 def without_comments(text: str) -> str:
     """The text with a blank for each comment."""
-    return "".join(" " if match.lastgroup == "gap" and match[0][0] in "-/" else match[0] for match in TOKEN.finditer(text))
+    return "".join(
+        " " if match.lastgroup == "gap" and match[0][0] in "-/" else match[0]
+        for match in TOKEN.finditer(text)
+    )
 
 
 def begins_as_query(text: str) -> bool:
@@ -51,7 +60,11 @@ def clock(text: str) -> str:
     for at, token in enumerate(found):
         if token.kind == "text" and token.name.strip().lower() == "now":
             return token.text
-        if token.kind == "word" and token.text.lower() in CLOCKS and [of.text for of in found[at + 1:at + 2]] == ["("]:
+        if (
+            token.kind == "word"
+            and token.text.lower() in CLOCKS
+            and [of.text for of in found[at + 1 : at + 2]] == ["("]
+        ):
             if arguments(found, at + 1) <= CLOCKS[token.text.lower()]:
                 return f"{token.text}()"
     return ""
@@ -91,8 +104,11 @@ def names_something(found: list[Token], at: int) -> bool:
     after = found[at + 1] if at + 1 < len(found) else Token("other", "", 0)
     if before.kind == "word" and before.text.lower() == "as":
         return True
-    if after.kind == "word" and after.text.lower() == "as" and (
-            before.text == "," or before.text.lower() in ("with", "recursive")):
+    if (
+        after.kind == "word"
+        and after.text.lower() == "as"
+        and (before.text == "," or before.text.lower() in ("with", "recursive"))
+    ):
         return True
     if before.text == ")" or before.kind in ("quoted", "number"):
         return True
@@ -103,12 +119,17 @@ def columns_of_with(found: list[Token]) -> list[str]:
     """The names in the lists of columns of WITH, which stand before AS and a parenthesis."""
     names: list[str] = []
     for at in range(len(found) - 2):
-        if found[at].text == ")" and found[at + 1].text.lower() == "as" and any(
-                token.text == "(" for token in found[at + 2:at + 5]):
+        if (
+            found[at].text == ")"
+            and found[at + 1].text.lower() == "as"
+            and any(token.text == "(" for token in found[at + 2 : at + 5])
+        ):
             begin = next((back for back in range(at, -1, -1) if found[back].text == "("), at)
-            inner = found[begin + 1:at]
+            inner = found[begin + 1 : at]
             if all(token.kind in ("word", "quoted") or token.text == "," for token in inner):
-                names += [token.name for token in (*found[begin - 1:begin], *inner) if token.text != ","]
+                names += [
+                    token.name for token in (*found[begin - 1 : begin], *inner) if token.text != ","
+                ]
     return names
 
 
@@ -117,4 +138,5 @@ WORDS = frozenset(
     "all and any as asc between by case cast check collate cross desc distinct else end escape except exists filter "
     "from full glob group having in inner intersect is isnull join left like limit match natural not notnull null "
     "offset on or order outer over partition recursive regexp right select some then union unique using values when "
-    "where window with".split())
+    "where window with".split()
+)

@@ -3,13 +3,41 @@ from __future__ import annotations
 
 from classroom.base.errors import Fault
 from ratest import schema
-from ratest.schema import (MARK, PLAIN, RESERVED, Column, Table, Token, items_of, literal, marked, quoted, spelled, tokens,
-                           unmarked)
+from ratest.schema import (
+    MARK,
+    PLAIN,
+    RESERVED,
+    Column,
+    Table,
+    Token,
+    items_of,
+    literal,
+    marked,
+    quoted,
+    spelled,
+    tokens,
+    unmarked,
+)
 
-__all__ = ["MARK", "MOST_ROWS", "PLAIN", "RESERVED", "Column", "Table", "Token", "items_of", "literal", "marked", "quoted",
-           "spelled", "tables_of", "tokens", "unmarked"]
+__all__ = [
+    "MARK",
+    "MOST_ROWS",
+    "PLAIN",
+    "RESERVED",
+    "Column",
+    "Table",
+    "Token",
+    "items_of",
+    "literal",
+    "marked",
+    "quoted",
+    "spelled",
+    "tables_of",
+    "tokens",
+    "unmarked",
+]
 
-MOST_ROWS = 2000    # over all tables, that `ratest` reads
+MOST_ROWS = 2000  # over all tables, that `ratest` reads
 
 
 def tables_of(text: str) -> tuple[Table, ...]:

@@ -39,7 +39,11 @@ class Scopes:
         while parent is not None:
             if isinstance(parent, exp.Select) and not is_source(inner):
                 found.append(self.sources(parent))
-            elif isinstance(parent, exp.Join) and inner.arg_key == "on" and isinstance(parent.parent, exp.Select):
+            elif (
+                isinstance(parent, exp.Join)
+                and inner.arg_key == "on"
+                and isinstance(parent.parent, exp.Select)
+            ):
                 found.append(self.sources(parent.parent))
             inner, parent = parent, parent.parent
         return found
@@ -47,7 +51,9 @@ class Scopes:
     def sources(self, select: Node) -> dict[str, Columns]:
         """The tables in the FROM of a SELECT by the names that they have there."""
         if id(select) not in self.known:
-            self.known[id(select)] = {name_in_from(source): self.columns(source) for source in sources(select)}
+            self.known[id(select)] = {
+                name_in_from(source): self.columns(source) for source in sources(select)
+            }
         return self.known[id(select)]
 
     def columns(self, source: Node) -> Columns:
@@ -112,7 +118,11 @@ def is_source(node: Node) -> bool:
 
 
 def is_star(node: Node) -> bool:
-    return isinstance(node, exp.Star) or isinstance(node, exp.Column) and isinstance(node.this, exp.Star)
+    return (
+        isinstance(node, exp.Star)
+        or isinstance(node, exp.Column)
+        and isinstance(node.this, exp.Star)
+    )
 
 
 def sources(select: Node) -> Iterator[Node]:

@@ -23,13 +23,31 @@ KEYWORDS = frozenset(
     "preceding following current row filter values fetch next only ties collate interval extract integer int "
     "bigint smallint tinyint text char character varchar varying real float double precision numeric decimal "
     "boolean bool date time timestamp datetime current_date current_time current_timestamp true false "
-    "isnull notnull regexp similar to for lateral at zone without".split())
+    "isnull notnull regexp similar to for lateral at zone without".split()
+)
 # The parts of these nodes in the order of the text; of the others it is that of their arguments.
 ORDER = {
-    exp.Column: ("table", "this"), exp.Table: ("catalog", "db", "this", "alias"), exp.CTE: ("alias", "this"),
+    exp.Column: ("table", "this"),
+    exp.Table: ("catalog", "db", "this", "alias"),
+    exp.CTE: ("alias", "this"),
     exp.Subquery: ("with", "this", "alias"),
-    exp.Select: ("with", "distinct", "expressions", "from", "joins", "laterals", "where", "group", "having",
-                 "qualify", "windows", "order", "limit", "offset")}
+    exp.Select: (
+        "with",
+        "distinct",
+        "expressions",
+        "from",
+        "joins",
+        "laterals",
+        "where",
+        "group",
+        "having",
+        "qualify",
+        "windows",
+        "order",
+        "limit",
+        "offset",
+    ),
+}
 SET_ORDER = ("with", "this", "expression", "order", "limit", "offset")
 # Where NOT may stand behind the first operand.
 INFIX = (exp.In, exp.Is, exp.Between, exp.Like, exp.ILike)
@@ -62,8 +80,13 @@ def spans_of(text: str, tree: Node) -> Spans | None:
     if not all(walk.is_skipped(at) for at in range(walk.at, len(walk.tokens))):
         return None
     found = walk.tokens
-    return Spans({node: Span(found[first].begin, found[last].end) for node, (first, last) in walk.spans.items()},
-                  {node: Span(found[at].begin, found[at].end) for node, at in walk.inner_not.items()})
+    return Spans(
+        {
+            node: Span(found[first].begin, found[last].end)
+            for node, (first, last) in walk.spans.items()
+        },
+        {node: Span(found[at].begin, found[at].end) for node, at in walk.inner_not.items()},
+    )
 
 
 class _Other(Exception):
@@ -76,10 +99,10 @@ Range = tuple[int, int]
 class _Walk:
     def __init__(self, found: list[Token]) -> None:
         self.tokens = found
-        self.at = 0                               # the next token
-        self.spans: dict[int, Range] = {}         # first and last token
+        self.at = 0  # the next token
+        self.spans: dict[int, Range] = {}  # first and last token
         self.inner_not: dict[int, int] = {}
-        self.taken: set[int] = set()              # the NOTs that have a node
+        self.taken: set[int] = set()  # the NOTs that have a node
 
     def word(self, at: int) -> str:
         return self.tokens[at].word if 0 <= at < len(self.tokens) else ""
@@ -138,8 +161,11 @@ class _Walk:
             while self.word(at) == ")":
                 at += 1
             yield listed.pop(0) if listed and (not joins or self.word(at) == ",") else joins.pop(0)
-        own = [self.spans[id(part)] for part in (*begin.expressions, *(select.args.get("joins") or []))
-               if id(part) in self.spans]
+        own = [
+            self.spans[id(part)]
+            for part in (*begin.expressions, *(select.args.get("joins") or []))
+            if id(part) in self.spans
+        ]
         begins = min(one[0] for one in own)
         while begins > first and self.word(begins) != "from":
             begins -= 1
@@ -181,9 +207,17 @@ class _Walk:
             first, last = self.outward(first, "case", begin), last + (self.word(last + 1) == "end")
         elif isinstance(node, exp.Cast):
             first, last = self.outward(first, "cast", begin), last + 1
-            while last + 1 < len(self.tokens) and self.word(first) == "cast" and self.word(last) != ")":
+            while (
+                last + 1 < len(self.tokens)
+                and self.word(first) == "cast"
+                and self.word(last) != ")"
+            ):
                 last += 1
-        elif isinstance(node, exp.Func) and self.word(first - 1) == "(" and self.word(last + 1) == ")":
+        elif (
+            isinstance(node, exp.Func)
+            and self.word(first - 1) == "("
+            and self.word(last + 1) == ")"
+        ):
             first, last = first - 2, last + 1
         return self.balanced(first, last)
 
@@ -254,5 +288,3 @@ def fits(node: Node, token: Token, following: str) -> bool:
     if isinstance(node, exp.Boolean):
         return token.word == ("true" if node.this else "false")
     return token.word == "null"
-
-

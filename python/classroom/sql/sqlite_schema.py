@@ -25,7 +25,12 @@ def for_sqlite(schema: str) -> tuple[str, list[Dependency]]:
         if found[at].word == "table" and at + 1 < len(found):
             name = at + 1 + 3 * (found[at + 1].word == "if")
             table = content(found[name])
-        if found[at].word == "dependency" and at and found[at - 1].word in ("(", ",") and found[at + 1].word == "(":
+        if (
+            found[at].word == "dependency"
+            and at
+            and found[at - 1].word in ("(", ",")
+            and found[at + 1].word == "("
+        ):
             of, behind = names(found, at + 1)
             to, behind = names(found, behind + 1)
             dependencies.append(Dependency(table, of, to))
@@ -43,4 +48,7 @@ def for_sqlite(schema: str) -> tuple[str, list[Dependency]]:
 def names(found: list[Token], at: int) -> tuple[tuple[str, ...], int]:
     """The names in parentheses at a place, and the place behind them."""
     end = next(place for place in range(at, len(found)) if found[place].word == ")")
-    return tuple(content(token) for token in found[at + 1:end] if token.kind in ("word", "quoted")), end + 1
+    return (
+        tuple(content(token) for token in found[at + 1 : end] if token.kind in ("word", "quoted")),
+        end + 1,
+    )

@@ -10,13 +10,15 @@ TOKEN = re.compile(
     |(?P<number>\d+(?:\.\d*)?(?:[eE][-+]?\d+)?|\.\d+)
     |(?P<quoted>"(?:[^"]|"")*+"|`[^`]*+`|\[[^\]\[]*+\])
     |(?P<text>'(?:[^']|'')*+')
-    |(?P<sign><>|<=|>=|!=|==|\|\||::|.)""", re.VERBOSE | re.DOTALL)
+    |(?P<sign><>|<=|>=|!=|==|\|\||::|.)""",
+    re.VERBOSE | re.DOTALL,
+)
 
 
 class Token(NamedTuple):
-    kind: str     # word, number, quoted, text or sign
-    text: str     # as it stands there
-    begin: int    # by characters
+    kind: str  # word, number, quoted, text or sign
+    text: str  # as it stands there
+    begin: int  # by characters
     end: int
 
     @property
@@ -27,8 +29,11 @@ class Token(NamedTuple):
 
 def tokens(text: str) -> list[Token]:
     """Without white space and comments."""
-    return [Token(match.lastgroup or "sign", match[0], match.start(), match.end())
-            for match in TOKEN.finditer(text) if match.lastgroup != "gap"]
+    return [
+        Token(match.lastgroup or "sign", match[0], match.start(), match.end())
+        for match in TOKEN.finditer(text)
+        if match.lastgroup != "gap"
+    ]
 
 
 def content(token: Token) -> str:
@@ -43,5 +48,7 @@ def content(token: Token) -> str:
 
 def canonical(found: list[Token]) -> str:
     """The tokens of a text with one blank between them, words in small letters."""
-    return " ".join(token.text.lower() if token.kind == "word" else "<>" if token.text == "!=" else token.text
-                    for token in found)
+    return " ".join(
+        token.text.lower() if token.kind == "word" else "<>" if token.text == "!=" else token.text
+        for token in found
+    )

@@ -72,7 +72,7 @@ def regrouped(tree: Node) -> Node:
     at = 0
     while at < len(kinds):
         if kinds[at][0] is exp.Intersect:
-            operands[at:at + 2] = [combined(kinds[at], operands[at], operands[at + 1])]
+            operands[at : at + 2] = [combined(kinds[at], operands[at], operands[at + 1])]
             del kinds[at]
         else:
             at += 1
@@ -98,7 +98,10 @@ def chain(tree: Node) -> tuple[list[Node], list[Operator]]:
 
 def combined(operator: Operator, left: Node, right: Node) -> Node:
     """Two queries by a set operator, which themselves stand in parentheses if they are such."""
-    parts = [exp.Subquery(this=part.copy()) if isinstance(part, SETS) else part.copy() for part in (left, right)]
+    parts = [
+        exp.Subquery(this=part.copy()) if isinstance(part, SETS) else part.copy()
+        for part in (left, right)
+    ]
     kind, is_distinct = operator
     return kind(this=parts[0], distinct=is_distinct, expression=parts[1])
 
@@ -113,7 +116,7 @@ def of_conditions(tree: Node) -> Node:
         kinds.append(type(at))
         at = at.this
     operands, kinds = [at, *reversed(operands)], kinds[::-1]
-    if exp.Or not in kinds or exp.And not in kinds[kinds.index(exp.Or):]:
+    if exp.Or not in kinds or exp.And not in kinds[kinds.index(exp.Or) :]:
         return tree
     sums = [operands[0].copy()]
     for kind, operand in zip(kinds, operands[1:]):

@@ -11,7 +11,13 @@ from typing import Any
 Line = tuple[Any, ...]
 
 # From the worst to the slightest.
-COLUMNS, FAILURE, ROWS, DUPLICATES, ORDER = KINDS = ("columns", "failure", "rows", "duplicates", "order")
+COLUMNS, FAILURE, ROWS, DUPLICATES, ORDER = KINDS = (
+    "columns",
+    "failure",
+    "rows",
+    "duplicates",
+    "order",
+)
 DIGITS = 9
 
 
@@ -21,7 +27,7 @@ class Answer:
 
     columns: int
     lines: Sequence[Line]
-    failure: str = ""    # as a division by zero; then there are no rows
+    failure: str = ""  # as a division by zero; then there are no rows
 
     def bag(self) -> Counter[Line]:
         return Counter(rounded(self.lines))
@@ -43,7 +49,7 @@ def difference(reference: Answer, answer: Answer, is_ordered: bool) -> str:
     try:
         bags: tuple[dict[Line, int], dict[Line, int]] = (Counter(one), Counter(two))
         is_same = dict.__eq__(*bags)
-    except TypeError:    # lists, that have no hash
+    except TypeError:  # lists, that have no hash
         is_same = False
     if not is_same:
         one, two = rounded(one), rounded(two)
@@ -57,7 +63,9 @@ def difference(reference: Answer, answer: Answer, is_ordered: bool) -> str:
 
 
 def rounded(lines: Sequence[Line]) -> list[Line]:
-    return [line if PLAIN.issuperset(map(type, line)) else tuple(map(plain, line)) for line in lines]
+    return [
+        line if PLAIN.issuperset(map(type, line)) else tuple(map(plain, line)) for line in lines
+    ]
 
 
 PLAIN = frozenset({int, str, type(None), bytes})

@@ -4,14 +4,31 @@ from __future__ import annotations
 from classroom.sql.schema import literal
 from classroom.verdict.compare import COLUMNS, DUPLICATES, FAILURE, ORDER, ROWS
 from classroom.exercise.cells import Cells
-from classroom.verdict.verdict import ALL, EACH, JOINS, Barred, Differs, NoDifference, NotDetermined, Passed, Remark, Side, Verdict, WrongSql
+from classroom.verdict.verdict import (
+    ALL,
+    EACH,
+    JOINS,
+    Barred,
+    Differs,
+    NoDifference,
+    NotDetermined,
+    Passed,
+    Remark,
+    Side,
+    Verdict,
+    WrongSql,
+)
 
 DIFFERS, NO_DIFFERENCE, NOT_DETERMINED = "differs", "no difference found", "not determined"
 TRIED = "A database found this by trying ({engine}); it is not proved."
-MOST_SHOWN = 100    # rows of an answer in a text
+MOST_SHOWN = 100  # rows of an answer in a text
 KINDS = {
-    COLUMNS: "other columns", FAILURE: "one of the queries fails", ROWS: "other rows",
-    DUPLICATES: "the same rows another number of times", ORDER: "the same rows in another order"}
+    COLUMNS: "other columns",
+    FAILURE: "one of the queries fails",
+    ROWS: "other rows",
+    DUPLICATES: "the same rows another number of times",
+    ORDER: "the same rows in another order",
+}
 
 
 def least(of: Differs) -> str:
@@ -38,12 +55,21 @@ def tried_on(of: NoDifference) -> str:
     told = f"The answers are the same on all rows and on {of.random:,} random lawful parts"
     if of.below > 1:
         apart = " that joins of the queries can tell apart" if of.joins else ""
-        told = told.replace(" and on ", ", on ") + f", and on all parts{apart} up to {of.below - 1} rows"
+        told = (
+            told.replace(" and on ", ", on ")
+            + f", and on all parts{apart} up to {of.below - 1} rows"
+        )
     return f"{told}."
 
 
 def not_determined(of: NotDetermined) -> str:
-    which = "both queries return" if of.reference and of.answer else "the reference returns" if of.reference else "the answer returns"
+    which = (
+        "both queries return"
+        if of.reference and of.answer
+        else "the reference returns"
+        if of.reference
+        else "the answer returns"
+    )
     return f"What {which} depends on the order in which the rows are stored."
 
 
@@ -55,12 +81,17 @@ def remark(of: Remark, tells_rows: bool = True) -> str:
         return "returns the same rows in another order"
     if of.line is None or not tells_rows:
         return "returns a row another number of times"
-    return (f"returns {row(of.line.cells)} {times(of.line.answer)} where the reference returns it "
-            f"{times(of.line.reference)}")
+    return (
+        f"returns {row(of.line.cells)} {times(of.line.answer)} where the reference returns it "
+        f"{times(of.line.reference)}"
+    )
 
 
 def row(cells: Cells) -> str:
-    texts = ["NULL" if value is None else value if isinstance(value, str) else str(value) for value in cells]
+    texts = [
+        "NULL" if value is None else value if isinstance(value, str) else str(value)
+        for value in cells
+    ]
     return texts[0] if len(texts) == 1 else f"({', '.join(texts)})"
 
 
@@ -71,8 +102,14 @@ def times(count: int) -> str:
 def failure(of: Differs, tells_all: bool = True) -> str:
     """Which query the engine can't answer, and why; empty where it answers both. Without `tells_all` not what it says
     of the reference, which may name what stands in it."""
-    told = [fails(name, side, shows) for name, side, shows in (
-        ("the reference", of.reference, tells_all), ("the answer", of.answer, True)) if side.failure]
+    told = [
+        fails(name, side, shows)
+        for name, side, shows in (
+            ("the reference", of.reference, tells_all),
+            ("the answer", of.answer, True),
+        )
+        if side.failure
+    ]
     return "; ".join(told)
 
 
@@ -84,15 +121,24 @@ def text(of: Verdict, tells_all: bool = True) -> str:
     """A verdict in lines, to be read by people; without `tells_all` by students."""
     outcome = of.outcome
     if isinstance(outcome, Differs):
-        lines = [f"{DIFFERS} (tried, {of.engine}): {KINDS[outcome.difference]}", f"rows: {len(outcome.kept)}"]
+        lines = [
+            f"{DIFFERS} (tried, {of.engine}): {KINDS[outcome.difference]}",
+            f"rows: {len(outcome.kept)}",
+        ]
         lines += [f"{kept.table} {kept.number}: {listed(kept.cells)}" for kept in outcome.kept]
-        lines += [*side("the reference", outcome.reference, tells_all), *side("the answer", outcome.answer), least(outcome)]
+        lines += [
+            *side("the reference", outcome.reference, tells_all),
+            *side("the answer", outcome.answer),
+            least(outcome),
+        ]
     elif isinstance(outcome, NoDifference):
         lines = [f"{NO_DIFFERENCE} (tried, {of.engine})", tried_on(outcome)]
     elif isinstance(outcome, NotDetermined):
         lines = [f"{NOT_DETERMINED} (tried, {of.engine})", not_determined(outcome)]
     else:
-        lines = [f"{'the reference' if outcome.is_reference else 'the answer'}: {refusal(outcome, of.engine)}"]
+        lines = [
+            f"{'the reference' if outcome.is_reference else 'the answer'}: {refusal(outcome, of.engine)}"
+        ]
     return "\n".join([*lines, *map(remark, of.remarks)]) + "\n"
 
 
@@ -110,8 +156,15 @@ def side(name: str, of: Side, shows: bool = True) -> list[str]:
         return [fails(name, of, shows)]
     rest = len(of.lines) - MOST_SHOWN
     more = [f"  and {rest:,} more"] if rest > 0 else []
-    return [f"{name}: {len(of.lines)}", *(f"  {listed(line)}" for line in of.lines[:MOST_SHOWN]), *more]
+    return [
+        f"{name}: {len(of.lines)}",
+        *(f"  {listed(line)}" for line in of.lines[:MOST_SHOWN]),
+        *more,
+    ]
 
 
 def listed(cells: Cells) -> str:
-    return ", ".join(literal(value) if value is None or isinstance(value, (int, str)) else str(value) for value in cells)
+    return ", ".join(
+        literal(value) if value is None or isinstance(value, (int, str)) else str(value)
+        for value in cells
+    )

@@ -16,7 +16,7 @@ class WitnessRow(NamedTuple):
     """A row of a witness."""
 
     table: str
-    number: int    # in its table's file, from 1
+    number: int  # in its table's file, from 1
     cells: Cells
 
 
@@ -33,7 +33,7 @@ class Side:
     """One query's answer on a witness."""
 
     columns: int
-    lines: tuple[Cells, ...]    # in the order in which they came
+    lines: tuple[Cells, ...]  # in the order in which they came
     failure: str = ""
 
 
@@ -42,31 +42,31 @@ class Shown(NamedTuple):
 
     name: str
     columns: tuple[str, ...]
-    statement: str    # CREATE TABLE
+    statement: str  # CREATE TABLE
 
 
 @dataclass(frozen=True)
 class Differs:
     """The queries answer differently on some rows."""
 
-    difference: str           # one of comparison.KINDS
+    difference: str  # one of comparison.KINDS
     kept: tuple[WitnessRow, ...]
     reference: Side
     answer: Side
-    lines: tuple[Line, ...]   # the rows of both answers, each once
-    least: str                # one of LEASTS
-    parts: int                # how many smaller parts were tried for that
-    tables: tuple[Shown, ...] = ()    # of the rows, and those that the queries read
+    lines: tuple[Line, ...]  # the rows of both answers, each once
+    least: str  # one of LEASTS
+    parts: int  # how many smaller parts were tried for that
+    tables: tuple[Shown, ...] = ()  # of the rows, and those that the queries read
 
 
 @dataclass(frozen=True)
 class NoDifference:
     """No part of the rows was found on which they answer differently."""
 
-    lawful: int      # where all lawful parts were tried, how many; else 0
-    random: int      # how many random parts were tried
-    below: int       # all parts of fewer rows than that were tried
-    joins: bool      # of those only what the queries' joins tell apart
+    lawful: int  # where all lawful parts were tried, how many; else 0
+    random: int  # how many random parts were tried
+    below: int  # all parts of fewer rows than that were tried
+    joins: bool  # of those only what the queries' joins tell apart
 
 
 @dataclass(frozen=True)
@@ -83,7 +83,7 @@ class WrongSql:
 
     is_reference: bool
     message: str
-    place: int | None = None    # the character of the text, from 0
+    place: int | None = None  # the character of the text, from 0
 
 
 @dataclass(frozen=True)
@@ -99,7 +99,7 @@ class Passed:
     """A limit that a query passed."""
 
     is_reference: bool
-    limit: str    # time, memory, rows or size of a value
+    limit: str  # time, memory, rows or size of a value
 
 
 Outcome = Union[Differs, NoDifference, NotDetermined, WrongSql, Barred, Passed]
@@ -109,25 +109,26 @@ Outcome = Union[Differs, NoDifference, NotDetermined, WrongSql, Barred, Passed]
 class Remark:
     """What differs in duplicates or order alone; of queries that are known to agree also what differs at all."""
 
-    difference: str            # of comparison.KINDS
-    line: Line | None = None   # of duplicates, one row
+    difference: str  # of comparison.KINDS
+    line: Line | None = None  # of duplicates, one row
 
 
 @dataclass(frozen=True)
 class Verdict:
     """An outcome with the engine that it comes from."""
 
-    engine: str                # as `sqlite 3.40.1`
+    engine: str  # as `sqlite 3.40.1`
     outcome: Outcome
     remarks: tuple[Remark, ...] = field(default=())
 
 
 def to_json(verdict: Verdict) -> dict[str, Any]:
-    return {"engine": verdict.engine, "kind": type(verdict.outcome).__name__,
-            "outcome": encoded(verdict.outcome), "remarks": [encoded(of) for of in verdict.remarks]}
-
-
-
+    return {
+        "engine": verdict.engine,
+        "kind": type(verdict.outcome).__name__,
+        "outcome": encoded(verdict.outcome),
+        "remarks": [encoded(of) for of in verdict.remarks],
+    }
 
 
 def line(value: Sequence[Any]) -> Line:
@@ -144,12 +145,35 @@ def from_json(text: dict[str, Any]) -> Verdict:
     outcome: Outcome
     if kind == "Differs":
         outcome = Differs(
-            str(of["difference"]), tuple(WitnessRow(str(table), int(number), cells(values)) for table, number, values in of["kept"]),
-            side(of["reference"]), side(of["answer"]), tuple(map(line, of["lines"])), str(of["least"]), int(of["parts"]), tuple(
-                Shown(str(name), tuple(map(str, columns)), str(statement)) for name, columns, statement in of["tables"]))
+            str(of["difference"]),
+            tuple(
+                WitnessRow(str(table), int(number), cells(values))
+                for table, number, values in of["kept"]
+            ),
+            side(of["reference"]),
+            side(of["answer"]),
+            tuple(map(line, of["lines"])),
+            str(of["least"]),
+            int(of["parts"]),
+            tuple(
+                Shown(str(name), tuple(map(str, columns)), str(statement))
+                for name, columns, statement in of["tables"]
+            ),
+        )
     else:
-        plain = {"NoDifference": NoDifference, "NotDetermined": NotDetermined, "WrongSql": WrongSql, "Barred": Barred,
-                 "Passed": Passed}
+        plain = {
+            "NoDifference": NoDifference,
+            "NotDetermined": NotDetermined,
+            "WrongSql": WrongSql,
+            "Barred": Barred,
+            "Passed": Passed,
+        }
         outcome = plain[kind](**of)
-    return Verdict(str(text["engine"]), outcome, tuple(
-        Remark(str(one["difference"]), line(one["line"]) if one["line"] else None) for one in text["remarks"]))
+    return Verdict(
+        str(text["engine"]),
+        outcome,
+        tuple(
+            Remark(str(one["difference"]), line(one["line"]) if one["line"] else None)
+            for one in text["remarks"]
+        ),
+    )

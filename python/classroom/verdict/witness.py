@@ -10,7 +10,19 @@ from ratest import printed
 from ratest.printed import Agree, Kept, Limit, Refused, Row, Undecided, Value, Witness
 from ratest.schema import Table
 
-__all__ = ["Agree", "Kept", "Limit", "NoVerdict", "Outcome", "Refused", "Row", "Undecided", "Value", "Witness", "read"]
+__all__ = [
+    "Agree",
+    "Kept",
+    "Limit",
+    "NoVerdict",
+    "Outcome",
+    "Refused",
+    "Row",
+    "Undecided",
+    "Value",
+    "Witness",
+    "read",
+]
 
 
 @dataclass(frozen=True)
@@ -18,7 +30,7 @@ class NoVerdict:
     """No answer of the program, or none that can be read."""
 
     printed: str
-    passed: str = ""      # the limit of time, memory or output that the run passed
+    passed: str = ""  # the limit of time, memory or output that the run passed
 
 
 Outcome = Union[Agree, Witness, Undecided, Refused, Limit, NoVerdict]

@@ -9,15 +9,43 @@ from pathlib import Path
 from typing import TYPE_CHECKING, Any
 
 from classroom.base.errors import library
-from ratest.draw import (STYLES, AnswerRow, Cell, Drawing, KeptTable, Line, cell, cells, counted, drawing, drawn,
-                         kept_tables, pictures, sql)
+from ratest.draw import (
+    STYLES,
+    AnswerRow,
+    Cell,
+    Drawing,
+    KeptTable,
+    Line,
+    cell,
+    cells,
+    counted,
+    drawing,
+    drawn,
+    kept_tables,
+    pictures,
+    sql,
+)
 from ratest.schema import quoted
 
 if TYPE_CHECKING:
     import jinja2
 
-__all__ = ["AnswerRow", "Cell", "Drawing", "KeptTable", "Line", "cell", "cells", "counted", "drawing", "environment",
-           "kept_tables", "pictures", "quoted", "sql"]
+__all__ = [
+    "AnswerRow",
+    "Cell",
+    "Drawing",
+    "KeptTable",
+    "Line",
+    "cell",
+    "cells",
+    "counted",
+    "drawing",
+    "environment",
+    "kept_tables",
+    "pictures",
+    "quoted",
+    "sql",
+]
 
 TEMPLATES = Path(__file__).with_name("templates")
 
@@ -30,11 +58,21 @@ def environment() -> jinja2.Environment:
         return pictures(value) if type(value) is str else value
 
     made: jinja2.Environment = jinja.Environment(
-        loader=jinja.FileSystemLoader(TEMPLATES), autoescape=True, trim_blocks=True, lstrip_blocks=True,
-        undefined=jinja.StrictUndefined, keep_trailing_newline=True, finalize=finalize)
-    made.globals["style"] = "".join(path.read_text(encoding="utf-8") for path in (STYLES, TEMPLATES / "style.css"))
+        loader=jinja.FileSystemLoader(TEMPLATES),
+        autoescape=True,
+        trim_blocks=True,
+        lstrip_blocks=True,
+        undefined=jinja.StrictUndefined,
+        keep_trailing_newline=True,
+        finalize=finalize,
+    )
+    made.globals["style"] = "".join(
+        path.read_text(encoding="utf-8") for path in (STYLES, TEMPLATES / "style.css")
+    )
     # What it gives is escaped.
-    made.globals["witness"] = lambda of: library("markupsafe", "python3-markupsafe").Markup(drawn(of))
+    made.globals["witness"] = lambda of: library("markupsafe", "python3-markupsafe").Markup(
+        drawn(of)
+    )
     made.filters["counted"] = counted
     made.filters["moment"] = lambda of: of.strftime("%Y-%m-%d at %H:%M %Z")
     return made

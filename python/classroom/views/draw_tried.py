@@ -16,7 +16,8 @@ def drawing(of: Differs) -> Drawing:
     columns = {table.name: table.columns for table in of.tables}
     tables = tuple(
         KeptTable(name, columns[name], tuple(Line(row.number, cells(row.cells)) for row in rows))
-        for name, rows in itertools.groupby(of.kept, key=lambda row: row.table))
+        for name, rows in itertools.groupby(of.kept, key=lambda row: row.table)
+    )
     return Drawing(tables, *answers(of), sql(of))
 
 
@@ -25,7 +26,8 @@ def answers(of: Differs) -> tuple[tuple[AnswerRow, ...], tuple[AnswerRow, ...]]:
     that is what differs."""
     if of.difference == ORDER:
         return tuple(AnswerRow(False, cells(line)) for line in of.reference.lines), tuple(
-            AnswerRow(False, cells(line)) for line in of.answer.lines)
+            AnswerRow(False, cells(line)) for line in of.answer.lines
+        )
     only: tuple[list[AnswerRow], list[AnswerRow]] = ([], [])
     both: list[AnswerRow] = []
     for line in of.lines:
@@ -52,7 +54,10 @@ def sql(of: Differs) -> str:
     """The tables as the database has them, and the kept rows, as it reads them."""
     statements = [f"{table.statement};\n" for table in of.tables]
     columns = {table.name: ", ".join(map(quoted, table.columns)) for table in of.tables}
-    statements += [f"INSERT INTO {quoted(row.table)} ({columns[row.table]}) VALUES ({', '.join(map(literal, row.cells))});\n" for row in of.kept]
+    statements += [
+        f"INSERT INTO {quoted(row.table)} ({columns[row.table]}) VALUES ({', '.join(map(literal, row.cells))});\n"
+        for row in of.kept
+    ]
     return "".join(statements)
 
 

@@ -30,7 +30,9 @@ TOLD = {
     Grade.NO_VERDICT: "No verdict was found within the limits, so it is graded by hand.",
     Grade.NOT_GRADED: "The answers to this task are graded by hand.",
 }
-FEWER = "On these of the exercise’s rows your query and the reference answer differently. Fewer may do."
+FEWER = (
+    "On these of the exercise’s rows your query and the reference answer differently. Fewer may do."
+)
 COLUMNS = "The two queries have other numbers of columns."
 
 
@@ -39,14 +41,14 @@ class Part:
     """An answer to a task; without a text where none was handed in."""
 
     title: str
-    kind: str               # of the style sheet
-    words: str              # the verdict
-    told: str               # what it means
-    points: str             # as `1 of 2`, or that it is graded by hand
-    most: float             # the points that it may have
+    kind: str  # of the style sheet
+    words: str  # the verdict
+    told: str  # what it means
+    points: str  # as `1 of 2`, or that it is graded by hand
+    most: float  # the points that it may have
     text: str | None
     drawing: Drawing | None
-    reference: str | None   # None where it is not shown
+    reference: str | None  # None where it is not shown
     hints: tuple[Hint, ...] = ()
 
 
@@ -63,7 +65,7 @@ class Sheet:
     """All that one student gets."""
 
     id: str
-    title: str      # of the exercise
+    title: str  # of the exercise
     name: str
     points: str
     parts: tuple[Part, ...]
@@ -73,9 +75,14 @@ class Sheet:
         return self.points
 
 
-def sheet(given: Exercise, of: Standing, shows_references: bool, mistakes: Mapping[str, Mistake] = {}) -> Sheet:
+def sheet(
+    given: Exercise, of: Standing, shows_references: bool, mistakes: Mapping[str, Mistake] = {}
+) -> Sheet:
     """`mistakes` are those of answers, by the keys of their records."""
-    parts = tuple(part(given, task, answer, shows_references, mistakes) for task, answer in zip(given.tasks, of.answers))
+    parts = tuple(
+        part(given, task, answer, shows_references, mistakes)
+        for task, answer in zip(given.tasks, of.answers)
+    )
     return Sheet(of.student.id, given.title, of.student.name, points_of(given, of), parts)
 
 
@@ -85,24 +92,55 @@ def points_of(given: Exercise, of: Standing) -> str:
     return f"{said}, {counted(of.open, 'answer')} still to be graded by hand" if of.open else said
 
 
-def part(given: Exercise, task: Task, of: Graded | None, shows_references: bool, mistakes: Mapping[str, Mistake] = {}) -> Part:
+def part(
+    given: Exercise,
+    task: Task,
+    of: Graded | None,
+    shows_references: bool,
+    mistakes: Mapping[str, Mistake] = {},
+) -> Part:
     reference = classpage.text_of(task.reference) if shows_references else None
     most = grades.number(task.settings.points)
     if of is None:
-        return Part(task.title, "none", NOTHING, "", f"0 of {most}", task.settings.points, None, None, reference)
+        return Part(
+            task.title,
+            "none",
+            NOTHING,
+            "",
+            f"0 of {most}",
+            task.settings.points,
+            None,
+            None,
+            reference,
+        )
     points = standing.BY_HAND if of.points is None else f"{grades.number(of.points)} of {most}"
-    return Part(task.title, classpage.css(of), classpage.words(of, False), told(of), points, task.settings.points,
-                classpage.text_of(of.answer.text.whole), classpage.drawing_of(of, given.tables), reference, hints(given, of, mistakes))
+    return Part(
+        task.title,
+        classpage.css(of),
+        classpage.words(of, False),
+        told(of),
+        points,
+        task.settings.points,
+        classpage.text_of(of.answer.text.whole),
+        classpage.drawing_of(of, given.tables),
+        reference,
+        hints(given, of, mistakes),
+    )
 
 
 def hints(given: Exercise, of: Graded, mistakes: Mapping[str, Mistake]) -> tuple[Hint, ...]:
     text = of.answer.text.query.decode("utf-8", "replace")
-    return tuple(Hint(step.text, steps.place_of(step, text)) for step in steps.told(mistakes.get(of.record), given.settings))
+    return tuple(
+        Hint(step.text, steps.place_of(step, text))
+        for step in steps.told(mistakes.get(of.record), given.settings)
+    )
 
 
 def told(of: Graded) -> str:
     """What the verdict means, in words to the student."""
-    slight = "".join(f" It {remark.split('; ', 1)[1]}." for remark in of.remarks if "as a set; " in remark)
+    slight = "".join(
+        f" It {remark.split('; ', 1)[1]}." for remark in of.remarks if "as a set; " in remark
+    )
     if of.trial and of.is_tried:
         return f"{classpage.told_of_trial(of.trial)}{slight}"
     if of.grade == Grade.AGREES and slight:

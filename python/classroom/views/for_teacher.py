@@ -41,23 +41,23 @@ class Group:
     grade_number: int
     kind: str
     words: str
-    names: tuple[str, ...]    # none where they are left out
+    names: tuple[str, ...]  # none where they are left out
     count: int
     texts: tuple[Text, ...]
     told: str
     remarks: tuple[str, ...]
     printed: str
     drawing: Drawing | None
-    mistake: str = ""                  # which one it is; empty where it is not known or not shown
-    place: str = ""                    # of it in these answers
-    repairs: tuple[Text, ...] = ()     # the first answer as it would be right
+    mistake: str = ""  # which one it is; empty where it is not known or not shown
+    place: str = ""  # of it in these answers
+    repairs: tuple[Text, ...] = ()  # the first answer as it would be right
 
 
 @dataclass(frozen=True)
 class TaskPart:
     name: str
-    reference: str | None    # None where it is left out
-    counts: tuple[int, ...]    # of answers, by the grades of the page
+    reference: str | None  # None where it is left out
+    counts: tuple[int, ...]  # of answers, by the grades of the page
     groups: tuple[Group, ...]
 
 
@@ -67,26 +67,38 @@ class Page:
     summary: str
     grades: tuple[str, ...]
     tasks: tuple[TaskPart, ...]
-    matrix: Matrix | None    # None where no names are shown
+    matrix: Matrix | None  # None where no names are shown
 
 
 @dataclass(frozen=True)
 class Showing:
     """What a page has."""
 
-    solutions: bool = True    # the references, and texts that may be as good as one
-    names: bool = True        # of answers
+    solutions: bool = True  # the references, and texts that may be as good as one
+    names: bool = True  # of answers
 
 
-def page_of(given: Exercise, graded: Sequence[Graded], listed: ClassList = ClassList(), showing: Showing = Showing(),
-            found: Mapping[str, Mistake] = {}) -> bytes:
+def page_of(
+    given: Exercise,
+    graded: Sequence[Graded],
+    listed: ClassList = ClassList(),
+    showing: Showing = Showing(),
+    found: Mapping[str, Mistake] = {},
+) -> bytes:
     """The page as HTML. `found` are the mistakes of answers, by the keys of their records."""
     template = draw.environment().get_template("page.html")
-    return template.render(page=page(given, graded, listed, showing, found)).encode("utf-8", "replace")
+    return template.render(page=page(given, graded, listed, showing, found)).encode(
+        "utf-8", "replace"
+    )
 
 
-def page(given: Exercise, graded: Sequence[Graded], listed: ClassList, showing: Showing,
-         mistakes: Mapping[str, Mistake]) -> Page:
+def page(
+    given: Exercise,
+    graded: Sequence[Graded],
+    listed: ClassList,
+    showing: Showing,
+    mistakes: Mapping[str, Mistake],
+) -> Page:
     # A mistake is said in words of the reference.
     mistakes = mistakes if showing.solutions else {}
     present = [grade for grade in Grade if any(of.grade == grade for of in graded)]
@@ -95,11 +107,21 @@ def page(given: Exercise, graded: Sequence[Graded], listed: ClassList, showing: 
     for number, task in enumerate(given.tasks, 1):
         own = [of for of in graded if of.task.name == task.name]
         found = grouped(own, mistakes)
-        groups = [group(of, f"task-{number}-{at}", present, given.tables, showing, mistakes.get(of[0].key))
-                  for at, of in enumerate(found, 1)]
+        groups = [
+            group(
+                of, f"task-{number}-{at}", present, given.tables, showing, mistakes.get(of[0].key)
+            )
+            for at, of in enumerate(found, 1)
+        ]
         anchors = {id(of): made for members, made in zip(found, groups) for of in members}
-        parts.append(TaskPart(task.title, text_of(task.reference) if showing.solutions else None,
-                              tuple(sum(of.grade == grade for of in own) for grade in present), tuple(groups)))
+        parts.append(
+            TaskPart(
+                task.title,
+                text_of(task.reference) if showing.solutions else None,
+                tuple(sum(of.grade == grade for of in own) for grade in present),
+                tuple(groups),
+            )
+        )
         marks |= {id(of): mark(of, anchors[id(of)]) for of in own}
     whole = matrix(given, standings(given, graded, listed), marks) if showing.names else None
     return Page(given.title, grades.summary(graded), tuple(map(str, present)), tuple(parts), whole)
@@ -115,33 +137,65 @@ def grouped(graded: Sequence[Graded], mistakes: Mapping[str, Mistake]) -> list[l
     groups: dict[object, list[Graded]] = {}
     for of in graded:
         mistake = mistakes[of.record].name if of.record in mistakes else ""
-        outcome = None if of.grade == Grade.AGREES else of.trial.outcome if of.trial and of.is_tried else of.outcome
+        outcome = (
+            None
+            if of.grade == Grade.AGREES
+            else of.trial.outcome
+            if of.trial and of.is_tried
+            else of.outcome
+        )
         same = (of.grade, of.is_tried, mistake or outcome, of.fault)
         groups.setdefault(same, []).append(of)
-    return sorted(groups.values(), key=lambda members: (ORDER.index(members[0].grade), -len(members)))
+    return sorted(
+        groups.values(), key=lambda members: (ORDER.index(members[0].grade), -len(members))
+    )
 
 
-def group(members: Sequence[Graded], anchor: str, present: Sequence[Grade], tables: Sequence[Table],
-          showing: Showing, mistake: Mistake | None) -> Group:
+def group(
+    members: Sequence[Graded],
+    anchor: str,
+    present: Sequence[Grade],
+    tables: Sequence[Table],
+    showing: Showing,
+    mistake: Mistake | None,
+) -> Group:
     first = members[0]
     texts: dict[bytes, list[str]] = {}
     for of in members:
         if (of.ran is not None or of.is_tried) and shows_text(of, showing):
             texts.setdefault(of.answer.text.whole, []).append(of.answer.label)
     return Group(
-        anchor, present.index(first.grade) + 1, css(first), words(first, showing.solutions),
-        tuple(of.answer.label for of in members) if showing.names else (), len(members),
-        tuple(Text(title(labels) if showing.names else counted(len(labels), "answer"), text_of(text))
-              for text, labels in sorted(texts.items(), key=lambda item: -len(item[1]))),
-        told(first), remarks(members, showing), first.fault if is_unreadable(first) and showing.solutions else "",
-        drawing_of(first, tables), f"{mistake.name}{' (tried, not proved)' if mistake.is_tried else ''}" if mistake and mistake.name else "", mistake.where if mistake else "",
-        tuple(Text(f"With {one.mistake}", one.text) for one in (mistake.repairs if mistake else ())))
+        anchor,
+        present.index(first.grade) + 1,
+        css(first),
+        words(first, showing.solutions),
+        tuple(of.answer.label for of in members) if showing.names else (),
+        len(members),
+        tuple(
+            Text(title(labels) if showing.names else counted(len(labels), "answer"), text_of(text))
+            for text, labels in sorted(texts.items(), key=lambda item: -len(item[1]))
+        ),
+        told(first),
+        remarks(members, showing),
+        first.fault if is_unreadable(first) and showing.solutions else "",
+        drawing_of(first, tables),
+        f"{mistake.name}{' (tried, not proved)' if mistake.is_tried else ''}"
+        if mistake and mistake.name
+        else "",
+        mistake.where if mistake else "",
+        tuple(
+            Text(f"With {one.mistake}", one.text) for one in (mistake.repairs if mistake else ())
+        ),
+    )
 
 
 def shows_text(of: Graded, showing: Showing) -> bool:
     """Whether its text is shown: without solutions those alone that are known to be none. One that differs in
     duplicates or order alone is as good as one."""
-    is_slight = of.tried_witness is not None and of.tried_witness.difference in (DUPLICATES, BY_ORDER)
+    is_slight = of.tried_witness is not None and of.tried_witness.difference in (
+        DUPLICATES,
+        BY_ORDER,
+    )
     return showing.solutions or of.grade == Grade.DIFFERS and not is_slight
 
 
@@ -157,21 +211,32 @@ def remarks(members: Sequence[Graded], showing: Showing) -> tuple[str, ...]:
         for remark in of.remarks:
             if "as a set; " in remark:
                 found.setdefault(remark, []).append(of.answer.label)
-    return tuple(f"{', '.join(names) if showing.names else counted(len(names), 'answer')}: {remark}." for remark, names in found.items())
+    return tuple(
+        f"{', '.join(names) if showing.names else counted(len(names), 'answer')}: {remark}."
+        for remark, names in found.items()
+    )
 
 
 def drawing_of(of: Graded, tables: Sequence[Table]) -> Drawing | None:
     if of.tried_witness:
         return drawing.drawing(of.tried_witness)
-    if isinstance(of.outcome, witness.Witness) or isinstance(of.outcome, witness.Undecided) and of.outcome.best:
+    if (
+        isinstance(of.outcome, witness.Witness)
+        or isinstance(of.outcome, witness.Undecided)
+        and of.outcome.best
+    ):
         return draw.drawing(of.outcome, tables)
     return None
 
 
 def is_unreadable(of: Graded) -> bool:
     """Whether its fault is what was printed, which is no answer of the program."""
-    return of.grade == Grade.NO_VERDICT and of.ran is not None and isinstance(of.outcome, witness.NoVerdict) \
+    return (
+        of.grade == Grade.NO_VERDICT
+        and of.ran is not None
+        and isinstance(of.outcome, witness.NoVerdict)
         and not of.outcome.passed
+    )
 
 
 def words(of: Graded, tells_all: bool = True) -> str:
@@ -181,14 +246,23 @@ def words(of: Graded, tells_all: bool = True) -> str:
         found = f"{of.grade} (tried)"
         if of.tried_witness:
             found += f" on {counted(len(of.tried_witness.kept), 'row')}: {trial_words.KINDS[of.tried_witness.difference]}"
-        return f"{found}: {of.fault}" if of.fault and (tells_all or of.grade == Grade.WRONG_SQL) else found
+        return (
+            f"{found}: {of.fault}"
+            if of.fault and (tells_all or of.grade == Grade.WRONG_SQL)
+            else found
+        )
     if of.grade == Grade.DIFFERS:
         found = "differs" if of.rows is None else f"differs on {counted(of.rows, 'row')}"
         if grades.OTHER_COLUMNS in of.remarks:
             return f"{found}: {grades.OTHER_COLUMNS}"
         return f"{found}, {grades.PERHAPS_FEWER}" if grades.PERHAPS_FEWER in of.remarks else found
     fault = of.whole_fault if tells_all else of.fault
-    if not fault or is_unreadable(of) or not tells_all and of.grade in (Grade.NO_VERDICT, Grade.NOT_GRADED):
+    if (
+        not fault
+        or is_unreadable(of)
+        or not tells_all
+        and of.grade in (Grade.NO_VERDICT, Grade.NOT_GRADED)
+    ):
         return str(of.grade)
     return f"{of.grade}: {fault}"
 
@@ -216,7 +290,11 @@ def told_of_trial(found: Verdict) -> str:
 
 
 def title(labels: Sequence[str]) -> str:
-    return f"Answer {labels[0]}" if len(labels) == 1 else f"Answer {labels[0]} and {len(labels) - 1} more"
+    return (
+        f"Answer {labels[0]}"
+        if len(labels) == 1
+        else f"Answer {labels[0]} and {len(labels) - 1} more"
+    )
 
 
 def text_of(text: bytes) -> str:

@@ -17,11 +17,16 @@ TICKS = re.compile("`+")
 
 
 def text_of(sheet: Sheet) -> str:
-    return f"# {plain(sheet.title)}: {plain(sheet.name)}\n\n{plain(sheet.points)}\n" + "".join(map(part_of, sheet.parts))
+    return f"# {plain(sheet.title)}: {plain(sheet.name)}\n\n{plain(sheet.points)}\n" + "".join(
+        map(part_of, sheet.parts)
+    )
 
 
 def part_of(part: Part) -> str:
-    lines = [f"\n## Task {plain(part.title)}\n", f"**{plain(part.words)}** ({plain(part.points)})\n"]
+    lines = [
+        f"\n## Task {plain(part.title)}\n",
+        f"**{plain(part.words)}** ({plain(part.points)})\n",
+    ]
     if part.told:
         lines.append(f"{plain(part.told)}\n")
     if part.text is not None:
@@ -51,13 +56,19 @@ def drawn(drawing: Drawing) -> Iterable[str]:
 
 
 def table_of(table: KeptTable) -> str:
-    return grid(["row", *map(plain, table.columns)], [[str(line.number), *map(cell, line.cells)] for line in table.lines])
+    return grid(
+        ["row", *map(plain, table.columns)],
+        [[str(line.number), *map(cell, line.cells)] for line in table.lines],
+    )
 
 
 def answer_of(rows: Sequence[AnswerRow]) -> str:
     if not rows:
         return "no rows\n"
-    return grid(["", *(" " for _ in rows[0].cells)], [["only here" if row.is_only else "in both", *map(cell, row.cells)] for row in rows])
+    return grid(
+        ["", *(" " for _ in rows[0].cells)],
+        [["only here" if row.is_only else "in both", *map(cell, row.cells)] for row in rows],
+    )
 
 
 def grid(head: Sequence[str], rows: Iterable[Sequence[str]]) -> str:

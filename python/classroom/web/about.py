@@ -9,9 +9,9 @@ class About:
     """The options that the page `about` speaks of."""
 
     title: str
-    keep_days: int | None       # None where questions stay
+    keep_days: int | None  # None where questions stay
     has_login: bool
-    hourly: int | None          # None where counterexamples are not bounded
+    hourly: int | None  # None where counterexamples are not bounded
     only_verdict: bool
-    seconds: float              # of a question
-    fault: str = ""             # where the page tells only this
+    seconds: float  # of a question
+    fault: str = ""  # where the page tells only this

@@ -43,8 +43,10 @@ HEADERS = {
     "Cross-Origin-Resource-Policy": "same-origin",
     "Cache-Control": "no-store",
 }
-POLICY = ("default-src 'none'; style-src 'self'; script-src 'self'; connect-src 'self'; "
-          "img-src 'self' data:; form-action 'self'; base-uri 'none'; frame-ancestors {}")
+POLICY = (
+    "default-src 'none'; style-src 'self'; script-src 'self'; connect-src 'self'; "
+    "img-src 'self' data:; form-action 'self'; base-uri 'none'; frame-ancestors {}"
+)
 
 
 @dataclass(frozen=True)
@@ -52,7 +54,9 @@ class Showing:
     """What students are shown, and where."""
 
     only_verdict: bool = False
-    frame_ancestors: tuple[str, ...] = ()    # the sites in whose frames the page stands; none where it stands alone
+    frame_ancestors: tuple[
+        str, ...
+    ] = ()  # the sites in whose frames the page stands; none where it stands alone
 
     @property
     def is_framed(self) -> bool:
@@ -60,9 +64,16 @@ class Showing:
 
     def headers(self) -> dict[str, str]:
         if self.is_framed:
-            return {**HEADERS, "Content-Security-Policy": POLICY.format(" ".join(self.frame_ancestors)),
-                    "Cross-Origin-Resource-Policy": "cross-origin"}
-        return {**HEADERS, "Content-Security-Policy": POLICY.format("'none'"), "X-Frame-Options": "DENY"}
+            return {
+                **HEADERS,
+                "Content-Security-Policy": POLICY.format(" ".join(self.frame_ancestors)),
+                "Cross-Origin-Resource-Policy": "cross-origin",
+            }
+        return {
+            **HEADERS,
+            "Content-Security-Policy": POLICY.format("'none'"),
+            "X-Frame-Options": "DENY",
+        }
 
 
 class View(NamedTuple):
@@ -73,7 +84,7 @@ class View(NamedTuple):
     fault: str = ""
     answer: Answer | None = None
     receipt: Receipt | None = None
-    hinted: Hinted | None = None    # None where no hint may be asked for
+    hinted: Hinted | None = None  # None where no hint may be asked for
 
 
 @dataclass(frozen=True)
@@ -84,8 +95,8 @@ class Page:
     view: View
     visitor: Visitor
     course: Course
-    top: str            # the way to the top of the course, for links
-    state: str          # before, open or after
+    top: str  # the way to the top of the course, for links
+    state: str  # before, open or after
     has_editor: bool
 
     @property
@@ -100,16 +111,23 @@ class Page:
 class Pages:
     """The page for each request."""
 
-    def __init__(self, course: Course, visitors: Visitors, front: Front, showing: Showing, about: About) -> None:
+    def __init__(
+        self, course: Course, visitors: Visitors, front: Front, showing: Showing, about: About
+    ) -> None:
         self.course = course
         self.visitors = visitors
         self.front = front
         self.showing = showing
         self.about_page = about
         environment = draw.environment()
-        self.templates = {name: environment.get_template(f"{name}.html") for name in ("ask", "course", "about")}
+        self.templates = {
+            name: environment.get_template(f"{name}.html") for name in ("ask", "course", "about")
+        }
         self.style = f"{environment.globals['style']}{(draw.TEMPLATES / 'ask.css').read_text(encoding='utf-8')}"
-        self.scripts = {name: (draw.TEMPLATES / name).read_text(encoding="utf-8") for name in ("ask.js", "editor.js")}
+        self.scripts = {
+            name: (draw.TEMPLATES / name).read_text(encoding="utf-8")
+            for name in ("ask.js", "editor.js")
+        }
 
     # ---- who asks
 
@@ -119,16 +137,27 @@ class Pages:
         name = login(request.environ, self.front)
         if self.front.user_header and not name:
             raise Unauthorized
-        found: Visitor = self.visitors.visitor(request.cookies.get(COOKIE, ""), network(request.remote_addr or ""), name)
+        found: Visitor = self.visitors.visitor(
+            request.cookies.get(COOKIE, ""), network(request.remote_addr or ""), name
+        )
         return found
 
     def with_cookie(self, response: flask.Response, visitor: Visitor) -> flask.Response:
         if visitor.cookie:
             if self.showing.is_framed:
                 # Werkzeug can't write the last word, by which a browser keeps the cookie to the platform around.
-                response.headers.add("Set-Cookie", f"{COOKIE}={visitor.cookie}; Path=/; HttpOnly; Secure; SameSite=None; Partitioned")
+                response.headers.add(
+                    "Set-Cookie",
+                    f"{COOKIE}={visitor.cookie}; Path=/; HttpOnly; Secure; SameSite=None; Partitioned",
+                )
             else:
-                response.set_cookie(COOKIE, visitor.cookie, httponly=True, samesite="Strict", secure=flask.request.is_secure)
+                response.set_cookie(
+                    COOKIE,
+                    visitor.cookie,
+                    httponly=True,
+                    samesite="Strict",
+                    secure=flask.request.is_secure,
+                )
         return response
 
     # ---- pages
@@ -153,10 +182,21 @@ class Pages:
         visitor = self.visitor()
         return self.with_cookie(self.page(self.served(name), visitor), visitor)
 
-    def page(self, served: Served, visitor: Visitor, status: int = 200, view: View = View()) -> flask.Response:
-        page = Page(served, view, visitor, self.course, "../../" if served.name else "", served.material.window.state(),
-                    editor.is_there())
-        return flask.Response(self.templates["ask"].render(page=page).encode("utf-8", "replace"), status)
+    def page(
+        self, served: Served, visitor: Visitor, status: int = 200, view: View = View()
+    ) -> flask.Response:
+        page = Page(
+            served,
+            view,
+            visitor,
+            self.course,
+            "../../" if served.name else "",
+            served.material.window.state(),
+            editor.is_there(),
+        )
+        return flask.Response(
+            self.templates["ask"].render(page=page).encode("utf-8", "replace"), status
+        )
 
     def about(self) -> flask.Response:
         text = self.templates["about"].render(page=self.about_page, course=self.course)
@@ -173,34 +213,75 @@ class Pages:
     def ask(self, name: str) -> flask.Response:
         """The answer to the form that was sent."""
         # A browser says so of a form that another site sends, with whatever login it holds: as a hand-in for somebody.
-        if flask.request.headers.get("Sec-Fetch-Site", "same-origin") not in ("same-origin", "none"):
+        if flask.request.headers.get("Sec-Fetch-Site", "same-origin") not in (
+            "same-origin",
+            "none",
+        ):
             raise Forbidden
         visitor = self.visitor()
         served = self.served(name)
         # A form is sent with lines that end with two characters.
-        fields = {field: flask.request.form.get(field, "").replace("\r\n", "\n") for field in ("task", "query", "do", "step")}
+        fields = {
+            field: flask.request.form.get(field, "").replace("\r\n", "\n")
+            for field in ("task", "query", "do", "step")
+        }
         task = served.material.task(fields["task"])
         if task is None or served.material.window.state() == "before":
             raise NotFound
         text = fields["query"]
         if len(text.encode("utf-8", "replace")) > MOST_BYTES:
-            return self.page(served, visitor, 413, View(task.name, "", f"The query has more than {MOST_BYTES} bytes."))
+            return self.page(
+                served,
+                visitor,
+                413,
+                View(task.name, "", f"The query has more than {MOST_BYTES} bytes."),
+            )
         if fields["do"] == "hand in":
             return self.hand_in(served, visitor, task, text)
         try:
             answered = served.asker.ask(task, text, visitor)
-            hinted = self.hinted(served, task, text, answered, visitor, fields["step"] if fields["do"] == "hint" else "")
+            hinted = self.hinted(
+                served,
+                task,
+                text,
+                answered,
+                visitor,
+                fields["step"] if fields["do"] == "hint" else "",
+            )
         except Busy:
-            busy = self.page(served, visitor, 503, View(task.name, text, "Too many ask at this moment. Ask again in a few seconds."))
+            busy = self.page(
+                served,
+                visitor,
+                503,
+                View(task.name, text, "Too many ask at this moment. Ask again in a few seconds."),
+            )
             busy.headers["Retry-After"] = "3"
             return busy
         if fields["do"] != "hint":
             self.keep(served, task, text, answered)
-        answer = answer_of(answered.outcome, text, served.material.tables, served.asker.limits.seconds, self.hides(answered, visitor),
-                           answered.trial, served.material.settings)
-        return self.with_cookie(self.page(served, visitor, 200, View(task.name, text, "", answer, None, hinted)), visitor)
+        answer = answer_of(
+            answered.outcome,
+            text,
+            served.material.tables,
+            served.asker.limits.seconds,
+            self.hides(answered, visitor),
+            answered.trial,
+            served.material.settings,
+        )
+        return self.with_cookie(
+            self.page(served, visitor, 200, View(task.name, text, "", answer, None, hinted)),
+            visitor,
+        )
 
-    def hinted(self, served: Served, task: Offered, text: str, answered: Answered, visitor: Visitor, step: str) -> Hinted | None:
+    def hinted(
+        self,
+        served: Served,
+        task: Offered,
+        text: str,
+        answered: Answered,
+        visitor: Visitor,
+        step: str,
+    ) -> Hinted | None:
         """What is shown of hints where this step is asked for, as a digit; none is where it is empty. Each counts as
         a counterexample does."""
         hinter = served.hinter
@@ -217,18 +298,39 @@ class Pages:
 
     def keep(self, served: Served, task: Offered, text: str, answered: Answered) -> None:
         query = text.encode("utf-8", "replace")
-        told = graded(Task(task.name, Path(), reference=b"", fault="its reference is refused" if task.is_tried else ""),
-                      SubmittedAnswer("", Submitted(query, query)), served.material.tables, answered.ran)
+        told = graded(
+            Task(
+                task.name,
+                Path(),
+                reference=b"",
+                fault="its reference is refused" if task.is_tried else "",
+            ),
+            SubmittedAnswer("", Submitted(query, query)),
+            served.material.tables,
+            answered.ran,
+        )
         if answered.trial:
             told = with_trial(told, answered.trial, served.material.settings)
-        served.log.keep(Question(answered.key, served.material.digest, task.digest, task.name, text, told.grade, answered.ran,
-                                 answered.trial))
+        served.log.keep(
+            Question(
+                answered.key,
+                served.material.digest,
+                task.digest,
+                task.name,
+                text,
+                told.grade,
+                answered.ran,
+                answered.trial,
+            )
+        )
 
     def hides(self, answered: Answered, visitor: Visitor) -> str | None:
         """What stands in place of a counterexample; None where it is shown."""
         if self.showing.only_verdict:
             return ""
-        if not shows_rows(answered.outcome, answered.trial) or self.visitors.may_see(visitor, answered.key):
+        if not shows_rows(answered.outcome, answered.trial) or self.visitors.may_see(
+            visitor, answered.key
+        ):
             return None
         return REST
 
@@ -237,23 +339,34 @@ class Pages:
         if served.hand_ins is None or not visitor.login:
             raise NotFound
         if served.material.window.state() != "open":
-            return self.page(served, visitor, 403, View(task.name, text, "It is too late to hand in."))
+            return self.page(
+                served, visitor, 403, View(task.name, text, "It is too late to hand in.")
+            )
         receipt = served.hand_ins.put(visitor.login, task.name, text)
         return self.page(served, visitor, 200, View(task.name, text, receipt=receipt))
 
     def fault(self, fault: HTTPException) -> flask.Response:
         """A request that can't be answered, by its status alone."""
         status = fault.code or 500
-        told = {401: "A login is wanted.", 403: "A form of another site is not read.", 404: "There is no such page or task.", 405: "This is not how the page is asked.",
-                413: f"The query has more than {MOST_BYTES} bytes."}.get(status, "This request can't be answered.")
-        text = self.templates["about"].render(page=replace(self.about_page, fault=told), course=self.course)
+        told = {
+            401: "A login is wanted.",
+            403: "A form of another site is not read.",
+            404: "There is no such page or task.",
+            405: "This is not how the page is asked.",
+            413: f"The query has more than {MOST_BYTES} bytes.",
+        }.get(status, "This request can't be answered.")
+        text = self.templates["about"].render(
+            page=replace(self.about_page, fault=told), course=self.course
+        )
         page = flask.Response(text.encode("utf-8", "replace"), status)
         if status == 405:
             page.headers["Allow"] = "GET, HEAD, POST"
         return page
 
 
-def application(course: Course, visitors: Visitors, front: Front, showing: Showing, about: About) -> flask.Flask:
+def application(
+    course: Course, visitors: Visitors, front: Front, showing: Showing, about: About
+) -> flask.Flask:
     """The application over what it asks and what it keeps."""
     pages = Pages(course, visitors, front, showing, about)
     app = flask.Flask("classroom.server", static_folder=None, template_folder=None)
@@ -263,13 +376,23 @@ def application(course: Course, visitors: Visitors, front: Front, showing: Showi
     app.add_url_rule("/e/<name>/", "form", pages.form, methods=["GET"])
     app.add_url_rule("/relations.svg", "drawing of the only one", lambda: pages.drawing(""))
     app.add_url_rule("/e/<name>/relations.svg", "drawing", pages.drawing)
-    app.add_url_rule("/", "ask the only one", lambda: pages.ask(""), methods=["POST"], provide_automatic_options=False)
-    app.add_url_rule("/e/<name>/", "ask", pages.ask, methods=["POST"], provide_automatic_options=False)
+    app.add_url_rule(
+        "/",
+        "ask the only one",
+        lambda: pages.ask(""),
+        methods=["POST"],
+        provide_automatic_options=False,
+    )
+    app.add_url_rule(
+        "/e/<name>/", "ask", pages.ask, methods=["POST"], provide_automatic_options=False
+    )
     app.add_url_rule("/about", "about", pages.about)
     app.add_url_rule("/health", "health", lambda: health(course))
     app.add_url_rule("/ask.css", "style", lambda: flask.Response(pages.style, mimetype="text/css"))
     for name, text in pages.scripts.items():
-        app.add_url_rule(f"/{name}", name, lambda text=text: flask.Response(text, mimetype="text/javascript"))
+        app.add_url_rule(
+            f"/{name}", name, lambda text=text: flask.Response(text, mimetype="text/javascript")
+        )
     app.add_url_rule("/codemirror/<path:name>", "codemirror", editor.file)
     app.register_error_handler(HTTPException, pages.fault)
 

@@ -40,10 +40,10 @@ log = logging.getLogger(__name__)
 class Answered:
     """A question's outcome, and the call that gave it."""
 
-    key: str    # of the text, and of all that its verdict rests on
+    key: str  # of the text, and of all that its verdict rests on
     outcome: Outcome
     ran: Ran
-    trial: Verdict | None = None    # what a database said of it
+    trial: Verdict | None = None  # what a database said of it
 
 
 class Decided(NamedTuple):
@@ -60,14 +60,28 @@ class Budget(NamedTuple):
     work: int | None = None
 
     def options(self) -> list[str]:
-        return ["--conflicts", str(self.conflicts), *(["--work", str(self.work)] if self.work else [])]
+        return [
+            "--conflicts",
+            str(self.conflicts),
+            *(["--work", str(self.work)] if self.work else []),
+        ]
 
 
 class Asker:
     """Answers questions about one material, from any number of threads."""
 
-    def __init__(self, material: Material, words: Sequence[str], limits: Limits, budget: Budget,
-                 places: Places, kept: Recent[Decided], foundation: str, trial: Trial | None = None, trier: Trier | None = None) -> None:
+    def __init__(
+        self,
+        material: Material,
+        words: Sequence[str],
+        limits: Limits,
+        budget: Budget,
+        places: Places,
+        kept: Recent[Decided],
+        foundation: str,
+        trial: Trial | None = None,
+        trier: Trier | None = None,
+    ) -> None:
         """`words` call the program; `foundation` is what its verdicts rest on, as a digest. What it leaves open the
         trier tries, if there is one."""
         self.material = material
@@ -85,7 +99,9 @@ class Asker:
         told = self.kept.get(key)
         if told is None:
             # Who shows no cookie is one with all of the network who don't.
-            with self.places.one(visitor.key if visitor.is_known else visitor.network, visitor.network):
+            with self.places.one(
+                visitor.key if visitor.is_known else visitor.network, visitor.network
+            ):
                 # Another may have asked the same meanwhile.
                 told = self.kept.get(key) or self._asked(key, task, text)
         return Answered(key, witness.read(told.ran, self.material.tables), told.ran, told.trial)
@@ -99,7 +115,11 @@ class Asker:
         told = Decided(ran, self._tried(task, text, witness.read(ran, self.material.tables)))
         if is_final or told.trial and not isinstance(told.trial.outcome, Passed):
             # What a busy machine had no time for may be answered the next time.
-            size = len(ran.stdout) + len(ran.stderr) + (len(json.dumps(to_json(told.trial))) if told.trial else 0)
+            size = (
+                len(ran.stdout)
+                + len(ran.stderr)
+                + (len(json.dumps(to_json(told.trial))) if told.trial else 0)
+            )
             self.kept.put(key, told, size + OVERHEAD)
         return told
 
@@ -121,7 +141,9 @@ class Asker:
             return None
         # What is told of a refused reference may name what stands in it.
         if isinstance(found.outcome, (WrongSql, Barred, Passed)) and found.outcome.is_reference:
-            log.error("task %a is not tried: %s does not answer its reference", task.name, found.engine)
+            log.error(
+                "task %a is not tried: %s does not answer its reference", task.name, found.engine
+            )
             return None
         return found
 
@@ -134,7 +156,9 @@ class Asker:
             ran = self._within([*words, *self.budget.options()], 1 - LAST)
             has_time = ran.passed != "time"
             if not has_time:
-                best = self._within([*words, *self.budget._replace(conflicts=FEW_CONFLICTS).options()], LAST)
+                best = self._within(
+                    [*words, *self.budget._replace(conflicts=FEW_CONFLICTS).options()], LAST
+                )
                 ran = ran if best.passed else best
         outcome = witness.read(ran, self.material.tables)
         if isinstance(outcome, Refused) and outcome.part not in ("query 2", "queries"):
@@ -152,11 +176,19 @@ class Asker:
 
 def shows_rows(outcome: Outcome, trial: Verdict | None = None) -> bool:
     """Whether rows belong to what is told: a counterexample, or one that is returned another number of times."""
-    return is_mistake(outcome, trial) or trial is not None and any(remark.line for remark in trial.remarks)
+    return (
+        is_mistake(outcome, trial)
+        or trial is not None
+        and any(remark.line for remark in trial.remarks)
+    )
 
 
 def is_mistake(outcome: Outcome, trial: Verdict | None = None) -> bool:
     """Whether the two queries are known to differ."""
     if trial and isinstance(trial.outcome, Differs):
         return True
-    return isinstance(outcome, witness.Witness) or isinstance(outcome, Undecided) and outcome.best is not None
+    return (
+        isinstance(outcome, witness.Witness)
+        or isinstance(outcome, Undecided)
+        and outcome.best is not None
+    )

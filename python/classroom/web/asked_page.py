@@ -36,9 +36,9 @@ class Mistake:
     kind: str
     words: str
     told: str
-    count: int               # of questions
-    size: int                # of texts
-    texts: tuple[Shown, ...]    # the most frequent ones
+    count: int  # of questions
+    size: int  # of texts
+    texts: tuple[Shown, ...]  # the most frequent ones
     drawing: Drawing | None
 
 
@@ -46,7 +46,7 @@ class Mistake:
 class TaskPart:
     name: str
     reference: str | None
-    count: int               # of questions
+    count: int  # of questions
     mistakes: tuple[Mistake, ...]
 
 
@@ -54,7 +54,7 @@ class TaskPart:
 class Page:
     title: str
     summary: str
-    left: int                # questions about an exercise that has changed since
+    left: int  # questions about an exercise that has changed since
     tasks: tuple[TaskPart, ...]
 
 
@@ -63,16 +63,35 @@ def page_of(given: Exercise, log: Path, showing: Showing) -> bytes:
     found = list(asked.texts(log))
     parts = []
     for task in given.tasks:
-        own = [text for text in found if (text.task, text.exercise, text.reference) == (
-            task.label, given.digest, digest(task.reference))]
-        parts.append(TaskPart(task.title, classpage.text_of(task.reference) if showing.solutions else None,
-                              sum(text.count for text in own), mistakes(task, own, given, showing)))
+        own = [
+            text
+            for text in found
+            if (text.task, text.exercise, text.reference)
+            == (task.label, given.digest, digest(task.reference))
+        ]
+        parts.append(
+            TaskPart(
+                task.title,
+                classpage.text_of(task.reference) if showing.solutions else None,
+                sum(text.count for text in own),
+                mistakes(task, own, given, showing),
+            )
+        )
     known = sum(part.count for part in parts)
-    page = Page(given.title, counted(known, "question"), sum(text.count for text in found) - known, tuple(parts))
-    return draw.environment().get_template("asked.html").render(page=page).encode("utf-8", "replace")
+    page = Page(
+        given.title,
+        counted(known, "question"),
+        sum(text.count for text in found) - known,
+        tuple(parts),
+    )
+    return (
+        draw.environment().get_template("asked.html").render(page=page).encode("utf-8", "replace")
+    )
 
 
-def mistakes(task: Task, texts: Sequence[Text], given: Exercise, showing: Showing) -> tuple[Mistake, ...]:
+def mistakes(
+    task: Task, texts: Sequence[Text], given: Exercise, showing: Showing
+) -> tuple[Mistake, ...]:
     """By their outcomes, the most frequent first and what agrees last."""
     groups: dict[object, list[tuple[Text, Graded]]] = {}
     for text in texts:
@@ -80,18 +99,33 @@ def mistakes(task: Task, texts: Sequence[Text], given: Exercise, showing: Showin
         one = graded(task, Answer("", Submitted(query, query)), given.tables, text.ran)
         if text.trial:
             one = with_trial(one, text.trial, given.settings)
-        same = (one.grade, None if one.grade == Grade.AGREES else one.trial.outcome if one.trial and one.is_tried else one.outcome)
+        same = (
+            one.grade,
+            None
+            if one.grade == Grade.AGREES
+            else one.trial.outcome
+            if one.trial and one.is_tried
+            else one.outcome,
+        )
         groups.setdefault(same, []).append((text, one))
     made = [mistake(members, given.tables, showing) for members in groups.values()]
     return tuple(sorted(made, key=lambda of: (of.kind == Grade.AGREES.css, -of.count)))
 
 
-def mistake(members: Sequence[tuple[Text, Graded]], tables: Sequence[Table], showing: Showing) -> Mistake:
+def mistake(
+    members: Sequence[tuple[Text, Graded]], tables: Sequence[Table], showing: Showing
+) -> Mistake:
     first = members[0][1]
     shown = members[:MOST_TEXTS] if classpage.shows_text(first, showing) else []
     return Mistake(
-        classpage.css(first), classpage.words(first, showing.solutions),
+        classpage.css(first),
+        classpage.words(first, showing.solutions),
         first.fault if classpage.is_unreadable(first) and showing.solutions else "",
-        sum(text.count for text, _ in members), len(members),
-        tuple(Shown(f"Asked {counted(text.count, 'time')}", classpage.text_of(of.answer.text.whole)) for text, of in shown),
-        classpage.drawing_of(first, tables))
+        sum(text.count for text, _ in members),
+        len(members),
+        tuple(
+            Shown(f"Asked {counted(text.count, 'time')}", classpage.text_of(of.answer.text.whole))
+            for text, of in shown
+        ),
+        classpage.drawing_of(first, tables),
+    )

@@ -7,9 +7,15 @@ import flask
 from werkzeug.exceptions import NotFound
 
 FOLDER = Path("/usr/share/javascript/codemirror")
-FILES = {"lib/codemirror.js": "text/javascript", "lib/codemirror.css": "text/css", "mode/sql/sql.js": "text/javascript",
-         "addon/hint/show-hint.js": "text/javascript", "addon/hint/show-hint.css": "text/css",
-         "addon/hint/sql-hint.js": "text/javascript", "addon/edit/matchbrackets.js": "text/javascript"}
+FILES = {
+    "lib/codemirror.js": "text/javascript",
+    "lib/codemirror.css": "text/css",
+    "mode/sql/sql.js": "text/javascript",
+    "addon/hint/show-hint.js": "text/javascript",
+    "addon/hint/show-hint.css": "text/css",
+    "addon/hint/sql-hint.js": "text/javascript",
+    "addon/edit/matchbrackets.js": "text/javascript",
+}
 
 
 def is_there() -> bool:

@@ -15,7 +15,7 @@ from classroom.web.ask import Asker
 from classroom.web.hand_ins import FILE, HandIns
 from classroom.web.served_exercise import Material
 
-if TYPE_CHECKING:    # it needs libraries that other commands do without
+if TYPE_CHECKING:  # it needs libraries that other commands do without
     from classroom.web.hint_buttons import Hinter
 
 MOST_EXERCISES = 100
@@ -25,11 +25,11 @@ MOST_EXERCISES = 100
 class Served:
     """An exercise at which one may ask."""
 
-    name: str             # in its address; empty where it is the whole course
+    name: str  # in its address; empty where it is the whole course
     asker: Asker
     log: Log
-    hand_ins: HandIns | None    # None where nobody can hand in, since there is no login
-    hinter: Hinter | None = None    # None where no hints are told
+    hand_ins: HandIns | None  # None where nobody can hand in, since there is no login
+    hinter: Hinter | None = None  # None where no hints are told
 
     @property
     def material(self) -> Material:
@@ -58,10 +58,15 @@ def folders(course: Path) -> list[tuple[str, Path]]:
         return [("", course)]
     if not course.is_dir():
         raise Fault(f"there is no folder {shown(os.fspath(course))}")
-    found = [path for path in sorted(course.iterdir(), key=lambda path: in_order(path.name))
-             if not path.name.startswith(".") and path.is_dir() and (path / "schema.sql").is_file()]
+    found = [
+        path
+        for path in sorted(course.iterdir(), key=lambda path: in_order(path.name))
+        if not path.name.startswith(".") and path.is_dir() and (path / "schema.sql").is_file()
+    ]
     if not found:
-        raise Fault(f"{shown(os.fspath(course))}: no exercise: neither schema.sql nor a folder with one")
+        raise Fault(
+            f"{shown(os.fspath(course))}: no exercise: neither schema.sql nor a folder with one"
+        )
     if len(found) > MOST_EXERCISES:
         raise Fault(f"{shown(os.fspath(course))}: more than {MOST_EXERCISES} exercises")
     return [(visible(path.name), path) for path in found]
@@ -87,7 +92,9 @@ def check_apart(names: Sequence[str], asked: Path) -> None:
         for path in (of, place_of_hand_ins(of)):
             other = owners.setdefault(path, name)
             if other != name:
-                raise Fault(f"--asked-file: the exercises {shown(other)} and {shown(name)} would share {shown(path.name)}: rename one of them")
+                raise Fault(
+                    f"--asked-file: the exercises {shown(other)} and {shown(name)} would share {shown(path.name)}: rename one of them"
+                )
 
 
 def place_of_hand_ins(log: Path) -> Path:

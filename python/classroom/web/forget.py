@@ -42,12 +42,17 @@ class Amounts:
 def amounts(files: Files, before: str | None) -> Amounts:
     """What is kept, of the days before one where that is said."""
     end = before or EVER
-    (questions, texts, first, last), = rows(
-        files.log, "SELECT count(*), count(DISTINCT text), coalesce(min(time), ''), coalesce(max(time), '') FROM question "
-                    f"WHERE time < '{end}'")
+    ((questions, texts, first, last),) = rows(
+        files.log,
+        "SELECT count(*), count(DISTINCT text), coalesce(min(time), ''), coalesce(max(time), '') FROM question "
+        f"WHERE time < '{end}'",
+    )
     hand_ins = logins = 0
     if files.hand_ins.is_file():
-        (hand_ins, logins), = rows(files.hand_ins, f"SELECT count(*), count(DISTINCT login) FROM handed_in WHERE time < '{end}'")
+        ((hand_ins, logins),) = rows(
+            files.hand_ins,
+            f"SELECT count(*), count(DISTINCT login) FROM handed_in WHERE time < '{end}'",
+        )
     return Amounts(questions, texts, first, last, hand_ins, logins)
 
 

@@ -30,7 +30,7 @@ class Receipt:
     """What a student is shown of a hand-in."""
 
     time: datetime
-    digest: str    # of the text's UTF-8, by SHA-256
+    digest: str  # of the text's UTF-8, by SHA-256
 
 
 @dataclass(frozen=True)
@@ -62,11 +62,15 @@ class HandIns:
         with self._lock:
             try:
                 self._database.execute("BEGIN IMMEDIATE")
-                self._database.execute("INSERT INTO handed_in (time, login, task, text, digest) VALUES (?, ?, ?, ?, ?)",
-                                       (moment.isoformat(), login, task, text, receipt.digest))
+                self._database.execute(
+                    "INSERT INTO handed_in (time, login, task, text, digest) VALUES (?, ?, ?, ?, ?)",
+                    (moment.isoformat(), login, task, text, receipt.digest),
+                )
                 self._database.execute(
                     "DELETE FROM handed_in WHERE login = ? AND task = ? AND id NOT IN "
-                    f"(SELECT id FROM handed_in WHERE login = ? AND task = ? ORDER BY id DESC LIMIT {MOST})", (login, task) * 2)
+                    f"(SELECT id FROM handed_in WHERE login = ? AND task = ? ORDER BY id DESC LIMIT {MOST})",
+                    (login, task) * 2,
+                )
                 self._database.execute("COMMIT")
             except sqlite3.Error as fault:
                 if self._database.in_transaction:
@@ -77,8 +81,10 @@ class HandIns:
     def last(self, login: str, task: str) -> Receipt | None:
         """The newest one of a login for a task."""
         with self._lock:
-            row = self._database.execute("SELECT time, digest FROM handed_in WHERE login = ? AND task = ? ORDER BY id DESC LIMIT 1",
-                                         (login, task)).fetchone()
+            row = self._database.execute(
+                "SELECT time, digest FROM handed_in WHERE login = ? AND task = ? ORDER BY id DESC LIMIT 1",
+                (login, task),
+            ).fetchone()
         return Receipt(datetime.fromisoformat(row[0]), row[1]) if row else None
 
     def close(self) -> None:
@@ -89,7 +95,9 @@ class HandIns:
 def last_before(path: Path, closes: datetime | None) -> list[HandIn]:
     """The last text of each login for each task, of those in time."""
     found: dict[tuple[str, str], HandIn] = {}
-    for time, login, task, text in rows(path, "SELECT time, login, task, text FROM handed_in ORDER BY id"):
+    for time, login, task, text in rows(
+        path, "SELECT time, login, task, text FROM handed_in ORDER BY id"
+    ):
         one = HandIn(datetime.fromisoformat(time), login, task, text)
         if closes is None or one.time <= closes:
             found[login, task] = one

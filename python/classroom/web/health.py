@@ -20,8 +20,14 @@ def health(course: Course) -> flask.Response:
     free = min(shutil.disk_usage(one.log.path.parent).free for one in course.served)
     kept = all(not one.log.is_full for one in course.served)
     is_well = kept and free >= LEAST_FREE
-    found = {"status": "ok" if is_well else "not kept", "running": running, "waiting": waiting,
-             "exercises": len(course.served), "free_bytes": free, "kept": kept}
+    found = {
+        "status": "ok" if is_well else "not kept",
+        "running": running,
+        "waiting": waiting,
+        "exercises": len(course.served),
+        "free_bytes": free,
+        "kept": kept,
+    }
     response = flask.jsonify(found)
     response.status_code = 200 if is_well else 503
     return response

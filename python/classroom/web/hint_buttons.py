@@ -39,15 +39,23 @@ class Hinted:
 
     texts: tuple[str, ...] = ()
     place: Place | None = None
-    button: str = ""     # what asks for the next step; empty where there is none
-    step: int = 1        # that it asks for
+    button: str = ""  # what asks for the next step; empty where there is none
+    step: int = 1  # that it asks for
 
 
 class Hinter:
     """Looks for hints to questions about one material, from any number of threads."""
 
-    def __init__(self, material: Material, other_rows: Path | None, most: int, begins: datetime | None,
-                 pythons: tuple[Sequence[str], Sequence[str]], places: Places, trial: Trial | None = None) -> None:
+    def __init__(
+        self,
+        material: Material,
+        other_rows: Path | None,
+        most: int,
+        begins: datetime | None,
+        pythons: tuple[Sequence[str], Sequence[str]],
+        places: Places,
+        trial: Trial | None = None,
+    ) -> None:
         """`other_rows` is the folder of the guard; `pythons` are the words that call an interpreter, and one that has the
         network, for a database there, which the trial has."""
         self.material = material
@@ -61,25 +69,39 @@ class Hinter:
 
     def knows(self, how: Looked | None) -> bool:
         """Whether hints can be looked for so."""
-        return how is not None and (how.product in ("", SQLITE) or how.product == POSTGRESQL and self.trial is not None)
+        return how is not None and (
+            how.product in ("", SQLITE) or how.product == POSTGRESQL and self.trial is not None
+        )
 
     def is_open(self) -> bool:
         return steps_of.are_open(self.most, self.begins)
 
-    def steps(self, key: str, task: Offered, text: str, visitor: Visitor, how: Looked) -> tuple[Step, ...]:
+    def steps(
+        self, key: str, task: Offered, text: str, visitor: Visitor, how: Looked
+    ) -> tuple[Step, ...]:
         """All steps of a query with this key. Busy where too many ask."""
         found = self.kept.get(key)
         if found is None:
-            with self.places.one(visitor.key if visitor.is_known else visitor.network, visitor.network):
+            with self.places.one(
+                visitor.key if visitor.is_known else visitor.network, visitor.network
+            ):
                 found = self.kept.get(key) or self._look(key, task, text, how)
-        return found.steps[:self.most]
+        return found.steps[: self.most]
 
     def _look(self, key: str, task: Offered, text: str, how: Looked) -> Mistake:
-        reference = (self.material.folder / task.reference).read_text(encoding="utf-8", errors="replace")
+        reference = (self.material.folder / task.reference).read_text(
+            encoding="utf-8", errors="replace"
+        )
         try:
             is_local = how.product != POSTGRESQL
             means = replace(self.means, how=how, trial=None if is_local else self.trial)
-            found = asking.ask(means, asking.bare(reference), {key: asking.bare(text)}, SECONDS, self.python if is_local else self.with_network)[key]
+            found = asking.ask(
+                means,
+                asking.bare(reference),
+                {key: asking.bare(text)},
+                SECONDS,
+                self.python if is_local else self.with_network,
+            )[key]
         except (Fault, OSError) as fault:
             log.error("task %a: no hint: %s", task.name, fault)
             return Mistake()
@@ -96,11 +118,22 @@ def shown(steps: Sequence[Step], asked: int, text: str) -> Hinted:
     seen = steps[:asked]
     place = next((found for one in seen if (found := steps_of.place_of(one, text))), None)
     has_more = len(seen) < len(steps)
-    return Hinted(tuple(one.text for one in seen), place, BUTTONS[len(seen)] if has_more else "", len(seen) + 1)
+    return Hinted(
+        tuple(one.text for one in seen),
+        place,
+        BUTTONS[len(seen)] if has_more else "",
+        len(seen) + 1,
+    )
 
 
-def hinter(given: Exercise, material: Material, other_rows: Path, pythons: tuple[Sequence[str], Sequence[str]], places: Places,
-           trial: Trial | None) -> Hinter | None:
+def hinter(
+    given: Exercise,
+    material: Material,
+    other_rows: Path,
+    pythons: tuple[Sequence[str], Sequence[str]],
+    places: Places,
+    trial: Trial | None,
+) -> Hinter | None:
     """The hints of an exercise, whose guard is copied into an empty folder; None where none are told, or what they
     need is not there."""
     if not given.settings.hints:
@@ -110,10 +143,22 @@ def hinter(given: Exercise, material: Material, other_rows: Path, pythons: tuple
             raise Fault("there is no sqlglot: apt-get install python3-sqlglot")
         program.there("ratest_plus")
     except Fault as fault:
-        log.log(logging.WARNING if "hints" in given.settings.said else logging.INFO, "no hints are told: %s", fault)
+        log.log(
+            logging.WARNING if "hints" in given.settings.said else logging.INFO,
+            "no hints are told: %s",
+            fault,
+        )
         return None
     pool = guard.kept(given.folder)
     if pool:
         for name, text in pool.files(pool.lawful).items():
             (other_rows / name).write_bytes(text)
-    return Hinter(material, other_rows if pool else None, given.settings.hints, given.settings.hints_from, pythons, places, trial)
+    return Hinter(
+        material,
+        other_rows if pool else None,
+        given.settings.hints,
+        given.settings.hints_from,
+        pythons,
+        places,
+        trial,
+    )

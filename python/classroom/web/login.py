@@ -15,9 +15,16 @@ from werkzeug.middleware.proxy_fix import ProxyFix
 
 # What waitress calls the peer of a Unix socket.
 SOCKET_PEER = "localhost"
-FORWARDED = ("HTTP_X_FORWARDED_FOR", "HTTP_X_FORWARDED_PROTO", "HTTP_X_FORWARDED_HOST", "HTTP_X_FORWARDED_PORT",
-             "HTTP_X_FORWARDED_PREFIX", "HTTP_X_FORWARDED_BY", "HTTP_FORWARDED")
-MOST_LOGIN = 200    # characters
+FORWARDED = (
+    "HTTP_X_FORWARDED_FOR",
+    "HTTP_X_FORWARDED_PROTO",
+    "HTTP_X_FORWARDED_HOST",
+    "HTTP_X_FORWARDED_PORT",
+    "HTTP_X_FORWARDED_PREFIX",
+    "HTTP_X_FORWARDED_BY",
+    "HTTP_FORWARDED",
+)
+MOST_LOGIN = 200  # characters
 Application = Callable[[dict[str, Any], Callable[..., Any]], Iterable[bytes]]
 
 
@@ -25,8 +32,10 @@ Application = Callable[[dict[str, Any], Callable[..., Any]], Iterable[bytes]]
 class Front:
     """The web server in front of this one."""
 
-    peers: frozenset[str] = frozenset()    # as waitress names them: an address, or SOCKET_PEER; none where there is none
-    user_header: str = ""                  # in which it sends the name of a login; empty where there is none
+    peers: frozenset[
+        str
+    ] = frozenset()  # as waitress names them: an address, or SOCKET_PEER; none where there is none
+    user_header: str = ""  # in which it sends the name of a login; empty where there is none
 
     @property
     def user_key(self) -> str:
@@ -40,9 +49,13 @@ class Behind:
     def __init__(self, application: Application, front: Front) -> None:
         self.application = application
         self.front = front
-        self.fixed: Application = ProxyFix(application, x_for=1, x_proto=1, x_host=0, x_port=0, x_prefix=0)
+        self.fixed: Application = ProxyFix(
+            application, x_for=1, x_proto=1, x_host=0, x_port=0, x_prefix=0
+        )
 
-    def __call__(self, environ: dict[str, Any], start_response: Callable[..., Any]) -> Iterable[bytes]:
+    def __call__(
+        self, environ: dict[str, Any], start_response: Callable[..., Any]
+    ) -> Iterable[bytes]:
         if environ.get("REMOTE_ADDR") in self.front.peers:
             return self.fixed(environ, start_response)
         for name in (*FORWARDED, self.front.user_key):

@@ -23,9 +23,13 @@ from classroom.web.course import Course
 
 HOURS = 48
 MOST_FAULTS = 20
-HOSTS = ("127.0.0.1", "localhost")    # by which it is asked, at whatever port a tunnel has
-HEADERS = {"Content-Security-Policy": "default-src 'none'; style-src 'unsafe-inline'; img-src data:; base-uri 'none'; frame-ancestors 'none'",
-           "X-Content-Type-Options": "nosniff", "Referrer-Policy": "no-referrer", "Cache-Control": "no-store"}
+HOSTS = ("127.0.0.1", "localhost")  # by which it is asked, at whatever port a tunnel has
+HEADERS = {
+    "Content-Security-Policy": "default-src 'none'; style-src 'unsafe-inline'; img-src data:; base-uri 'none'; frame-ancestors 'none'",
+    "X-Content-Type-Options": "nosniff",
+    "Referrer-Policy": "no-referrer",
+    "Cache-Control": "no-store",
+}
 
 
 @dataclass(frozen=True)
@@ -41,10 +45,10 @@ class Part:
     """What is told of an exercise."""
 
     title: str
-    address: str                              # of its mistakes
+    address: str  # of its mistakes
     questions: int
-    hours: Sequence[tuple[str, int]]          # the newest first
-    refused: Sequence[tuple[str, int]]        # what was not read, the most frequent first
+    hours: Sequence[tuple[str, int]]  # the newest first
+    refused: Sequence[tuple[str, int]]  # what was not read, the most frequent first
 
 
 @dataclass(frozen=True)
@@ -62,8 +66,13 @@ def part(name: str, watched: Watched) -> Part:
         fault = refused(text, watched.given)
         if fault:
             faults[fault] += text.count
-    return Part(watched.given.title, f"mistakes/{name}" if name else "mistakes/", sum(text.count for text in texts),
-                asked.by_hour(watched.log, HOURS), faults.most_common(MOST_FAULTS))
+    return Part(
+        watched.given.title,
+        f"mistakes/{name}" if name else "mistakes/",
+        sum(text.count for text in texts),
+        asked.by_hour(watched.log, HOURS),
+        faults.most_common(MOST_FAULTS),
+    )
 
 
 def refused(text: Text, given: Exercise) -> str:
@@ -71,7 +80,11 @@ def refused(text: Text, given: Exercise) -> str:
     outcome = witness.read(text.ran, given.tables)
     if not isinstance(outcome, witness.Refused):
         return ""
-    return outcome.fault if outcome.fault.startswith("not supported") else outcome.fault.partition(":")[0].rstrip("0123456789 ")
+    return (
+        outcome.fault
+        if outcome.fault.startswith("not supported")
+        else outcome.fault.partition(":")[0].rstrip("0123456789 ")
+    )
 
 
 def application(course: Course, watched: Mapping[str, Watched]) -> flask.Flask:
@@ -81,8 +94,12 @@ def application(course: Course, watched: Mapping[str, Watched]) -> flask.Flask:
 
     def top() -> flask.Response:
         states = [one.asker.places.state() for one in course.served[:1]]
-        page = Overview(course.title, tuple(part(name, one) for name, one in watched.items()),
-                        sum(run for run, _ in states), sum(wait for _, wait in states))
+        page = Overview(
+            course.title,
+            tuple(part(name, one) for name, one in watched.items()),
+            sum(run for run, _ in states),
+            sum(wait for _, wait in states),
+        )
         return flask.Response(template.render(page=page).encode("utf-8", "replace"))
 
     def mistakes(name: str = "") -> flask.Response:

@@ -39,13 +39,16 @@ CREATE VIEW IF NOT EXISTS asked (time, task, text, verdict) AS
 """
 # What a file of each earlier version gets: the first had whole seconds and not what a verdict is of, the second
 # nothing of what a database said.
-OLDER = {1: """
+OLDER = {
+    1: """
 ALTER TABLE text ADD COLUMN exercise TEXT NOT NULL DEFAULT '';
 ALTER TABLE text ADD COLUMN reference TEXT NOT NULL DEFAULT '';
 UPDATE question SET time = substr(time, 1, 13) || ':00Z';
-""", 2: """
+""",
+    2: """
 ALTER TABLE text ADD COLUMN trial TEXT NOT NULL DEFAULT '';
-"""}
+""",
+}
 LOG = "asked.db"
 PAGE = 4096
 DAY = 86_400
@@ -55,20 +58,27 @@ log = logging.getLogger(__name__)
 def key_of(foundation: str, task: str, reference: str, text: str) -> str:
     """The key of a verdict: of all that it rests on beside these (see `foundation_of`), the task's name, the digest of
     its reference and the text."""
-    return digest(foundation.encode(), task.encode("utf-8", "replace"), reference.encode(), text.encode("utf-8", "replace"))
+    return digest(
+        foundation.encode(),
+        task.encode("utf-8", "replace"),
+        reference.encode(),
+        text.encode("utf-8", "replace"),
+    )
 
 
 def foundation_of(exercise: str, program: str, engine: str, words: Sequence[str]) -> str:
     """What the verdicts of one server rest on: digests of the schema with the rows and of the program, the database
     beside it with its version, and the limits and options of a question."""
-    return digest(*(word.encode("utf-8", "surrogateescape") for word in (exercise, program, engine, *words)))
+    return digest(
+        *(word.encode("utf-8", "surrogateescape") for word in (exercise, program, engine, *words))
+    )
 
 
 @dataclass(frozen=True)
 class Text:
     """A text that was asked, and how often."""
 
-    exercise: str      # digests of what it was asked of
+    exercise: str  # digests of what it was asked of
     reference: str
     task: str
     text: str
@@ -104,7 +114,9 @@ class Log:
         self._hour = ""
         try:
             self._database = opened(path, "NORMAL")
-            self._database.execute(f"PRAGMA max_page_count = {max(megabytes * 1_000_000 // PAGE, 16)}")
+            self._database.execute(
+                f"PRAGMA max_page_count = {max(megabytes * 1_000_000 // PAGE, 16)}"
+            )
             self._begin()
         except sqlite3.Error as fault:
             raise Fault(f"{shown(str(path))}: {fault}") from None
@@ -141,17 +153,32 @@ class Log:
                     "VALUES (?, ?, ?, ?, ?, ?, ?, ?, ?, ?, ?) ON CONFLICT (key) DO UPDATE SET verdict = excluded.verdict, "
                     "status = excluded.status, passed = excluded.passed, stdout = excluded.stdout, stderr = excluded.stderr, "
                     "trial = excluded.trial",
-                    (question.key, question.exercise, question.reference, question.task, question.text, question.verdict,
-                     ran.status, ran.passed, ran.stdout, ran.stderr,
-                     json.dumps(to_json(question.trial)) if question.trial else ""))
+                    (
+                        question.key,
+                        question.exercise,
+                        question.reference,
+                        question.task,
+                        question.text,
+                        question.verdict,
+                        ran.status,
+                        ran.passed,
+                        ran.stdout,
+                        ran.stderr,
+                        json.dumps(to_json(question.trial)) if question.trial else "",
+                    ),
+                )
                 self._database.execute(
-                    "INSERT INTO question (time, text) SELECT ?, id FROM text WHERE key = ?", (hour, question.key))
+                    "INSERT INTO question (time, text) SELECT ?, id FROM text WHERE key = ?",
+                    (hour, question.key),
+                )
                 self._database.execute("COMMIT")
             except sqlite3.Error as fault:
                 if self._database.in_transaction:
                     self._database.execute("ROLLBACK")
                 if not self._is_full:
-                    log.error("%s: questions are not kept any more: %s", shown(str(self.path)), fault)
+                    log.error(
+                        "%s: questions are not kept any more: %s", shown(str(self.path)), fault
+                    )
                 self._is_full = True
 
     def _drop_old(self) -> None:
@@ -185,17 +212,33 @@ def drop_before(database: sqlite3.Connection, hour: str) -> int:
 
 def texts(path: Path) -> Iterator[Text]:
     """All texts that were asked, the most frequent first."""
-    for row in rows(path, "SELECT exercise, reference, task, text.text, verdict, status, passed, stdout, stderr, count(*), trial "
-                          "FROM text JOIN question ON question.text = text.id GROUP BY text.id ORDER BY count(*) DESC, text.id"):
+    for row in rows(
+        path,
+        "SELECT exercise, reference, task, text.text, verdict, status, passed, stdout, stderr, count(*), trial "
+        "FROM text JOIN question ON question.text = text.id GROUP BY text.id ORDER BY count(*) DESC, text.id",
+    ):
         exercise, reference, task, text, verdict, status, passed, out, err, count, trial = row
-        yield Text(exercise, reference, task, text, verdict, Ran(status, out, err, 0.0, passed), count,
-                   from_json(json.loads(trial)) if trial else None)
+        yield Text(
+            exercise,
+            reference,
+            task,
+            text,
+            verdict,
+            Ran(status, out, err, 0.0, passed),
+            count,
+            from_json(json.loads(trial)) if trial else None,
+        )
 
 
 def by_hour(path: Path, hours: int) -> list[tuple[str, int]]:
     """The questions of each of the last hours in which there were some, the newest first."""
-    return [(str(hour), int(count)) for hour, count in rows(
-        path, f"SELECT time, count(*) FROM question GROUP BY time ORDER BY time DESC LIMIT {hours}")]
+    return [
+        (str(hour), int(count))
+        for hour, count in rows(
+            path,
+            f"SELECT time, count(*) FROM question GROUP BY time ORDER BY time DESC LIMIT {hours}",
+        )
+    ]
 
 
 def rows(path: Path, query: str) -> Iterator[tuple[Any, ...]]:

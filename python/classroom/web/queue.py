@@ -17,7 +17,7 @@ from dataclasses import dataclass, field
 # Parts of the line that one visitor, and one network, may take.
 VISITOR_SHARE, NETWORK_SHARE = 8, 2
 SLOW = 1.0
-LOOKS = 0.25    # seconds between two looks of who waits at whether one did
+LOOKS = 0.25  # seconds between two looks of who waits at whether one did
 # Visitors whose last turn is remembered.
 MOST_KNOWN = 10_000
 
@@ -32,7 +32,7 @@ class Ticket:
 
     visitor: str
     network: str
-    number: int                  # in the order of coming
+    number: int  # in the order of coming
     is_called: bool = False
     begun: float = 0.0
     turn: threading.Event = field(default_factory=threading.Event)
@@ -49,10 +49,10 @@ class Places:
         self.slow = slow
         self._lock = threading.Lock()
         self._line: list[Ticket] = []
-        self._called: set[Ticket] = set()           # who runs
-        self._running: Counter[str] = Counter()     # by visitor
-        self._networks: Counter[str] = Counter()    # the same by network
-        self._served: dict[str, int] = {}           # the turn in which each visitor was served last
+        self._called: set[Ticket] = set()  # who runs
+        self._running: Counter[str] = Counter()  # by visitor
+        self._networks: Counter[str] = Counter()  # the same by network
+        self._served: dict[str, int] = {}  # the turn in which each visitor was served last
         self._turn = self._count = 0
 
     @contextmanager
@@ -98,8 +98,11 @@ class Places:
             return
         mine = sum(ticket.visitor == visitor for ticket in self._line)
         ours = sum(ticket.network == network for ticket in self._line)
-        if len(self._line) >= self.waiting or mine >= max(1, self.waiting // VISITOR_SHARE) \
-                or ours >= max(1, self.waiting // NETWORK_SHARE):
+        if (
+            len(self._line) >= self.waiting
+            or mine >= max(1, self.waiting // VISITOR_SHARE)
+            or ours >= max(1, self.waiting // NETWORK_SHARE)
+        ):
             raise Busy
 
     def _call(self) -> None:
@@ -107,8 +110,12 @@ class Places:
         while self._taken() < self.at_once:
             others = len({ticket.network for ticket in self._line}) > 1
             half = max(1, self.at_once // 2)
-            able = [ticket for ticket in self._line if not self._running[ticket.visitor]
-                    and not (others and self._networks[ticket.network] >= half)]
+            able = [
+                ticket
+                for ticket in self._line
+                if not self._running[ticket.visitor]
+                and not (others and self._networks[ticket.network] >= half)
+            ]
             if not able:
                 return
             ticket = min(able, key=lambda one: (self._served.get(one.visitor, 0), one.number))

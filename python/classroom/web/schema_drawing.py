@@ -27,7 +27,9 @@ def drawn(schema: str, tables: tuple[Table, ...]) -> bytes | None:
         return None
     try:
         text = graph(tables, rules_of(schema)).encode("utf-8", "replace")
-        ran = subprocess.run([program, "-Tsvg"], input=text, capture_output=True, timeout=SECONDS, check=True)
+        ran = subprocess.run(
+            [program, "-Tsvg"], input=text, capture_output=True, timeout=SECONDS, check=True
+        )
     except (subprocess.SubprocessError, OSError, KeyError, IndexError) as fault:
         log.warning("the schema is not drawn: %s", type(fault).__name__)
         return None
@@ -37,16 +39,25 @@ def drawn(schema: str, tables: tuple[Table, ...]) -> bytes | None:
 def graph(tables: tuple[Table, ...], rules: list[Rules]) -> str:
     """The drawing in graphviz's own language."""
     numbers = {table.name: number for number, table in enumerate(tables)}
-    lines = ['digraph { rankdir=LR; bgcolor="transparent"; node [shape=plain fontname="sans-serif" fontsize=11]; edge [color="#77777f"]']
+    lines = [
+        'digraph { rankdir=LR; bgcolor="transparent"; node [shape=plain fontname="sans-serif" fontsize=11]; edge [color="#77777f"]'
+    ]
     for number, (table, own) in enumerate(zip(tables, rules)):
-        cells = "".join(f'<TR><TD ALIGN="LEFT" PORT="c{at}">{column_text(column.name, own)}</TD></TR>' for at, column in enumerate(table.columns))
-        lines.append(f't{number} [label=<<TABLE BORDER="0" CELLBORDER="1" CELLSPACING="0" COLOR="#77777f" BGCOLOR="#ffffff">'
-                     f'<TR><TD BGCOLOR="#e8e9eb"><B>{escaped(table.name)}</B></TD></TR>{cells}</TABLE>>]')
+        cells = "".join(
+            f'<TR><TD ALIGN="LEFT" PORT="c{at}">{column_text(column.name, own)}</TD></TR>'
+            for at, column in enumerate(table.columns)
+        )
+        lines.append(
+            f't{number} [label=<<TABLE BORDER="0" CELLBORDER="1" CELLSPACING="0" COLOR="#77777f" BGCOLOR="#ffffff">'
+            f'<TR><TD BGCOLOR="#e8e9eb"><B>{escaped(table.name)}</B></TD></TR>{cells}</TABLE>>]'
+        )
     for number, (table, own) in enumerate(zip(tables, rules)):
         for columns, other, to in own.foreigns:
             target = numbers[other]
             for column, into in zip(columns, to):
-                lines.append(f"t{number}:c{place(table, column)} -> t{target}:c{place(tables[target], into)}")
+                lines.append(
+                    f"t{number}:c{place(table, column)} -> t{target}:c{place(tables[target], into)}"
+                )
     return "\n".join([*lines, "}"])
 
 

@@ -18,21 +18,21 @@ from classroom.web import schema_drawing as relations
 from classroom.exercise.window import Window
 from classroom.exercise.settings import Settings
 
-MOST_QUESTION = 10_000    # characters that are shown of one
-MOST_ROWS = 100           # of a table that are shown
+MOST_QUESTION = 10_000  # characters that are shown of one
+MOST_ROWS = 100  # of a table that are shown
 
 
 @dataclass(frozen=True)
 class Offered:
     """A task at which one may ask."""
 
-    name: str         # by which it is asked
-    title: str        # as the page shows it
-    question: str     # as HTML; empty where there is none
-    reference: str    # the name of the reference query's copy
-    digest: str       # of the reference query
-    solution: str     # the reference query; empty where it is never shown
-    is_tried: bool = False    # `ratest` refuses the reference, so a database alone answers
+    name: str  # by which it is asked
+    title: str  # as the page shows it
+    question: str  # as HTML; empty where there is none
+    reference: str  # the name of the reference query's copy
+    digest: str  # of the reference query
+    solution: str  # the reference query; empty where it is never shown
+    is_tried: bool = False  # `ratest` refuses the reference, so a database alone answers
 
 
 @dataclass(frozen=True)
@@ -41,7 +41,7 @@ class Rows:
 
     name: str
     columns: tuple[str, ...]
-    rows: tuple[tuple[str | None, ...], ...]    # the first MOST_ROWS
+    rows: tuple[tuple[str | None, ...], ...]  # the first MOST_ROWS
     count: int
 
 
@@ -54,9 +54,9 @@ class Material:
     tasks: tuple[Offered, ...]
     tables: tuple[Table, ...]
     schema: str
-    digest: str                  # of the schema and the rows
+    digest: str  # of the schema and the rows
     rows: tuple[Rows, ...]
-    drawing: bytes | None        # of the schema, as SVG
+    drawing: bytes | None  # of the schema, as SVG
     window: Window
     settings: Settings = Settings()
 
@@ -71,17 +71,41 @@ def copied(given: Exercise, folder: Path, tried: Collection[str] = ()) -> Materi
         (folder / name).write_bytes(text)
     settings = given.settings
     window = Window(settings.opens, settings.closes, settings.after_close == "reference")
-    tasks = tuple(offered(task, f"{number}.reference", folder, window) for number, task in enumerate(given.tasks)
-                  if not task.fault or task.label in tried)
+    tasks = tuple(
+        offered(task, f"{number}.reference", folder, window)
+        for number, task in enumerate(given.tasks)
+        if not task.fault or task.label in tried
+    )
     schema = given.files["schema.sql"].decode("utf-8", "replace")
-    rows = tuple(rows_of(table, given.files.get(f"{table.name}.csv", b"")) for table in given.tables)
-    return Material(given.title, folder, tasks, given.tables, schema, given.digest, rows, relations.drawn(schema, given.tables), window, settings)
+    rows = tuple(
+        rows_of(table, given.files.get(f"{table.name}.csv", b"")) for table in given.tables
+    )
+    return Material(
+        given.title,
+        folder,
+        tasks,
+        given.tables,
+        schema,
+        given.digest,
+        rows,
+        relations.drawn(schema, given.tables),
+        window,
+        settings,
+    )
 
 
 def offered(task: Task, name: str, folder: Path, window: Window) -> Offered:
     (folder / name).write_bytes(task.reference)
     solution = task.reference.decode("utf-8", "replace") if window.shows_references else ""
-    return Offered(task.label, task.title, question(task.folder / task.settings.question), name, digest(task.reference), solution, bool(task.fault))
+    return Offered(
+        task.label,
+        task.title,
+        question(task.folder / task.settings.question),
+        name,
+        digest(task.reference),
+        solution,
+        bool(task.fault),
+    )
 
 
 def question(path: Path) -> str:
@@ -95,10 +119,11 @@ def question(path: Path) -> str:
 
 def markdown(text: str) -> str:
     from ratest.draw import escaped, pictures
+
     try:
         found = library("markdown_it", "python3-markdown-it")
     except Missing:
-        return f"<p class=\"plain\">{escaped(text)}</p>"
+        return f'<p class="plain">{escaped(text)}</p>'
     reader = found.MarkdownIt("commonmark", {"html": False}).enable("table").disable("image")
     return str(reader.render(pictures(text)))
 
@@ -106,7 +131,12 @@ def markdown(text: str) -> str:
 def rows_of(table: Table, content: bytes) -> Rows:
     """The rows of a CSV file that `ratest` has read; an empty field is NULL."""
     lines = list(csv.reader(io.StringIO(content.decode("utf-8-sig", "replace"), newline="")))[1:]
-    return Rows(table.name, tuple(column.name for column in table.columns), tuple(map(cells, lines[:MOST_ROWS])), len(lines))
+    return Rows(
+        table.name,
+        tuple(column.name for column in table.columns),
+        tuple(map(cells, lines[:MOST_ROWS])),
+        len(lines),
+    )
 
 
 def cells(line: Sequence[str]) -> tuple[str | None, ...]:

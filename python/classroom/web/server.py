@@ -46,7 +46,7 @@ class Running:
     watched: Mapping[str, tuple[Opened, Path]]
     front: Front
     address: Address
-    threads: int                # for questions that run or wait
+    threads: int  # for questions that run or wait
     hourly: int | None
     only_verdict: bool
     frame_ancestors: tuple[str, ...]
@@ -58,8 +58,21 @@ def serve(running: Running) -> None:
     """Serves until the process is stopped."""
     course = running.course
     seconds = course.served[0].asker.limits.seconds
-    about = About(course.title, running.keep_days, bool(running.front.user_header), running.hourly, running.only_verdict, seconds)
-    app = application(course, Visitors(running.hourly), running.front, Showing(running.only_verdict, running.frame_ancestors), about)
+    about = About(
+        course.title,
+        running.keep_days,
+        bool(running.front.user_header),
+        running.hourly,
+        running.only_verdict,
+        seconds,
+    )
+    app = application(
+        course,
+        Visitors(running.hourly),
+        running.front,
+        Showing(running.only_verdict, running.frame_ancestors),
+        about,
+    )
     server = made(app, running.threads + QUICK_THREADS, **listening(running.address))
     # Else each question that waits is told, with where it came from.
     for name in ("waitress", "waitress.queue"):
@@ -73,10 +86,20 @@ def serve(running: Running) -> None:
 
 def made(app: Any, threads: int, **where: Any) -> Any:
     return waitress.create_server(
-        app, threads=threads, connection_limit=CONNECTIONS, asyncore_use_poll=True, channel_timeout=20, cleanup_interval=5,
-        max_request_header_size=16_384, max_request_body_size=MOST_FORM, inbuf_overflow=2 * MOST_FORM,
+        app,
+        threads=threads,
+        connection_limit=CONNECTIONS,
+        asyncore_use_poll=True,
+        channel_timeout=20,
+        cleanup_interval=5,
+        max_request_header_size=16_384,
+        max_request_body_size=MOST_FORM,
+        inbuf_overflow=2 * MOST_FORM,
         # `who` decides of whom such headers are believed.
-        clear_untrusted_proxy_headers=False, ident="classroom", **where)
+        clear_untrusted_proxy_headers=False,
+        ident="classroom",
+        **where,
+    )
 
 
 def listening(address: Address) -> dict[str, Any]:
@@ -84,7 +107,10 @@ def listening(address: Address) -> dict[str, Any]:
     if address.socket:
         return {"unix_socket": str(address.socket), "unix_socket_perms": f"{address.mode:o}"}
     # One address, where a name has several.
-    return {"host": socket.getaddrinfo(address.host, address.port, type=socket.SOCK_STREAM)[0][4][0], "port": address.port}
+    return {
+        "host": socket.getaddrinfo(address.host, address.port, type=socket.SOCK_STREAM)[0][4][0],
+        "port": address.port,
+    }
 
 
 def told(address: Address, server: Any) -> str:
@@ -96,8 +122,12 @@ def told(address: Address, server: Any) -> str:
 
 def begin_teacher(running: Running) -> None:
     """The teacher's page, in a thread that ends with the process."""
-    watched = {name: Watched(opened.given, path) for name, (opened, path) in running.watched.items()}
-    server = made(overview.application(running.course, watched), 2, host=LOCAL, port=running.teacher_port)
+    watched = {
+        name: Watched(opened.given, path) for name, (opened, path) in running.watched.items()
+    }
+    server = made(
+        overview.application(running.course, watched), 2, host=LOCAL, port=running.teacher_port
+    )
     print(f"teacher: http://{LOCAL}:{server.effective_port}/", flush=True)
     threading.Thread(target=server.run, daemon=True).start()
 

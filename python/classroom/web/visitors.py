@@ -25,10 +25,10 @@ SHARING = 30
 class Visitor:
     """By what a visitor is counted."""
 
-    key: str                 # of the visitor, by whom one question is answered at a time
-    network: str             # of all behind one address; empty for a login
-    cookie: str | None       # one that has to be set
-    login: str = ""          # the name itself; empty where there is none
+    key: str  # of the visitor, by whom one question is answered at a time
+    network: str  # of all behind one address; empty for a login
+    cookie: str | None  # one that has to be set
+    login: str = ""  # the name itself; empty where there is none
 
     @property
     def is_known(self) -> bool:
@@ -43,7 +43,9 @@ class Visitors:
         """`hourly` counterexamples for each; None where their number is not bounded."""
         self.hourly = hourly
         self._secret = secrets.token_bytes(32)
-        self._signer = itsdangerous.Signer(self._secret, salt="visitor", digest_method=hashlib.sha256)
+        self._signer = itsdangerous.Signer(
+            self._secret, salt="visitor", digest_method=hashlib.sha256
+        )
         # The limiter itself holds it by a weak reference.
         self._storage = MemoryStorage()
         self._limiter = MovingWindowRateLimiter(self._storage)
@@ -65,8 +67,11 @@ class Visitors:
         hour counts no second time."""
         if self.hourly is None:
             return True
-        bounds = [(key, limits.RateLimitItemPerHour(times * self.hourly))
-                  for key, times in ((visitor.key, 1), (visitor.network, SHARING)) if key]
+        bounds = [
+            (key, limits.RateLimitItemPerHour(times * self.hourly))
+            for key, times in ((visitor.key, 1), (visitor.network, SHARING))
+            if key
+        ]
         once = limits.RateLimitItemPerHour(1)
         with self._lock:
             new = [(key, most) for key, most in bounds if self._limiter.test(once, key, shown)]
@@ -78,4 +83,6 @@ class Visitors:
         return True
 
     def _digest(self, kind: str, text: str) -> str:
-        return hmac.new(self._secret, f"{kind} {text}".encode("utf-8", "replace"), hashlib.sha256).hexdigest()[:32]
+        return hmac.new(
+            self._secret, f"{kind} {text}".encode("utf-8", "replace"), hashlib.sha256
+        ).hexdigest()[:32]

@@ -24,14 +24,23 @@ from classroom.process.limits import Ran
 
 FULL = bool(os.environ.get("CLASSROOM_FULL"))
 PYTHON = "/usr/bin/python3"
-SLEEP = "sleep\x00100\x00"    # the words of a process, as /proc has them
+SLEEP = "sleep\x00100\x00"  # the words of a process, as /proc has them
 
 
 def lines(exercise: Path) -> dict[tuple[str, str], list[str]]:
     """What grades.csv tells of each answer: grade, rows, and fault. Its points follow from the grade."""
     text = (exercise / "results/grades.csv").read_text(encoding="utf-8")
     found = list(csv.reader(io.StringIO(text, newline="")))
-    assert found[0] == ["task", "answer", "grade", "points", "decided_by", "rows", "seconds", "fault"]
+    assert found[0] == [
+        "task",
+        "answer",
+        "grade",
+        "points",
+        "decided_by",
+        "rows",
+        "seconds",
+        "fault",
+    ]
     assert len({(line[0], line[1]) for line in found[1:]}) == len(found) - 1
     for line in found[1:]:
         assert line[3] == {"agrees": "1", "differs": "0", "wrong SQL": "0"}.get(line[2], "")
@@ -54,9 +63,14 @@ def test_beers(ratest: Path, beers: Path) -> None:
     assert (ran.returncode, ran.stderr) == (0, "")
     assert ran.stdout == f"15 answers: 15 differ\nsee {beers}/results/grades.csv\n"
     sizes = {"1": "777", "2": "212", "3": "556", "4": "164", "5": "633"}
-    assert lines(beers) == {(task, name): ["differs", size, ""]
-                            for task, row in sizes.items() for name, size in zip("abc", row)}
-    assert (beers / "results/tasks/3/b.txt").read_text() == """status 1
+    assert lines(beers) == {
+        (task, name): ["differs", size, ""]
+        for task, row in sizes.items()
+        for name, size in zip("abc", row)
+    }
+    assert (
+        (beers / "results/tasks/3/b.txt").read_text()
+        == """status 1
 witness: 5
 bar 1: 'Joe''s', 'Durham'
 beer 1: 'Dixie', 'Dixie Brewing'
@@ -68,29 +82,55 @@ only query 2: 1
   'Joe''s'
 both: 0
 """
+    )
 
 
 def test_each_grade(ratest: Path, tmp_path: Path) -> None:
     exercise = single(
-        tmp_path / "one task", right="SELECT a, b FROM t WHERE a >= 2", wrong="SELECT * FROM t WHERE a > 2",
-        refused="SELECT \"x\nt: agree\nall 9: agrees\" FROM t", large="SELECT x.* FROM " + ", ".join(
-            f"t x{number}" for number in range(40)).replace("t x0", "t x"))
+        tmp_path / "one task",
+        right="SELECT a, b FROM t WHERE a >= 2",
+        wrong="SELECT * FROM t WHERE a > 2",
+        refused='SELECT "x\nt: agree\nall 9: agrees" FROM t',
+        large="SELECT x.* FROM "
+        + ", ".join(f"t x{number}" for number in range(40)).replace("t x0", "t x"),
+    )
     ran = classroom("grade", "--only-proved", exercise)
     assert ran.returncode == 1
-    assert ran.stdout.splitlines()[0] == "4 answers: 1 agrees, 1 differs, 1 is wrong SQL, 1 has no verdict"
-    assert ran.stderr == ("classroom: 1 answer past a limit: `classroom pick` keeps the few rows that tell the mistakes\n"
-                          "classroom: 1 of 4 answers are to be graded by hand\n")
+    assert (
+        ran.stdout.splitlines()[0]
+        == "4 answers: 1 agrees, 1 differs, 1 is wrong SQL, 1 has no verdict"
+    )
+    assert ran.stderr == (
+        "classroom: 1 answer past a limit: `classroom pick` keeps the few rows that tell the mistakes\n"
+        "classroom: 1 of 4 answers are to be graded by hand\n"
+    )
     task = "one task"
     told = lines(exercise)
     assert told[task, "right"] == ["agrees", "", ""]
     assert told[task, "wrong"] == ["differs", "1", ""]
     assert told[task, "refused"] == ["wrong SQL", "", "unknown column: x\nt: agree\nall 9: agrees"]
-    assert told[task, "large"][0] == "no verdict" and told[task, "large"][2].startswith("passes a limit: work ")
+    assert told[task, "large"][0] == "no verdict" and told[task, "large"][2].startswith(
+        "passes a limit: work "
+    )
     tests = json.loads((exercise / "results/results.json").read_text())["tests"]
     assert tests[1:] == [
-        {"name": "one task/right", "score": 1, "max_score": 1, "status": "passed", "decided_by": "proved", "output": "agree\n"},
-        {"name": "one task/wrong", "score": 0, "max_score": 1, "status": "failed", "decided_by": "proved", "output":
-         "witness: 1\nt 2: 2, 20\nonly query 1: 1\n  2, 20\nonly query 2: 0\nboth: 0\n"}]
+        {
+            "name": "one task/right",
+            "score": 1,
+            "max_score": 1,
+            "status": "passed",
+            "decided_by": "proved",
+            "output": "agree\n",
+        },
+        {
+            "name": "one task/wrong",
+            "score": 0,
+            "max_score": 1,
+            "status": "failed",
+            "decided_by": "proved",
+            "output": "witness: 1\nt 2: 2, 20\nonly query 1: 1\n  2, 20\nonly query 2: 0\nboth: 0\n",
+        },
+    ]
     assert [test["name"] for test in tests[:1]] == ["one task/refused"]
 
 
@@ -117,8 +157,10 @@ def test_conflicts(ratest: Path, beers: Path) -> None:
 
 def test_no_other_line_is_a_result(tmp_path: Path) -> None:
     """What else a host prints, as the greeting of its shell, is passed over; results come by their keys."""
-    ran = Ran(3, b"[\"k\", 0, \"agree\"]\n", b"ratest: query 2: unknown column: x\n[]\n\xff", 0.5, "")
-    (tmp_path / "printed").write_text("Welcome\n[motd]\n[1, 2]\n{}\n" + worker.line("k", ran) + "[]\n\n[\"k\", 0, 1, 2, 3, 4]\n")
+    ran = Ran(3, b'["k", 0, "agree"]\n', b"ratest: query 2: unknown column: x\n[]\n\xff", 0.5, "")
+    (tmp_path / "printed").write_text(
+        "Welcome\n[motd]\n[1, 2]\n{}\n" + worker.line("k", ran) + '[]\n\n["k", 0, 1, 2, 3, 4]\n'
+    )
     found = list(hosts.lines(["cat", "printed"], tmp_path))
     assert found == [("k", ran)]
 
@@ -145,7 +187,11 @@ def test_what_changed_runs_anew(graded: Path) -> None:
     assert rerun() == 15
     (beers / "4/answers/c.sql").rename(beers / "4/answers/d.sql")
     assert rerun() == 15
-    assert sorted(path.name for path in (beers / "results/tasks/4").iterdir()) == ["a.txt", "b.txt", "d.txt"]
+    assert sorted(path.name for path in (beers / "results/tasks/4").iterdir()) == [
+        "a.txt",
+        "b.txt",
+        "d.txt",
+    ]
 
 
 def test_same_bytes_are_run_once(ratest: Path, tmp_path: Path) -> None:
@@ -166,16 +212,32 @@ def test_killed_at_any_moment(ratest: Path, tmp_path: Path) -> None:
     whole = time.monotonic() - begun
     chosen = random.Random(10)
     for _ in range(kills):
-        process = subprocess.Popen([TOP / "classroom", "grade", "--only-proved", tmp_path / "killed/class"],
-                                   stdout=subprocess.DEVNULL, stderr=subprocess.DEVNULL, start_new_session=True)
+        process = subprocess.Popen(
+            [TOP / "classroom", "grade", "--only-proved", tmp_path / "killed/class"],
+            stdout=subprocess.DEVNULL,
+            stderr=subprocess.DEVNULL,
+            start_new_session=True,
+        )
         time.sleep(chosen.uniform(0, whole / 3))
         process.send_signal(signal.SIGKILL)
         process.wait()
     ran = classroom("grade", "--only-proved", tmp_path / "killed/class")
-    assert (ran.returncode, ran.stdout.replace("/killed/", "/whole/"), ran.stderr) == (1, told.stdout, told.stderr)
+    assert (ran.returncode, ran.stdout.replace("/killed/", "/whole/"), ran.stderr) == (
+        1,
+        told.stdout,
+        told.stderr,
+    )
     same(tmp_path / "whole/class", tmp_path / "killed/class")
     assert sorted(path.name for path in (tmp_path / "killed/class/results").iterdir()) == [
-        "answers.json", "class.csv", "grades.csv", "page.html", "results.json", "runs", "tasks", "written.json"]
+        "answers.json",
+        "class.csv",
+        "grades.csv",
+        "page.html",
+        "results.json",
+        "runs",
+        "tasks",
+        "written.json",
+    ]
 
 
 def at_work(folder: Path) -> list[str]:
@@ -200,8 +262,13 @@ def endless(folder: Path) -> Path:
 
 def begun(exercise: Path, errors: int) -> subprocess.Popen[bytes]:
     """A run that grades it with that program."""
-    return subprocess.Popen([TOP / "classroom", "grade", "--only-proved", exercise], stdout=subprocess.DEVNULL, stderr=errors,
-                            start_new_session=True, env={**os.environ, "RATEST": str(exercise.parent / "ratest")})
+    return subprocess.Popen(
+        [TOP / "classroom", "grade", "--only-proved", exercise],
+        stdout=subprocess.DEVNULL,
+        stderr=errors,
+        start_new_session=True,
+        env={**os.environ, "RATEST": str(exercise.parent / "ratest")},
+    )
 
 
 def comes_to_rest(folder: Path) -> bool:
@@ -250,7 +317,11 @@ def test_nothing_runs_on_that_has_just_begun(tmp_path: Path) -> None:
 
 def test_progress_is_shown_on_a_terminal_alone(ratest: Path, beers: Path) -> None:
     master, slave = os.openpty()
-    process = subprocess.Popen([TOP / "classroom", "grade", "--only-proved", beers], stdout=subprocess.DEVNULL, stderr=slave)
+    process = subprocess.Popen(
+        [TOP / "classroom", "grade", "--only-proved", beers],
+        stdout=subprocess.DEVNULL,
+        stderr=slave,
+    )
     os.close(slave)
     told = b""
     try:
@@ -263,23 +334,51 @@ def test_progress_is_shown_on_a_terminal_alone(ratest: Path, beers: Path) -> Non
 
 
 def test_a_second_run_at_once_is_refused(ratest: Path, beers: Path) -> None:
-    code = ("import sys, time; from pathlib import Path; from classroom.results import Results\n"
-            f"with Results(Path({str(beers / 'results')!r})).held(): print('held', flush=True); time.sleep(60)")
-    holder = subprocess.Popen([PYTHON, "-c", code], stdout=subprocess.PIPE, env={"PYTHONPATH": str(TOP / "python")})
+    code = (
+        "import sys, time; from pathlib import Path; from classroom.results import Results\n"
+        f"with Results(Path({str(beers / 'results')!r})).held(): print('held', flush=True); time.sleep(60)"
+    )
+    holder = subprocess.Popen(
+        [PYTHON, "-c", code], stdout=subprocess.PIPE, env={"PYTHONPATH": str(TOP / "python")}
+    )
     assert holder.stdout and holder.stdout.readline() == b"held\n"
     ran = classroom("grade", "--only-proved", beers)
     holder.kill()
     holder.wait()
-    assert (ran.returncode, ran.stderr) == (1, f"classroom: {beers}/results: another run is at work here\n")
+    assert (ran.returncode, ran.stderr) == (
+        1,
+        f"classroom: {beers}/results: another run is at work here\n",
+    )
     assert classroom("grade", "--only-proved", beers).returncode == 0
 
 
-NAMES = ["-rf", "two words", "it's \"so\"", "line\nend", "$(touch hacked)", "`x`;&|", "é☃", b"not\xffutf".decode("utf-8", "surrogateescape"),
-         "{}", "{#}", "%s", "a\\b", "*", "x" * 251, "a,b", "=1+1", "\x01\x1b[31m", "--help"]
+NAMES = [
+    "-rf",
+    "two words",
+    'it\'s "so"',
+    "line\nend",
+    "$(touch hacked)",
+    "`x`;&|",
+    "é☃",
+    b"not\xffutf".decode("utf-8", "surrogateescape"),
+    "{}",
+    "{#}",
+    "%s",
+    "a\\b",
+    "*",
+    "x" * 251,
+    "a,b",
+    "=1+1",
+    "\x01\x1b[31m",
+    "--help",
+]
 
 
 def test_names(ratest: Path, tmp_path: Path) -> None:
-    exercise = single(tmp_path / "-odd 'name'\n$(x)", **{name: f"SELECT * FROM t WHERE a > {at}" for at, name in enumerate(NAMES)})
+    exercise = single(
+        tmp_path / "-odd 'name'\n$(x)",
+        **{name: f"SELECT * FROM t WHERE a > {at}" for at, name in enumerate(NAMES)},
+    )
     ran = classroom("grade", "--only-proved", "--", exercise)
     assert (ran.returncode, ran.stderr) == (0, "")
     told = lines(exercise)
@@ -290,7 +389,11 @@ def test_names(ratest: Path, tmp_path: Path) -> None:
     assert told[task, labels[1]] == ["agrees", "", ""]
     assert [told[task, label][0] for label in labels[2:]] == ["differs"] * (len(NAMES) - 2)
     for name in NAMES:
-        assert (exercise / "results/tasks" / exercise.name / f"{name}.txt").read_bytes().startswith(b"status ")
+        assert (
+            (exercise / "results/tasks" / exercise.name / f"{name}.txt")
+            .read_bytes()
+            .startswith(b"status ")
+        )
     assert classroom("page", "--", exercise).returncode == 0
 
 
@@ -313,24 +416,40 @@ def test_bad_answers(ratest: Path, tmp_path: Path) -> None:
     assert set(ran.stderr.splitlines()) == {
         "classroom: answers/notes.txt is not graded: its name is not that of an answer, NAME.sql",
         "classroom: answers/.hidden.sql is not graded: its name is not that of an answer, NAME.sql",
-        f"classroom: {len(told)} of {len(told) + 1} answers are to be graded by hand"}
+        f"classroom: {len(told)} of {len(told) + 1} answers are to be graded by hand",
+    }
     assert lines(exercise)["x", "good"] == ["differs", "1", ""]
-    assert {name: lines(exercise)["x", name] for name in told} == {name: ["not read", "", why] for name, why in told.items()}
+    assert {name: lines(exercise)["x", name] for name in told} == {
+        name: ["not read", "", why] for name, why in told.items()
+    }
 
 
 FAULTS: dict[str, tuple[Callable[[Path], object], str]] = {
     "no schema": (lambda folder: os.unlink(folder / "schema.sql"), "{folder}: no file schema.sql"),
-    "no rows": (lambda folder: os.unlink(folder / "bar.csv"), "{folder}: the table bar has no file bar.csv"),
-    "bad schema": (lambda folder: (folder / "schema.sql").write_text("CREATE TABLE"),
-                   "{folder}: schema: syntax fault near byte 12"),
-    "bad rows": (lambda folder: (folder / "bar.csv").write_text("name\n"),
-                 "{folder}: table bar: header differs from the schema"),
-    "two kinds": (lambda folder: (folder / "reference.sql").write_text("SELECT name FROM bar"),
-                  "{folder}: a task at the top and tasks in folders, as 1"),
-    "one name": (lambda folder: [shutil.copytree(folder / "1", folder / name) for name in ("a", "A")],
-                 "two tasks of one name: A and a"),
-    "no tasks": (lambda folder: run("rm", "-r", *(folder / name for name in "12345")),
-                 "{folder}: no task: neither reference.sql nor a folder with one"),
+    "no rows": (
+        lambda folder: os.unlink(folder / "bar.csv"),
+        "{folder}: the table bar has no file bar.csv",
+    ),
+    "bad schema": (
+        lambda folder: (folder / "schema.sql").write_text("CREATE TABLE"),
+        "{folder}: schema: syntax fault near byte 12",
+    ),
+    "bad rows": (
+        lambda folder: (folder / "bar.csv").write_text("name\n"),
+        "{folder}: table bar: header differs from the schema",
+    ),
+    "two kinds": (
+        lambda folder: (folder / "reference.sql").write_text("SELECT name FROM bar"),
+        "{folder}: a task at the top and tasks in folders, as 1",
+    ),
+    "one name": (
+        lambda folder: [shutil.copytree(folder / "1", folder / name) for name in ("a", "A")],
+        "two tasks of one name: A and a",
+    ),
+    "no tasks": (
+        lambda folder: run("rm", "-r", *(folder / name for name in "12345")),
+        "{folder}: no task: neither reference.sql nor a folder with one",
+    ),
 }
 
 
@@ -340,7 +459,11 @@ def test_faults_of_an_exercise(graded: Path, name: str) -> None:
     before = (graded / "results/grades.csv").read_bytes()
     spoil(graded)
     ran = classroom("grade", "--only-proved", graded)
-    assert (ran.returncode, ran.stdout, ran.stderr) == (1, "", f"classroom: {told.format(folder=graded)}\n")
+    assert (ran.returncode, ran.stdout, ran.stderr) == (
+        1,
+        "",
+        f"classroom: {told.format(folder=graded)}\n",
+    )
     assert (graded / "results/grades.csv").read_bytes() == before
 
 
@@ -351,11 +474,24 @@ def test_no_folder(tmp_path: Path) -> None:
 
 def test_options_that_ratest_does_not_take(ratest: Path, beers: Path) -> None:
     ran = classroom("grade", "--only-proved", beers, "--work", "1000000000000")
-    assert (ran.returncode, ran.stderr) == (1, "classroom: `ratest` doesn't take --work 1000000000000\n")
+    assert (ran.returncode, ran.stderr) == (
+        1,
+        "classroom: `ratest` doesn't take --work 1000000000000\n",
+    )
 
 
-@pytest.mark.parametrize("words", [["grade"], [], ["nosuch"], ["grade", "x", "--jobs", "0"], ["grade", "x", "--time", "x"],
-                                   ["grade", "x", "--memory", "-1"], ["grade", "x", "y"]])
+@pytest.mark.parametrize(
+    "words",
+    [
+        ["grade"],
+        [],
+        ["nosuch"],
+        ["grade", "x", "--jobs", "0"],
+        ["grade", "x", "--time", "x"],
+        ["grade", "x", "--memory", "-1"],
+        ["grade", "x", "y"],
+    ],
+)
 def test_usage(words: list[str]) -> None:
     ran = classroom(*words)
     assert ran.returncode == 2 and ran.stderr.startswith("usage: classroom")
@@ -374,31 +510,48 @@ def test_without_parallel(ratest: Path, beers: Path, tmp_path: Path) -> None:
     for name in ("setpriv", "prlimit", "sh"):
         (tmp_path / "bin" / name).symlink_to(str(shutil.which(name)))
     # `parallel` is in none of these folders.
-    words = [PYTHON, "-c", f"import os, sys; os.defpath = {str(tmp_path / 'bin')!r}; sys.path.insert(0, {str(TOP / 'python')!r})\n"
-             "from classroom.main import main; sys.exit(main(sys.argv[1:]))"]
+    words = [
+        PYTHON,
+        "-c",
+        f"import os, sys; os.defpath = {str(tmp_path / 'bin')!r}; sys.path.insert(0, {str(TOP / 'python')!r})\n"
+        "from classroom.main import main; sys.exit(main(sys.argv[1:]))",
+    ]
     environment = {"PATH": str(tmp_path / "bin"), "RATEST": str(ratest)}
     ran = run(*words, "grade", "--only-proved", beers, env=environment)
     assert (ran.returncode, ran.stderr) == (0, "")
     (tmp_path / "hosts").write_text("nosuch\n")
     (beers / "bar.csv").write_text((beers / "bar.csv").read_text() + "Moe's,Springfield\n")
-    ran = run(*words, "grade", "--only-proved", beers, "--hosts", tmp_path / "hosts", env=environment)
-    assert (ran.returncode, ran.stderr) == (1, "classroom: the program parallel is not there: apt-get install parallel\n")
+    ran = run(
+        *words, "grade", "--only-proved", beers, "--hosts", tmp_path / "hosts", env=environment
+    )
+    assert (ran.returncode, ran.stderr) == (
+        1,
+        "classroom: the program parallel is not there: apt-get install parallel\n",
+    )
 
 
 def test_without_the_program(beers: Path) -> None:
     ran = classroom("grade", "--only-proved", beers, env={**os.environ, "RATEST": "/nosuch"})
-    assert (ran.returncode, ran.stderr) == (1, "classroom: RATEST is set, but there is no program /nosuch\n")
+    assert (ran.returncode, ran.stderr) == (
+        1,
+        "classroom: RATEST is set, but there is no program /nosuch\n",
+    )
 
 
 def test_without_jinja2(ratest: Path, beers: Path, tmp_path: Path) -> None:
     """What needs no page is written."""
     (tmp_path / "hidden").mkdir()
     (tmp_path / "hidden/jinja2.py").write_text("raise ImportError")
-    code = (f"import sys; sys.path[:0] = [{str(tmp_path / 'hidden')!r}, {str(TOP / 'python')!r}]; "
-            f"from classroom.main import main; sys.exit(main(['grade', {str(beers)!r}]))")
+    code = (
+        f"import sys; sys.path[:0] = [{str(tmp_path / 'hidden')!r}, {str(TOP / 'python')!r}]; "
+        f"from classroom.main import main; sys.exit(main(['grade', {str(beers)!r}]))"
+    )
     ran = run(PYTHON, "-c", code)
-    assert (ran.returncode, ran.stderr) == (0, "classroom: page.html is not written: the library jinja2 is not there: "
-                                               "apt-get install python3-jinja2\n")
+    assert (ran.returncode, ran.stderr) == (
+        0,
+        "classroom: page.html is not written: the library jinja2 is not there: "
+        "apt-get install python3-jinja2\n",
+    )
     assert len(lines(beers)) == 15
 
 

@@ -8,7 +8,17 @@ from pathlib import Path
 import pytest
 
 PYTHON = Path(__file__).resolve().parents[3] / "python"
-LIBRARIES = ("flask", "itsdangerous", "jinja2", "limits", "markdown_it", "psycopg", "sqlglot", "tomlkit", "waitress")
+LIBRARIES = (
+    "flask",
+    "itsdangerous",
+    "jinja2",
+    "limits",
+    "markdown_it",
+    "psycopg",
+    "sqlglot",
+    "tomlkit",
+    "waitress",
+)
 CODE = """
 import sys
 for name in {libraries}:
@@ -19,9 +29,23 @@ sys.exit(main({words}))
 """
 
 
-@pytest.mark.parametrize("words", [["--version"], ["grade", "--help"], ["collect", "--help"], ["serve", "--help"], ["pick", "--help"]],
-                         ids=" ".join)
+@pytest.mark.parametrize(
+    "words",
+    [
+        ["--version"],
+        ["grade", "--help"],
+        ["collect", "--help"],
+        ["serve", "--help"],
+        ["pick", "--help"],
+    ],
+    ids=" ".join,
+)
 def test_known_without_libraries(words: list[str]) -> None:
-    ran = subprocess.run([sys.executable, "-c", CODE.format(libraries=LIBRARIES, folder=str(PYTHON), words=words)],
-                         capture_output=True, text=True, timeout=60, check=False)
+    ran = subprocess.run(
+        [sys.executable, "-c", CODE.format(libraries=LIBRARIES, folder=str(PYTHON), words=words)],
+        capture_output=True,
+        text=True,
+        timeout=60,
+        check=False,
+    )
     assert (ran.returncode, ran.stderr) == (0, "") and ran.stdout

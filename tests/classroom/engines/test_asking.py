@@ -62,37 +62,50 @@ def child(tmp_path: Path, monkeypatch: pytest.MonkeyPatch) -> None:
 
 def questions(**answers: str) -> dict[str, tried.Pair]:
     task = Task("1", Path("1"), reference=b"SELECT 1")
-    return {name: tried.Question(task, Answer(name, Text(text.encode(), text.encode())), name, False).pair for name, text in answers.items()}
+    return {
+        name: tried.Question(
+            task, Answer(name, Text(text.encode(), text.encode())), name, False
+        ).pair
+        for name, text in answers.items()
+    }
 
 
 def trial() -> tried.Trial:
     return tried.Trial(shop.material(), Options(seconds=3600.0), (), True)
 
 
-def test_a_process_that_fails_takes_no_other_with_it(child: None, caplog: pytest.LogCaptureFixture) -> None:
+def test_a_process_that_fails_takes_no_other_with_it(
+    child: None, caplog: pytest.LogCaptureFixture
+) -> None:
     asked = questions(ann="quick -", ben="crash -", zoe="quick -")
     with caplog.at_level(logging.WARNING):
         found = dict(tried.verdicts(trial(), asked, 1))
     assert sorted(found) == ["ann", "zoe"] and all(isinstance(of, Verdict) for of in found.values())
     assert [record.getMessage() for record in caplog.records] == [
-        "task 1: the answer ben is not tried: its process ended with signal 11"]
+        "task 1: the answer ben is not tried: its process ended with signal 11"
+    ]
 
 
 def test_what_runs_ends_with_what_asked_it(child: None, tmp_path: Path) -> None:
     """As at a Ctrl-C: else a class would wait for the time of each answer."""
     place = tmp_path / "pid"
     found = tried.verdicts(trial(), questions(ann=f"wait {place}", zoe=f"after {place}"), 2)
-    assert next(found)[0] == "zoe"    # which came first, though it was asked last
+    assert next(found)[0] == "zoe"  # which came first, though it was asked last
     begun = time.monotonic()
-    found.close()    # type: ignore[attr-defined]
+    found.close()  # type: ignore[attr-defined]
     assert time.monotonic() - begun < 600
     with pytest.raises(ProcessLookupError):
         os.kill(int(place.read_text()), 0)
 
 
-@pytest.mark.parametrize(("what", "told"), [
-    ("crash", "its process ended with signal 11"), ("raise", "its process ended with status 1: KeyError: '-'"),
-    ("parent", "its process ended with signal 9")])
+@pytest.mark.parametrize(
+    ("what", "told"),
+    [
+        ("crash", "its process ended with signal 11"),
+        ("raise", "its process ended with status 1: KeyError: '-'"),
+        ("parent", "its process ended with signal 9"),
+    ],
+)
 def test_one_that_ends_takes_no_other_with_it(child: None, what: str, told: str) -> None:
     """Not even the process itself: it is begun again."""
     with asking.trier(shop.material(), Options(seconds=60.0)) as made:
@@ -107,7 +120,9 @@ def test_what_is_too_much_is_a_limit(child: None) -> None:
         assert made.ask("-", "memory -").outcome == Passed(False, "memory")
 
 
-def test_a_child_ends_where_the_time_is_over(child: None, tmp_path: Path, monkeypatch: pytest.MonkeyPatch) -> None:
+def test_a_child_ends_where_the_time_is_over(
+    child: None, tmp_path: Path, monkeypatch: pytest.MonkeyPatch
+) -> None:
     monkeypatch.setattr(asking, "MORE_SECONDS", 1.0)
     with asking.trier(shop.material(), Options(seconds=0.1)) as made:
         assert made.ask("-", f"wait {tmp_path / 'pid'}").outcome == Passed(False, "time")
@@ -119,10 +134,14 @@ def test_no_child_outlives_what_asked_it(child: None, tmp_path: Path) -> None:
     """Killed without a chance to say so."""
     place = tmp_path / "pid"
     wanted = f"wait {place}"
-    asks = (f"import sys; sys.path[:0] = {[str(TOP / 'python'), str(TOP / 'tests/classroom')]!r}\nfrom pathlib import Path\n"
-            f"import shop\nfrom classroom.trial import asking\nasking.CHILD = Path({str(tmp_path / 'child.py')!r})\n"
-            f"with asking.trier(shop.material(), asking.Options()) as made:\n    made.ask('-', {wanted!r})\n")
-    process = subprocess.Popen([sys.executable, "-c", asks], env={**os.environ, "TMPDIR": str(tmp_path)})
+    asks = (
+        f"import sys; sys.path[:0] = {[str(TOP / 'python'), str(TOP / 'tests/classroom')]!r}\nfrom pathlib import Path\n"
+        f"import shop\nfrom classroom.trial import asking\nasking.CHILD = Path({str(tmp_path / 'child.py')!r})\n"
+        f"with asking.trier(shop.material(), asking.Options()) as made:\n    made.ask('-', {wanted!r})\n"
+    )
+    process = subprocess.Popen(
+        [sys.executable, "-c", asks], env={**os.environ, "TMPDIR": str(tmp_path)}
+    )
     while not (place.exists() and place.read_text()):
         time.sleep(0.05)
     process.kill()
@@ -130,12 +149,18 @@ def test_no_child_outlives_what_asked_it(child: None, tmp_path: Path) -> None:
     assert is_gone(int(place.read_text()))
 
 
-def test_a_child_has_nothing_of_the_others(child: None, tmp_path: Path, monkeypatch: pytest.MonkeyPatch) -> None:
+def test_a_child_has_nothing_of_the_others(
+    child: None, tmp_path: Path, monkeypatch: pytest.MonkeyPatch
+) -> None:
     """Open are the three files of any process and its own question; the environment is a path and a locale."""
     monkeypatch.setenv("SECRET_OF_THE_SERVER", "not for children")
-    with asking.trier(shop.material(), Options(seconds=60.0)) as made, asking.threads(made, 2) as threads:
+    with asking.trier(shop.material(), Options(seconds=60.0)) as made, asking.threads(
+        made, 2
+    ) as threads:
         waiting = [threads.submit(made.ask, "-", f"wait {tmp_path / name}") for name in "ab"]
-        while not all((tmp_path / name).exists() and (tmp_path / name).read_text() for name in "ab"):
+        while not all(
+            (tmp_path / name).exists() and (tmp_path / name).read_text() for name in "ab"
+        ):
             time.sleep(0.05)
         for name in "ab":
             process = Path("/proc", (tmp_path / name).read_text())

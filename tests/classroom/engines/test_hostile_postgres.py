@@ -43,18 +43,35 @@ HOSTILE = {
     "pg_authid": ("SELECT * FROM pg_authid", Bars, DENIED),
     "pg_stat_activity": ("SELECT query FROM pg_stat_activity", Bars, DENIED),
     "pg_prepared_statements": ("SELECT statement FROM pg_prepared_statements", Bars, DENIED),
-    "generate_series": ("SELECT count(*) FROM generate_series(1, 10000000000)", TooMuch, "time|size|memory"),
+    "generate_series": (
+        "SELECT count(*) FROM generate_series(1, 10000000000)",
+        TooMuch,
+        "time|size|memory",
+    ),
     "many rows": ("SELECT generate_series(1, 300000)", TooMuch, "rows"),
     "temporary files": (
-        "SELECT count(*) FROM (SELECT DISTINCT g::text || repeat('x', 1000) FROM generate_series(1, 1000000) g) x", TooMuch, "size|time"),
+        "SELECT count(*) FROM (SELECT DISTINCT g::text || repeat('x', 1000) FROM generate_series(1, 1000000) g) x",
+        TooMuch,
+        "size|time",
+    ),
     "twelve tables": (f"SELECT count(*) FROM {TWELVE}", TooMuch, "time"),
     "endless recursion": (
-        "WITH RECURSIVE r(n) AS (SELECT 1 UNION ALL SELECT n + 1 FROM r) SELECT count(*) FROM r", TooMuch, "time|size"),
+        "WITH RECURSIVE r(n) AS (SELECT 1 UNION ALL SELECT n + 1 FROM r) SELECT count(*) FROM r",
+        TooMuch,
+        "time|size",
+    ),
     "doubled texts": (
-        "WITH RECURSIVE r(t) AS (SELECT 'x' UNION ALL SELECT t || t FROM r) SELECT max(length(t)) FROM r", TooMuch, "size|memory|time"),
+        "WITH RECURSIVE r(t) AS (SELECT 'x' UNION ALL SELECT t || t FROM r) SELECT max(length(t)) FROM r",
+        TooMuch,
+        "size|memory|time",
+    ),
     "a text of 2 GB": ("SELECT length(repeat('x', 2000000000))", TooMuch, "size|memory"),
     "two statements": ("SELECT 1; COMMIT; DROP TABLE item", Bars, "one statement"),
-    "DELETE in WITH": ("WITH d AS (DELETE FROM item RETURNING *) SELECT * FROM d", Bars, "permission denied|read-only"),
+    "DELETE in WITH": (
+        "WITH d AS (DELETE FROM item RETURNING *) SELECT * FROM d",
+        Bars,
+        "permission denied|read-only",
+    ),
     "SELECT INTO": ("SELECT * INTO x FROM item", Stopped, "INTO|read-only|permission"),
     "FOR UPDATE": ("SELECT * FROM item FOR UPDATE", Bars, "permission denied|read-only"),
     "DO": ("DO $$ begin perform 1; end $$", Bars, "SELECT"),
@@ -77,6 +94,7 @@ def material() -> Material:
 
 def schemas(roles: Roles) -> set[tuple[str, ...]]:
     import psycopg
+
     with psycopg.connect(roles.owner) as session:
         return set(session.execute("SELECT nspname FROM pg_namespace WHERE nspname LIKE 'ratest%'"))
 
@@ -98,9 +116,19 @@ def test_hostile(name: str, roles: Roles, material: Material) -> None:
     engine = None
     try:
         with pytest.raises(kind) as raised:
-            engine = Postgres(material, parts, "SELECT ord FROM item", text, roles.loader, roles.asker, seconds=1.0)
+            engine = Postgres(
+                material,
+                parts,
+                "SELECT ord FROM item",
+                text,
+                roles.loader,
+                roles.asker,
+                seconds=1.0,
+            )
             engine.answers(whole)
-        assert re.search(words, raised.value.message) and raised.value.which == 1, raised.value.message
+        assert (
+            re.search(words, raised.value.message) and raised.value.which == 1
+        ), raised.value.message
         assert time.monotonic() - begun < 30
         if engine:
             assert engine.one(engine.loader, "SELECT count(*) FROM item") == 12
@@ -110,12 +138,15 @@ def test_hostile(name: str, roles: Roles, material: Material) -> None:
 
 
 def test_ordinary_functions_may_be_called(roles: Roles, material: Material) -> None:
-    for text in ("SELECT round(avg(qty), 2), string_agg(sku, ',' ORDER BY sku) FROM item",
-                 "SELECT extract(year FROM day::date), to_char(day::date, 'YYYY') FROM orders",
-                 "SELECT upper(name), substring(name FROM 1 FOR 3), coalesce(city, ''), name ILIKE 'a%' FROM customer",
-                 "SELECT percentile_cont(0.5) WITHIN GROUP (ORDER BY price) FROM product", "SELECT g FROM generate_series(1, 3) g",
-                 "SELECT c.name, count(*) FROM customer c JOIN orders o ON o.customer = c.id GROUP BY c.id",
-                 "SELECT kind, count(*) FILTER (WHERE price > 3) FROM product GROUP BY ROLLUP (kind)"):
+    for text in (
+        "SELECT round(avg(qty), 2), string_agg(sku, ',' ORDER BY sku) FROM item",
+        "SELECT extract(year FROM day::date), to_char(day::date, 'YYYY') FROM orders",
+        "SELECT upper(name), substring(name FROM 1 FOR 3), coalesce(city, ''), name ILIKE 'a%' FROM customer",
+        "SELECT percentile_cont(0.5) WITHIN GROUP (ORDER BY price) FROM product",
+        "SELECT g FROM generate_series(1, 3) g",
+        "SELECT c.name, count(*) FROM customer c JOIN orders o ON o.customer = c.id GROUP BY c.id",
+        "SELECT kind, count(*) FILTER (WHERE price > 3) FROM product GROUP BY ROLLUP (kind)",
+    ):
         parts = Parts(material.pool)
         engine = Postgres(material, parts, text, text, roles.loader, roles.asker)
         answers = engine.answers((1 << len(parts.rows)) - 1)
@@ -125,41 +156,83 @@ def test_ordinary_functions_may_be_called(roles: Roles, material: Material) -> N
 
 def test_neither_session_has_the_other_s_text(roles: Roles, material: Material) -> None:
     parts = Parts(material.pool)
-    engine = Postgres(material, parts, "SELECT ord FROM item WHERE qty > 1", "SELECT ord FROM item", roles.loader, roles.asker)
+    engine = Postgres(
+        material,
+        parts,
+        "SELECT ord FROM item WHERE qty > 1",
+        "SELECT ord FROM item",
+        roles.loader,
+        roles.asker,
+    )
     assert engine.askers[0].info.backend_pid != engine.askers[1].info.backend_pid
     engine.close()
 
 
-@pytest.mark.parametrize("loader, asker, told", [
-    ("owner", "asker", "engine: its user is a superuser"), ("loader", "owner", "engine_asker: its user is a superuser"),
-    ("loader", "loader", "engine_asker: its user may create"), ("nobody", "asker", "engine: ")])
-def test_roles_that_may_more_are_refused(loader: str, asker: str, told: str, roles: Roles, material: Material) -> None:
-    connections = {**roles._asdict(), "nobody": roles.loader.replace("ratest_loader", "ratest_nobody")}
+@pytest.mark.parametrize(
+    "loader, asker, told",
+    [
+        ("owner", "asker", "engine: its user is a superuser"),
+        ("loader", "owner", "engine_asker: its user is a superuser"),
+        ("loader", "loader", "engine_asker: its user may create"),
+        ("nobody", "asker", "engine: "),
+    ],
+)
+def test_roles_that_may_more_are_refused(
+    loader: str, asker: str, told: str, roles: Roles, material: Material
+) -> None:
+    connections = {
+        **roles._asdict(),
+        "nobody": roles.loader.replace("ratest_loader", "ratest_nobody"),
+    }
     with pytest.raises(Fault, match=told):
-        Postgres(material, Parts(material.pool), "SELECT 1", "SELECT 1", connections[loader], connections[asker])
+        Postgres(
+            material,
+            Parts(material.pool),
+            "SELECT 1",
+            "SELECT 1",
+            connections[loader],
+            connections[asker],
+        )
 
 
-def test_an_asker_that_may_execute_volatile_routines_is_refused(roles: Roles, material: Material) -> None:
+def test_an_asker_that_may_execute_volatile_routines_is_refused(
+    roles: Roles, material: Material
+) -> None:
     import psycopg
+
     with psycopg.connect(roles.owner, autocommit=True) as session:
         session.execute("GRANT EXECUTE ON FUNCTION pg_sleep(double precision) TO ratest_asker")
         try:
             with pytest.raises(Fault, match="may execute volatile routines"):
-                Postgres(material, Parts(material.pool), "SELECT 1", "SELECT 1", roles.loader, roles.asker)
+                Postgres(
+                    material,
+                    Parts(material.pool),
+                    "SELECT 1",
+                    "SELECT 1",
+                    roles.loader,
+                    roles.asker,
+                )
         finally:
-            session.execute("REVOKE EXECUTE ON FUNCTION pg_sleep(double precision) FROM ratest_asker")
+            session.execute(
+                "REVOKE EXECUTE ON FUNCTION pg_sleep(double precision) FROM ratest_asker"
+            )
 
 
 def test_what_a_killed_trial_left_is_removed(roles: Roles, material: Material) -> None:
     import psycopg
+
     with psycopg.connect(roles.loader, autocommit=True) as session:
         session.execute("CREATE SCHEMA ratest_trial_1000_abc")
-    Postgres(material, Parts(material.pool), "SELECT 1", "SELECT 1", roles.loader, roles.asker).close()
+    Postgres(
+        material, Parts(material.pool), "SELECT 1", "SELECT 1", roles.loader, roles.asker
+    ).close()
 
 
 def test_rows_can_be_stored_the_other_way_round(roles: Roles, material: Material) -> None:
     parts = Parts(material.pool)
-    engine = Postgres(material, parts, "SELECT * FROM item", "SELECT * FROM orders", roles.loader, roles.asker)
+    engine = Postgres(
+        material, parts, "SELECT * FROM item", "SELECT * FROM orders", roles.loader, roles.asker
+    )
     whole = (1 << len(parts.rows)) - 1
     for part in (whole, parts.without(whole, [0]), whole, *[whole] * 3):
         ahead, back = engine.answers(part), engine.answers(part, backwards=True)

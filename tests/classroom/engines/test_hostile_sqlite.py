@@ -20,32 +20,59 @@ from classroom.verdict.verdict import Barred, Passed
 
 ITEMS = ", ".join(f"item i{at}" for at in range(12))
 LONG = "hex(zeroblob(32000))"
-TWO_TO = "WITH a0 AS (SELECT 1 x UNION SELECT 2), " + ", ".join(
-    f"a{at} AS (SELECT p.x FROM a{at - 1} p, a{at - 1} q)" for at in range(1, 9)) + " SELECT count(*) FROM a8"
+TWO_TO = (
+    "WITH a0 AS (SELECT 1 x UNION SELECT 2), "
+    + ", ".join(f"a{at} AS (SELECT p.x FROM a{at - 1} p, a{at - 1} q)" for at in range(1, 9))
+    + " SELECT count(*) FROM a8"
+)
 
 # The query, and what ends it with the words of the limit; None where it is answered in time.
 HOSTILE = {
-    "endless recursion": ("WITH RECURSIVE r(n) AS (SELECT 1 UNION ALL SELECT n + 1 FROM r) SELECT count(*) FROM r", TooMuch, "time"),
-    "endless rows": ("WITH RECURSIVE r(n) AS (SELECT 1 UNION ALL SELECT n + 1 FROM r) SELECT n FROM r", TooMuch, "rows|time"),
+    "endless recursion": (
+        "WITH RECURSIVE r(n) AS (SELECT 1 UNION ALL SELECT n + 1 FROM r) SELECT count(*) FROM r",
+        TooMuch,
+        "time",
+    ),
+    "endless rows": (
+        "WITH RECURSIVE r(n) AS (SELECT 1 UNION ALL SELECT n + 1 FROM r) SELECT n FROM r",
+        TooMuch,
+        "rows|time",
+    ),
     "twelve tables": (f"SELECT count(*) FROM {ITEMS}", TooMuch, "time"),
     "views in views": (TWO_TO, TooMuch, "time|size"),
     "growing texts": (
         "WITH RECURSIVE r(n, t) AS (SELECT 1, hex(zeroblob(30000)) UNION SELECT n + 1, t || n FROM r) SELECT max(t) FROM r",
-        TooMuch, "memory|size|time"),
+        TooMuch,
+        "memory|size|time",
+    ),
     "DISTINCT over much": (
         "WITH RECURSIVE r(n) AS (SELECT 1 UNION ALL SELECT n + 1 FROM r LIMIT 100000) "
-        "SELECT count(*) FROM (SELECT DISTINCT hex(zeroblob(30000)) || n FROM r)", TooMuch, "memory|time"),
+        "SELECT count(*) FROM (SELECT DISTINCT hex(zeroblob(30000)) || n FROM r)",
+        TooMuch,
+        "memory|time",
+    ),
     "a sorter over much": (
         "WITH RECURSIVE r(n) AS (SELECT 1 UNION ALL SELECT n + 1 FROM r LIMIT 10000000) "
-        "SELECT hex(zeroblob(30000)) || n FROM r ORDER BY 1 DESC LIMIT 1", TooMuch, "memory|time"),
+        "SELECT hex(zeroblob(30000)) || n FROM r ORDER BY 1 DESC LIMIT 1",
+        TooMuch,
+        "memory|time",
+    ),
     "zeroblob": ("SELECT zeroblob(1000000000)", TooMuch, "size"),
     "group_concat": (f"SELECT group_concat({LONG}) FROM item a, item b", TooMuch, "size"),
     "replace": (f"SELECT length(replace(replace({LONG}, '0', '00'), '0', '00'))", TooMuch, "size"),
     "printf": ("SELECT printf('%.*c', 1000000000, 'x')", Bars, "printf"),
     "format": ("SELECT format('%.*c', 1000000000, 'x')", Bars, "format"),
-    "instr": ("WITH RECURSIVE r(n) AS (SELECT 1 UNION ALL SELECT n + 1 FROM r LIMIT 1000) SELECT sum(instr("
-              f"{LONG}, substr({LONG}, 1, 32000) || n)) FROM r, item a, item b", TooMuch, "time"),
-    "LIKE": (f"SELECT sum(({LONG} || a.qty) LIKE '{'%0' * 40}%x') FROM item a, item b, item c, item d, item e", TooMuch, "time"),
+    "instr": (
+        "WITH RECURSIVE r(n) AS (SELECT 1 UNION ALL SELECT n + 1 FROM r LIMIT 1000) SELECT sum(instr("
+        f"{LONG}, substr({LONG}, 1, 32000) || n)) FROM r, item a, item b",
+        TooMuch,
+        "time",
+    ),
+    "LIKE": (
+        f"SELECT sum(({LONG} || a.qty) LIKE '{'%0' * 40}%x') FROM item a, item b, item c, item d, item e",
+        TooMuch,
+        "time",
+    ),
     "a long pattern": (f"SELECT {LONG} LIKE {LONG}", Refused, "pattern"),
     "random": ("SELECT random()", Bars, "random"),
     "randomblob": ("SELECT randomblob(8)", Bars, "randomblob"),
@@ -60,7 +87,11 @@ HOSTILE = {
     "VACUUM INTO": ("VACUUM INTO 'evil.db'", Bars, "SELECT"),
     "DELETE": ("DELETE FROM item", Bars, "SELECT"),
     "WITH DELETE": ("WITH d AS (SELECT 1) DELETE FROM item", Bars, "something else"),
-    "WITH INSERT": ("WITH d AS (SELECT 1) INSERT INTO item SELECT 1, 2, 3 FROM d", Bars, "something else"),
+    "WITH INSERT": (
+        "WITH d AS (SELECT 1) INSERT INTO item SELECT 1, 2, 3 FROM d",
+        Bars,
+        "something else",
+    ),
     "sqlite_master": ("SELECT * FROM sqlite_master", Bars, "sqlite_master"),
     "sqlite_schema": ("SELECT * FROM sqlite_schema", Bars, "sqlite_"),
     "dbstat": ("SELECT * FROM dbstat", Bars, "something else"),
@@ -86,6 +117,7 @@ HOSTILE = {
 @pytest.mark.parametrize("name", HOSTILE)
 def test_hostile(name: str) -> None:
     import re
+
     text, kind, words = HOSTILE[name]
     of = shop.material(items=12)
     parts = Parts(of.pool)
@@ -117,10 +149,14 @@ def test_the_reference_has_the_same_limits() -> None:
 
 
 def test_ordinary_functions_are_not_barred() -> None:
-    for text in ("SELECT strftime('%Y', day) FROM orders", "SELECT date(day, '+1 day') FROM orders",
-                 "SELECT upper(name), round(avg(id), 2), coalesce(city, '-'), substr(name, 1, 2) FROM customer GROUP BY city",
-                 "SELECT julianday(day) - julianday('2024-01-01') FROM orders", "VALUES (1), (2)",
-                 "SELECT row_number() OVER (ORDER BY id) FROM customer"):
+    for text in (
+        "SELECT strftime('%Y', day) FROM orders",
+        "SELECT date(day, '+1 day') FROM orders",
+        "SELECT upper(name), round(avg(id), 2), coalesce(city, '-'), substr(name, 1, 2) FROM customer GROUP BY city",
+        "SELECT julianday(day) - julianday('2024-01-01') FROM orders",
+        "VALUES (1), (2)",
+        "SELECT row_number() OVER (ORDER BY id) FROM customer",
+    ):
         Sqlite(shop.material(), Parts(shop.pool()), text, text).close()
 
 
@@ -136,12 +172,18 @@ def test_rows_that_are_stored_the_other_way_round_are_the_same() -> None:
         assert len(lines[0]) > 1 and lines[0] == lines[1][::-1], table
 
 
-def test_a_step_without_an_end_takes_no_more_of_the_processor(tmp_path: Path, monkeypatch: pytest.MonkeyPatch) -> None:
+def test_a_step_without_an_end_takes_no_more_of_the_processor(
+    tmp_path: Path, monkeypatch: pytest.MonkeyPatch
+) -> None:
     """What no limit of SQLite ends ends with the process, whatever the clock says."""
     (tmp_path / "child.py").write_text(
         f"import sys; sys.path.insert(0, {str(TOP / 'python')!r})\nimport classroom.trial.child as child\n"
-        "child.MORE_SECONDS = 0.5\ndef spin(*_):\n    while True: pass\nchild.tried = spin\nchild.main()\n")
+        "child.MORE_SECONDS = 0.5\ndef spin(*_):\n    while True: pass\nchild.tried = spin\nchild.main()\n"
+    )
     monkeypatch.setattr(asking, "CHILD", tmp_path / "child.py")
     with asking.trier(shop.material(), Options(seconds=0.4)) as made:
-        ran = made.processes.ask(str(made.material), json.dumps({"reference": "SELECT 1", "answer": "SELECT 1", "seconds": 0.4}).encode())
+        ran = made.processes.ask(
+            str(made.material),
+            json.dumps({"reference": "SELECT 1", "answer": "SELECT 1", "seconds": 0.4}).encode(),
+        )
     assert ran.status == -signal.SIGXCPU

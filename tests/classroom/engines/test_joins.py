@@ -22,10 +22,17 @@ from classroom.engines.sqlite import Sqlite
 
 # `TRIAL_PAIRS=20000` draws so many pairs of queries.
 PAIRS = int(os.environ.get("TRIAL_PAIRS", "300"))
-COLUMNS = {"customer": ("id", "name", "city"), "product": ("sku", "kind", "price"), "orders": ("no", "customer", "day"),
-           "item": ("ord", "sku", "qty")}
-ON = {("customer", "orders"): "{1}.customer = {0}.id", ("orders", "item"): "{1}.ord = {0}.no",
-      ("product", "item"): "{1}.sku = {0}.sku"}
+COLUMNS = {
+    "customer": ("id", "name", "city"),
+    "product": ("sku", "kind", "price"),
+    "orders": ("no", "customer", "day"),
+    "item": ("ord", "sku", "qty"),
+}
+ON = {
+    ("customer", "orders"): "{1}.customer = {0}.id",
+    ("orders", "item"): "{1}.ord = {0}.no",
+    ("product", "item"): "{1}.sku = {0}.sku",
+}
 VALUES = ("1", "2", "'toy'", "'Bergen'", "'2024-01-01'", "NULL", "'Ann'")
 
 
@@ -55,8 +62,11 @@ class Drawn:
             text = f"{text} {self.one('UNION', 'UNION ALL', 'EXCEPT', 'INTERSECT')} {self.select(outer, depth)}"
         if depth == 0 and self.number(0, 5) == 0:
             name = self.one("w", "customer", "item")
-            text = f"WITH {name} AS (SELECT o.no AS a, o.customer AS id, o.day AS qty, o.no AS ord FROM orders o) {text}" \
-                if name != "w" else f"WITH w AS ({self.select([], 1)}) SELECT count(*), 1 FROM w UNION ALL {text}"
+            text = (
+                f"WITH {name} AS (SELECT o.no AS a, o.customer AS id, o.day AS qty, o.no AS ord FROM orders o) {text}"
+                if name != "w"
+                else f"WITH w AS ({self.select([], 1)}) SELECT count(*), 1 FROM w UNION ALL {text}"
+            )
         return text
 
     def select(self, outer: list[tuple[str, str]], depth: int) -> str:
@@ -67,13 +77,21 @@ class Drawn:
         if kind == 0:
             return f"SELECT {self.column(seen)}, {self.column(tables)} FROM {begin}{where}"
         if kind == 1:
-            return f"SELECT DISTINCT {self.column(tables)}, {self.column(tables)} FROM {begin}{where}"
-        value = self.one("count(*)", f"count({self.column(tables)})", f"max({self.column(tables)})",
-                         f"count(DISTINCT {self.column(tables)})")
+            return (
+                f"SELECT DISTINCT {self.column(tables)}, {self.column(tables)} FROM {begin}{where}"
+            )
+        value = self.one(
+            "count(*)",
+            f"count({self.column(tables)})",
+            f"max({self.column(tables)})",
+            f"count(DISTINCT {self.column(tables)})",
+        )
         if kind == 2:
             return f"SELECT {value}, 1 FROM {begin}{where}"
         key = self.column(tables)
-        having = f" HAVING count(*) {self.one('>', '=', '<')} {self.one('1', '2')}" if self.yes() else ""
+        having = (
+            f" HAVING count(*) {self.one('>', '=', '<')} {self.one('1', '2')}" if self.yes() else ""
+        )
         return f"SELECT {key}, {value} FROM {begin}{where} GROUP BY {key}{having}"
 
     def begin(self, depth: int) -> tuple[str, list[tuple[str, str]]]:
@@ -93,8 +111,10 @@ class Drawn:
                 tables.append((table, name))
             elif form == 2:
                 inner, other = self.one(*COLUMNS), self.alias()
-                text += (f" {self.one('JOIN', 'LEFT JOIN')} ({table} {name} JOIN {inner} {other} ON "
-                         f"{self.joining([(table, name)], (inner, other))}) ON {self.joining(tables, (table, name))}")
+                text += (
+                    f" {self.one('JOIN', 'LEFT JOIN')} ({table} {name} JOIN {inner} {other} ON "
+                    f"{self.joining([(table, name)], (inner, other))}) ON {self.joining(tables, (table, name))}"
+                )
                 tables += [(table, name), (inner, other)]
             elif form == 3:
                 text += f" NATURAL JOIN {table} {name}"
@@ -112,9 +132,16 @@ class Drawn:
 
     def joining(self, tables: list[tuple[str, str]], new: tuple[str, str]) -> str:
         for table, alias in tables:
-            for pair, at in (((table, new[0]), (alias, new[1])), ((new[0], table), (new[1], alias))):
+            for pair, at in (
+                ((table, new[0]), (alias, new[1])),
+                ((new[0], table), (new[1], alias)),
+            ):
                 if pair in ON and self.number(0, 3):
-                    more = f" {self.one('AND', 'OR')} {self.simple([*tables, new])}" if self.number(0, 3) == 0 else ""
+                    more = (
+                        f" {self.one('AND', 'OR')} {self.simple([*tables, new])}"
+                        if self.number(0, 3) == 0
+                        else ""
+                    )
                     return ON[pair].format(*at) + more
         return self.simple([*tables, new])
 
@@ -130,7 +157,9 @@ class Drawn:
         if form == 1:
             return f"{left} {self.one('', 'NOT ')}LIKE {self.one(chr(39) + 'B%' + chr(39), chr(39) + '%o%' + chr(39))}"
         if form == 2:
-            return f"{left} {self.one('', 'NOT ')}BETWEEN {self.one(*VALUES)} AND {self.one(*VALUES)}"
+            return (
+                f"{left} {self.one('', 'NOT ')}BETWEEN {self.one(*VALUES)} AND {self.one(*VALUES)}"
+            )
         if form == 3:
             return f"{left} {self.one('', 'NOT ')}IN ({self.one(*VALUES)}, {self.one(*VALUES)})"
         if form == 4:
@@ -146,14 +175,20 @@ class Drawn:
             _, alias = tables[0]
             table = self.one(*COLUMNS)
             name = self.alias()
-            return (f"{self.column(tables)} {self.one('', 'NOT ')}IN (SELECT {name}.{self.one(*COLUMNS[table])} FROM {table} {name} "
-                    f"WHERE {self.condition([(table, name), *tables], depth + 1)})")
+            return (
+                f"{self.column(tables)} {self.one('', 'NOT ')}IN (SELECT {name}.{self.one(*COLUMNS[table])} FROM {table} {name} "
+                f"WHERE {self.condition([(table, name), *tables], depth + 1)})"
+            )
         if depth < 2 and form == 2:
             table, name = self.one(*COLUMNS), self.alias()
-            return (f"(SELECT count(*) FROM {table} {name} WHERE {self.condition([(table, name), *tables], depth + 1)}) "
-                    f"{self.one('=', '>')} {self.one('0', '1')}")
+            return (
+                f"(SELECT count(*) FROM {table} {name} WHERE {self.condition([(table, name), *tables], depth + 1)}) "
+                f"{self.one('=', '>')} {self.one('0', '1')}"
+            )
         if form == 3:
-            return f"({self.simple(tables)} {self.one('AND', 'OR')} {self.condition(tables, depth)})"
+            return (
+                f"({self.simple(tables)} {self.one('AND', 'OR')} {self.condition(tables, depth)})"
+            )
         return self.simple(tables)
 
 
@@ -163,14 +198,18 @@ def queries(draw: st.DrawFn) -> str:
 
 
 @pytest.mark.skipif(PAIRS < 1, reason="no pairs are wanted")
-@settings(max_examples=PAIRS, deadline=None, suppress_health_check=list(HealthCheck), derandomize=True)
+@settings(
+    max_examples=PAIRS, deadline=None, suppress_health_check=list(HealthCheck), derandomize=True
+)
 @given(queries(), queries(), st.integers(0, 9))
-def test_a_part_answers_as_the_union_of_the_tuples_in_it(first: str, second: str, seed: int) -> None:
+def test_a_part_answers_as_the_union_of_the_tuples_in_it(
+    first: str, second: str, seed: int
+) -> None:
     of = shop.material(customers=2, products=2, orders=3, items=3, seed=str(seed))
     parts = Parts(of.pool)
     try:
         engine = Sqlite(of, parts, first, second)
-    except Refused:    # a name that a WITH hides
+    except Refused:  # a name that a WITH hides
         reject()
     search = Search(engine, parts, of, (first, second), Wanted())
     units, _ = search.units()
@@ -183,24 +222,61 @@ def test_a_part_answers_as_the_union_of_the_tuples_in_it(first: str, second: str
         if union == part:
             continue
         for whole, less in zip(engine.answers(part), engine.answers(union)):
-            assert Counter(rounded(whole.lines)) == Counter(rounded(less.lines)), (first, second, part, union)
+            assert Counter(rounded(whole.lines)) == Counter(rounded(less.lines)), (
+                first,
+                second,
+                part,
+                union,
+            )
     engine.close()
 
 
 UNDERSTOOD = [
-    ("SELECT c.name FROM customer c JOIN orders o ON o.customer = c.id WHERE o.day LIKE '2024-01%'", 1, ()),
-    ("SELECT c.id, count(o.no) FROM customer c LEFT JOIN orders o ON o.customer = c.id GROUP BY c.id", 2, ()),
-    ("SELECT c.id, i.sku FROM customer c LEFT JOIN orders o ON o.customer = c.id LEFT JOIN item i ON i.ord = o.no", 3, ()),
-    ("SELECT name FROM customer WHERE NOT EXISTS (SELECT * FROM orders WHERE customer = id)", 2, ()),
+    (
+        "SELECT c.name FROM customer c JOIN orders o ON o.customer = c.id WHERE o.day LIKE '2024-01%'",
+        1,
+        (),
+    ),
+    (
+        "SELECT c.id, count(o.no) FROM customer c LEFT JOIN orders o ON o.customer = c.id GROUP BY c.id",
+        2,
+        (),
+    ),
+    (
+        "SELECT c.id, i.sku FROM customer c LEFT JOIN orders o ON o.customer = c.id LEFT JOIN item i ON i.ord = o.no",
+        3,
+        (),
+    ),
+    (
+        "SELECT name FROM customer WHERE NOT EXISTS (SELECT * FROM orders WHERE customer = id)",
+        2,
+        (),
+    ),
     ("SELECT customer FROM orders GROUP BY customer HAVING count(*) > 1", 1, ()),
     ("SELECT kind FROM product WHERE sku IN (SELECT sku FROM item WHERE qty > 1)", 2, ()),
-    ("SELECT * FROM (SELECT kind, avg(price) a FROM product GROUP BY kind) x JOIN product p ON p.kind = x.kind", 2, ()),
+    (
+        "SELECT * FROM (SELECT kind, avg(price) a FROM product GROUP BY kind) x JOIN product p ON p.kind = x.kind",
+        2,
+        (),
+    ),
     # Each row alone, where a FROM or a name isn't understood.
     ("SELECT * FROM customer NATURAL JOIN product", 0, ("customer", "product")),
-    ("SELECT c.id FROM customer c FULL JOIN orders o ON o.customer = c.id", 0, ("customer", "orders")),
-    ("WITH customer AS (SELECT customer AS id FROM orders) SELECT count(*) FROM customer", 1, ("customer",)),
+    (
+        "SELECT c.id FROM customer c FULL JOIN orders o ON o.customer = c.id",
+        0,
+        ("customer", "orders"),
+    ),
+    (
+        "WITH customer AS (SELECT customer AS id FROM orders) SELECT count(*) FROM customer",
+        1,
+        ("customer",),
+    ),
     ("SELECT count(*) FROM product WHERE sku IN item", 1, ("item",)),
-    ("SELECT count(*) FROM customer c JOIN (orders o JOIN item i ON i.ord = o.no) ON o.customer = c.id", None, ("orders", "item")),
+    (
+        "SELECT count(*) FROM customer c JOIN (orders o JOIN item i ON i.ord = o.no) ON o.customer = c.id",
+        None,
+        ("orders", "item"),
+    ),
     ("SELECT count(*) FROM main.orders", None, ("orders",)),
     ("SELECT SELECT", 0, ()),
 ]
@@ -210,7 +286,9 @@ UNDERSTOOD = [
 def test_what_is_understood(text: str, count: int | None, alone: tuple[str, ...]) -> None:
     pool = shop.pool()
     names = [held.table.name for held in pool.held]
-    schema = joins.Schema(names, [frozenset(column.name for column in held.table.columns) for held in pool.held])
+    schema = joins.Schema(
+        names, [frozenset(column.name for column in held.table.columns) for held in pool.held]
+    )
     found = joins.understood([text], schema, "sqlite")
     assert count is None or len(found.tuples) == count
     assert set(alone) <= {names[at] for at in found.alone}
@@ -228,9 +306,14 @@ def test_fewer_parts_than_all_have_to_be_tried() -> None:
 
 
 def test_order_at_the_top() -> None:
-    for text, is_ordered in (("SELECT a FROM t ORDER BY a", True), ("SELECT a FROM (SELECT a FROM t ORDER BY a) x", False),
-                             ("SELECT rank() OVER (ORDER BY a) FROM t", False), ("SELECT 1 UNION SELECT 2 ORDER BY 1", True),
-                             ("SELECT a FROM t -- ORDER BY a", False), ("WITH x AS (SELECT 1 a) SELECT a FROM x ORDER BY a", True)):
+    for text, is_ordered in (
+        ("SELECT a FROM t ORDER BY a", True),
+        ("SELECT a FROM (SELECT a FROM t ORDER BY a) x", False),
+        ("SELECT rank() OVER (ORDER BY a) FROM t", False),
+        ("SELECT 1 UNION SELECT 2 ORDER BY 1", True),
+        ("SELECT a FROM t -- ORDER BY a", False),
+        ("WITH x AS (SELECT 1 a) SELECT a FROM x ORDER BY a", True),
+    ):
         assert joins.is_ordered(text, "sqlite") == is_ordered, text
 
 

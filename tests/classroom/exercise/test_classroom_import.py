@@ -7,10 +7,43 @@ from itertools import product as pairs
 from pathlib import Path
 
 import pytest
-from import_cases import CASES, FILES, ODD, ODD_NOTES, ODD_QUERIES, ODD_SCHEMA, OWN, POSTGRES_CASES, SQLITE_CASES
-from import_conditions import (CARRIED, CARRIED_POSTGRES, CARRIED_SQLITE, COLLATIONS, COLUMNS, DOMAINS, INTEGERS, LEFT,
-                               LEFT_POSTGRES, LEFT_SQLITE, OWN_LEFT, TEXTS)
-from products import TOP, Postgres, Product, Sqlite, classroom, content, export, quoted, run, whole_answers
+from import_cases import (
+    CASES,
+    FILES,
+    ODD,
+    ODD_NOTES,
+    ODD_QUERIES,
+    ODD_SCHEMA,
+    OWN,
+    POSTGRES_CASES,
+    SQLITE_CASES,
+)
+from import_conditions import (
+    CARRIED,
+    CARRIED_POSTGRES,
+    CARRIED_SQLITE,
+    COLLATIONS,
+    COLUMNS,
+    DOMAINS,
+    INTEGERS,
+    LEFT,
+    LEFT_POSTGRES,
+    LEFT_SQLITE,
+    OWN_LEFT,
+    TEXTS,
+)
+from products import (
+    TOP,
+    Postgres,
+    Product,
+    Sqlite,
+    classroom,
+    content,
+    export,
+    quoted,
+    run,
+    whole_answers,
+)
 
 from classroom.sql.schema import literal
 
@@ -32,20 +65,31 @@ def test_odd_tables(ratest: Path, product: Product, tmp_path: Path) -> None:
     assert content(tmp_path / "whole folder")["schema.sql"] == put(ODD_SCHEMA, OWN[type(product)])
 
 
-@pytest.mark.parametrize("product, name", [
-    *(("sqlite", name) for name in (*CASES, *SQLITE_CASES)),
-    *(("postgres", name) for name in (*CASES, *POSTGRES_CASES))], indirect=["product"])
+@pytest.mark.parametrize(
+    "product, name",
+    [
+        *(("sqlite", name) for name in (*CASES, *SQLITE_CASES)),
+        *(("postgres", name) for name in (*CASES, *POSTGRES_CASES)),
+    ],
+    indirect=["product"],
+)
 def test_case(ratest: Path, product: Product, tmp_path: Path, name: str) -> None:
     own = SQLITE_CASES if isinstance(product, Sqlite) else POSTGRES_CASES
     text, words, is_good, told = {**CASES, **own}[name]
     product.make(tmp_path / name, put(text, OWN[type(product)]))
     folder = tmp_path / "exercise"
     made = export(product, folder, words.split())
-    assert (made.returncode, made.stdout, made.stderr) == (0 if is_good else 1, "", notes(product, told))
+    assert (made.returncode, made.stdout, made.stderr) == (
+        0 if is_good else 1,
+        "",
+        notes(product, told),
+    )
     assert folder.is_dir() == is_good
     if name in FILES:
         assert content(folder) == FILES[name]
-    table = re.search(r'TABLE ("(?:[^"]|"")*"|\w+)', content(folder)["schema.sql"]) if is_good else None
+    table = (
+        re.search(r'TABLE ("(?:[^"]|"")*"|\w+)', content(folder)["schema.sql"]) if is_good else None
+    )
     if table:
         # `ratest` reads what was written.
         query = tmp_path / "query.sql"
@@ -188,10 +232,18 @@ id,d,at,stamp,zone,flag,whole,price,other,n
 
 def test_types(ratest: Path, product: Product, tmp_path: Path) -> None:
     product.make(tmp_path / "types", TYPES[type(product)])
-    told = whole_answers(ratest, product, tmp_path, [
-        "SELECT id FROM t WHERE d < '2004-01-01'", "SELECT a.id FROM t a, t b WHERE a.d > b.d",
-        "SELECT id FROM t WHERE price >= 20 OR whole < 0", "SELECT name FROM u WHERE d IN (SELECT other FROM t)",
-        "SELECT d FROM t EXCEPT SELECT d FROM u"])
+    told = whole_answers(
+        ratest,
+        product,
+        tmp_path,
+        [
+            "SELECT id FROM t WHERE d < '2004-01-01'",
+            "SELECT a.id FROM t a, t b WHERE a.d > b.d",
+            "SELECT id FROM t WHERE price >= 20 OR whole < 0",
+            "SELECT name FROM u WHERE d IN (SELECT other FROM t)",
+            "SELECT d FROM t EXCEPT SELECT d FROM u",
+        ],
+    )
     assert told == TYPES_TOLD[type(product)]
     texts = content(tmp_path / "whole folder")
     assert texts["schema.sql"] == TYPES_WRITTEN[type(product)]
@@ -212,7 +264,9 @@ def rows_text() -> str:
     return f"INSERT INTO rows VALUES {', '.join(rows)};"
 
 
-def table_text(product: Product, name: str, condition: str = "", domain: tuple[str, str] = ("", "")) -> str:
+def table_text(
+    product: Product, name: str, condition: str = "", domain: tuple[str, str] = ("", "")
+) -> str:
     byte = "" if isinstance(product, Sqlite) else ' COLLATE "C"'
     kinds = {column: kind.replace("{byte}", byte) for column, (kind, _) in COLUMNS.items()}
     kinds.update([domain] if domain[0] else [])
@@ -228,7 +282,8 @@ def cases_of(product: Product) -> dict[str, Case]:
     is_sqlite = isinstance(product, Sqlite)
     cases: list[Case] = [
         (condition, ("", ""), "", written[0 if is_sqlite else -1] or condition)
-        for condition, *written in CARRIED + (CARRIED_SQLITE if is_sqlite else CARRIED_POSTGRES)]
+        for condition, *written in CARRIED + (CARRIED_SQLITE if is_sqlite else CARRIED_POSTGRES)
+    ]
     for number, (column, domain, written) in enumerate([] if is_sqlite else DOMAINS):
         cases.append(("", (column, f"d{number}"), f"CREATE DOMAIN d{number} AS {domain};", written))
     return {f"t{number}": case for number, case in enumerate(cases)}
@@ -238,9 +293,14 @@ def fill_text(product: Product, tables: dict[str, Case]) -> str:
     """Puts into each table the rows that it lets in."""
     if isinstance(product, Sqlite):
         return "".join(f"INSERT OR IGNORE INTO {table} SELECT * FROM rows;" for table in tables)
-    return "DO $$ DECLARE x record; BEGIN FOR x IN SELECT id FROM rows LOOP " + "".join(
-        f"BEGIN INSERT INTO {table} SELECT * FROM rows WHERE id = x.id; EXCEPTION WHEN check_violation THEN END; "
-        for table in tables) + "END LOOP; END $$"
+    return (
+        "DO $$ DECLARE x record; BEGIN FOR x IN SELECT id FROM rows LOOP "
+        + "".join(
+            f"BEGIN INSERT INTO {table} SELECT * FROM rows WHERE id = x.id; EXCEPTION WHEN check_violation THEN END; "
+            for table in tables
+        )
+        + "END LOOP; END $$"
+    )
 
 
 def ends_with(ratest: Path, status: int, folder: Path, query: str) -> None:
@@ -252,7 +312,9 @@ def ends_with(ratest: Path, status: int, folder: Path, query: str) -> None:
     assert ran.returncode == status, f"{query}: {ran.stdout}{ran.stderr}"
 
 
-def keeps_lawful(ratest: Path, folder: Path, name: str, schema: str, rows: str, let_in: set[int]) -> None:
+def keeps_lawful(
+    ratest: Path, folder: Path, name: str, schema: str, rows: str, let_in: set[int]
+) -> None:
     """Of all rows `ratest` keeps those together that the database let in, and none of the others."""
     folder.mkdir()
     (folder / "schema.sql").write_text(schema + "CREATE TABLE one (id INTEGER);", encoding="utf-8")
@@ -262,42 +324,68 @@ def keeps_lawful(ratest: Path, folder: Path, name: str, schema: str, rows: str, 
     parts = [f"EXISTS (SELECT * FROM {name} x WHERE x.id = {number})" for number in sorted(let_in)]
     # A query has at most 64 words SELECT.
     for start in range(0, len(parts), 60):
-        ends_with(ratest, 1, folder, f"SELECT id FROM one WHERE {' AND '.join(parts[start:start + 60])}")
+        ends_with(
+            ratest, 1, folder, f"SELECT id FROM one WHERE {' AND '.join(parts[start:start + 60])}"
+        )
     if others:
-        ends_with(ratest, 0, folder, f"SELECT id FROM {name} WHERE id IN ({', '.join(map(str, sorted(others)))})")
+        ends_with(
+            ratest,
+            0,
+            folder,
+            f"SELECT id FROM {name} WHERE id IN ({', '.join(map(str, sorted(others)))})",
+        )
 
 
 def test_carried_conditions(ratest: Path, product: Product, tmp_path: Path) -> None:
     cases = cases_of(product)
-    tables = "".join(before + table_text(
-        product, name, condition.replace("own", name).replace("OWN", name.upper()), domain)
-        for name, (condition, domain, before, _) in cases.items())
+    tables = "".join(
+        before
+        + table_text(
+            product, name, condition.replace("own", name).replace("OWN", name.upper()), domain
+        )
+        for name, (condition, domain, before, _) in cases.items()
+    )
     product.make(tmp_path / "checks", table_text(product, "rows") + rows_text() + tables)
     made = export(product, tmp_path / "exercise")
     assert made.stderr == "".join(
         f"classroom: {name}: left out: COLLATE; texts are compared by their bytes\n"
-        for name, (condition, *_) in cases.items() if "COLLATE" in condition and isinstance(product, Sqlite))
+        for name, (condition, *_) in cases.items()
+        if "COLLATE" in condition and isinstance(product, Sqlite)
+    )
     filled = product.answer(fill_text(product, cases))
     assert filled.returncode == 0, filled.stderr
-    answer = product.answer(" UNION ALL ".join(f"SELECT '{name}', id FROM {name}" for name in cases))
+    answer = product.answer(
+        " UNION ALL ".join(f"SELECT '{name}', id FROM {name}" for name in cases)
+    )
     let_in: dict[str, set[int]] = {name: set() for name in cases}
     for line in answer.stdout.splitlines():
         let_in[line.split(",")[0]].add(int(line.split(",")[1]))
     texts = content(tmp_path / "exercise")
-    schemas = dict(re.findall(r"^(?=CREATE TABLE (\w+))(.*?^\);\n)", texts["schema.sql"], re.MULTILINE | re.DOTALL))
+    schemas = dict(
+        re.findall(
+            r"^(?=CREATE TABLE (\w+))(.*?^\);\n)", texts["schema.sql"], re.MULTILINE | re.DOTALL
+        )
+    )
     for name, (condition, domain, _, written) in cases.items():
-        assert re.findall(r"^  CHECK \((.*)\),?$", schemas[name], re.MULTILINE) == written.split("; "), condition or domain
+        assert re.findall(r"^  CHECK \((.*)\),?$", schemas[name], re.MULTILINE) == written.split(
+            "; "
+        ), (condition or domain)
         keeps_lawful(ratest, tmp_path / name, name, schemas[name], texts["rows.csv"], let_in[name])
 
 
 def test_conditions_left_out(ratest: Path, product: Product, tmp_path: Path) -> None:
     is_sqlite = isinstance(product, Sqlite)
     parts, told = [], []
-    for number, (condition, *reasons) in enumerate(LEFT + (LEFT_SQLITE if is_sqlite else LEFT_POSTGRES)):
+    for number, (condition, *reasons) in enumerate(
+        LEFT + (LEFT_SQLITE if is_sqlite else LEFT_POSTGRES)
+    ):
         why = reasons[0 if is_sqlite else -1]
         parts.append(f"CONSTRAINT n{number:02} CHECK ({condition})")
-        told.append(f": left out: CHECK n{number:02}, which {why}" if why else
-                    f": left out with its column: CHECK n{number:02}")
+        told.append(
+            f": left out: CHECK n{number:02}, which {why}"
+            if why
+            else f": left out with its column: CHECK n{number:02}"
+        )
     text, first, last = OWN_LEFT[type(product)]
     product.make(tmp_path / "left", text.replace("{checks}", ", ".join(parts)))
     made = export(product, tmp_path / "exercise")
@@ -306,14 +394,21 @@ def test_conditions_left_out(ratest: Path, product: Product, tmp_path: Path) -> 
 
 
 def test_collations(product: Product, tmp_path: Path) -> None:
-    if isinstance(product, Postgres) and "1" not in product.answer(
-            "SELECT 1 FROM pg_collation WHERE collprovider = 'i'").stdout:
+    if (
+        isinstance(product, Postgres)
+        and "1" not in product.answer("SELECT 1 FROM pg_collation WHERE collprovider = 'i'").stdout
+    ):
         pytest.skip("a PostgreSQL without ICU")
     text, told, written = COLLATIONS[type(product)]
     product.make(tmp_path / "collations", text)
     made = export(product, tmp_path / "exercise")
     assert made.stderr == "".join(f"classroom: t{note}\n" for note in told)
-    assert re.findall(r"^  CHECK \((.*)\),?$", content(tmp_path / "exercise")["schema.sql"], re.MULTILINE) == written
+    assert (
+        re.findall(
+            r"^  CHECK \((.*)\),?$", content(tmp_path / "exercise")["schema.sql"], re.MULTILINE
+        )
+        == written
+    )
 
 
 def test_padded_texts(product: Product, tmp_path: Path) -> None:
@@ -323,31 +418,47 @@ def test_padded_texts(product: Product, tmp_path: Path) -> None:
     assert content(tmp_path / "exercise")["t.csv"] == "c\n x\n"
 
 
-@pytest.mark.parametrize("rows, statement, told", [
-    ([None], "CREATE TABLE t (a INTEGER NOT NULL)", "t.a: NULL in a column that is NOT NULL"),
-    ([7, 7], "CREATE UNIQUE INDEX i ON t (a)", "t: two rows have the same key (a)")])
+@pytest.mark.parametrize(
+    "rows, statement, told",
+    [
+        ([None], "CREATE TABLE t (a INTEGER NOT NULL)", "t.a: NULL in a column that is NOT NULL"),
+        ([7, 7], "CREATE UNIQUE INDEX i ON t (a)", "t: two rows have the same key (a)"),
+    ],
+)
 def test_broken_rules(tmp_path: Path, rows: list[int | None], statement: str, told: str) -> None:
     """Rows that break a rule, which SQLite lets in only where its catalogue is written over."""
     path = tmp_path / "broken.db"
     database = sqlite3.connect(path)
-    database.executescript("CREATE TABLE t (a INTEGER); CREATE INDEX i ON t (a); PRAGMA writable_schema = ON")
+    database.executescript(
+        "CREATE TABLE t (a INTEGER); CREATE INDEX i ON t (a); PRAGMA writable_schema = ON"
+    )
     database.executemany("INSERT INTO t VALUES (?)", [[row] for row in rows])
-    database.execute("UPDATE sqlite_master SET sql = ? WHERE name = ?", [statement, "t" if "TABLE" in statement else "i"])
+    database.execute(
+        "UPDATE sqlite_master SET sql = ? WHERE name = ?",
+        [statement, "t" if "TABLE" in statement else "i"],
+    )
     database.commit()
     database.close()
     ran = classroom("import", path, tmp_path / "exercise")
     assert (ran.returncode, ran.stderr) == (1, f"classroom: {told}\n")
 
 
-@pytest.mark.parametrize("words", ["", "one", "--rows 0 a b", "--rows 2001 a b", "a b --rows", "--row 1 a b"])
+@pytest.mark.parametrize(
+    "words", ["", "one", "--rows 0 a b", "--rows 2001 a b", "a b --rows", "--row 1 a b"]
+)
 def test_usage(words: str) -> None:
     ran = classroom("import", *words.split())
     assert (ran.returncode, ran.stdout) == (2, "") and ran.stderr.startswith("usage: classroom ")
 
 
-@pytest.mark.parametrize("source, told", [
-    ("/nosuch.db", "there is no file /nosuch.db"), ("nosuch.sqlite3", "there is no file nosuch.sqlite3"),
-    (str(TOP / "README.md"), "file is not a database")])
+@pytest.mark.parametrize(
+    "source, told",
+    [
+        ("/nosuch.db", "there is no file /nosuch.db"),
+        ("nosuch.sqlite3", "there is no file nosuch.sqlite3"),
+        (str(TOP / "README.md"), "file is not a database"),
+    ],
+)
 def test_no_database(tmp_path: Path, source: str, told: str) -> None:
     ran = classroom("import", source, tmp_path / "x")
     assert (ran.returncode, ran.stderr) == (1, f"classroom: {told}\n")
@@ -365,13 +476,23 @@ def test_without_psycopg(tmp_path: Path) -> None:
     """A library that is missing stops only what needs it, with the line that installs it."""
     (tmp_path / "psycopg.py").write_text("raise ImportError")
     words = [TOP / "classroom", "import"]
-    ran = run("/usr/bin/python3", "-c", f"import sys; sys.path[:0] = [{str(tmp_path)!r}, {str(TOP / 'python')!r}]; "
-              f"from classroom.main import main; sys.exit(main({['import', 'host=/x', str(tmp_path / 'x')]!r}))")
+    ran = run(
+        "/usr/bin/python3",
+        "-c",
+        f"import sys; sys.path[:0] = [{str(tmp_path)!r}, {str(TOP / 'python')!r}]; "
+        f"from classroom.main import main; sys.exit(main({['import', 'host=/x', str(tmp_path / 'x')]!r}))",
+    )
     assert (ran.returncode, ran.stderr) == (
-        1, "classroom: the library psycopg is not there: apt-get install python3-psycopg\n"), words
+        1,
+        "classroom: the library psycopg is not there: apt-get install python3-psycopg\n",
+    ), words
     database = sqlite3.connect(tmp_path / "t.db")
     database.executescript("CREATE TABLE t (a INTEGER)")
     database.close()
-    ran = run("/usr/bin/python3", "-c", f"import sys; sys.path[:0] = [{str(tmp_path)!r}, {str(TOP / 'python')!r}]; "
-              f"from classroom.main import main; sys.exit(main({['import', str(tmp_path / 't.db'), str(tmp_path / 'y')]!r}))")
+    ran = run(
+        "/usr/bin/python3",
+        "-c",
+        f"import sys; sys.path[:0] = [{str(tmp_path)!r}, {str(TOP / 'python')!r}]; "
+        f"from classroom.main import main; sys.exit(main({['import', str(tmp_path / 't.db'), str(tmp_path / 'y')]!r}))",
+    )
     assert (ran.returncode, ran.stderr) == (0, "")

@@ -14,14 +14,32 @@ from classroom.exercise.part_masks import Parts, bits
 
 def circles() -> Parts:
     """Departments with heads, who are employees of departments and have bosses."""
-    def held(name: str, columns: str, rows: list[tuple[int | None, ...]], foreigns: list[Foreign]) -> Held:
-        return Held(Table(name, tuple(Column(one, "INTEGER") for one in columns.split())), list(rows), [], foreigns)
 
-    return Parts(Pool(b"", [
-        held("dept", "id head", [(1, 1), (2, None), (3, 3)], [Foreign((1,), 1, (0,))]),
-        held("emp", "id boss dept", [(1, 1, 1), (2, 1, 1), (3, 2, 2), (4, None, 2), (5, 3, 3)],
-             [Foreign((1,), 1, (0,)), Foreign((2,), 0, (0,))]),
-        held("badge", "emp no", [(1, 7), (5, 7), (None, 9)], [Foreign((0,), 1, (0,))])]))
+    def held(
+        name: str, columns: str, rows: list[tuple[int | None, ...]], foreigns: list[Foreign]
+    ) -> Held:
+        return Held(
+            Table(name, tuple(Column(one, "INTEGER") for one in columns.split())),
+            list(rows),
+            [],
+            foreigns,
+        )
+
+    return Parts(
+        Pool(
+            b"",
+            [
+                held("dept", "id head", [(1, 1), (2, None), (3, 3)], [Foreign((1,), 1, (0,))]),
+                held(
+                    "emp",
+                    "id boss dept",
+                    [(1, 1, 1), (2, 1, 1), (3, 2, 2), (4, None, 2), (5, 3, 3)],
+                    [Foreign((1,), 1, (0,)), Foreign((2,), 0, (0,))],
+                ),
+                held("badge", "emp no", [(1, 7), (5, 7), (None, 9)], [Foreign((0,), 1, (0,))]),
+            ],
+        )
+    )
 
 
 def test_lawful_parts_are_those_of_the_definition() -> None:
@@ -35,9 +53,19 @@ def test_lawful_parts_are_those_of_the_definition() -> None:
 
 def test_parts_over_some_tables_have_the_rest_only_where_it_is_needed() -> None:
     parts = circles()
-    wanted = {part for part in shop.all_lawful(parts)
-              if part == parts.mask([row for at in bits(part) if parts.table(at) == 1
-                                     for row in parts.pool.with_targets(parts.rows[at])])}
+    wanted = {
+        part
+        for part in shop.all_lawful(parts)
+        if part
+        == parts.mask(
+            [
+                row
+                for at in bits(part)
+                if parts.table(at) == 1
+                for row in parts.pool.with_targets(parts.rows[at])
+            ]
+        )
+    }
     assert set(parts.below({1}, len(parts.rows) + 1)) == wanted
 
 
@@ -46,7 +74,9 @@ def test_without_a_row_and_random_parts_are_lawful() -> None:
     chance = random.Random(1)
     whole = (1 << len(parts.rows)) - 1
     for at in range(len(parts.rows)):
-        assert parts.is_lawful(parts.without(whole, [at])) and not parts.without(whole, [at]) >> at & 1
+        assert (
+            parts.is_lawful(parts.without(whole, [at])) and not parts.without(whole, [at]) >> at & 1
+        )
     made = {parts.random_part(whole, 6, chance) for _ in range(300)}
     assert len(made) > 20 and all(parts.is_lawful(part) and part.bit_count() <= 6 for part in made)
 
@@ -73,7 +103,11 @@ def test_of_unions_the_smallest_are_told_where_not_all_are_wanted() -> None:
         wanted = chance.randrange(1, 40)
         found = list(joins.unions(masks, 11, 10_000, wanted))
         parts = [part for part in found if part is not None]
-        assert found == every if None not in found else found.index(None) == len(found) - 1 and len(parts) >= wanted
+        assert (
+            found == every
+            if None not in found
+            else found.index(None) == len(found) - 1 and len(parts) >= wanted
+        )
         assert len(parts) == len(set(parts)) and set(parts) <= set(every)
         sizes = [part.bit_count() for part in parts[:wanted]]
         assert sizes == [part.bit_count() for part in every[:wanted] if part is not None]

@@ -47,10 +47,22 @@ def test_every_key(tmp_path: Path) -> None:
     found = read(tmp_path, WHOLE)
     assert (found.title, found.time, found.work, found.conflicts) == ("Beers", 60, 16_000_000, 2000)
     assert (found.engine, found.engine_asker, found.tried, found.duplicates, found.order) == (
-        "sqlite", "", "right", "report", "report")
-    assert (found.students, found.hints, found.after_close) == ("class/students.csv", 2, "reference")
+        "sqlite",
+        "",
+        "right",
+        "report",
+        "report",
+    )
+    assert (found.students, found.hints, found.after_close) == (
+        "class/students.csv",
+        2,
+        "reference",
+    )
     assert found.hints_from == datetime(2026, 11, 20, 8, tzinfo=zone)
-    assert (found.opens, found.closes) == (datetime(2026, 11, 16, 8, tzinfo=zone), datetime(2026, 11, 30, 23, 59, tzinfo=zone))
+    assert (found.opens, found.closes) == (
+        datetime(2026, 11, 16, 8, tzinfo=zone),
+        datetime(2026, 11, 30, 23, 59, tzinfo=zone),
+    )
     assert found.of_task("3") == TaskSettings("Bars of one beer", 2, "question.txt")
     assert found.of_task("1") == TaskSettings("", 1, "question.txt")
 
@@ -59,32 +71,45 @@ def test_without_the_file(tmp_path: Path) -> None:
     assert settings.read(tmp_path, []) == settings.Settings()
 
 
-@pytest.mark.parametrize("text, told", [
-    ("titel = 'x'", "titel: there is no such key"),
-    ("title = 3", "title: a text is wanted"),
-    ("time = '60'", "time: a number of seconds from 0.001 to 1e+06 is wanted"),
-    ("time = true", "time: a number of seconds from 0.001 to 1e+06 is wanted"),
-    ("time = nan", "time: a number of seconds from 0.001 to 1e+06 is wanted"),
-    ("work = 1.5", "work: a whole number from 1 to 999999999999999999 is wanted"),
-    ("conflicts = 0", "conflicts: a whole number from 1 to 999999999999999999 is wanted"),
-    ("hints = 4", "hints: a whole number from 0 to 3 is wanted"),
-    ("tried = 'wrong'", 'tried: "right" or "by hand" is wanted'),
-    ("order = 'no'", 'order: "ignore" or "report" or "wrong" is wanted'),
-    ("duplicates = 1", 'duplicates: "ignore" or "report" or "wrong" is wanted'),
-    ("after_close = ''", 'after_close: "reference" or "nothing" is wanted'),
-    ("opens = 2026-11-16T08:00:00", "opens: a moment with its zone is wanted, as 2026-11-20T08:00:00+01:00"),
-    ("closes = 2026-11-16", "closes: a moment with its zone is wanted, as 2026-11-20T08:00:00+01:00"),
-    ("opens = 2026-11-16T08:00:00Z\ncloses = 2026-11-16T08:00:00+01:00", "closes: it closes before it opens"),
-    ("students = '../class.csv'", "students: a path below the folder is wanted"),
-    ("students = '/etc/passwd'", "students: a path below the folder is wanted"),
-    ("task = 3", "task: a table is wanted"),
-    ("[task]\n3 = 'x'", "task.3: a table is wanted"),
-    ("[task.9]\npoints = 2", "task.9: there is no task 9"),
-    ("[task.3]\npoint = 2", "task.3.point: there is no such key"),
-    ("[task.3]\npoints = '2'", "task.3.points: a number from 0 to 1e+06 is wanted"),
-    ("[task.3]\npoints = -1", "task.3.points: a number from 0 to 1e+06 is wanted"),
-    ("[task.3]\nquestion = '../../x'", "task.3.question: a path below the folder is wanted"),
-    ("title = ", "Invalid value (at end of document)")])
+@pytest.mark.parametrize(
+    "text, told",
+    [
+        ("titel = 'x'", "titel: there is no such key"),
+        ("title = 3", "title: a text is wanted"),
+        ("time = '60'", "time: a number of seconds from 0.001 to 1e+06 is wanted"),
+        ("time = true", "time: a number of seconds from 0.001 to 1e+06 is wanted"),
+        ("time = nan", "time: a number of seconds from 0.001 to 1e+06 is wanted"),
+        ("work = 1.5", "work: a whole number from 1 to 999999999999999999 is wanted"),
+        ("conflicts = 0", "conflicts: a whole number from 1 to 999999999999999999 is wanted"),
+        ("hints = 4", "hints: a whole number from 0 to 3 is wanted"),
+        ("tried = 'wrong'", 'tried: "right" or "by hand" is wanted'),
+        ("order = 'no'", 'order: "ignore" or "report" or "wrong" is wanted'),
+        ("duplicates = 1", 'duplicates: "ignore" or "report" or "wrong" is wanted'),
+        ("after_close = ''", 'after_close: "reference" or "nothing" is wanted'),
+        (
+            "opens = 2026-11-16T08:00:00",
+            "opens: a moment with its zone is wanted, as 2026-11-20T08:00:00+01:00",
+        ),
+        (
+            "closes = 2026-11-16",
+            "closes: a moment with its zone is wanted, as 2026-11-20T08:00:00+01:00",
+        ),
+        (
+            "opens = 2026-11-16T08:00:00Z\ncloses = 2026-11-16T08:00:00+01:00",
+            "closes: it closes before it opens",
+        ),
+        ("students = '../class.csv'", "students: a path below the folder is wanted"),
+        ("students = '/etc/passwd'", "students: a path below the folder is wanted"),
+        ("task = 3", "task: a table is wanted"),
+        ("[task]\n3 = 'x'", "task.3: a table is wanted"),
+        ("[task.9]\npoints = 2", "task.9: there is no task 9"),
+        ("[task.3]\npoint = 2", "task.3.point: there is no such key"),
+        ("[task.3]\npoints = '2'", "task.3.points: a number from 0 to 1e+06 is wanted"),
+        ("[task.3]\npoints = -1", "task.3.points: a number from 0 to 1e+06 is wanted"),
+        ("[task.3]\nquestion = '../../x'", "task.3.question: a path below the folder is wanted"),
+        ("title = ", "Invalid value (at end of document)"),
+    ],
+)
 def test_what_is_wrong(tmp_path: Path, text: str, told: str) -> None:
     """Rule 10: one line with the name of the key."""
     with pytest.raises(Fault) as fault:
@@ -96,7 +121,10 @@ def test_a_key_stops_a_grading(ratest: Path, beers: Path) -> None:
     """Rule 10."""
     (beers / "exercise.toml").write_text("[task.6]\npoints = 2\n")
     ran = classroom("grade", beers)
-    assert (ran.returncode, ran.stderr) == (1, f"classroom: {beers}/exercise.toml: task.6: there is no task 6\n")
+    assert (ran.returncode, ran.stderr) == (
+        1,
+        f"classroom: {beers}/exercise.toml: task.6: there is no task 6\n",
+    )
 
 
 def test_effects(ratest: Path, beers: Path) -> None:

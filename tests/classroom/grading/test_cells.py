@@ -27,37 +27,88 @@ def cells(content: bytes) -> list[list[str]]:
 
 
 def test_mutants() -> None:
-    found = cells(told.csv_of([told.Judged(Question("=1", b"", b"-- a comment\nSELECT 1", "= for <", "1"), Verdict(TOLD, 1, "+x"))]))
-    assert found[1] == ["'=1", "1", "'= for <", "told", "1", "'+x", "'-- a comment\nSELECT 1", "proved"]
+    found = cells(
+        told.csv_of(
+            [
+                told.Judged(
+                    Question("=1", b"", b"-- a comment\nSELECT 1", "= for <", "1"),
+                    Verdict(TOLD, 1, "+x"),
+                )
+            ]
+        )
+    )
+    assert found[1] == [
+        "'=1",
+        "1",
+        "'= for <",
+        "told",
+        "1",
+        "'+x",
+        "'-- a comment\nSELECT 1",
+        "proved",
+    ]
 
 
 def test_what_a_database_tried_of_mutants_is_not_called_proved() -> None:
     kinds = {TOLD: "sqlite 3", NOT_FOUND: "sqlite 3", OPEN: "", REFUSED: ""}
     outcomes: tuple[Outcome, ...] = (
-        Differs(ROWS, (), Side(1, ()), Side(1, ()), (), ALL, 1), NoDifference(1, 0, 0, False), Passed(False, "time"), Barred(False, "x"))
-    made = [told.Judged(Question("1", b"", b"SELECT 1", "4 for 3", "1", True), trying.told_of(Tried("sqlite 3", of))) for of in outcomes]
+        Differs(ROWS, (), Side(1, ()), Side(1, ()), (), ALL, 1),
+        NoDifference(1, 0, 0, False),
+        Passed(False, "time"),
+        Barred(False, "x"),
+    )
+    made = [
+        told.Judged(
+            Question("1", b"", b"SELECT 1", "4 for 3", "1", True),
+            trying.told_of(Tried("sqlite 3", of)),
+        )
+        for of in outcomes
+    ]
     assert {one.verdict.kind: one.verdict.decided_by for one in made} == kinds
-    assert next(told.lines(["1"], made)) == "task 1: 1 of 3 mutants told (tried), by sqlite 3 and not proved"
+    assert (
+        next(told.lines(["1"], made))
+        == "task 1: 1 of 3 mutants told (tried), by sqlite 3 and not proved"
+    )
 
 
 def test_mistakes() -> None:
-    found = cells(table.csv_of([table.Line("=1", "-x", "@p", "+k", "proved", ("=a b", "c d"), "=r")]))
+    found = cells(
+        table.csv_of([table.Line("=1", "-x", "@p", "+k", "proved", ("=a b", "c d"), "=r")])
+    )
     assert not [cell for cell in found[1] if cell.startswith(FORMULA)]
-    assert found[1][6] == "'=a b; c d"    # names may have blanks
+    assert found[1][6] == "'=a b; c d"  # names may have blanks
 
 
 def test_nothing_is_proved_where_no_change_was_found() -> None:
     change = Change("< for <=", "comparison", "the WHERE", "SELECT 1", "<", 7, 8)
     answers = {"ann": Mistake(), "ben": Mistake(repairs=(change,))}
-    graded = [Graded(Task("1", Path("1")), Answer(name), Grade.DIFFERS, witness.NoVerdict(""), key=name) for name in answers]
-    assert {one.names[0]: one.decided_by for one in table.lines(graded, answers)} == {"ann": "", "ben": "proved"}
+    graded = [
+        Graded(Task("1", Path("1")), Answer(name), Grade.DIFFERS, witness.NoVerdict(""), key=name)
+        for name in answers
+    ]
+    assert {one.names[0]: one.decided_by for one in table.lines(graded, answers)} == {
+        "ann": "",
+        "ben": "proved",
+    }
 
 
 def test_one_mistake_that_is_proved_and_tried_is_two_lines() -> None:
     change = Change("< for <=", "comparison", "the WHERE", "SELECT 1", "<", 7, 8)
-    answers = {"ann": Mistake(repairs=(change,)), "ben": Mistake(repairs=(change,), decided_by="sqlite 3"), "zoe": Mistake(repairs=(change,))}
-    graded = [Graded(Task("1", Path("1")), Answer(name), Grade.DIFFERS, witness.NoVerdict(""), key=name) for name in answers]
-    assert [(one.names, one.decided_by) for one in table.lines(graded, answers)] == [(("ann", "zoe"), "proved"), (("ben",), "sqlite 3")]
+    answers = {
+        "ann": Mistake(repairs=(change,)),
+        "ben": Mistake(repairs=(change,), decided_by="sqlite 3"),
+        "zoe": Mistake(repairs=(change,)),
+    }
+    graded = [
+        Graded(Task("1", Path("1")), Answer(name), Grade.DIFFERS, witness.NoVerdict(""), key=name)
+        for name in answers
+    ]
+    assert [(one.names, one.decided_by) for one in table.lines(graded, answers)] == [
+        (("ann", "zoe"), "proved"),
+        (("ben",), "sqlite 3"),
+    ]
     tried = Tried("sqlite 3", Differs(ROWS, (), Side(1, ()), Side(1, ()), (), ALL, 1))
     graded[1] = replace(graded[1], trial=tried)
-    assert [[of.answer.name for of in members] for members in classpage.grouped(graded, answers)] == [["ann", "zoe"], ["ben"]]
+    assert [
+        [of.answer.name for of in members] for members in classpage.grouped(graded, answers)
+    ] == [["ann", "zoe"], ["ben"]]

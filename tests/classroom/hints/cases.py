@@ -18,9 +18,9 @@ class Wrong:
     schema: str
     reference: str
     answer: str
-    begin: int                # of the place
+    begin: int  # of the place
     end: int
-    kinds: tuple[str, ...]    # empty of a planted mistake
+    kinds: tuple[str, ...]  # empty of a planted mistake
 
     @property
     def marked(self) -> str:
@@ -38,8 +38,16 @@ def wrong() -> list[Wrong]:
             else:
                 begin = text.index("«")
                 end = text.index("»") - 1
-                found.append(Wrong(schema, reference, text.replace("«", "").replace("»", ""), begin, end,
-                                   tuple(head.split(" | "))))
+                found.append(
+                    Wrong(
+                        schema,
+                        reference,
+                        text.replace("«", "").replace("»", ""),
+                        begin,
+                        end,
+                        tuple(head.split(" | ")),
+                    )
+                )
     return found
 
 
@@ -59,10 +67,28 @@ def planted() -> list[Wrong]:
                 right = right if mistake else line.removesuffix("=>").removesuffix(" ")
                 assert rewritten.count(right) >= 1, (right, rewritten)
                 begin = rewritten.index(right)
-                found.append(Wrong(schema, reference, rewritten.replace(right, mistake, 1), begin, begin + len(mistake), ()))
+                found.append(
+                    Wrong(
+                        schema,
+                        reference,
+                        rewritten.replace(right, mistake, 1),
+                        begin,
+                        begin + len(mistake),
+                        (),
+                    )
+                )
     return found
 
 
 def texts(name: str) -> list[tuple[str, list[str]]]:
-    return [(schema, [line for line in (HERE / schema / name).read_text(encoding="utf-8").splitlines()
-                      if line and not line.startswith("#")]) for schema in SCHEMAS]
+    return [
+        (
+            schema,
+            [
+                line
+                for line in (HERE / schema / name).read_text(encoding="utf-8").splitlines()
+                if line and not line.startswith("#")
+            ],
+        )
+        for schema in SCHEMAS
+    ]

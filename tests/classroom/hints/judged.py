@@ -36,7 +36,11 @@ class Judged:
         if mark.begin <= shown.begin and shown.end <= mark.end:
             return True
         clauses = Clauses(self.repairs.query)
-        return shown.begin <= mark.begin and mark.end <= shown.end and clauses.of(shown) == clauses.of(mark)
+        return (
+            shown.begin <= mark.begin
+            and mark.end <= shown.end
+            and clauses.of(shown) == clauses.of(mark)
+        )
 
     @property
     def kind_is_right(self) -> bool:
@@ -45,14 +49,20 @@ class Judged:
     @property
     def told(self) -> str:
         best = self.best
-        shown = f"{self.repairs.query.text[slice(*best.place)]!r} ({best.kind.value}: {best.mistake})" if best else "nothing"
+        shown = (
+            f"{self.repairs.query.text[slice(*best.place)]!r} ({best.kind.value}: {best.mistake})"
+            if best
+            else "nothing"
+        )
         named = self.classes.best.mistake if self.classes.best else "nothing"
         return f"{self.wrong.marked} [{' | '.join(self.wrong.kinds)}]: {shown}, class {named}"
 
 
 @cache
 def ground(schema: str) -> Ground:
-    return Ground(sources.of_exercise(HERE / schema), None, Path(mkdtemp(prefix=f"repair-{schema}-")))
+    return Ground(
+        sources.of_exercise(HERE / schema), None, Path(mkdtemp(prefix=f"repair-{schema}-"))
+    )
 
 
 @lru_cache(4)
@@ -71,5 +81,8 @@ def larger(schema: str, reference: str) -> list[Base]:
     """Other rows than those that any guard has, and more of them."""
     of = search(schema, reference)
     plain = of.words.plain
-    pools = [made.pool_of(ground(schema).rows, plain.numbers, plain.texts, f"larger {number}", 250) for number in range(3)]
+    pools = [
+        made.pool_of(ground(schema).rows, plain.numbers, plain.texts, f"larger {number}", 250)
+        for number in range(3)
+    ]
     return [Base(pool, 20, "larger") for pool in pools if pool]

@@ -22,17 +22,62 @@ from classroom.exercise.typed_rows import of_schema  # noqa: E402
 
 # The kind of difference, a reference, an answer, the mistake and the marked place.
 CASES = [
-    (DUPLICATES, "SELECT DISTINCT bar FROM serves", "SELECT bar FROM serves", "DISTINCT added", "SELECT "),
-    (DUPLICATES, "SELECT bar FROM serves WHERE price < 5", "SELECT DISTINCT bar FROM serves WHERE price < 5", "DISTINCT dropped", "SELECT DISTINCT "),
-    (DUPLICATES, "SELECT bar FROM serves UNION SELECT bar FROM frequents", "SELECT bar FROM serves UNION ALL SELECT bar FROM frequents",
-     "UNION for UNION ALL", "UNION ALL"),
-    (DUPLICATES, "SELECT bar FROM serves UNION ALL SELECT bar FROM frequents", "SELECT bar FROM serves UNION SELECT bar FROM frequents",
-     "UNION ALL for UNION", "UNION"),
-    (ORDER, "SELECT bar, beer FROM serves ORDER BY bar, beer", "SELECT bar, beer FROM serves ORDER BY bar, beer DESC", "ASC for DESC of beer",
-     "ORDER BY bar, beer DESC"),
-    (ORDER, "SELECT name FROM drinker ORDER BY name DESC", "SELECT name FROM drinker ORDER BY name", "DESC for ASC of name", "ORDER BY name"),
-    (ORDER, "SELECT name FROM drinker ORDER BY name", "SELECT name FROM drinker", "ORDER BY added", "drinker"),
-    (ORDER, "SELECT bar, beer FROM serves ORDER BY beer, bar", "SELECT bar, beer FROM serves ORDER BY bar, beer", "ORDER BY of other columns", "ORDER BY bar, beer"),
+    (
+        DUPLICATES,
+        "SELECT DISTINCT bar FROM serves",
+        "SELECT bar FROM serves",
+        "DISTINCT added",
+        "SELECT ",
+    ),
+    (
+        DUPLICATES,
+        "SELECT bar FROM serves WHERE price < 5",
+        "SELECT DISTINCT bar FROM serves WHERE price < 5",
+        "DISTINCT dropped",
+        "SELECT DISTINCT ",
+    ),
+    (
+        DUPLICATES,
+        "SELECT bar FROM serves UNION SELECT bar FROM frequents",
+        "SELECT bar FROM serves UNION ALL SELECT bar FROM frequents",
+        "UNION for UNION ALL",
+        "UNION ALL",
+    ),
+    (
+        DUPLICATES,
+        "SELECT bar FROM serves UNION ALL SELECT bar FROM frequents",
+        "SELECT bar FROM serves UNION SELECT bar FROM frequents",
+        "UNION ALL for UNION",
+        "UNION",
+    ),
+    (
+        ORDER,
+        "SELECT bar, beer FROM serves ORDER BY bar, beer",
+        "SELECT bar, beer FROM serves ORDER BY bar, beer DESC",
+        "ASC for DESC of beer",
+        "ORDER BY bar, beer DESC",
+    ),
+    (
+        ORDER,
+        "SELECT name FROM drinker ORDER BY name DESC",
+        "SELECT name FROM drinker ORDER BY name",
+        "DESC for ASC of name",
+        "ORDER BY name",
+    ),
+    (
+        ORDER,
+        "SELECT name FROM drinker ORDER BY name",
+        "SELECT name FROM drinker",
+        "ORDER BY added",
+        "drinker",
+    ),
+    (
+        ORDER,
+        "SELECT bar, beer FROM serves ORDER BY beer, bar",
+        "SELECT bar, beer FROM serves ORDER BY bar, beer",
+        "ORDER BY of other columns",
+        "ORDER BY bar, beer",
+    ),
 ]
 
 
@@ -41,11 +86,24 @@ def told(of: Ground, reference: str, answer: str) -> tuple[str, str, str, list[s
     found = Search(of, reference, is_tried=True).repairs(answer)
     assert found.best, (reference, answer)
     record = recording.of_found(found, None)
-    return found.best.mistake, answer[slice(*found.best.place)], record.decided_by, [step.text for step in record.steps]
+    return (
+        found.best.mistake,
+        answer[slice(*found.best.place)],
+        record.decided_by,
+        [step.text for step in record.steps],
+    )
 
 
 @pytest.mark.parametrize("kind, reference, answer, mistake, place", CASES)
-def test_over_sqlite(kind: str, reference: str, answer: str, mistake: str, place: str, tmp_path: Path, ratest_plus: Path) -> None:
+def test_over_sqlite(
+    kind: str,
+    reference: str,
+    answer: str,
+    mistake: str,
+    place: str,
+    tmp_path: Path,
+    ratest_plus: Path,
+) -> None:
     of = Ground(judged.ground("beers").rows, None, tmp_path, kind=kind)
     found = told(of, reference, answer)
     assert found[:2] == (mistake, place)
@@ -62,28 +120,51 @@ def tables(roles: Roles) -> Iterator[Tables]:  # noqa: F811
 
 
 def over(tables: Tables, kind: str, folder: Path) -> Ground:
-    return Ground(sources.of_exercise(HERE / "beers"), None, folder, kind=kind, holds=tables.holding, engine=tables.label)
+    return Ground(
+        sources.of_exercise(HERE / "beers"),
+        None,
+        folder,
+        kind=kind,
+        holds=tables.holding,
+        engine=tables.label,
+    )
 
 
 @pytest.mark.parametrize("kind, reference, answer, mistake, place", CASES)
-def test_over_postgresql(kind: str, reference: str, answer: str, mistake: str, place: str, tmp_path: Path, tables: Tables) -> None:
+def test_over_postgresql(
+    kind: str, reference: str, answer: str, mistake: str, place: str, tmp_path: Path, tables: Tables
+) -> None:
     found = told(over(tables, kind, tmp_path), reference, answer)
     assert found[:2] == (mistake, place) and found[2].startswith("postgresql ")
 
 
-
-
-@pytest.mark.parametrize("reference, answer, mistake", [
-    ("SELECT bar, COUNT(*) FROM serves WHERE price::text > '2' GROUP BY bar HAVING COUNT(*) > 1",
-     "SELECT bar, COUNT(*) FROM serves WHERE price::text > '2' GROUP BY bar HAVING COUNT(*) >= 1", "> for >="),
-    ("SELECT d.name, COUNT(f.bar) FROM drinker d LEFT JOIN frequents f ON f.drinker = d.name GROUP BY d.name",
-     "SELECT d.name, COUNT(*) FROM drinker d LEFT JOIN frequents f ON f.drinker = d.name GROUP BY d.name", "COUNT(f.bar) for COUNT(*)")])
-def test_what_postgresql_alone_reads(reference: str, answer: str, mistake: str, tmp_path: Path, tables: Tables) -> None:
+@pytest.mark.parametrize(
+    "reference, answer, mistake",
+    [
+        (
+            "SELECT bar, COUNT(*) FROM serves WHERE price::text > '2' GROUP BY bar HAVING COUNT(*) > 1",
+            "SELECT bar, COUNT(*) FROM serves WHERE price::text > '2' GROUP BY bar HAVING COUNT(*) >= 1",
+            "> for >=",
+        ),
+        (
+            "SELECT d.name, COUNT(f.bar) FROM drinker d LEFT JOIN frequents f ON f.drinker = d.name GROUP BY d.name",
+            "SELECT d.name, COUNT(*) FROM drinker d LEFT JOIN frequents f ON f.drinker = d.name GROUP BY d.name",
+            "COUNT(f.bar) for COUNT(*)",
+        ),
+    ],
+)
+def test_what_postgresql_alone_reads(
+    reference: str, answer: str, mistake: str, tmp_path: Path, tables: Tables
+) -> None:
     of = over(tables, ROWS, tmp_path)
     search = Search(of, reference, is_tried=True)
     found = search.repairs(answer)
-    assert mistake in {edit.mistake for edit in found.edits[:3]}, [edit.mistake for edit in found.edits]
-    assert found.tried == len(of.wide.parts) > 100 and found.is_guarded and search.classes(answer).best
+    assert mistake in {edit.mistake for edit in found.edits[:3]}, [
+        edit.mistake for edit in found.edits
+    ]
+    assert (
+        found.tried == len(of.wide.parts) > 100 and found.is_guarded and search.classes(answer).best
+    )
 
 
 def test_rows_that_postgresql_does_not_take_stand_in_no_part(tables: Tables) -> None:

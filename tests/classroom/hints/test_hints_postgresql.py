@@ -19,21 +19,37 @@ pytest.importorskip("waitress")
 pytest.importorskip("limits")
 
 # SQLite reads neither `::` nor ILIKE; the name of the references is one that no answer needs.
-ANSWER = "SELECT bar, COUNT(*) FROM serves WHERE price::text ILIKE '%' GROUP BY bar HAVING COUNT(*) >= 1"
+ANSWER = (
+    "SELECT bar, COUNT(*) FROM serves WHERE price::text ILIKE '%' GROUP BY bar HAVING COUNT(*) >= 1"
+)
 TWICE = "SELECT bar FROM serves WHERE beer ILIKE '%'"
-REFERENCES = {"6": ANSWER.replace(">= 1", "> 1").replace("serves", "serves secret_4711"),
-              "7": TWICE.replace("SELECT bar FROM serves", "SELECT DISTINCT secret_4711.bar FROM serves secret_4711")}
+REFERENCES = {
+    "6": ANSWER.replace(">= 1", "> 1").replace("serves", "serves secret_4711"),
+    "7": TWICE.replace(
+        "SELECT bar FROM serves", "SELECT DISTINCT secret_4711.bar FROM serves secret_4711"
+    ),
+}
 
 
 @pytest.fixture
 def exercise(ratest: Path, ratest_plus: Path, roles: Roles, tmp_path: Path) -> Path:
-    os.environ["RATEST"], os.environ["RATEST_PLUS"] = str(ratest.absolute()), str(ratest_plus.absolute())
-    folder = Path(shutil.copytree(TOP / "examples/beers", tmp_path / "beers", ignore=shutil.ignore_patterns("results", "[1-5]", "page.html")))
+    os.environ["RATEST"], os.environ["RATEST_PLUS"] = str(ratest.absolute()), str(
+        ratest_plus.absolute()
+    )
+    folder = Path(
+        shutil.copytree(
+            TOP / "examples/beers",
+            tmp_path / "beers",
+            ignore=shutil.ignore_patterns("results", "[1-5]", "page.html"),
+        )
+    )
     for task, answer in (("6", ANSWER), ("7", TWICE)):
         (folder / task / "answers").mkdir(parents=True)
         (folder / task / "reference.sql").write_text(REFERENCES[task])
         (folder / task / "answers/ann.sql").write_text(answer)
-    (folder / "exercise.toml").write_text(f'hints = 3\nengine = "{roles.loader}"\nengine_asker = "{roles.asker}"\n')
+    (folder / "exercise.toml").write_text(
+        f'hints = 3\nengine = "{roles.loader}"\nengine_asker = "{roles.asker}"\n'
+    )
     return folder
 
 
@@ -54,10 +70,19 @@ def test_the_mistakes_of_a_class(exercise: Path) -> None:
     classroom("grade", exercise)
     ran = classroom("mistakes", exercise)
     assert ran.returncode == 0, ran.stderr
-    lines = {line["task"]: line for line in csv.DictReader(io.StringIO((exercise / "results/mistakes.csv").read_text(), newline=""))}
-    assert {task: (line["mistake"], line["kind"], line["decided_by"].split()[0]) for task, line in lines.items()} == {
+    lines = {
+        line["task"]: line
+        for line in csv.DictReader(
+            io.StringIO((exercise / "results/mistakes.csv").read_text(), newline="")
+        )
+    }
+    assert {
+        task: (line["mistake"], line["kind"], line["decided_by"].split()[0])
+        for task, line in lines.items()
+    } == {
         "6": ("as the reference with >= for > in the HAVING", "comparison", "postgresql"),
-        "7": ("as the reference with DISTINCT dropped in the query", "DISTINCT", "postgresql")}
+        "7": ("as the reference with DISTINCT dropped in the query", "DISTINCT", "postgresql"),
+    }
     assert classroom("feedback", exercise).returncode == 0
     page = html.unescape((exercise / "results/feedback/ann.html").read_text())
     assert "as far as was tried" in page and "on every part of these rows" not in page
@@ -81,4 +106,8 @@ def test_without_connections_that_is_told(exercise: Path) -> None:
     said = (exercise / "exercise.toml").read_text().splitlines()[0]
     (exercise / "exercise.toml").write_text(f"{said}\n")
     ran = classroom("mistakes", exercise)
-    assert ran.returncode == 1 and "mistakes are not looked for where PostgreSQL decides" in ran.stderr and "Traceback" not in ran.stderr
+    assert (
+        ran.returncode == 1
+        and "mistakes are not looked for where PostgreSQL decides" in ran.stderr
+        and "Traceback" not in ran.stderr
+    )

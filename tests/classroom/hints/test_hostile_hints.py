@@ -10,14 +10,26 @@ from classroom.exercise import sources
 from classroom.engines.sample import Base
 
 HOSTILE = (
-    "SELECT zeroblob(1000000000)", "SELECT printf('%.*c', 1000000000, 'x')", "SELECT format('%.*c', 1000000000, 'x')",
-    "ATTACH '/tmp/x.db' AS other", "PRAGMA temp_store_directory = '/tmp'", "VACUUM INTO '/tmp/x.db'",
-    "INSERT INTO t VALUES (9, 'z')", "DELETE FROM t", "DROP TABLE t", "CREATE TABLE z (a)", "SELECT * FROM sqlite_master",
-    "SELECT load_extension('x')", "SELECT randomblob(1000000000)", "EXPLAIN SELECT 1; SELECT 2",
-    "SELECT 1 FROM t; DROP TABLE t", "SELECT '" + "x" * 100_000 + "'",
+    "SELECT zeroblob(1000000000)",
+    "SELECT printf('%.*c', 1000000000, 'x')",
+    "SELECT format('%.*c', 1000000000, 'x')",
+    "ATTACH '/tmp/x.db' AS other",
+    "PRAGMA temp_store_directory = '/tmp'",
+    "VACUUM INTO '/tmp/x.db'",
+    "INSERT INTO t VALUES (9, 'z')",
+    "DELETE FROM t",
+    "DROP TABLE t",
+    "CREATE TABLE z (a)",
+    "SELECT * FROM sqlite_master",
+    "SELECT load_extension('x')",
+    "SELECT randomblob(1000000000)",
+    "EXPLAIN SELECT 1; SELECT 2",
+    "SELECT 1 FROM t; DROP TABLE t",
+    "SELECT '" + "x" * 100_000 + "'",
     "WITH RECURSIVE c(x) AS (SELECT 1 UNION ALL SELECT x + 1 FROM c) SELECT x FROM c",
     "WITH RECURSIVE c(x) AS (SELECT 'xxxxxxxx' UNION ALL SELECT x || x FROM c) SELECT max(length(x)) FROM c",
-    "SELECT count(*) FROM " + ", ".join(f"t AS t{number}" for number in range(30)))
+    "SELECT count(*) FROM " + ", ".join(f"t AS t{number}" for number in range(30)),
+)
 
 
 @pytest.fixture(scope="module")

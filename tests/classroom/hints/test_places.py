@@ -8,7 +8,9 @@ from compare.draw import Draw, Limits
 from compare.query import Writer
 
 sqlglot = pytest.importorskip("sqlglot", reason="no sqlglot: apt-get install python3-sqlglot")
-hypothesis = pytest.importorskip("hypothesis", reason="no hypothesis: apt-get install python3-hypothesis")
+hypothesis = pytest.importorskip(
+    "hypothesis", reason="no hypothesis: apt-get install python3-hypothesis"
+)
 
 from hypothesis import strategies  # noqa: E402
 from sqlglot import exp  # noqa: E402
@@ -18,11 +20,29 @@ from classroom.sql import tokens
 from classroom.sql.tree import SETS, Node, bare, nodes, parsed, regrouped, written  # noqa: E402
 
 # Nodes that stand for themselves nowhere, and what makes a query of their text.
-AROUND = {exp.Where: "SELECT * FROM t {}", exp.From: "SELECT * {}", exp.Join: "SELECT * FROM t {}",
-          exp.Table: "SELECT * FROM {}", exp.Alias: "SELECT {}", exp.Group: "SELECT * FROM t {}",
-          exp.Having: "SELECT * FROM t GROUP BY a {}", exp.Order: "SELECT * FROM t {}", exp.Limit: "SELECT * FROM t {}",
-          exp.Offset: "SELECT * FROM t LIMIT 1 {}"}
-PARTS = (exp.TableAlias, exp.Distinct, exp.Ordered, exp.If, exp.DataType, exp.With, exp.CTE, exp.Identifier, exp.Star)
+AROUND = {
+    exp.Where: "SELECT * FROM t {}",
+    exp.From: "SELECT * {}",
+    exp.Join: "SELECT * FROM t {}",
+    exp.Table: "SELECT * FROM {}",
+    exp.Alias: "SELECT {}",
+    exp.Group: "SELECT * FROM t {}",
+    exp.Having: "SELECT * FROM t GROUP BY a {}",
+    exp.Order: "SELECT * FROM t {}",
+    exp.Limit: "SELECT * FROM t {}",
+    exp.Offset: "SELECT * FROM t LIMIT 1 {}",
+}
+PARTS = (
+    exp.TableAlias,
+    exp.Distinct,
+    exp.Ordered,
+    exp.If,
+    exp.DataType,
+    exp.With,
+    exp.CTE,
+    exp.Identifier,
+    exp.Star,
+)
 # Texts as students write them, also such that `ratest` doesn't read.
 TEXTS = (
     "select a,b from t where a not in(select b from u where m='it''s') and b is not null -- and so on",
@@ -50,18 +70,20 @@ def check(text: str) -> int:
     for node in nodes(tree):
         span = places.of.get(id(node))
         if span is None:
-            assert not any(spans.is_leaf(part) for part in nodes(node)), f"{written(node)} of {text}"
+            assert not any(
+                spans.is_leaf(part) for part in nodes(node)
+            ), f"{written(node)} of {text}"
             continue
         if isinstance(node, PARTS) or id(node) in places.inner_not:
             continue
         count += 1
-        own = text[span.begin:span.end]
+        own = text[span.begin : span.end]
         assert meaning(read(node, own)) == meaning(node), f"{own!r} for {written(node)} of {text}"
     for node in nodes(tree):
         inner = places.inner_not.get(id(node))
         if inner:
             span = places.of[id(node)]
-            own = text[span.begin:inner.begin] + text[inner.end:span.end]
+            own = text[span.begin : inner.begin] + text[inner.end : span.end]
             assert meaning(read(node, own)) == meaning(node)
             assert isinstance(node.parent, exp.Not) and places.of[id(node.parent)] == span
             count += 1
@@ -80,7 +102,11 @@ def read(node: Node, own: str) -> Node:
 def meaning(node: Node) -> str:
     """A node as text, parentheses around it aside."""
     node = bare(node)
-    while isinstance(node, exp.Subquery) and not node.args.get("alias") and isinstance(node.this, (exp.Select, *SETS)):
+    while (
+        isinstance(node, exp.Subquery)
+        and not node.args.get("alias")
+        and isinstance(node.this, (exp.Select, *SETS))
+    ):
         node = node.this
     return written(node)
 
@@ -101,20 +127,36 @@ def test_each_span_of_a_random_query_reads_back(seed: int) -> None:
 def spaced(text: str, seed: int) -> str:
     """A text with other white space and comments between its tokens."""
     chance = Random(seed)
-    gaps = (" ", " ", "\n", " /* ' */ ", " -- \"\n")
+    gaps = (" ", " ", "\n", " /* ' */ ", ' -- "\n')
     return "".join(f"{chance.choice(gaps)}{token.text}" for token in tokens.tokens(text))
 
 
 def test_a_text_that_is_not_the_tree_s_has_no_places() -> None:
-    assert spans.spans_of("SELECT a FROM t WHERE b = 1", parsed("SELECT a FROM t WHERE c = 1")) is None
-    assert spans.spans_of("SELECT a FROM t WHERE b = 1 AND c = 2", parsed("SELECT a FROM t WHERE b = 1")) is None
+    assert (
+        spans.spans_of("SELECT a FROM t WHERE b = 1", parsed("SELECT a FROM t WHERE c = 1")) is None
+    )
+    assert (
+        spans.spans_of(
+            "SELECT a FROM t WHERE b = 1 AND c = 2", parsed("SELECT a FROM t WHERE b = 1")
+        )
+        is None
+    )
     assert spans.spans_of("SELECT a FROM t", parsed("SELECT a FROM t WHERE b = 1")) is None
 
 
 def test_tokens_know_their_places() -> None:
     text = "a<>'it''s' -- x\n >=\"q\"\"\" 12.5 /* 'y */ !=_b"
     found = tokens.tokens(text)
-    assert [token.text for token in found] == ["a", "<>", "'it''s'", ">=", '"q"""', "12.5", "!=", "_b"]
-    assert all(text[token.begin:token.end] == token.text for token in found)
+    assert [token.text for token in found] == [
+        "a",
+        "<>",
+        "'it''s'",
+        ">=",
+        '"q"""',
+        "12.5",
+        "!=",
+        "_b",
+    ]
+    assert all(text[token.begin : token.end] == token.text for token in found)
     assert [tokens.content(token) for token in found][2:5:2] == ["it's", 'q"']
     assert tokens.canonical(tokens.tokens("A /* x */ != 'B'")) == "a <> 'B'"

@@ -38,7 +38,9 @@ def shortfall(found: Sequence[judged.Judged]) -> str:
 
 
 def test_there_are_80_wrong_answers_that_are_wrong() -> None:
-    assert len(WRONG) == len(set(WRONG)) == 80 and {one.schema for one in WRONG} == set(cases.SCHEMAS)
+    assert len(WRONG) == len(set(WRONG)) == 80 and {one.schema for one in WRONG} == set(
+        cases.SCHEMAS
+    )
     for one in (*WRONG, *PLANTED):
         of = judged.search(one.schema, one.reference)
         assert not of.ground.prover.agree(one.reference, [one.answer])[0], one.marked
@@ -48,14 +50,18 @@ def test_there_are_80_wrong_answers_that_are_wrong() -> None:
 def test_the_places_of_the_wrong_answers() -> None:
     found = [judged.judged(one) for one in WRONG]
     right = [one for one in found if one.place_is_right]
-    assert len(right) >= 0.85 * len(found), shortfall([one for one in found if not one.place_is_right])
+    assert len(right) >= 0.85 * len(found), shortfall(
+        [one for one in found if not one.place_is_right]
+    )
     # 79 on 2026-12-01.
     assert len(right) >= 76, shortfall([one for one in found if not one.place_is_right])
 
 
 def test_the_kinds_of_the_wrong_answers() -> None:
     found = [judged.judged(one) for one in WRONG]
-    assert sum(one.kind_is_right for one in found) >= 74, shortfall([one for one in found if not one.kind_is_right])
+    assert sum(one.kind_is_right for one in found) >= 74, shortfall(
+        [one for one in found if not one.kind_is_right]
+    )
 
 
 def test_the_mistakes_of_the_wrong_answers_are_named() -> None:
@@ -67,8 +73,12 @@ def test_the_mistakes_of_the_wrong_answers_are_named() -> None:
 def test_planted_mistakes_are_repaired_at_their_place() -> None:
     assert len(PLANTED) == len(set(PLANTED)) == 60
     found = [judged.judged(one) for one in PLANTED]
-    assert sum(one.best is not None for one in found) >= 57, shortfall([one for one in found if one.best is None])
-    assert sum(one.place_is_right for one in found) >= 54, shortfall([one for one in found if not one.place_is_right])
+    assert sum(one.best is not None for one in found) >= 57, shortfall(
+        [one for one in found if one.best is None]
+    )
+    assert sum(one.place_is_right for one in found) >= 54, shortfall(
+        [one for one in found if not one.place_is_right]
+    )
 
 
 @pytest.mark.parametrize("which", (WRONG, PLANTED), ids=("wrong", "planted"))
@@ -76,11 +86,16 @@ def test_no_repair_is_shown_that_larger_rows_refute(which: list[cases.Wrong]) ->
     shown = refuted = 0
     for one in which:
         larger = judged.larger(one.schema, one.reference)
-        assert larger and all(sum(len(held.rows) for held in rows.pool.held) > 150 for rows in larger)
+        assert larger and all(
+            sum(len(held.rows) for held in rows.pool.held) > 150 for rows in larger
+        )
         wanted = [rows.answers(one.reference) for rows in larger]
         for edit in judged.judged(one).repairs.edits:
             shown += 1
-            assert all(rows.passes(edit.text, want) for rows, want in zip(larger, wanted)), (one.marked, edit.mistake)
+            assert all(rows.passes(edit.text, want) for rows, want in zip(larger, wanted)), (
+                one.marked,
+                edit.mistake,
+            )
         refuted += judged.judged(one).repairs.refuted
     assert shown > 100 and refuted > 0
 
@@ -90,11 +105,16 @@ def test_every_repair_agrees_and_every_class_does() -> None:
     for one in WRONG[::8]:
         of, found = judged.search(one.schema, one.reference), judged.judged(one)
         folder = of.ground.prover.folder
-        for edits, other in ((found.repairs.edits, one.reference), (found.classes.edits, one.answer)):
+        for edits, other in (
+            (found.repairs.edits, one.reference),
+            (found.classes.edits, one.answer),
+        ):
             for edit in edits[:3]:
                 (folder / "a.query").write_text(edit.text)
                 (folder / "b.query").write_text(other)
-                ran = program.run(program.find(), ("schema.sql", ".", "a.query", "b.query"), folder=folder)
+                ran = program.run(
+                    program.find(), ("schema.sql", ".", "a.query", "b.query"), folder=folder
+                )
                 assert ran.stdout == b"agree\n", (edit.text, other)
 
 
@@ -104,6 +124,7 @@ def test_the_filter_only_rejects_what_is_wrong() -> None:
         of = judged.search(one.schema, one.reference)
         from classroom.edits.edits import edits
         from classroom.edits.query import Query
+
         all_of_them = edits(Query.of(one.answer, of.words.of(one.answer)))[:250]
         agree = of.ground.prover.agree(one.reference, [edit.text for edit in all_of_them])
         for edit, agrees in zip(all_of_them, agree):
@@ -112,10 +133,17 @@ def test_the_filter_only_rejects_what_is_wrong() -> None:
 
 def test_the_same_is_found_again() -> None:
     one = WRONG[0]
-    again = Search(Ground(judged.ground(one.schema).rows, None, judged.ground(one.schema).prover.folder), one.reference)
+    again = Search(
+        Ground(judged.ground(one.schema).rows, None, judged.ground(one.schema).prover.folder),
+        one.reference,
+    )
     first = judged.judged(one)
-    assert [edit.text for edit in again.repairs(one.answer).edits] == [edit.text for edit in first.repairs.edits]
-    assert [edit.text for edit in again.classes(one.answer).edits] == [edit.text for edit in first.classes.edits]
+    assert [edit.text for edit in again.repairs(one.answer).edits] == [
+        edit.text for edit in first.repairs.edits
+    ]
+    assert [edit.text for edit in again.classes(one.answer).edits] == [
+        edit.text for edit in first.classes.edits
+    ]
 
 
 def test_the_guard_of_the_exercise_refutes(tmp_path: Path) -> None:
@@ -126,7 +154,10 @@ def test_the_guard_of_the_exercise_refutes(tmp_path: Path) -> None:
         folder.mkdir()
         (folder / "schema.sql").write_text(text)
         (folder / "beer.csv").write_text("name,price\n" + rows)
-    reference, answer = "SELECT name FROM beer WHERE price < 5", "SELECT name FROM beer WHERE price > 5"
+    reference, answer = (
+        "SELECT name FROM beer WHERE price < 5",
+        "SELECT name FROM beer WHERE price > 5",
+    )
     work = tmp_path / "work"
     work.mkdir()
     plain = Search(Ground(sources.of_exercise(few), None, work), reference)
@@ -148,7 +179,9 @@ def test_made_rows_obey_the_schema(name: str, tmp_path: Path) -> None:
         pool = made.pool_of(rows, (3, 5), ("x", "Joe's"), seed)
         assert pool is not None
         whole = base.Base(pool, 0)
-        assert whole.rows == frozenset(pool.lawful) and len(whole.rows) == sum(len(held.rows) for held in pool.held)
+        assert whole.rows == frozenset(pool.lawful) and len(whole.rows) == sum(
+            len(held.rows) for held in pool.held
+        )
         again = made.pool_of(rows, (3, 5), ("x", "Joe's"), seed)
         assert again and [held.rows for held in again.held] == [held.rows for held in pool.held]
         cells = [cell for held in pool.held for row in held.rows for cell in row]
@@ -167,7 +200,11 @@ def test_made_rows_obey_the_schema(name: str, tmp_path: Path) -> None:
 def test_parts_are_lawful() -> None:
     rows = judged.ground("school").rows
     of = base.Base(rows)
-    assert len(of.parts) > 20 and of.parts[-1] == of.rows and list(map(len, of.parts)) == sorted(map(len, of.parts))
+    assert (
+        len(of.parts) > 20
+        and of.parts[-1] == of.rows
+        and list(map(len, of.parts)) == sorted(map(len, of.parts))
+    )
     for part in of.parts:
         assert part <= rows.lawful
         assert all(target in part for row in part for target in rows.targets[row])
@@ -175,7 +212,8 @@ def test_parts_are_lawful() -> None:
 
 def test_dependencies_and_checks_bound_the_rows(tmp_path: Path) -> None:
     (tmp_path / "schema.sql").write_text(
-        "CREATE TABLE g (k INTEGER, v INTEGER, w TEXT NOT NULL, DEPENDENCY (k) DETERMINES (v), CHECK (v < 9));")
+        "CREATE TABLE g (k INTEGER, v INTEGER, w TEXT NOT NULL, DEPENDENCY (k) DETERMINES (v), CHECK (v < 9));"
+    )
     (tmp_path / "g.csv").write_text("k,v,w\n1,1,a\n1,2,b\n2,9,c\n3,3,\n,4,d\n,5,e\n")
     pool = sources.of_exercise(tmp_path)
     assert sorted(row.number for row in base.Base(pool, 3).rows) == [0, 4, 5]
@@ -187,6 +225,7 @@ def test_dependencies_and_checks_bound_the_rows(tmp_path: Path) -> None:
 def test_queries_as_sqlite_reads_them() -> None:
     """SQLite answers the text for it as it answers the generator's own."""
     import sqlite3
+
     compared = 0
     for seed in range(300):
         case = Draw(Random(seed), Limits(depth=3, rows=9)).case()
@@ -205,17 +244,26 @@ def test_queries_as_sqlite_reads_them() -> None:
                 own = set(connection.execute(Writer("sqlite").query(query)))
             except sqlite3.OperationalError:
                 continue
-            assert set(connection.execute(texts.for_sqlite(Writer("ratest").query(query)))) == own, seed
+            assert (
+                set(connection.execute(texts.for_sqlite(Writer("ratest").query(query)))) == own
+            ), seed
             compared += 1
     assert compared > 500
 
 
-TRIED = "SELECT s.bar, COUNT(*) AS n FROM serves s WHERE s.price < 5 GROUP BY s.bar HAVING COUNT(*) > 1"
+TRIED = (
+    "SELECT s.bar, COUNT(*) AS n FROM serves s WHERE s.price < 5 GROUP BY s.bar HAVING COUNT(*) > 1"
+)
 
 
-@pytest.mark.parametrize("answer, mistake, place", [
-    (TRIED.replace("> 1", ">= 1"), "> for >=", "COUNT(*) >= 1"), (TRIED.replace("< 5", "<= 5"), "< for <=", "s.price <= 5"),
-    (TRIED.replace("GROUP BY s.bar", "GROUP BY s.beer"), "s.bar for s.beer", "s.beer")])
+@pytest.mark.parametrize(
+    "answer, mistake, place",
+    [
+        (TRIED.replace("> 1", ">= 1"), "> for >=", "COUNT(*) >= 1"),
+        (TRIED.replace("< 5", "<= 5"), "< for <=", "s.price <= 5"),
+        (TRIED.replace("GROUP BY s.bar", "GROUP BY s.beer"), "s.bar for s.beer", "s.beer"),
+    ],
+)
 def test_where_nothing_is_proved_it_is_tried(answer: str, mistake: str, place: str) -> None:
     """`ratest` reads neither query; SQLite answers both on many parts of the rows, and on the guards."""
     ground = judged.ground("beers")
@@ -225,23 +273,34 @@ def test_where_nothing_is_proved_it_is_tried(answer: str, mistake: str, place: s
     assert found.best and (found.best.mistake, answer[slice(*found.best.place)]) == (mistake, place)
     assert found.tried == len(ground.wide.parts) > 100 and of.classes(answer).best
     from classroom.hints import recording
+
     record = recording.of_found(found, None)
-    assert record.decided_by.startswith("sqlite 3.") and "as far as was tried" in record.steps[0].text
+    assert (
+        record.decided_by.startswith("sqlite 3.") and "as far as was tried" in record.steps[0].text
+    )
     assert "proved" not in " ".join(step.text for step in record.steps)
 
 
 OUTER = "SELECT d.name, COUNT(f.bar) FROM drinker d LEFT JOIN frequents f ON f.drinker = d.name GROUP BY d.name"
 
 
-@pytest.mark.parametrize("answer, mistake", [
-    (OUTER.replace("LEFT JOIN", "JOIN"), "LEFT JOIN for JOIN"), (OUTER.replace("f.bar", "*"), "COUNT(f.bar) for COUNT(*)"),
-    (OUTER.replace("f.drinker = ", "f.bar = "), "f.drinker for f.bar")])
+@pytest.mark.parametrize(
+    "answer, mistake",
+    [
+        (OUTER.replace("LEFT JOIN", "JOIN"), "LEFT JOIN for JOIN"),
+        (OUTER.replace("f.bar", "*"), "COUNT(f.bar) for COUNT(*)"),
+        (OUTER.replace("f.drinker = ", "f.bar = "), "f.drinker for f.bar"),
+    ],
+)
 def test_outer_joins_and_what_is_counted(answer: str, mistake: str) -> None:
     found = Search(judged.ground("beers"), OUTER, is_tried=True).repairs(answer)
-    assert mistake in {edit.mistake for edit in found.edits[:3]}, [edit.mistake for edit in found.edits]
+    assert mistake in {edit.mistake for edit in found.edits[:3]}, [
+        edit.mistake for edit in found.edits
+    ]
 
 
 def test_a_reference_that_sqlite_does_not_answer() -> None:
     from classroom.base.errors import Fault
+
     with pytest.raises(Fault, match="does not answer the reference"):
         Search(judged.ground("beers"), "SELECT nosuch(bar) FROM serves", is_tried=True)

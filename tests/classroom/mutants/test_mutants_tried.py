@@ -29,44 +29,117 @@ TABLES = [held.table for held in shop.pool().held]
 
 # A query, and what a mistake makes of it.
 MADE = [
-    ("SELECT COUNT(o.no) FROM orders o", "COUNT(*) for COUNT(o.no)", "SELECT COUNT(*) FROM orders AS o"),
-    ("SELECT COUNT(DISTINCT customer) FROM orders", "DISTINCT in COUNT dropped", "SELECT COUNT(customer) FROM orders"),
-    ("SELECT COUNT(customer) FROM orders", "DISTINCT in COUNT added", "SELECT COUNT(DISTINCT customer) FROM orders"),
+    (
+        "SELECT COUNT(o.no) FROM orders o",
+        "COUNT(*) for COUNT(o.no)",
+        "SELECT COUNT(*) FROM orders AS o",
+    ),
+    (
+        "SELECT COUNT(DISTINCT customer) FROM orders",
+        "DISTINCT in COUNT dropped",
+        "SELECT COUNT(customer) FROM orders",
+    ),
+    (
+        "SELECT COUNT(customer) FROM orders",
+        "DISTINCT in COUNT added",
+        "SELECT COUNT(DISTINCT customer) FROM orders",
+    ),
     ("SELECT AVG(price) FROM product", "SUM for AVG", "SELECT SUM(price) FROM product"),
     ("SELECT MIN(price) FROM product", "MAX for MIN", "SELECT MAX(price) FROM product"),
-    ("SELECT kind FROM product GROUP BY kind HAVING AVG(price) > 3", "HAVING dropped", "SELECT kind FROM product GROUP BY kind"),
-    ("SELECT kind FROM product GROUP BY kind HAVING AVG(price) > 3", "WHERE for HAVING", "SELECT kind FROM product WHERE price > 3 GROUP BY kind"),
-    ("SELECT kind FROM product WHERE sku > 'a' GROUP BY kind HAVING MAX(price) > 3", "WHERE for HAVING",
-     "SELECT kind FROM product WHERE sku > 'a' AND price > 3 GROUP BY kind"),
-    ("SELECT COUNT(*) FROM product GROUP BY kind, price", "GROUP BY without kind", "SELECT COUNT(*) FROM product GROUP BY price"),
-    ("SELECT COUNT(*) FROM product GROUP BY kind", "GROUP BY sku for kind", "SELECT COUNT(*) FROM product GROUP BY sku"),
-    ("SELECT c.id FROM customer c LEFT JOIN orders o ON o.customer = c.id", "JOIN for LEFT JOIN",
-     "SELECT c.id FROM customer AS c JOIN orders AS o ON o.customer = c.id"),
-    ("SELECT c.id FROM customer c JOIN orders o ON o.customer = c.id", "LEFT JOIN for JOIN",
-     "SELECT c.id FROM customer AS c LEFT JOIN orders AS o ON o.customer = c.id"),
-    ("SELECT sku FROM product ORDER BY price DESC, sku LIMIT 2", "ASC for DESC of price", "SELECT sku FROM product ORDER BY price, sku LIMIT 2"),
-    ("SELECT sku FROM product ORDER BY price DESC, sku LIMIT 2", "ORDER BY without sku", "SELECT sku FROM product ORDER BY price DESC LIMIT 2"),
-    ("SELECT sku FROM product ORDER BY price DESC, sku LIMIT 2", "LIMIT 3 for 2", "SELECT sku FROM product ORDER BY price DESC, sku LIMIT 3"),
-    ("SELECT sku FROM product ORDER BY sku", "DESC for ASC of sku", "SELECT sku FROM product ORDER BY sku DESC"),
+    (
+        "SELECT kind FROM product GROUP BY kind HAVING AVG(price) > 3",
+        "HAVING dropped",
+        "SELECT kind FROM product GROUP BY kind",
+    ),
+    (
+        "SELECT kind FROM product GROUP BY kind HAVING AVG(price) > 3",
+        "WHERE for HAVING",
+        "SELECT kind FROM product WHERE price > 3 GROUP BY kind",
+    ),
+    (
+        "SELECT kind FROM product WHERE sku > 'a' GROUP BY kind HAVING MAX(price) > 3",
+        "WHERE for HAVING",
+        "SELECT kind FROM product WHERE sku > 'a' AND price > 3 GROUP BY kind",
+    ),
+    (
+        "SELECT COUNT(*) FROM product GROUP BY kind, price",
+        "GROUP BY without kind",
+        "SELECT COUNT(*) FROM product GROUP BY price",
+    ),
+    (
+        "SELECT COUNT(*) FROM product GROUP BY kind",
+        "GROUP BY sku for kind",
+        "SELECT COUNT(*) FROM product GROUP BY sku",
+    ),
+    (
+        "SELECT c.id FROM customer c LEFT JOIN orders o ON o.customer = c.id",
+        "JOIN for LEFT JOIN",
+        "SELECT c.id FROM customer AS c JOIN orders AS o ON o.customer = c.id",
+    ),
+    (
+        "SELECT c.id FROM customer c JOIN orders o ON o.customer = c.id",
+        "LEFT JOIN for JOIN",
+        "SELECT c.id FROM customer AS c LEFT JOIN orders AS o ON o.customer = c.id",
+    ),
+    (
+        "SELECT sku FROM product ORDER BY price DESC, sku LIMIT 2",
+        "ASC for DESC of price",
+        "SELECT sku FROM product ORDER BY price, sku LIMIT 2",
+    ),
+    (
+        "SELECT sku FROM product ORDER BY price DESC, sku LIMIT 2",
+        "ORDER BY without sku",
+        "SELECT sku FROM product ORDER BY price DESC LIMIT 2",
+    ),
+    (
+        "SELECT sku FROM product ORDER BY price DESC, sku LIMIT 2",
+        "LIMIT 3 for 2",
+        "SELECT sku FROM product ORDER BY price DESC, sku LIMIT 3",
+    ),
+    (
+        "SELECT sku FROM product ORDER BY sku",
+        "DESC for ASC of sku",
+        "SELECT sku FROM product ORDER BY sku DESC",
+    ),
     ("SELECT DISTINCT kind FROM product", "DISTINCT dropped", "SELECT kind FROM product"),
     ("SELECT kind FROM product", "DISTINCT added", "SELECT DISTINCT kind FROM product"),
-    ("SELECT sku FROM product UNION SELECT sku FROM item", "UNION ALL for UNION", "SELECT sku FROM product UNION ALL SELECT sku FROM item"),
-    ("SELECT sku FROM product UNION ALL SELECT sku FROM item", "UNION for UNION ALL", "SELECT sku FROM product UNION SELECT sku FROM item"),
+    (
+        "SELECT sku FROM product UNION SELECT sku FROM item",
+        "UNION ALL for UNION",
+        "SELECT sku FROM product UNION ALL SELECT sku FROM item",
+    ),
+    (
+        "SELECT sku FROM product UNION ALL SELECT sku FROM item",
+        "UNION for UNION ALL",
+        "SELECT sku FROM product UNION SELECT sku FROM item",
+    ),
 ]
 
 
 @pytest.mark.parametrize("query, mistake, text", MADE)
 def test_each_mistake(query: str, mistake: str, text: str) -> None:
-    made = {mutant.mistake: mutant.text for mutant in mutants(query, TABLES, (*TRIED, *BAGS, *LISTS))}
+    made = {
+        mutant.mistake: mutant.text for mutant in mutants(query, TABLES, (*TRIED, *BAGS, *LISTS))
+    }
     assert made.get(mistake) == text, made
 
 
 @pytest.fixture
 def beers(ratest: Path, ratest_plus: Path, tmp_path: Path) -> Path:
-    os.environ["RATEST"], os.environ["RATEST_PLUS"] = str(ratest.absolute()), str(ratest_plus.absolute())
-    folder = Path(shutil.copytree(TOP / "examples/beers", tmp_path / "beers", ignore=shutil.ignore_patterns("results", "[1345]", "page.html")))
+    os.environ["RATEST"], os.environ["RATEST_PLUS"] = str(ratest.absolute()), str(
+        ratest_plus.absolute()
+    )
+    folder = Path(
+        shutil.copytree(
+            TOP / "examples/beers",
+            tmp_path / "beers",
+            ignore=shutil.ignore_patterns("results", "[1345]", "page.html"),
+        )
+    )
     (folder / "6").mkdir()
-    (folder / "6/reference.sql").write_text("SELECT bar, COUNT(beer) FROM serves GROUP BY bar HAVING COUNT(beer) >= 2")
+    (folder / "6/reference.sql").write_text(
+        "SELECT bar, COUNT(beer) FROM serves GROUP BY bar HAVING COUNT(beer) >= 2"
+    )
     return folder
 
 
@@ -79,14 +152,22 @@ def test_mutants_of_proved_and_tried_tasks(beers: Path) -> None:
     ran = classroom("mutants", beers)
     assert ran.returncode == 0, ran.stderr
     assert ran.stdout.startswith("task 2: 13 of 14 mutants told\n") and "\ntask 6: " in ran.stdout
-    found = {line["mistake"]: (line["verdict"], line["rows"]) for line in lines(beers) if line["task"] == "6"}
+    found = {
+        line["mistake"]: (line["verdict"], line["rows"])
+        for line in lines(beers)
+        if line["task"] == "6"
+    }
     # Two rows of a bar are asked for, and with what they refer to these are five.
     assert found["> for >="] == ("told", "5") and found["HAVING dropped"][0] == "told"
     # A bar serves a beer once.
     assert found["COUNT(*) for COUNT(beer)"][0] == "no difference found"
-    kept = {path.name: path.stat().st_mtime_ns for path in (beers / "mutants/runs").glob("*.trial.json")}
+    kept = {
+        path.name: path.stat().st_mtime_ns for path in (beers / "mutants/runs").glob("*.trial.json")
+    }
     assert kept and classroom("mutants", beers).stdout == ran.stdout
-    assert {path.name: path.stat().st_mtime_ns for path in (beers / "mutants/runs").glob("*.trial.json")} == kept
+    assert {
+        path.name: path.stat().st_mtime_ns for path in (beers / "mutants/runs").glob("*.trial.json")
+    } == kept
 
 
 def test_nothing_is_tried_where_only_proofs_are_wanted(beers: Path) -> None:
@@ -121,16 +202,30 @@ def mutants_of(folder: Path, monkeypatch: pytest.MonkeyPatch, what: str) -> list
     monkeypatch.setattr(asking, "CHILD", folder / "child.py")
     results = Results(folder / "mutants")
     results.runs.mkdir(parents=True)
-    return trying.mutants(Trial(shop.material(), Options(), (), True), Task("1", Path("1"), reference=b"SELECT MIN(price) FROM product WHERE price > 1"),
-                          Settings(), results, 2)
+    return trying.mutants(
+        Trial(shop.material(), Options(), (), True),
+        Task("1", Path("1"), reference=b"SELECT MIN(price) FROM product WHERE price > 1"),
+        Settings(),
+        results,
+        2,
+    )
 
 
-def test_a_crash_loses_one_mutant(tmp_path: Path, monkeypatch: pytest.MonkeyPatch, caplog: pytest.LogCaptureFixture) -> None:
-    found = {one.of.mistake: one.verdict for one in mutants_of(tmp_path, monkeypatch, "os.kill(os.getpid(), signal.SIGSEGV)")}
+def test_a_crash_loses_one_mutant(
+    tmp_path: Path, monkeypatch: pytest.MonkeyPatch, caplog: pytest.LogCaptureFixture
+) -> None:
+    found = {
+        one.of.mistake: one.verdict
+        for one in mutants_of(tmp_path, monkeypatch, "os.kill(os.getpid(), signal.SIGSEGV)")
+    }
     lost = found.pop("MAX for MIN")
     assert (lost.kind, lost.why) == (OPEN, "its process failed")
     assert "MAX for MIN is not tried: its process ended with signal 11" in caplog.text
-    assert found and TOLD in {one.kind for one in found.values()} and OPEN not in {one.kind for one in found.values()}
+    assert (
+        found
+        and TOLD in {one.kind for one in found.values()}
+        and OPEN not in {one.kind for one in found.values()}
+    )
     # It is asked again the next time.
     assert len(list((tmp_path / "mutants/runs").iterdir())) == len(found) + 1
 
@@ -147,7 +242,11 @@ def test_what_is_stopped_ends_at_once(tmp_path: Path, monkeypatch: pytest.Monkey
     threading.Thread(target=interrupt).start()
     begun = time.monotonic()
     with pytest.raises(KeyboardInterrupt):
-        mutants_of(tmp_path, monkeypatch, f"open({str(place)!r}, 'w').write(str(os.getpid())); time.sleep(3600)")
+        mutants_of(
+            tmp_path,
+            monkeypatch,
+            f"open({str(place)!r}, 'w').write(str(os.getpid())); time.sleep(3600)",
+        )
     assert time.monotonic() - begun < 60
     with pytest.raises(ProcessLookupError):
         os.kill(int(place.read_text()), 0)

@@ -23,13 +23,15 @@ pytest.importorskip("sqlglot", reason="no sqlglot: apt-get install python3-sqlgl
 from classroom.exercise.rules import rules_of  # noqa: E402
 
 FULL = bool(os.environ.get("CLASSROOM_FULL"))
-MOST = 60    # rows that are picked
+MOST = 60  # rows that are picked
 
 
 def grown(folder: Path, rows: int, tasks: str = "12345") -> Path:
     """The exercise of the examples with so many generated rows, and these of its tasks."""
     others = [name for name in "12345" if name not in tasks]
-    shutil.copytree(TOP / "examples/beers", folder, ignore=shutil.ignore_patterns("results", *others))
+    shutil.copytree(
+        TOP / "examples/beers", folder, ignore=shutil.ignore_patterns("results", *others)
+    )
     made = run(TOP / "bench/classroom", folder, str(rows))
     assert made.returncode == 0, made.stderr
     return folder
@@ -37,9 +39,14 @@ def grown(folder: Path, rows: int, tasks: str = "12345") -> Path:
 
 def rows(folder: Path) -> dict[str, list[tuple[str, ...]]]:
     """The rows of each table, as they stand in the files."""
-    texts = {table.name: (folder / f"{table.name}.csv").read_text(encoding="utf-8")
-             for table in tables_of((folder / "schema.sql").read_text(encoding="utf-8"))}
-    return {name: [tuple(line) for line in csv.reader(io.StringIO(text, newline=""))][1:] for name, text in texts.items()}
+    texts = {
+        table.name: (folder / f"{table.name}.csv").read_text(encoding="utf-8")
+        for table in tables_of((folder / "schema.sql").read_text(encoding="utf-8"))
+    }
+    return {
+        name: [tuple(line) for line in csv.reader(io.StringIO(text, newline=""))][1:]
+        for name, text in texts.items()
+    }
 
 
 def meets(folder: Path) -> int:
@@ -50,7 +57,9 @@ def meets(folder: Path) -> int:
     for name, lines in rows(folder).items():
         for line in lines:
             values = [value or None for value in line]
-            database.execute(f'INSERT INTO "{name}" VALUES ({", ".join("?" for _ in values)})', values)
+            database.execute(
+                f'INSERT INTO "{name}" VALUES ({", ".join("?" for _ in values)})', values
+            )
             count += 1
     assert database.execute("PRAGMA foreign_key_check").fetchall() == []
     return count
@@ -58,15 +67,21 @@ def meets(folder: Path) -> int:
 
 def told(ran: subprocess.CompletedProcess[str]) -> tuple[int, int, int, int]:
     """From the last line: how many mutants are told, of how many, and by how many rows of how many."""
-    line = re.fullmatch(r"(\d+) of (\d+) mutants told(?:, \d+ of \d+ answers? told,)? by ([\d,]+) of ([\d,]+) rows",
-                        ran.stdout.splitlines()[-1])
+    line = re.fullmatch(
+        r"(\d+) of (\d+) mutants told(?:, \d+ of \d+ answers? told,)? by ([\d,]+) of ([\d,]+) rows",
+        ran.stdout.splitlines()[-1],
+    )
     assert line, ran.stdout
     found = [int(number.replace(",", "")) for number in line.groups()]
     return found[0], found[1], found[2], found[3]
 
 
 def verdicts(exercise: Path) -> dict[tuple[str, str], tuple[str, str]]:
-    found = list(csv.reader(io.StringIO((exercise / "mutants/mutants.csv").read_text(encoding="utf-8"), newline="")))
+    found = list(
+        csv.reader(
+            io.StringIO((exercise / "mutants/mutants.csv").read_text(encoding="utf-8"), newline="")
+        )
+    )
     return {(line[0], line[6]): (line[3], line[4]) for line in found[1:]}
 
 
@@ -84,8 +99,14 @@ def compare(whole: Path, picked: Path, *words: str) -> int:
     return count
 
 
-@pytest.mark.parametrize("count", [120, pytest.param(500, marks=pytest.mark.skipif(not FULL, reason="CLASSROOM_FULL")),
-                                   pytest.param(2000, marks=pytest.mark.skipif(not FULL, reason="CLASSROOM_FULL"))])
+@pytest.mark.parametrize(
+    "count",
+    [
+        120,
+        pytest.param(500, marks=pytest.mark.skipif(not FULL, reason="CLASSROOM_FULL")),
+        pytest.param(2000, marks=pytest.mark.skipif(not FULL, reason="CLASSROOM_FULL")),
+    ],
+)
 def test_beers(ratest: Path, ratest_plus: Path, tmp_path: Path, count: int) -> None:
     whole, picked = grown(tmp_path / "whole", count), tmp_path / "picked"
     begun = time.monotonic()
@@ -99,7 +120,9 @@ def test_beers(ratest: Path, ratest_plus: Path, tmp_path: Path, count: int) -> N
     assert all(line in every[name] for name, lines in rows(picked).items() for line in lines)
     assert (picked / "schema.sql").read_text() == (whole / "schema.sql").read_text()
     # The whole is graded with a budget; what passes it has no verdict to compare.
-    assert compare(whole, picked, "--conflicts", "3000", "--time", "20") >= (100 if count == 500 else 20)
+    assert compare(whole, picked, "--conflicts", "3000", "--time", "20") >= (
+        100 if count == 500 else 20
+    )
     graded = classroom("grade", picked)
     assert graded.stdout.splitlines()[0] == "15 answers: 15 differ"
 
@@ -119,8 +142,11 @@ def test_stopped(ratest: Path, ratest_plus: Path, tmp_path: Path) -> None:
     once = classroom("pick", whole, tmp_path / "once")
     for number, kind in enumerate((signal.SIGINT, signal.SIGKILL)):
         folder = tmp_path / str(number)
-        process = subprocess.Popen([TOP / "classroom", "pick", whole, folder], stdout=subprocess.DEVNULL,
-                                   stderr=subprocess.DEVNULL)
+        process = subprocess.Popen(
+            [TOP / "classroom", "pick", whole, folder],
+            stdout=subprocess.DEVNULL,
+            stderr=subprocess.DEVNULL,
+        )
         limit = time.monotonic() + 60
         while len(list(folder.glob("picking/runs/*.json"))) < 20 and time.monotonic() < limit:
             time.sleep(0.02)
@@ -140,7 +166,9 @@ def test_fewer_rows(ratest: Path, ratest_plus: Path, tmp_path: Path) -> None:
     assert found[2] == meets(tmp_path / "picked") <= 9 and found[0] >= 10
 
 
-def picked_school(tmp_path: Path, count: int, references: dict[str, str]) -> tuple[Path, tuple[int, int, int, int]]:
+def picked_school(
+    tmp_path: Path, count: int, references: dict[str, str]
+) -> tuple[Path, tuple[int, int, int, int]]:
     product = Sqlite()
     product.make(tmp_path / "school", made_rows.school(count))
     folder = made_rows.tasks(tmp_path / "picked", references, made_rows.SCHOOL_ANSWERS)
@@ -148,18 +176,24 @@ def picked_school(tmp_path: Path, count: int, references: dict[str, str]) -> tup
     assert (ran.returncode, ran.stderr) == (0, ""), ran.stderr
     for name, lines in rows(folder).items():
         for line in lines:
-            where = " AND ".join(f"{column} IS {made_rows.text(int(value) if value.isdigit() else value or None)}"
-                                 for column, value in zip(columns(folder)[name], line))
+            where = " AND ".join(
+                f"{column} IS {made_rows.text(int(value) if value.isdigit() else value or None)}"
+                for column, value in zip(columns(folder)[name], line)
+            )
             assert product.answer(f"SELECT count(*) FROM {name} WHERE {where}").stdout == "1\n"
     return folder, told(ran)
 
 
 def columns(folder: Path) -> dict[str, list[str]]:
-    return {table.name: [column.name for column in table.columns]
-            for table in tables_of((folder / "schema.sql").read_text(encoding="utf-8"))}
+    return {
+        table.name: [column.name for column in table.columns]
+        for table in tables_of((folder / "schema.sql").read_text(encoding="utf-8"))
+    }
 
 
-@pytest.mark.skipif(not shutil.which("sqlite3"), reason="no program sqlite3: apt-get install sqlite3")
+@pytest.mark.skipif(
+    not shutil.which("sqlite3"), reason="no program sqlite3: apt-get install sqlite3"
+)
 def test_school(ratest: Path, ratest_plus: Path, tmp_path: Path) -> None:
     """More rows than the program reads, in SQLite."""
     count = 20_000 if FULL else 2_600
@@ -190,8 +224,10 @@ def test_orders(ratest: Path, ratest_plus: Path, server: Postgres | None, tmp_pa
     assert found[3] == count and found[2] == meets(folder) <= MOST
     for name, lines in rows(folder).items():
         for line in lines:
-            where = " AND ".join(f"{column} IS NOT DISTINCT FROM {made_rows.text(value or None)}"
-                                 for column, value in zip(columns(folder)[name], line))
+            where = " AND ".join(
+                f"{column} IS NOT DISTINCT FROM {made_rows.text(value or None)}"
+                for column, value in zip(columns(folder)[name], line)
+            )
             assert server.answer(f"SELECT count(*) FROM {name} WHERE {where}").stdout == "1\n"
 
 
@@ -199,8 +235,10 @@ def test_broken_rows(ratest: Path, ratest_plus: Path, tmp_path: Path) -> None:
     """Rows that break a key or refer to none are not picked."""
     whole = tmp_path / "whole"
     made_rows.tasks(whole, {"1": "SELECT k FROM u WHERE n > 1"}, {})
-    (whole / "schema.sql").write_text("CREATE TABLE t (k INTEGER PRIMARY KEY, UNIQUE (k));"
-                                      "CREATE TABLE u (k INTEGER REFERENCES t, n INTEGER);")
+    (whole / "schema.sql").write_text(
+        "CREATE TABLE t (k INTEGER PRIMARY KEY, UNIQUE (k));"
+        "CREATE TABLE u (k INTEGER REFERENCES t, n INTEGER);"
+    )
     (whole / "t.csv").write_text("k\n1\n1\n2\n")
     (whole / "u.csv").write_text("k,n\n7,2\n8,1\n1,2\n2,1\n,3\n2,0\n")
     ran = classroom("pick", whole, tmp_path / "picked")
@@ -210,26 +248,55 @@ def test_broken_rows(ratest: Path, ratest_plus: Path, tmp_path: Path) -> None:
 
 
 def test_rules() -> None:
-    found = rules_of('CREATE TABLE IF NOT EXISTS a (k INT PRIMARY KEY, "x,(" VARCHAR(9) UNIQUE NOT NULL, CHECK (k > 0));\n'
-                     "CREATE TABLE b (k INT REFERENCES a, l TEXT REFERENCES a (\"x,(\"), m INT, -- unique\n"
-                     "CONSTRAINT n PRIMARY KEY (k, l), FOREIGN KEY (m) REFERENCES a (k), DEPENDENCY (k) DETERMINES (m))")
+    found = rules_of(
+        'CREATE TABLE IF NOT EXISTS a (k INT PRIMARY KEY, "x,(" VARCHAR(9) UNIQUE NOT NULL, CHECK (k > 0));\n'
+        'CREATE TABLE b (k INT REFERENCES a, l TEXT REFERENCES a ("x,("), m INT, -- unique\n'
+        "CONSTRAINT n PRIMARY KEY (k, l), FOREIGN KEY (m) REFERENCES a (k), DEPENDENCY (k) DETERMINES (m))"
+    )
     assert found[0].keys == [["k"], ["x,("]] and found[0].foreigns == []
     assert found[1].keys == [["k", "l"]]
     assert found[1].foreigns == [(["k"], "a", ["k"]), (["l"], "a", ["x,("]), (["m"], "a", ["k"])]
 
 
-@pytest.mark.parametrize("change, words, line", [
-    ("rm -r 1 2 3 4 5", ["whole", "picked"], "picked: no task: neither reference.sql nor a folder with one"),
-    ("true", ["whole", "whole"], "whole: the rows of this folder would be written over; take another one for the picked rows"),
-    ("true", ["nosuch.db", "picked"], "there is no file nosuch.db"),
-    ("rm -r 1 2 4 5; echo 'SELECT nmae FROM bar' > 3/reference.sql", ["whole", "picked"],
-     "task 3 is left out: reference.sql: no such column: nmae\nclassroom: there is no task whose reference can be asked about"),
-    ("echo 'name,city' > bar.csv; echo 'a,b,c' >> bar.csv", ["whole", "picked"], "whole/bar.csv: row 1 has 3 fields, not 2"),
-    ("echo 'bar,beer,price' > serves.csv; echo 'a,b,c' >> serves.csv", ["whole", "picked"],
-     "whole/serves.csv: row 1: price is no whole number"),
-    ("echo 'CREATE TABLE t (' > schema.sql", ["whole", "picked"], "schema.sql: a table without an end"),
-])
-def test_refusals(ratest: Path, ratest_plus: Path, beers: Path, change: str, words: list[str], line: str) -> None:
+@pytest.mark.parametrize(
+    "change, words, line",
+    [
+        (
+            "rm -r 1 2 3 4 5",
+            ["whole", "picked"],
+            "picked: no task: neither reference.sql nor a folder with one",
+        ),
+        (
+            "true",
+            ["whole", "whole"],
+            "whole: the rows of this folder would be written over; take another one for the picked rows",
+        ),
+        ("true", ["nosuch.db", "picked"], "there is no file nosuch.db"),
+        (
+            "rm -r 1 2 4 5; echo 'SELECT nmae FROM bar' > 3/reference.sql",
+            ["whole", "picked"],
+            "task 3 is left out: reference.sql: no such column: nmae\nclassroom: there is no task whose reference can be asked about",
+        ),
+        (
+            "echo 'name,city' > bar.csv; echo 'a,b,c' >> bar.csv",
+            ["whole", "picked"],
+            "whole/bar.csv: row 1 has 3 fields, not 2",
+        ),
+        (
+            "echo 'bar,beer,price' > serves.csv; echo 'a,b,c' >> serves.csv",
+            ["whole", "picked"],
+            "whole/serves.csv: row 1: price is no whole number",
+        ),
+        (
+            "echo 'CREATE TABLE t (' > schema.sql",
+            ["whole", "picked"],
+            "schema.sql: a table without an end",
+        ),
+    ],
+)
+def test_refusals(
+    ratest: Path, ratest_plus: Path, beers: Path, change: str, words: list[str], line: str
+) -> None:
     work = beers.parent
     beers.rename(work / "whole")
     assert run("bash", "-c", change, cwd=work / "whole").returncode == 0

@@ -25,15 +25,21 @@ def script(kind: str, rows: int = 60) -> str:
     lines = []
     for number in range(1, rows + 1):
         like = SAME[0] if number == SAME[1] else number
-        lines.append(f"({number}, {1 + like % 3}, {'NULL' if number == NO_AMOUNT else f'{like}.25'})")
-    return (f"CREATE TABLE shop (no INTEGER PRIMARY KEY, name TEXT NOT NULL);\n"
-            f"CREATE TABLE sale (id INTEGER PRIMARY KEY, shop INTEGER NOT NULL REFERENCES shop, amount {kind});\n"
-            f"INSERT INTO shop VALUES (1, 'north'), (2, 'south'), (3, 'west');\nINSERT INTO sale VALUES {', '.join(lines)};\n")
+        lines.append(
+            f"({number}, {1 + like % 3}, {'NULL' if number == NO_AMOUNT else f'{like}.25'})"
+        )
+    return (
+        f"CREATE TABLE shop (no INTEGER PRIMARY KEY, name TEXT NOT NULL);\n"
+        f"CREATE TABLE sale (id INTEGER PRIMARY KEY, shop INTEGER NOT NULL REFERENCES shop, amount {kind});\n"
+        f"INSERT INTO shop VALUES (1, 'north'), (2, 'south'), (3, 'west');\nINSERT INTO sale VALUES {', '.join(lines)};\n"
+    )
 
 
 @pytest.fixture(autouse=True)
 def programs(ratest: Path, ratest_plus: Path) -> None:
-    os.environ["RATEST"], os.environ["RATEST_PLUS"] = str(ratest.absolute()), str(ratest_plus.absolute())
+    os.environ["RATEST"], os.environ["RATEST_PLUS"] = str(ratest.absolute()), str(
+        ratest_plus.absolute()
+    )
 
 
 @pytest.fixture
@@ -76,11 +82,16 @@ def tried_ids(folder: Path, product: str) -> set[int]:
 def verdicts(folder: Path) -> dict[tuple[str, str], tuple[str, str]]:
     """Verdict and engine of each mutant, by its task and mistake."""
     with open(folder / "mutants/mutants.csv", newline="", encoding="utf-8") as file:
-        return {(line["task"], line["mistake"]): (line["verdict"], line["decided_by"]) for line in csv.DictReader(file)}
+        return {
+            (line["task"], line["mistake"]): (line["verdict"], line["decided_by"])
+            for line in csv.DictReader(file)
+        }
 
 
 def test_the_rows_that_a_database_needs_are_picked(sales: Path, tmp_path: Path) -> None:
-    folder = exercise(tmp_path / "picked", t1="SELECT s.name FROM shop s WHERE s.no > 1", t2=COUNTED)
+    folder = exercise(
+        tmp_path / "picked", t1="SELECT s.name FROM shop s WHERE s.no > 1", t2=COUNTED
+    )
     (folder / "2/answers/ann.sql").write_text("SELECT shop, COUNT(*) FROM sale GROUP BY shop")
     ran = classroom("pick", sales, folder)
     assert ran.returncode == 0, ran.stderr
@@ -88,8 +99,16 @@ def test_the_rows_that_a_database_needs_are_picked(sales: Path, tmp_path: Path) 
     assert {NO_AMOUNT, *SAME} <= ids(folder)
     lines = ran.stdout.splitlines()
     assert re.fullmatch(r"task 1: \d+ of \d+ mutants told", lines[0])
-    assert any(re.fullmatch(r"task 2: \d+ of \d+ mutants told \(tried\), by sqlite [\d.]+ and not proved", line) for line in lines)
-    last = re.fullmatch(r"\d+ of \d+ mutants told, \d+ of \d+ mutants told \(tried\), 1 of 1 answer told \(tried\), by (\d+) of 63 rows", lines[-1])
+    assert any(
+        re.fullmatch(
+            r"task 2: \d+ of \d+ mutants told \(tried\), by sqlite [\d.]+ and not proved", line
+        )
+        for line in lines
+    )
+    last = re.fullmatch(
+        r"\d+ of \d+ mutants told, \d+ of \d+ mutants told \(tried\), 1 of 1 answer told \(tried\), by (\d+) of 63 rows",
+        lines[-1],
+    )
     assert last and int(last[1]) == len(ids(folder)) + len(ids(folder, "shop")) <= 24
     # The same rows, in their own types, are what grade tries; and mutants tells of them what was told before.
     assert tried_ids(folder, "sqlite") == ids(folder)
@@ -100,12 +119,20 @@ def test_the_rows_that_a_database_needs_are_picked(sales: Path, tmp_path: Path) 
     assert {engine for (task, _), (_, engine) in found.items() if task == "1"} == {"proved"}
 
 
-def test_all_that_is_told_of_the_whole_is_told_of_the_picked_rows(sales: Path, tmp_path: Path) -> None:
+def test_all_that_is_told_of_the_whole_is_told_of_the_picked_rows(
+    sales: Path, tmp_path: Path
+) -> None:
     whole, picked = tmp_path / "whole", tmp_path / "picked"
     made = classroom("import", sales, whole)
     assert made.returncode == 0, made.stderr
-    exercise(whole, t2=COUNTED, t3="SELECT name, MAX(amount) FROM shop LEFT JOIN sale ON shop = no GROUP BY no, name HAVING MAX(amount) > 50")
-    first, second = classroom("pick", whole, picked), classroom("pick", whole, tmp_path / "again", "--jobs", "1")
+    exercise(
+        whole,
+        t2=COUNTED,
+        t3="SELECT name, MAX(amount) FROM shop LEFT JOIN sale ON shop = no GROUP BY no, name HAVING MAX(amount) > 50",
+    )
+    first, second = classroom("pick", whole, picked), classroom(
+        "pick", whole, tmp_path / "again", "--jobs", "1"
+    )
     assert first.returncode == 0 and first.stdout == second.stdout, first.stderr + second.stderr
     for name in ("sale.csv", "shop.csv", "full.db"):
         assert (picked / name).read_bytes() == (tmp_path / "again" / name).read_bytes()
@@ -130,9 +157,14 @@ def test_what_exercise_toml_says_is_heeded(sales: Path, tmp_path: Path) -> None:
 
 
 def test_nothing_is_tried_where_only_proofs_are_wanted(sales: Path, tmp_path: Path) -> None:
-    folder = exercise(tmp_path / "picked", t1="SELECT s.name FROM shop s WHERE s.no > 1", t2=COUNTED)
+    folder = exercise(
+        tmp_path / "picked", t1="SELECT s.name FROM shop s WHERE s.no > 1", t2=COUNTED
+    )
     ran = classroom("pick", sales, folder, "--only-proved")
-    assert ran.returncode == 1 and "task 2 is left out: reference.sql: not supported: count" in ran.stderr
+    assert (
+        ran.returncode == 1
+        and "task 2 is left out: reference.sql: not supported: count" in ran.stderr
+    )
     assert "tried" not in ran.stdout and not ids(folder)
 
 
@@ -143,18 +175,28 @@ def test_postgresql(server: products.Postgres, roles: Roles, tmp_path: Path) -> 
     folder = exercise(tmp_path / "picked", said, t2=COUNTED)
     ran = classroom("pick", server.database, folder, "--jobs", "2")
     assert ran.returncode == 0, ran.stderr
-    assert {NO_AMOUNT, *SAME} <= ids(folder) and "mutants told (tried), by postgresql " in ran.stdout
+    assert {NO_AMOUNT, *SAME} <= ids(
+        folder
+    ) and "mutants told (tried), by postgresql " in ran.stdout
     assert tried_ids(folder, "postgresql") == ids(folder)
     again = exercise(tmp_path / "again", said, t2="SELECT MIN(amount) FROM sale WHERE shop = 2")
     assert classroom("pick", folder, again, "--jobs", "2").returncode == 0
     assert tried_ids(again, "postgresql") == ids(again) <= ids(folder)
 
 
-def test_an_engine_that_is_not_there_stops_the_tried_tasks_alone(server: products.Postgres, tmp_path: Path) -> None:
+def test_an_engine_that_is_not_there_stops_the_tried_tasks_alone(
+    server: products.Postgres, tmp_path: Path
+) -> None:
     server.make(tmp_path, script("numeric(8, 2)", 20))
-    folder = exercise(tmp_path / "picked", t1="SELECT s.name FROM shop s WHERE s.no > 1", t2=COUNTED)
+    folder = exercise(
+        tmp_path / "picked", t1="SELECT s.name FROM shop s WHERE s.no > 1", t2=COUNTED
+    )
     ran = classroom("pick", server.database, folder)
-    assert ran.returncode == 1 and "task 2 is left out" in ran.stderr and "nothing is tried: exercise.toml: engine" in ran.stderr
+    assert (
+        ran.returncode == 1
+        and "task 2 is left out" in ran.stderr
+        and "nothing is tried: exercise.toml: engine" in ran.stderr
+    )
     assert ran.stdout.startswith("task 1: ") and ids(folder, "shop")
 
 
@@ -163,7 +205,19 @@ def test_records_that_nothing_needs_are_removed(tmp_path: Path) -> None:
     results = Results(tmp_path)
     results.runs.mkdir()
     kept, gone = "a" * 64, "b" * 64
-    for name in (f"{kept}.json", f"{kept}.trial.json", f"{gone}.json", f"{gone}.trial.json", "own.json", f"{gone}.txt"):
+    for name in (
+        f"{kept}.json",
+        f"{kept}.trial.json",
+        f"{gone}.json",
+        f"{gone}.trial.json",
+        "own.json",
+        f"{gone}.txt",
+    ):
         (results.runs / name).write_text("{}")
     results.prune([kept])
-    assert {path.name for path in results.runs.iterdir()} == {f"{kept}.json", f"{kept}.trial.json", "own.json", f"{gone}.txt"}
+    assert {path.name for path in results.runs.iterdir()} == {
+        f"{kept}.json",
+        f"{kept}.trial.json",
+        "own.json",
+        f"{gone}.txt",
+    }

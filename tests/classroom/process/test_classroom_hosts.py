@@ -19,7 +19,12 @@ from products import classroom, run
 
 from classroom.process.hosts import place_on_hosts
 
-NEEDED = {"sshd": "openssh-server", "ssh-keygen": "openssh-client", "rsync": "rsync", "parallel": "parallel"}
+NEEDED = {
+    "sshd": "openssh-server",
+    "ssh-keygen": "openssh-client",
+    "rsync": "rsync",
+    "parallel": "parallel",
+}
 
 
 def free_port() -> int:
@@ -48,11 +53,18 @@ def hosts(tmp_path_factory: pytest.TempPathFactory) -> Iterator[list[str]]:
         config = place / f"config-{port}"
         config.write_text(
             f"Port {port}\nListenAddress 127.0.0.1\nHostKey {place}/host\nAuthorizedKeysFile {place}/keys\n"
-            "StrictModes no\nUsePAM no\nPasswordAuthentication no\nPidFile none\nMaxStartups 100\nMaxSessions 100\n")
+            "StrictModes no\nUsePAM no\nPasswordAuthentication no\nPidFile none\nMaxStartups 100\nMaxSessions 100\n"
+        )
         with open(place / f"log-{port}", "wb") as log:
-            servers.append(subprocess.Popen([str(shutil.which("sshd", path=path)), "-D", "-e", "-f", config], stderr=log))
-        lines.append(f"ssh -p {port} -i {place}/user -o BatchMode=yes -o StrictHostKeyChecking=no "
-                     f"-o UserKnownHostsFile=/dev/null -o LogLevel=ERROR {getpass.getuser()}@127.0.0.1")
+            servers.append(
+                subprocess.Popen(
+                    [str(shutil.which("sshd", path=path)), "-D", "-e", "-f", config], stderr=log
+                )
+            )
+        lines.append(
+            f"ssh -p {port} -i {place}/user -o BatchMode=yes -o StrictHostKeyChecking=no "
+            f"-o UserKnownHostsFile=/dev/null -o LogLevel=ERROR {getpass.getuser()}@127.0.0.1"
+        )
     for line in lines:
         for _ in range(50):
             ran = run("sh", "-c", f"{line} true")
@@ -76,20 +88,36 @@ def test_two_hosts(ratest: Path, tmp_path: Path, hosts: list[str]) -> None:
     shutil.copytree(tmp_path / "here/class", tmp_path / "there/class")
     (tmp_path / "hosts").write_text("# two hosts\n" + "".join(f"{line}\n" for line in hosts))
     here = classroom("grade", "--only-proved", tmp_path / "here/class")
-    there = classroom("grade", "--only-proved", tmp_path / "there/class", "--hosts", tmp_path / "hosts", "--jobs", "2")
-    assert (here.returncode, here.stderr) == (there.returncode, there.stderr) == (1, made_class.left(tmp_path / "here/class"))
+    there = classroom(
+        "grade",
+        "--only-proved",
+        tmp_path / "there/class",
+        "--hosts",
+        tmp_path / "hosts",
+        "--jobs",
+        "2",
+    )
+    assert (
+        (here.returncode, here.stderr)
+        == (there.returncode, there.stderr)
+        == (1, made_class.left(tmp_path / "here/class"))
+    )
     assert here.stdout.splitlines()[0] == there.stdout.splitlines()[0]
     same(tmp_path / "here/class", tmp_path / "there/class")
     assert not place_of(tmp_path / "there/class").exists()
 
 
-def test_a_host_that_does_not_answer(ratest: Path, tmp_path: Path, beers: Path, hosts: list[str]) -> None:
+def test_a_host_that_does_not_answer(
+    ratest: Path, tmp_path: Path, beers: Path, hosts: list[str]
+) -> None:
     port = free_port()
     (tmp_path / "hosts").write_text(f"{hosts[0]}\nssh -p {port} nobody@127.0.0.1\n")
     ran = classroom("grade", "--only-proved", beers, "--hosts", tmp_path / "hosts")
     assert ran.returncode == 0, ran.stderr
     assert ran.stderr.count("\n") == 1
-    assert ran.stderr.startswith(f"classroom: the host ssh -p {port} nobody@127.0.0.1 is left out: ")
+    assert ran.stderr.startswith(
+        f"classroom: the host ssh -p {port} nobody@127.0.0.1 is left out: "
+    )
     (tmp_path / "hosts").write_text(f"ssh -p {port} nobody@127.0.0.1\n")
     shutil.rmtree(beers / "results")
     ran = classroom("grade", "--only-proved", beers, "--hosts", tmp_path / "hosts")
@@ -102,7 +130,13 @@ def test_killed_with_hosts(ratest: Path, tmp_path: Path, hosts: list[str]) -> No
     made_class.make(tmp_path / "one/class", 60)
     shutil.copytree(tmp_path / "one/class", tmp_path / "two/class")
     (tmp_path / "hosts").write_text("".join(f"{line}\n" for line in hosts))
-    words = [str(made_class.TOP / "classroom"), "grade", str(tmp_path / "one/class"), "--hosts", str(tmp_path / "hosts")]
+    words = [
+        str(made_class.TOP / "classroom"),
+        "grade",
+        str(tmp_path / "one/class"),
+        "--hosts",
+        str(tmp_path / "hosts"),
+    ]
     process = subprocess.Popen(words, stdout=subprocess.DEVNULL, stderr=subprocess.DEVNULL)
     runs = tmp_path / "one/class/results/runs"
     for _ in range(600):
@@ -113,7 +147,12 @@ def test_killed_with_hosts(ratest: Path, tmp_path: Path, hosts: list[str]) -> No
     process.send_signal(signal.SIGKILL)
     process.wait()
     left = made_class.left(tmp_path / "two/class")
-    assert classroom("grade", "--only-proved", tmp_path / "one/class", "--hosts", tmp_path / "hosts").stderr == left
+    assert (
+        classroom(
+            "grade", "--only-proved", tmp_path / "one/class", "--hosts", tmp_path / "hosts"
+        ).stderr
+        == left
+    )
     assert classroom("grade", "--only-proved", tmp_path / "two/class").stderr == left
     assert without_seconds(tmp_path / "one/class") == without_seconds(tmp_path / "two/class")
     assert not place_of(tmp_path / "one/class").exists()

@@ -23,8 +23,23 @@ from classroom.process.limits import Ran
 from classroom.verdict.witness import Agree, Kept, NoVerdict, Refused, Undecided, Witness, read
 
 VOID = ("meta", "link", "input")
-ATTRIBUTES = ("lang", "charset", "name", "content", "rel", "href", "id", "class", "scope", "type", "checked",
-              "autocomplete", "tabindex", "title", "aria-label")
+ATTRIBUTES = (
+    "lang",
+    "charset",
+    "name",
+    "content",
+    "rel",
+    "href",
+    "id",
+    "class",
+    "scope",
+    "type",
+    "checked",
+    "autocomplete",
+    "tabindex",
+    "title",
+    "aria-label",
+)
 
 
 class Page(html.parser.HTMLParser):
@@ -93,8 +108,12 @@ class Page(html.parser.HTMLParser):
             self.tables.setdefault(f"{self.heading}: {self.caption}", []).append(self.rows)
         elif tag == "table" and self.kind == "matrix":
             tasks = self.rows[0][1:-1]
-            self.grades = {(f"{task}/{row[0]}" if len(tasks) > 1 else row[0]): mark.partition(": ")[2]
-                           for row in self.rows[1:-3] for task, mark in zip(tasks, row[1:-1]) if mark != "\u2013"}
+            self.grades = {
+                (f"{task}/{row[0]}" if len(tasks) > 1 else row[0]): mark.partition(": ")[2]
+                for row in self.rows[1:-3]
+                for task, mark in zip(tasks, row[1:-1])
+                if mark != "\u2013"
+            }
         elif tag == "table":
             self.counts = self.rows
 
@@ -102,7 +121,7 @@ class Page(html.parser.HTMLParser):
 def checked(text: str) -> Page:
     page = Page(text)
     assert not re.search(r"<script|http|url\(|@import", text, re.IGNORECASE)
-    assert text.startswith("<!DOCTYPE html>\n<html lang=\"en\">")
+    assert text.startswith('<!DOCTYPE html>\n<html lang="en">')
     assert '<meta name="viewport"' in text
     assert len(page.ids) == len(set(page.ids)), "id twice"
     for link in page.links:
@@ -154,11 +173,19 @@ def test_example(ratest: Path, graded: Path) -> None:
 def test_groups(ratest: Path, tmp_path: Path) -> None:
     """The same witness once, with the answers that share it, the most frequent first."""
     made_class.make(tmp_path / "class", 100)
-    assert classroom("grade", "--only-proved", tmp_path / "class").stderr == made_class.left(tmp_path / "class")
+    assert classroom("grade", "--only-proved", tmp_path / "class").stderr == made_class.left(
+        tmp_path / "class"
+    )
     page = checked((tmp_path / "class/results/page.html").read_text())
     assert sum(int(row[-1]) for row in page.counts[1:]) == 100
-    differing = [[int(found[1]) for head in part if (found := re.search(r"^differs on .* ([0-9]+) answers?$", head))]
-                 for part in split(page.groups)]
+    differing = [
+        [
+            int(found[1])
+            for head in part
+            if (found := re.search(r"^differs on .* ([0-9]+) answers?$", head))
+        ]
+        for part in split(page.groups)
+    ]
     assert all(sizes == sorted(sizes, reverse=True) for sizes in differing)
     assert len(page.grades) == 100 and 5 < len(page.groups) < 50
 
@@ -181,8 +208,11 @@ def test_without_reference(graded: Path, tmp_path: Path) -> None:
     checked(text)
     for task in "12345":
         for line in (graded / task / "reference.sql").read_text().splitlines():
-            assert draw.environment().from_string("{{ line }}").render(line=line) not in text or any(
-                line in answer.read_text() for answer in (graded / task / "answers").iterdir()), line
+            assert draw.environment().from_string("{{ line }}").render(
+                line=line
+            ) not in text or any(
+                line in answer.read_text() for answer in (graded / task / "answers").iterdir()
+            ), line
 
 
 def test_page_is_made_again(graded: Path) -> None:
@@ -193,46 +223,77 @@ def test_page_is_made_again(graded: Path) -> None:
     assert page.read_bytes() == text
 
 
-@pytest.mark.parametrize("spoil, told", [
-    (lambda folder: shutil.rmtree(folder / "results"), "{folder} is not graded: classroom grade does that"),
-    (lambda folder: (folder / "3/answers/b.sql").write_text("SELECT"),
-     "task 3: the answer b has changed since it was graded: classroom grade grades it anew"),
-    (lambda folder: (folder / "3/answers/d.sql").write_text("SELECT"),
-     "task 3: the answer d has changed since it was graded: classroom grade grades it anew"),
-    (lambda folder: (folder / "3/reference.sql").write_text("SELECT"),
-     "task 3: reference.sql has changed since it was graded: classroom grade grades it anew"),
-    (lambda folder: (folder / "bar.csv").write_text("name,city\n"),
-     "{folder}: the schema or a row has changed since it was graded: classroom grade grades it anew")])
+@pytest.mark.parametrize(
+    "spoil, told",
+    [
+        (
+            lambda folder: shutil.rmtree(folder / "results"),
+            "{folder} is not graded: classroom grade does that",
+        ),
+        (
+            lambda folder: (folder / "3/answers/b.sql").write_text("SELECT"),
+            "task 3: the answer b has changed since it was graded: classroom grade grades it anew",
+        ),
+        (
+            lambda folder: (folder / "3/answers/d.sql").write_text("SELECT"),
+            "task 3: the answer d has changed since it was graded: classroom grade grades it anew",
+        ),
+        (
+            lambda folder: (folder / "3/reference.sql").write_text("SELECT"),
+            "task 3: reference.sql has changed since it was graded: classroom grade grades it anew",
+        ),
+        (
+            lambda folder: (folder / "bar.csv").write_text("name,city\n"),
+            "{folder}: the schema or a row has changed since it was graded: classroom grade grades it anew",
+        ),
+    ],
+)
 def test_refusals(graded: Path, spoil: Any, told: str) -> None:
     spoil(graded)
     ran = classroom("page", graded)
-    assert (ran.returncode, ran.stdout, ran.stderr) == (1, "", f"classroom: {told.format(folder=graded)}\n")
+    assert (ran.returncode, ran.stdout, ran.stderr) == (
+        1,
+        "",
+        f"classroom: {told.format(folder=graded)}\n",
+    )
 
 
 # In a browser.
 
+
 def visible(browser: Any, selector: str) -> list[str]:
     texts: list[str] = browser.execute_script(
         "return [...document.querySelectorAll(arguments[0])].filter(e => e.offsetParent !== null).map(e => e.innerText)",
-        selector)
+        selector,
+    )
     return texts
 
 
 def test_in_a_browser(browser: Any, odd: Path, graded: Path) -> None:
     for folder in (odd, graded):
         for width in (390, 1200):
-            browser.execute_cdp_cmd("Emulation.setDeviceMetricsOverride", {
-                "width": width, "height": 2000, "deviceScaleFactor": 1, "mobile": width < 500})
+            browser.execute_cdp_cmd(
+                "Emulation.setDeviceMetricsOverride",
+                {"width": width, "height": 2000, "deviceScaleFactor": 1, "mobile": width < 500},
+            )
             browser.get((folder / "results/page.html").as_uri())
-            assert browser.execute_script("return document.documentElement.scrollWidth") == width, folder
-            assert browser.execute_script("return performance.getEntriesByType('resource').length") == 0
+            assert (
+                browser.execute_script("return document.documentElement.scrollWidth") == width
+            ), folder
+            assert (
+                browser.execute_script("return performance.getEntriesByType('resource').length")
+                == 0
+            )
             assert browser.execute_script("return document.scripts.length") == 0
             assert not browser.get_log("browser")
 
 
 def test_filter(browser: Any, odd: Path, graded: Path) -> None:
     browser.get((graded / "results/page.html").as_uri())
-    assert len(visible(browser, ".matrix tbody tr")) == 3 and len(visible(browser, ".matrix tbody td > a")) == 15
+    assert (
+        len(visible(browser, ".matrix tbody tr")) == 3
+        and len(visible(browser, ".matrix tbody td > a")) == 15
+    )
     browser.find_element("id", "show-task-2").click()
     assert len(visible(browser, ".matrix tbody td > a")) == 12
     assert visible(browser, ".counts tbody th") == ["1", "3", "4", "5"]
@@ -242,7 +303,9 @@ def test_filter(browser: Any, odd: Path, graded: Path) -> None:
     before = visible(browser, "section.answer h3 .grade")
     browser.find_element("xpath", "//label[contains(., 'agrees')]/input").click()
     assert len(visible(browser, ".matrix tbody tr")) == 13
-    assert [words for words in before if words != "agrees"] == visible(browser, "section.answer h3 .grade")
+    assert [words for words in before if words != "agrees"] == visible(
+        browser, "section.answer h3 .grade"
+    )
 
 
 def test_dark_and_paper(browser: Any, graded: Path) -> None:
@@ -251,28 +314,45 @@ def test_dark_and_paper(browser: Any, graded: Path) -> None:
         return told
 
     browser.get((graded / "results/page.html").as_uri())
-    browser.execute_cdp_cmd("Emulation.setEmulatedMedia", {"features": [{"name": "prefers-color-scheme", "value": "dark"}]})
+    browser.execute_cdp_cmd(
+        "Emulation.setEmulatedMedia",
+        {"features": [{"name": "prefers-color-scheme", "value": "dark"}]},
+    )
     assert color() == "rgb(23, 25, 27)"
-    browser.execute_cdp_cmd("Emulation.setEmulatedMedia", {"media": "print", "features": [
-        {"name": "prefers-color-scheme", "value": "dark"}]})
+    browser.execute_cdp_cmd(
+        "Emulation.setEmulatedMedia",
+        {"media": "print", "features": [{"name": "prefers-color-scheme", "value": "dark"}]},
+    )
     assert color() == "rgb(255, 255, 255)"
-    assert visible(browser, ".filter") == visible(browser, ".back") == visible(browser, ".sql") == []
+    assert (
+        visible(browser, ".filter") == visible(browser, ".back") == visible(browser, ".sql") == []
+    )
     # The texts that are folded on the screen stand on paper.
     heights = browser.execute_script(
-        "return [...document.querySelectorAll('.texts figure')].map(e => e.getBoundingClientRect().height)")
+        "return [...document.querySelectorAll('.texts figure')].map(e => e.getBoundingClientRect().height)"
+    )
     assert heights and min(heights) > 20
     browser.execute_cdp_cmd("Emulation.setEmulatedMedia", {"media": "", "features": []})
 
 
 # The rows as SQL.
 
+
 def of_beers(ratest: Path) -> list[tuple[str, str, Witness]]:
     given = exercise.load(TOP / "examples/beers")
     found = []
     for task in given.tasks:
         for answer in task.answers:
-            ran = products.run(ratest, given.folder / "schema.sql", given.folder, task.folder / "reference.sql", task.folder / f"answers/{answer.name}.sql")
-            outcome = read(Ran(ran.returncode, ran.stdout.encode(), ran.stderr.encode(), 0, ""), given.tables)
+            ran = products.run(
+                ratest,
+                given.folder / "schema.sql",
+                given.folder,
+                task.folder / "reference.sql",
+                task.folder / f"answers/{answer.name}.sql",
+            )
+            outcome = read(
+                Ran(ran.returncode, ran.stdout.encode(), ran.stderr.encode(), 0, ""), given.tables
+            )
             assert isinstance(outcome, Witness)
             found.append((task.reference.decode(), answer.text.whole.decode(), outcome))
     return found
@@ -308,11 +388,16 @@ def test_odd_rows_as_sql(odd: Path) -> None:
     assert isinstance(outcome, Witness)
     database = sqlite3.connect(":memory:")
     database.executescript(draw.sql(outcome.kept, tables))
-    kept = [tuple(row) for table in tables[:2] for row in database.execute(f"SELECT * FROM {draw.quoted(table.name)}")]
+    kept = [
+        tuple(row)
+        for table in tables[:2]
+        for row in database.execute(f"SELECT * FROM {draw.quoted(table.name)}")
+    ]
     assert kept == [row.cells for row in outcome.kept]
 
 
 # What is read of printed texts.
+
 
 def test_printed_texts(odd: Path) -> None:
     tables = exercise.load(odd).tables
@@ -325,9 +410,14 @@ def test_printed_texts(odd: Path) -> None:
     assert of(1, "agree\n") == NoVerdict("agree\n")
     assert of(4, "undecided: 7 conflicts\n") == Undecided(7, None)
     assert of(4, "undecided: 7 conflicts\nbest so far: 1\nt 9: 'a', NULL, -1\n") == Undecided(
-        7, (Kept("t", 9, ("a", None, -1)),))
-    assert of(3, "", "ratest: query 2: syntax fault near byte 12\n") == Refused("query 2", "syntax fault near byte 12", 12)
-    assert of(3, "", "ratest: query 2: unknown column: x\nratest: query 1: not UTF-8 at byte 3\n") == Refused(
-        "query 2", "unknown column: x\nratest: query 1: not UTF-8 at byte 3", None)
+        7, (Kept("t", 9, ("a", None, -1)),)
+    )
+    assert of(3, "", "ratest: query 2: syntax fault near byte 12\n") == Refused(
+        "query 2", "syntax fault near byte 12", 12
+    )
+    assert of(
+        3, "", "ratest: query 2: unknown column: x\nratest: query 1: not UTF-8 at byte 3\n"
+    ) == Refused("query 2", "unknown column: x\nratest: query 1: not UTF-8 at byte 3", None)
     assert of(3, "", "ratest: table a: b: record 1, column 2: not UTF-8\n") == Refused(
-        "table a", "b: record 1, column 2: not UTF-8", None)
+        "table a", "b: record 1, column 2: not UTF-8", None
+    )

@@ -29,16 +29,32 @@ from classroom.web.queue import Busy, Places  # noqa: E402
 
 WRONG = (TOP / "examples/beers/3/answers/b.sql").read_text()
 RIGHT = (TOP / "examples/beers/3/reference.sql").read_text()
-HOSTILE = ("</textarea></code><script>alert(1)</script>", "SELECT '\x00\x01\x1b[31m\ufffe' FROM bar", "\u202eSELECT name FROM bar",
-           "(" * 60_000, "SELECT name FROM bar WHERE " + "NOT " * 15_000 + "city = ''", "'" * 65_000, "{{ 7 * 7 }} {% raw %}",
-           "SELECT '" + "\U0001f37a" * 16_000 + "' FROM bar", "-- \r\r\n\n\r", "SELECT * FROM bar a, bar b, bar c, bar d, bar e",
-           " UNION ".join(["SELECT name FROM bar"] * 2_000), "../../../../etc/passwd", "--help", "-", "", ";")
+HOSTILE = (
+    "</textarea></code><script>alert(1)</script>",
+    "SELECT '\x00\x01\x1b[31m\ufffe' FROM bar",
+    "\u202eSELECT name FROM bar",
+    "(" * 60_000,
+    "SELECT name FROM bar WHERE " + "NOT " * 15_000 + "city = ''",
+    "'" * 65_000,
+    "{{ 7 * 7 }} {% raw %}",
+    "SELECT '" + "\U0001f37a" * 16_000 + "' FROM bar",
+    "-- \r\r\n\n\r",
+    "SELECT * FROM bar a, bar b, bar c, bar d, bar e",
+    " UNION ".join(["SELECT name FROM bar"] * 2_000),
+    "../../../../etc/passwd",
+    "--help",
+    "-",
+    "",
+    ";",
+)
 
 
 @pytest.fixture(scope="module")
 def beers_once(tmp_path_factory: pytest.TempPathFactory) -> Path:
     folder = tmp_path_factory.mktemp("served") / "beers"
-    shutil.copytree(TOP / "examples/beers", folder, ignore=shutil.ignore_patterns("results", "page.html"))
+    shutil.copytree(
+        TOP / "examples/beers", folder, ignore=shutil.ignore_patterns("results", "page.html")
+    )
     (folder / "3/question.txt").write_text("Which bars serve <exactly> one beer?\n")
     return folder
 
@@ -51,16 +67,28 @@ def server(ratest: Path, beers_once: Path) -> Iterator[Server]:
 
 # What a student sees.
 
+
 def test_the_form(server: Server) -> None:
     got = server.send("GET", "/")
     assert got.status == 200 and got.headers["Content-Type"] == "text/html; charset=utf-8"
     assert re.findall(r'<option value="(.)">\1</option>', got.body) == list("12345")
     assert "Which bars serve &lt;exactly&gt; one beer?" in got.body
     assert "CREATE TABLE frequents (drinker TEXT REFERENCES drinker" in got.body
-    policy = dict(part.strip().split(" ", 1) for part in got.headers["Content-Security-Policy"].split(";"))
+    policy = dict(
+        part.strip().split(" ", 1) for part in got.headers["Content-Security-Policy"].split(";")
+    )
     assert policy["default-src"] == policy["base-uri"] == policy["frame-ancestors"] == "'none'"
-    assert policy["script-src"] == policy["style-src"] == policy["connect-src"] == policy["form-action"] == "'self'"
-    assert got.headers["X-Content-Type-Options"] == "nosniff" and got.headers["Cache-Control"] == "no-store"
+    assert (
+        policy["script-src"]
+        == policy["style-src"]
+        == policy["connect-src"]
+        == policy["form-action"]
+        == "'self'"
+    )
+    assert (
+        got.headers["X-Content-Type-Options"] == "nosniff"
+        and got.headers["Cache-Control"] == "no-store"
+    )
     # All that the page asks for is here.
     assert not re.search("https?:|//", got.body)
     for name in re.findall(r'(?:src|href)="([^"]*)"', got.body):
@@ -71,7 +99,13 @@ def test_differs(server: Server) -> None:
     """The rows that the README explains."""
     got = server.ask("3", WRONG)
     assert got.status == 200 and got.verdict == "differs on 5 rows"
-    assert re.findall("<caption>(.*?)</caption>", got.answer) == ["bar", "beer", "serves", "Reference: 0 rows", "Answer: 1 row"]
+    assert re.findall("<caption>(.*?)</caption>", got.answer) == [
+        "bar",
+        "beer",
+        "serves",
+        "Reference: 0 rows",
+        "Answer: 1 row",
+    ]
     assert '<td class="text">Corona</td><td class="null">NULL</td>' in got.answer
     assert '<option value="3" selected>' in got.body
     assert WRONG.split("\n")[0] in got.body
@@ -82,22 +116,49 @@ def test_agrees(server: Server) -> None:
     assert server.ask("3", RIGHT.replace("\n", "\r\n") + ";").verdict == "agrees"
 
 
-@pytest.mark.parametrize("query, told, before, marked", [
-    ("SELECT name\nFROM WHERE x", "refused: syntax fault near byte 17 (line 2, column 6)", "SELECT name\nFROM ", "WHERE"),
-    ("SELECT 'é', (", "refused: syntax fault near byte 14 (line 1, column 14)", "SELECT &#39;é&#39;, (", ""),
-    ("SELECT '\U0001f37a' ? x", "refused: unexpected byte at 14 (line 1, column 12)", "SELECT &#39;\U0001f37a&#39; ", "?"),
-    ("SELECT 'x", "refused: text without end from byte 7 (line 1, column 8)", "SELECT ", "&#39;"),
-])
-def test_the_place_of_a_fault(server: Server, query: str, told: str, before: str, marked: str) -> None:
+@pytest.mark.parametrize(
+    "query, told, before, marked",
+    [
+        (
+            "SELECT name\nFROM WHERE x",
+            "refused: syntax fault near byte 17 (line 2, column 6)",
+            "SELECT name\nFROM ",
+            "WHERE",
+        ),
+        (
+            "SELECT 'é', (",
+            "refused: syntax fault near byte 14 (line 1, column 14)",
+            "SELECT &#39;é&#39;, (",
+            "",
+        ),
+        (
+            "SELECT '\U0001f37a' ? x",
+            "refused: unexpected byte at 14 (line 1, column 12)",
+            "SELECT &#39;\U0001f37a&#39; ",
+            "?",
+        ),
+        (
+            "SELECT 'x",
+            "refused: text without end from byte 7 (line 1, column 8)",
+            "SELECT ",
+            "&#39;",
+        ),
+    ],
+)
+def test_the_place_of_a_fault(
+    server: Server, query: str, told: str, before: str, marked: str
+) -> None:
     got = server.ask("1", query)
     assert got.verdict == told
     assert f"<code>{before}<mark>{marked}</mark>" in got.answer
 
 
 def test_refused_without_a_place(server: Server) -> None:
-    for query, told in (("SELECT count(*) FROM bar", "refused: not supported: count"),
-                        ("SELECT nmae FROM bar", "refused: unknown column: nmae"),
-                        ("SELECT * FROM bar", "refused: numbers of columns differ")):
+    for query, told in (
+        ("SELECT count(*) FROM bar", "refused: not supported: count"),
+        ("SELECT nmae FROM bar", "refused: unknown column: nmae"),
+        ("SELECT * FROM bar", "refused: numbers of columns differ"),
+    ):
         got = server.ask("1", query)
         assert got.verdict == told and "<mark>" not in got.answer
 
@@ -111,20 +172,46 @@ MARKS = ("of_nobody", "sesame 4711", "remark_8151", "FROM frequents of_nobody")
 def marked(beers: Path) -> Path:
     """An exercise whose reference has marks in it that no answer needs."""
     (beers / "1/reference.sql").write_text(
-        "-- remark_8151\nSELECT of_nobody.drinker FROM frequents of_nobody WHERE of_nobody.bar <> 'sesame 4711'\n")
+        "-- remark_8151\nSELECT of_nobody.drinker FROM frequents of_nobody WHERE of_nobody.bar <> 'sesame 4711'\n"
+    )
     return beers
 
 
 def test_the_reference_is_never_sent(ratest: Path, marked: Path) -> None:
-    files = ("question.txt", "1/reference.sql", "results/asked.db", "schema.sql", "0.reference", "..%2f1%2freference.sql",
-             "1/../1/reference.sql", "%2e%2e/0.reference", "static/ask.js", "?task=../1/reference.sql", "//0.reference")
+    files = (
+        "question.txt",
+        "1/reference.sql",
+        "results/asked.db",
+        "schema.sql",
+        "0.reference",
+        "..%2f1%2freference.sql",
+        "1/../1/reference.sql",
+        "%2e%2e/0.reference",
+        "static/ask.js",
+        "?task=../1/reference.sql",
+        "//0.reference",
+    )
     with serving(marked) as server:
         got = [server.send("GET", f"/{name}") for name in files]
-        assert [reply.status for reply in got] == [200 if name.startswith("?") else 404 for name in files]
-        got += [server.ask("1", query) for query in (
-            *HOSTILE, "SELECT drinker FROM frequents", "SELECT name FROM bar", "SELECT of_somebody FROM bar",
-            "SELECT drinker FROM likes", "SELECT drinker, bar FROM frequents", "SELECT price FROM serves")]
-        got += [server.ask(task, "SELECT 1") for task in ("0", "../1", "0.reference", "1/../1", "\0", "1\n")]
+        assert [reply.status for reply in got] == [
+            200 if name.startswith("?") else 404 for name in files
+        ]
+        got += [
+            server.ask("1", query)
+            for query in (
+                *HOSTILE,
+                "SELECT drinker FROM frequents",
+                "SELECT name FROM bar",
+                "SELECT of_somebody FROM bar",
+                "SELECT drinker FROM likes",
+                "SELECT drinker, bar FROM frequents",
+                "SELECT price FROM serves",
+            )
+        ]
+        got += [
+            server.ask(task, "SELECT 1")
+            for task in ("0", "../1", "0.reference", "1/../1", "\0", "1\n")
+        ]
         texts = [reply.body + str(reply.headers) for reply in got]
     texts.append(server.errors.read_text())
     kept = [path for path in (marked / "results").rglob("*") if path.is_file()]
@@ -137,7 +224,9 @@ def test_the_reference_is_never_sent(ratest: Path, marked: Path) -> None:
 
 def test_a_reference_that_is_refused_later(marked: Path, stand_in: Path) -> None:
     """What is told of the reference, as a name in it, is kept from the page, the log and the file."""
-    with serving(marked, ratest=stand_in, errors="classroom: task '1': no verdict: status 6\n") as server:
+    with serving(
+        marked, ratest=stand_in, errors="classroom: task '1': no verdict: status 6\n"
+    ) as server:
         assert server.ask("1", "tells of_nobody").verdict == "no verdict"
         assert not server.ask("1", "agrees").body.count("of_nobody")
     assert b"query 1: unknown column: of_nobody" not in (marked / "results/asked.db").read_bytes()
@@ -145,23 +234,52 @@ def test_a_reference_that_is_refused_later(marked: Path, stand_in: Path) -> None
 
 def test_what_is_asked(ratest: Path, beers: Path) -> None:
     with serving(beers) as server:
-        for query in (WRONG, WRONG, "-- x\n" + WRONG, "SELECT name FROM bar", RIGHT, "SELECT", WRONG):
-            assert server.ask("3", query, {"Cookie": "visitor=Mary", "X-Forwarded-For": "192.0.2.7"}).status == 200
+        for query in (
+            WRONG,
+            WRONG,
+            "-- x\n" + WRONG,
+            "SELECT name FROM bar",
+            RIGHT,
+            "SELECT",
+            WRONG,
+        ):
+            assert (
+                server.ask(
+                    "3", query, {"Cookie": "visitor=Mary", "X-Forwarded-For": "192.0.2.7"}
+                ).status
+                == 200
+            )
     with sqlite3.connect(beers / "results/asked.db") as database:
         rows = database.execute("SELECT time, task, text, verdict FROM asked").fetchall()
     assert [(task, text, verdict) for _, task, text, verdict in rows] == [
-        ("3", WRONG, "differs"), ("3", WRONG, "differs"), ("3", "-- x\n" + WRONG, "differs"),
-        ("3", "SELECT name FROM bar", "differs"), ("3", RIGHT, "agrees"), ("3", "SELECT", "not read"), ("3", WRONG, "differs")]
+        ("3", WRONG, "differs"),
+        ("3", WRONG, "differs"),
+        ("3", "-- x\n" + WRONG, "differs"),
+        ("3", "SELECT name FROM bar", "differs"),
+        ("3", RIGHT, "agrees"),
+        ("3", "SELECT", "not read"),
+        ("3", WRONG, "differs"),
+    ]
     assert all(re.fullmatch(r"\d{4}-\d\d-\d\dT\d\d:00Z", row[0]) for row in rows)
     content = (beers / "results/asked.db").read_bytes()
     assert b"Mary" not in content and b"192.0.2.7" not in content and b"127.0.0.1" not in content
     assert classroom("page", beers, "--asked").returncode == 0
     page = (beers / "results/asked.html").read_text()
-    found = re.findall(r'<h3><span class="grade [a-z-]*">(.*?)</span> <span class="share">(.*?)</span>', page)
-    assert found[0] == ("differs on 5 rows", "4 questions") and found[-1] == ("agrees", "1 question")
+    found = re.findall(
+        r'<h3><span class="grade [a-z-]*">(.*?)</span> <span class="share">(.*?)</span>', page
+    )
+    assert found[0] == ("differs on 5 rows", "4 questions") and found[-1] == (
+        "agrees",
+        "1 question",
+    )
     assert len(found) == 4 and "Asked 3 times" in page and "1 more text" in page
-    assert "exactly one beer" in page    # the remark in the reference
-    assert classroom("page", beers, "--asked", "--no-reference", "--output", beers / "students.html").returncode == 0
+    assert "exactly one beer" in page  # the remark in the reference
+    assert (
+        classroom(
+            "page", beers, "--asked", "--no-reference", "--output", beers / "students.html"
+        ).returncode
+        == 0
+    )
     # Of the texts those alone that differ are shown to students.
     students = html.unescape((beers / "students.html").read_text())
     assert "exactly one beer" not in students and WRONG.rstrip("\n") in students
@@ -169,31 +287,43 @@ def test_what_is_asked(ratest: Path, beers: Path) -> None:
     # What was asked of the exercise as it was before a change is left out.
     (beers / "3/reference.sql").write_text("SELECT bar FROM serves")
     assert classroom("page", beers, "--asked").returncode == 0
-    assert "7 questions about an exercise that has changed since are left out." in (beers / "results/asked.html").read_text()
+    assert (
+        "7 questions about an exercise that has changed since are left out."
+        in (beers / "results/asked.html").read_text()
+    )
 
 
 def test_nothing_was_asked(beers: Path) -> None:
     ran = classroom("page", beers, "--asked")
-    assert (ran.returncode, ran.stderr) == (1, f"classroom: there is no file {beers}/results/asked.db: classroom serve makes it\n")
+    assert (ran.returncode, ran.stderr) == (
+        1,
+        f"classroom: there is no file {beers}/results/asked.db: classroom serve makes it\n",
+    )
 
 
 def test_the_file_is_full(ratest: Path, beers: Path) -> None:
     told = f"classroom: {beers}/results/asked.db: questions are not kept any more: database or disk is full\n"
     with serving(beers, "--asked-size", "1", errors=told) as server:
         for number in range(24):
-            assert server.ask("1", f"SELECT name FROM bar -- {number}{'x' * 60_000}").verdict.startswith("differs on ")
+            assert server.ask(
+                "1", f"SELECT name FROM bar -- {number}{'x' * 60_000}"
+            ).verdict.startswith("differs on ")
     assert (beers / "results/asked.db").stat().st_size <= 1_000_000
     assert classroom("page", beers, "--asked").returncode == 0
 
 
 # How much is shown.
 
+
 def test_only_the_verdict(ratest: Path, beers: Path) -> None:
     with serving(beers, "--only-verdict") as server:
         got = server.ask("3", WRONG)
         assert got.verdict == "differs" and "<table" not in got.answer and "row" not in got.answer
         assert server.ask("3", RIGHT).verdict == "agrees"
-        assert server.ask("3", "SELECT (").verdict == "refused: syntax fault near byte 8 (line 1, column 9)"
+        assert (
+            server.ask("3", "SELECT (").verdict
+            == "refused: syntax fault near byte 8 (line 1, column 9)"
+        )
 
 
 def test_so_many_an_hour(ratest: Path, beers: Path) -> None:
@@ -218,7 +348,9 @@ def test_twenty_an_hour_where_nothing_is_said(ratest: Path, beers: Path) -> None
     queries = [f"SELECT name FROM drinker WHERE name <> '{number}'" for number in range(21)]
     with serving(beers) as server:
         own = {"Cookie": server.send("GET", "/").cookies[0].split(";")[0]}
-        assert ["<table" in server.ask("1", query, own).answer for query in queries] == [True] * 20 + [False]
+        assert ["<table" in server.ask("1", query, own).answer for query in queries] == [
+            True
+        ] * 20 + [False]
     with serving(beers, "--hourly", "0") as server:
         assert all("<table" in server.ask("1", query, own).answer for query in queries)
 
@@ -228,7 +360,10 @@ def test_visitors(monkeypatch: pytest.MonkeyPatch) -> None:
     clock = 1_000_000.0
     monkeypatch.setattr(time, "time", lambda: clock)
     known = Visitors(3)
-    dropped = [known.may_see(known.visitor("", "192.0.2.7", ""), f"{number}") for number in range(3 * SHARING + 5)]
+    dropped = [
+        known.may_see(known.visitor("", "192.0.2.7", ""), f"{number}")
+        for number in range(3 * SHARING + 5)
+    ]
     assert dropped == [True] * 3 * SHARING + [False] * 5
     assert known.may_see(known.visitor("", "192.0.2.8", ""), "1")
     clock += 3599
@@ -288,11 +423,19 @@ def calls(stand_in: Path, text: str = "") -> list[list[Any]]:
 def test_a_call_has_no_environment_and_no_network(beers: Path, stand_in: Path) -> None:
     with serving(beers, "--work", "9", ratest=stand_in) as server:
         assert server.ask("1", "agrees").verdict == "agrees"
-    (_, words, environment, _, devices), = calls(stand_in, "agrees")
+    ((_, words, environment, _, devices),) = calls(stand_in, "agrees")
     # Python itself sets the one that is there.
     assert set(environment) <= {"LC_CTYPE"}
     assert [line.split(":")[0].strip() for line in str(devices).splitlines()[2:]] == ["lo"]
-    assert [word for word in words if "question" not in word] == ["schema.sql", ".", "0.reference", "--conflicts", "2000", "--work", "9"]
+    assert [word for word in words if "question" not in word] == [
+        "schema.sql",
+        ".",
+        "0.reference",
+        "--conflicts",
+        "2000",
+        "--work",
+        "9",
+    ]
 
 
 def test_time_and_the_best_rows_so_far(beers: Path, stand_in: Path) -> None:
@@ -300,14 +443,22 @@ def test_time_and_the_best_rows_so_far(beers: Path, stand_in: Path) -> None:
         got = server.ask("1", "sleeps")
         assert got.verdict == "no verdict" and "There is no verdict within 2 seconds." in got.answer
         got = server.ask("1", "sleeps for best")
-        assert got.verdict == "differs on 1 row, perhaps on fewer" and "Best rows so far" in got.answer
+        assert (
+            got.verdict == "differs on 1 row, perhaps on fewer" and "Best rows so far" in got.answer
+        )
         assert not server.family()
 
 
 def test_memory_output_and_failures(beers: Path, stand_in: Path) -> None:
-    with serving(beers, ratest=stand_in, errors="classroom: task '1': no verdict: status -11\n" * 2) as server:
-        for query, told in (("eats", "within the memory"), ("fills", "too many to be shown"), ("dies", "The program failed"),
-                            ("dies", "The program failed")):
+    with serving(
+        beers, ratest=stand_in, errors="classroom: task '1': no verdict: status -11\n" * 2
+    ) as server:
+        for query, told in (
+            ("eats", "within the memory"),
+            ("fills", "too many to be shown"),
+            ("dies", "The program failed"),
+            ("dies", "The program failed"),
+        ):
             got = server.ask("1", query)
             assert got.verdict == "no verdict" and told in got.answer, query
         assert server.resident() < 200_000_000
@@ -315,20 +466,30 @@ def test_memory_output_and_failures(beers: Path, stand_in: Path) -> None:
 
 def test_a_text_is_answered_from_what_is_kept(beers: Path, stand_in: Path) -> None:
     with serving(beers, ratest=stand_in) as server:
-        for task, query in (("1", "agrees"), ("1", "agrees"), ("2", "agrees"), ("1", "agrees "), ("1", "agrees")):
+        for task, query in (
+            ("1", "agrees"),
+            ("1", "agrees"),
+            ("2", "agrees"),
+            ("1", "agrees "),
+            ("1", "agrees"),
+        ):
             assert server.ask(task, query).verdict == "agrees"
     assert len(calls(stand_in, "agrees")) == 3
 
 
 def test_so_many_at_once(beers: Path, stand_in: Path) -> None:
     """Of eight at once one runs, three wait and four are told to ask again, at once and with their query."""
-    with serving(beers, "--jobs", "1", "--queue", "3", "--proxy", "127.0.0.1", ratest=stand_in) as server:
+    with serving(
+        beers, "--jobs", "1", "--queue", "3", "--proxy", "127.0.0.1", ratest=stand_in
+    ) as server:
         got: list[tuple[int, float, str]] = []
 
         def ask(number: int) -> None:
             begun = time.monotonic()
             reply = server.ask("1", f"takes {number}", {"X-Forwarded-For": f"192.0.2.{number}"})
-            got.append((reply.status, time.monotonic() - begun, reply.headers.get("Retry-After", "")))
+            got.append(
+                (reply.status, time.monotonic() - begun, reply.headers.get("Retry-After", ""))
+            )
             assert f"takes {number}</textarea>" in reply.body
 
         askers = [threading.Thread(target=ask, args=(number,)) for number in range(8)]
@@ -477,6 +638,7 @@ def test_stopped_while_it_answers(beers: Path, stand_in: Path, ends: str) -> Non
 
 # Hostile clients.
 
+
 def test_hostile_texts(server: Server) -> None:
     for query in HOSTILE:
         got = server.ask("1", query)
@@ -485,27 +647,55 @@ def test_hostile_texts(server: Server) -> None:
         assert "\x00" not in got.body and "\x1b" not in got.body
 
 
-@pytest.mark.parametrize("method, path, body, status", [
-    ("GET", "/../schema.sql", None, 404), ("GET", "/%2e%2e/%2e%2e/etc/passwd", None, 404), ("GET", "/ask.css/../../x", None, 404),
-    ("GET", "/%7f%00%ff", None, 404), ("DELETE", "/", None, 405), ("PUT", "/", b"x", 405), ("POST", "/ask.js", b"", 405),
-    ("POST", "/", b"", 404), ("POST", "/", b"task=1", 200), ("POST", "/", b"task=1&query=%ff%fe%00", 200),
-    ("POST", "/", b"task=1&query=" + b"x" * 65_537, 413), ("POST", "/", b"task=1&query=" + b"%20" * 65_537, 413),
-    ("POST", "/", b"task=1&query=" + b"x" * 400_000, 413), ("POST", "/", b"task=" + b"x" * 65_537 + b"&query=x", 404),
-    ("POST", "/", b"&" * 200_000, 404), ("POST", "/", b"task=../1&query=SELECT", 404), ("POST", "/", b"task=/etc/passwd&query=SELECT", 404),
-])
+@pytest.mark.parametrize(
+    "method, path, body, status",
+    [
+        ("GET", "/../schema.sql", None, 404),
+        ("GET", "/%2e%2e/%2e%2e/etc/passwd", None, 404),
+        ("GET", "/ask.css/../../x", None, 404),
+        ("GET", "/%7f%00%ff", None, 404),
+        ("DELETE", "/", None, 405),
+        ("PUT", "/", b"x", 405),
+        ("POST", "/ask.js", b"", 405),
+        ("POST", "/", b"", 404),
+        ("POST", "/", b"task=1", 200),
+        ("POST", "/", b"task=1&query=%ff%fe%00", 200),
+        ("POST", "/", b"task=1&query=" + b"x" * 65_537, 413),
+        ("POST", "/", b"task=1&query=" + b"%20" * 65_537, 413),
+        ("POST", "/", b"task=1&query=" + b"x" * 400_000, 413),
+        ("POST", "/", b"task=" + b"x" * 65_537 + b"&query=x", 404),
+        ("POST", "/", b"&" * 200_000, 404),
+        ("POST", "/", b"task=../1&query=SELECT", 404),
+        ("POST", "/", b"task=/etc/passwd&query=SELECT", 404),
+    ],
+)
 def test_requests(server: Server, method: str, path: str, body: bytes | None, status: int) -> None:
     assert server.send(method, path, body, FORM).status == status
     assert server.ask("3", RIGHT).verdict == "agrees"
 
 
 def test_other_forms_and_headers(server: Server) -> None:
-    parts = b"--x\r\nContent-Disposition: form-data; name=\"task\"\r\n\r\n3\r\n--x\r\n" \
-            b"Content-Disposition: form-data; name=\"query\"; filename=\"../../x.sql\"\r\n\r\nSELECT\r\n--x--\r\n"
-    assert server.send("POST", "/", parts, {"Content-Type": "multipart/form-data; boundary=x"}).status == 200
+    parts = (
+        b'--x\r\nContent-Disposition: form-data; name="task"\r\n\r\n3\r\n--x\r\n'
+        b'Content-Disposition: form-data; name="query"; filename="../../x.sql"\r\n\r\nSELECT\r\n--x--\r\n'
+    )
+    assert (
+        server.send("POST", "/", parts, {"Content-Type": "multipart/form-data; boundary=x"}).status
+        == 200
+    )
     assert server.send("GET", "/", None, {"X-Long": "x" * 20_000}).status == 431
-    assert server.send("GET", "/", None, {"Cookie": "visitor=\"; \\\"; =;;;", "Host": "evil.example"}).status == 200
-    for raw in (b"\x00\xff\r\n\r\n", b"GET\r\n\r\n", b"POST / HTTP/1.1\r\nHost: x\r\nContent-Length: -5\r\n\r\n",
-                b"POST / HTTP/1.1\r\nHost: x\r\nTransfer-Encoding: chunked\r\n\r\nzz\r\n"):
+    assert (
+        server.send(
+            "GET", "/", None, {"Cookie": 'visitor="; \\"; =;;;', "Host": "evil.example"}
+        ).status
+        == 200
+    )
+    for raw in (
+        b"\x00\xff\r\n\r\n",
+        b"GET\r\n\r\n",
+        b"POST / HTTP/1.1\r\nHost: x\r\nContent-Length: -5\r\n\r\n",
+        b"POST / HTTP/1.1\r\nHost: x\r\nTransfer-Encoding: chunked\r\n\r\nzz\r\n",
+    ):
         with socket.create_connection(("127.0.0.1", server.port), 10) as connection:
             connection.sendall(raw)
             connection.shutdown(socket.SHUT_WR)
@@ -534,13 +724,21 @@ def test_slow_requests_hold_nobody_up(server: Server) -> None:
 
 # Words and places.
 
-@pytest.mark.parametrize("words, status, told", [
-    (["nowhere"], 1, "classroom: there is no folder nowhere\n"),
-    (["{beers}", "--port", "65536"], 2, "a number from 0 to 65535 is wanted\n"),
-    (["{beers}", "--hourly", "2", "--only-verdict"], 2, "not allowed with argument --hourly\n"),
-    (["{beers}", "--host", "192.0.2.1"], 1, "classroom: Cannot assign requested address\n"),
-    (["{beers}", "--asked-file", "/nowhere/asked.db"], 1, "classroom: /nowhere/asked.db: No such file or directory\n"),
-])
+
+@pytest.mark.parametrize(
+    "words, status, told",
+    [
+        (["nowhere"], 1, "classroom: there is no folder nowhere\n"),
+        (["{beers}", "--port", "65536"], 2, "a number from 0 to 65535 is wanted\n"),
+        (["{beers}", "--hourly", "2", "--only-verdict"], 2, "not allowed with argument --hourly\n"),
+        (["{beers}", "--host", "192.0.2.1"], 1, "classroom: Cannot assign requested address\n"),
+        (
+            ["{beers}", "--asked-file", "/nowhere/asked.db"],
+            1,
+            "classroom: /nowhere/asked.db: No such file or directory\n",
+        ),
+    ],
+)
 def test_faults(ratest: Path, beers: Path, words: list[str], status: int, told: str) -> None:
     ran = classroom("serve", *[word.replace("{beers}", str(beers)) for word in words])
     assert ran.returncode == status and ran.stderr.endswith(told)
@@ -553,7 +751,10 @@ def test_a_wrong_reference_and_a_port_that_is_taken(ratest: Path, beers: Path) -
     for task in "12345":
         (beers / task / "reference.sql").write_text("SELECT nmae FROM bar")
     ran = classroom("serve", beers)
-    assert ran.returncode == 1 and ran.stderr.splitlines()[-1] == f"classroom: {beers}: no task can be graded"
+    assert (
+        ran.returncode == 1
+        and ran.stderr.splitlines()[-1] == f"classroom: {beers}: no task can be graded"
+    )
 
 
 def test_a_task_whose_reference_is_refused_is_not_offered(ratest: Path, beers: Path) -> None:
@@ -570,8 +771,19 @@ def test_a_task_whose_reference_is_refused_is_not_offered(ratest: Path, beers: P
 def test_bytes_and_places() -> None:
     text = "é\U0001f37a\nab cd"
     for byte, line, column, marked, span in (
-            (0, 1, 1, "é", (0, 1)), (2, 1, 2, "\U0001f37a", (1, 3)), (6, 1, 3, "\n", (3, 4)), (7, 2, 1, "ab", (4, 6)),
-            (10, 2, 4, "cd", (7, 9)), (12, 2, 6, "", (9, 9)), (99, 2, 6, "", (9, 9))):
+        (0, 1, 1, "é", (0, 1)),
+        (2, 1, 2, "\U0001f37a", (1, 3)),
+        (6, 1, 3, "\n", (3, 4)),
+        (7, 2, 1, "ab", (4, 6)),
+        (10, 2, 4, "cd", (7, 9)),
+        (12, 2, 6, "", (9, 9)),
+        (99, 2, 6, "", (9, 9)),
+    ):
         place = place_of(text, byte)
-        assert (place.line, place.column, place.marked, place.span) == (line, column, marked, span), byte
+        assert (place.line, place.column, place.marked, place.span) == (
+            line,
+            column,
+            marked,
+            span,
+        ), byte
         assert place.before + place.marked + place.after == text

@@ -44,16 +44,25 @@ def server(ratest: Path, tmp_path_factory: pytest.TempPathFactory) -> Iterator[S
     import shutil
 
     from products import TOP
+
     folder = tmp_path_factory.mktemp("access") / "beers"
-    shutil.copytree(TOP / "examples/beers", folder, ignore=shutil.ignore_patterns("results", "page.html"))
+    shutil.copytree(
+        TOP / "examples/beers", folder, ignore=shutil.ignore_patterns("results", "page.html")
+    )
     (folder / "3/question.txt").write_text("Which bars serve *exactly* one beer?\n")
     with serving(folder, "--hourly", "0") as made:
         yield made
 
 
 def opened(browser: Any, server: Server, scheme: str = "light", width: int = 1000) -> None:
-    browser.execute_cdp_cmd("Emulation.setEmulatedMedia", {"features": [{"name": "prefers-color-scheme", "value": scheme}]})
-    browser.execute_cdp_cmd("Emulation.setDeviceMetricsOverride", {"width": width, "height": 1000, "deviceScaleFactor": 1, "mobile": width < 500})
+    browser.execute_cdp_cmd(
+        "Emulation.setEmulatedMedia",
+        {"features": [{"name": "prefers-color-scheme", "value": scheme}]},
+    )
+    browser.execute_cdp_cmd(
+        "Emulation.setDeviceMetricsOverride",
+        {"width": width, "height": 1000, "deviceScaleFactor": 1, "mobile": width < 500},
+    )
     browser.get(f"http://127.0.0.1:{server.port}/")
 
 
@@ -65,9 +74,15 @@ def needs_editor(browser: Any) -> None:
 @pytest.mark.parametrize("scheme", ["light", "dark"])
 def test_every_text_can_be_read(browser: Any, server: Server, scheme: str) -> None:
     opened(browser, server, scheme)
-    for query in (WRONG, "SELECT bar -- a remark\nFROM serves WHERE price > 3 AND beer = 'x' OR", "SELECT count(*) FROM bar"):
+    for query in (
+        WRONG,
+        "SELECT bar -- a remark\nFROM serves WHERE price > 3 AND beer = 'x' OR",
+        "SELECT count(*) FROM bar",
+    ):
         ask(browser, "3", query)
-        browser.execute_script("for (const part of document.querySelectorAll('details')) part.open = true")
+        browser.execute_script(
+            "for (const part of document.querySelectorAll('details')) part.open = true"
+        )
         found = browser.execute_script(CONTRASTS)
         assert len(found) > 20
         faint = [(round(ratio, 2), what) for ratio, what in found if ratio < 4.5]
@@ -81,15 +96,25 @@ def test_every_control_has_a_name_and_a_role(browser: Any, server: Server) -> No
     seen: dict[str, list[str]] = {}
     for node in nodes:
         role = node.get("role", {}).get("value", "")
-        focusable = any(one["name"] == "focusable" and one["value"].get("value") for one in node.get("properties", []))
+        focusable = any(
+            one["name"] == "focusable" and one["value"].get("value")
+            for one in node.get("properties", [])
+        )
         if node.get("ignored") or role in ("RootWebArea", "") or not (focusable or role in ROLES):
             continue
         name = node.get("name", {}).get("value", "")
         seen.setdefault(role, []).append(name)
         # A text that scrolls is read by what is in it.
         assert name or role in ("generic", "none", "code", "pre", "paragraph", "region"), node
-    assert "Ask" in seen["button"] and any("Query" in name for name in seen["textbox"]) and "Task" in seen.get("combobox", seen.get("listbox", []))
-    live = [element.get_attribute("aria-live") for element in browser.find_elements("css selector", "#answer")]
+    assert (
+        "Ask" in seen["button"]
+        and any("Query" in name for name in seen["textbox"])
+        and "Task" in seen.get("combobox", seen.get("listbox", []))
+    )
+    live = [
+        element.get_attribute("aria-live")
+        for element in browser.find_elements("css selector", "#answer")
+    ]
     assert live == ["polite"]
 
 
@@ -138,7 +163,11 @@ def test_names_are_completed(browser: Any, server: Server) -> None:
 def test_on_a_telephone(browser: Any, server: Server) -> None:
     opened(browser, server, width=390)
     ask(browser, "3", WRONG)
-    browser.execute_script("for (const part of document.querySelectorAll('details')) part.open = true")
+    browser.execute_script(
+        "for (const part of document.querySelectorAll('details')) part.open = true"
+    )
     assert browser.execute_script("return document.documentElement.scrollWidth") == 390
-    assert browser.execute_script("return [...document.querySelectorAll('button')].every(one => one.getBoundingClientRect().height >= 24)")
+    assert browser.execute_script(
+        "return [...document.querySelectorAll('button')].every(one => one.getBoundingClientRect().height >= 24)"
+    )
     assert not [line for line in browser.get_log("browser") if line["level"] == "SEVERE"]

@@ -62,33 +62,65 @@ def test_a_student_asks(ratest: Path, beers: Path, browser: Any, has_script: boo
     with serving(beers) as server:
         browser.execute_cdp_cmd("Emulation.setScriptExecutionDisabled", {"value": not has_script})
         try:
-            browser.execute_cdp_cmd("Emulation.setDeviceMetricsOverride", {
-                "width": 1000, "height": 1000, "deviceScaleFactor": 1, "mobile": False})
+            browser.execute_cdp_cmd(
+                "Emulation.setDeviceMetricsOverride",
+                {"width": 1000, "height": 1000, "deviceScaleFactor": 1, "mobile": False},
+            )
             browser.get(f"http://127.0.0.1:{server.port}/")
             ask(browser, "3", WRONG)
             assert texts(browser, "#answer h2") == ["differs on 5 rows"]
             assert texts(browser, "#answer .kept caption") == ["bar", "beer", "serves"]
             assert texts(browser, "#answer .kept td") == [
-                "Joe's", "Durham", "Dixie", "Dixie Brewing", "Corona", "Grupo Modelo", "Joe's", "Dixie", "3", "Joe's", "Corona", "NULL"]
+                "Joe's",
+                "Durham",
+                "Dixie",
+                "Dixie Brewing",
+                "Corona",
+                "Grupo Modelo",
+                "Joe's",
+                "Dixie",
+                "3",
+                "Joe's",
+                "Corona",
+                "NULL",
+            ]
             assert texts(browser, "#answer .only td") == ["Joe's"]
             picture(browser, has_script)
             ask(browser, "3", "SELECT bar\nFROM WHERE x")
-            assert texts(browser, "#answer h2") == ["refused: syntax fault near byte 16 (line 2, column 6)"]
+            assert texts(browser, "#answer h2") == [
+                "refused: syntax fault near byte 16 (line 2, column 6)"
+            ]
             assert texts(browser, "mark") == ["WHERE"]
-            assert browser.find_element("id", "query").get_property("value") == "SELECT bar\nFROM WHERE x"
+            assert (
+                browser.find_element("id", "query").get_property("value")
+                == "SELECT bar\nFROM WHERE x"
+            )
             assert browser.find_element("id", "task").get_property("value") == "3"
             if has_script:
-                assert browser.execute_script("return document.querySelector('.CodeMirror').CodeMirror.getSelection()") == "WHERE"
+                assert (
+                    browser.execute_script(
+                        "return document.querySelector('.CodeMirror').CodeMirror.getSelection()"
+                    )
+                    == "WHERE"
+                )
                 assert texts(browser, ".CodeMirror .fault-place") == ["WHERE"]
-                assert browser.execute_script("return document.activeElement.closest('.CodeMirror') !== null")
+                assert browser.execute_script(
+                    "return document.activeElement.closest('.CodeMirror') !== null"
+                )
                 # The page itself was asked for once, and nothing came from elsewhere.
-                asked = browser.execute_script("return performance.getEntriesByType('resource').map(entry => entry.name)")
-                assert asked and all(name.startswith(f"http://127.0.0.1:{server.port}/") for name in asked)
+                asked = browser.execute_script(
+                    "return performance.getEntriesByType('resource').map(entry => entry.name)"
+                )
+                assert asked and all(
+                    name.startswith(f"http://127.0.0.1:{server.port}/") for name in asked
+                )
             ask(browser, "1", (TOP / "examples/beers/1/reference.sql").read_text())
             assert texts(browser, "#answer h2") == ["agrees"]
             assert not [line for line in browser.get_log("browser") if line["level"] == "SEVERE"]
-            browser.execute_cdp_cmd("Emulation.setDeviceMetricsOverride", {
-                "width": 390, "height": 1000, "deviceScaleFactor": 1, "mobile": True})
+            browser.execute_cdp_cmd(
+                "Emulation.setDeviceMetricsOverride",
+                {"width": 390, "height": 1000, "deviceScaleFactor": 1, "mobile": True},
+            )
             ask(browser, "3", WRONG)
             if has_script:
                 assert browser.execute_script("return document.documentElement.scrollWidth") == 390
@@ -107,10 +139,24 @@ def picture(browser: Any, has_script: bool) -> None:
 def test_hostile_texts_run_nothing(ratest: Path, beers: Path, browser: Any) -> None:
     with serving(beers) as server:
         browser.get(f"http://127.0.0.1:{server.port}/")
-        for query in ("</textarea><script>document.title = 'mine'</script>", "SELECT '<img src=x onerror=\"document.title=1\">' FROM bar",
-                      "SELECT name, '<svg onload=document.title=1>' FROM bar", "SELECT \"<b onclick=x>\" FROM bar"):
+        for query in (
+            "</textarea><script>document.title = 'mine'</script>",
+            "SELECT '<img src=x onerror=\"document.title=1\">' FROM bar",
+            "SELECT name, '<svg onload=document.title=1>' FROM bar",
+            'SELECT "<b onclick=x>" FROM bar',
+        ):
             ask(browser, "1", query)
             assert browser.title == "beers"
-            assert browser.find_elements("css selector", "#answer script, #answer img, #answer svg, #answer b") == []
-            assert browser.find_elements("css selector", ".CodeMirror script, .CodeMirror svg, .CodeMirror b") == []
+            assert (
+                browser.find_elements(
+                    "css selector", "#answer script, #answer img, #answer svg, #answer b"
+                )
+                == []
+            )
+            assert (
+                browser.find_elements(
+                    "css selector", ".CodeMirror script, .CodeMirror svg, .CodeMirror b"
+                )
+                == []
+            )
         assert not browser.get_log("browser")

@@ -30,26 +30,36 @@ pytest.importorskip("waitress")
 pytest.importorskip("sqlglot")
 
 # Every row beside every row, ten and eleven times over: seconds of work.
-HEAVY = tuple(f"SELECT t0.drinker FROM {', '.join(f'frequents t{number}' for number in range(count))}" for count in (10, 11))
+HEAVY = tuple(
+    f"SELECT t0.drinker FROM {', '.join(f'frequents t{number}' for number in range(count))}"
+    for count in (10, 11)
+)
 # For the database: it tries them for seconds.
-ENDLESS = ("WITH RECURSIVE r(n) AS (SELECT 1 UNION ALL SELECT n + 1 FROM r) SELECT 'x', count(*) FROM r",
-           f"SELECT count(*) FROM {', '.join(f'frequents t{number}' for number in range(12))} GROUP BY t1.bar")
+ENDLESS = (
+    "WITH RECURSIVE r(n) AS (SELECT 1 UNION ALL SELECT n + 1 FROM r) SELECT 'x', count(*) FROM r",
+    f"SELECT count(*) FROM {', '.join(f'frequents t{number}' for number in range(12))} GROUP BY t1.bar",
+)
 COUNT = "SELECT d.name, COUNT(l.beer) FROM drinker d LEFT JOIN likes l ON l.drinker = d.name GROUP BY d.name"
 # Of a task, a text and how its verdict begins. `ratest` refuses the reference of task 6, and of the others these texts.
 TRIED = (
     ("6", COUNT, "no difference found (tried)"),
-    ("6", "SELECT name, (SELECT COUNT(*) FROM likes WHERE drinker = name) FROM drinker", "no difference found (tried)"),
+    (
+        "6",
+        "SELECT name, (SELECT COUNT(*) FROM likes WHERE drinker = name) FROM drinker",
+        "no difference found (tried)",
+    ),
     ("6", COUNT.replace("l.beer", "*"), "differs (tried) on 1 row: other rows"),
     ("6", COUNT.replace("LEFT JOIN", "JOIN"), "differs (tried) on 1 row: other rows"),
     ("3", "SELECT bar FROM serves GROUP BY bar HAVING COUNT(*) = 1", "no difference found (tried)"),
-    ("3", "SELECT bar FROM serves GROUP BY bar HAVING COUNT(*) < 3", "differs (tried) on "))
-VARIANTS = 200    # of each text: some were asked before, and some were not
+    ("3", "SELECT bar FROM serves GROUP BY bar HAVING COUNT(*) < 3", "differs (tried) on "),
+)
+VARIANTS = 200  # of each text: some were asked before, and some were not
 
 
 class Bounds(NamedTuple):
     """What is seen at most: seconds until an answer, and bytes of the server's own process."""
 
-    within: float     # of 99 in 100
+    within: float  # of 99 in 100
     longest: float
     memory: int
 
@@ -64,7 +74,9 @@ class Seen:
 
     statuses: Counter[int] = field(default_factory=Counter)
     faults: list[str] = field(default_factory=list)
-    seconds: list[float] = field(default_factory=list)    # from the first time that a question is asked to its answer
+    seconds: list[float] = field(
+        default_factory=list
+    )  # from the first time that a question is asked to its answer
     lock: threading.Lock = field(default_factory=threading.Lock)
 
 
@@ -89,7 +101,14 @@ def question(chosen: random.Random, hostile: Sequence[str]) -> Question:
     return Question(task, text + more, "agrees" if is_right else "differs on ")
 
 
-def client(server: Server, number: int, thinks: tuple[float, float], until: float, hostile: Sequence[str], seen: Seen) -> None:
+def client(
+    server: Server,
+    number: int,
+    thinks: tuple[float, float],
+    until: float,
+    hostile: Sequence[str],
+    seen: Seen,
+) -> None:
     chosen = random.Random(number)
     own = {"X-Forwarded-For": f"198.51.{number // 250}.{number % 250}"}
     time.sleep(chosen.uniform(0.0, thinks[1]))
@@ -98,7 +117,11 @@ def client(server: Server, number: int, thinks: tuple[float, float], until: floa
         begun = time.monotonic()
         try:
             reply = answered(server, asked, own, seen)
-            assert reply.status == 200 and reply.verdict.startswith(asked.begins or "") and reply.verdict, (asked, reply.verdict)
+            assert (
+                reply.status == 200
+                and reply.verdict.startswith(asked.begins or "")
+                and reply.verdict
+            ), (asked, reply.verdict)
         except (OSError, http.client.HTTPException, AssertionError) as fault:
             with seen.lock:
                 seen.faults.append(repr(fault))
@@ -137,7 +160,10 @@ def test_load(ratest: Path, exercise: Path) -> None:
     most = most_of_trials = 0
     with serving(exercise, "--proxy", "127.0.0.1", "--hourly", "0", tries=True) as server:
         until = time.monotonic() + seconds
-        clients = [threading.Thread(target=client, args=(server, number, thinks, until, hostile, seen)) for number in range(count)]
+        clients = [
+            threading.Thread(target=client, args=(server, number, thinks, until, hostile, seen))
+            for number in range(count)
+        ]
         for thread in clients:
             thread.start()
         while time.monotonic() < until:
@@ -154,10 +180,12 @@ def test_load(ratest: Path, exercise: Path) -> None:
         own, programs = server.processor()
         tries = sum(server.processor(server.trials()[0]))
     asked = sorted(seen.seconds)
-    print(f"{count} clients, {seconds} s: {len(asked)} questions, {dict(seen.statuses)}, median {asked[len(asked) // 2]:.3f} s, "
-          f"99 of 100 within {asked[len(asked) * 99 // 100]:.3f} s, longest {asked[-1]:.3f} s; the server's process has at most "
-          f"{most / 1e6:.0f} MB, and beside it the one that tries {most_of_trials / 1e6:.0f} MB; of the processor a question takes {1000 * own / len(asked):.1f} ms there, "
-          f"{1000 * programs / len(asked):.1f} ms by ratest and {1000 * tries / len(asked):.1f} ms by trying")
+    print(
+        f"{count} clients, {seconds} s: {len(asked)} questions, {dict(seen.statuses)}, median {asked[len(asked) // 2]:.3f} s, "
+        f"99 of 100 within {asked[len(asked) * 99 // 100]:.3f} s, longest {asked[-1]:.3f} s; the server's process has at most "
+        f"{most / 1e6:.0f} MB, and beside it the one that tries {most_of_trials / 1e6:.0f} MB; of the processor a question takes {1000 * own / len(asked):.1f} ms there, "
+        f"{1000 * programs / len(asked):.1f} ms by ratest and {1000 * tries / len(asked):.1f} ms by trying"
+    )
     assert not seen.faults, seen.faults[:3]
     assert set(seen.statuses) <= {200, 503} and len(asked) >= count
     assert asked[len(asked) * 99 // 100] < bounds.within

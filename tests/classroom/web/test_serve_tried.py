@@ -38,7 +38,11 @@ COUNT = "SELECT d.name, COUNT(l.beer) FROM drinker d LEFT JOIN likes l ON l.drin
 @pytest.fixture(scope="module")
 def exercise(tmp_path_factory: pytest.TempPathFactory) -> Path:
     folder = tmp_path_factory.mktemp("served") / "beers"
-    shutil.copytree(TOP / "examples/beers", folder, ignore=shutil.ignore_patterns("results", "page.html", "[1245]"))
+    shutil.copytree(
+        TOP / "examples/beers",
+        folder,
+        ignore=shutil.ignore_patterns("results", "page.html", "[1245]"),
+    )
     (folder / "6").mkdir()
     (folder / "6/reference.sql").write_text(f"{COUNT} -- the secret of the reference\n")
     (folder / "7").mkdir()
@@ -61,47 +65,79 @@ def test_differs(server: Server) -> None:
     assert got.verdict == "differs (tried) on 1 row: other rows"
     assert f"A database found this by trying ({ENGINE}); it is not proved." in got.answer
     assert "No smaller lawful part of the rows differs: the only one was tried." in got.answer
-    assert '<caption>drinker</caption>' in got.answer and "INSERT INTO &#34;drinker&#34;" in got.answer
+    assert (
+        "<caption>drinker</caption>" in got.answer and "INSERT INTO &#34;drinker&#34;" in got.answer
+    )
 
 
 def test_no_difference(server: Server) -> None:
-    assert server.ask("6", "SELECT name, (SELECT COUNT(*) FROM likes WHERE drinker = name) FROM drinker").verdict == "no difference found (tried)"
+    assert (
+        server.ask(
+            "6", "SELECT name, (SELECT COUNT(*) FROM likes WHERE drinker = name) FROM drinker"
+        ).verdict
+        == "no difference found (tried)"
+    )
 
 
 def test_wrong_sql_has_its_place(server: Server) -> None:
     got = server.ask("6", "\n SELECT name,\n  nosuch FROM drinker")
-    assert got.verdict == "wrong SQL: no such column: nosuch (line 3, column 3)" and "<mark" in got.answer
-    assert server.ask("6", 'SELECT "nosuch" FROM drinker').verdict.startswith("wrong SQL: no such column: nosuch")
+    assert (
+        got.verdict == "wrong SQL: no such column: nosuch (line 3, column 3)"
+        and "<mark" in got.answer
+    )
+    assert server.ask("6", 'SELECT "nosuch" FROM drinker').verdict.startswith(
+        "wrong SQL: no such column: nosuch"
+    )
 
 
 def test_not_determined_and_what_is_barred(server: Server) -> None:
     assert server.ask("6", "SELECT name, COUNT(*) OVER () * 0 FROM drinker LIMIT 1").verdict in (
-        "not determined (tried)", "differs (tried) on 3 rows: other rows")
+        "not determined (tried)",
+        "differs (tried) on 3 rows: other rows",
+    )
     assert server.ask("6", "SELECT printf('%d', 1)").verdict == "refused: it calls printf"
     assert server.ask("6", "DELETE FROM drinker").verdict.startswith("refused: it is no query")
 
 
 def test_what_is_proved_stays_proved(server: Server) -> None:
     assert server.ask("3", (TOP / "examples/beers/3/reference.sql").read_text()).verdict == "agrees"
-    assert server.ask("3", (TOP / "examples/beers/3/answers/b.sql").read_text()).verdict == "differs on 5 rows"
+    assert (
+        server.ask("3", (TOP / "examples/beers/3/answers/b.sql").read_text()).verdict
+        == "differs on 5 rows"
+    )
     # What it doesn't read of an answer is tried.
-    assert server.ask("3", "SELECT bar FROM serves GROUP BY bar HAVING COUNT(*) = 1").verdict == "no difference found (tried)"
+    assert (
+        server.ask("3", "SELECT bar FROM serves GROUP BY bar HAVING COUNT(*) = 1").verdict
+        == "no difference found (tried)"
+    )
 
 
 def test_duplicates_are_a_remark(server: Server) -> None:
     got = server.ask("7", "SELECT bar FROM serves")
-    assert got.verdict == "agrees" and "Agrees as a set; returns Joe&#39;s twice where the reference returns it once." in got.answer
+    assert (
+        got.verdict == "agrees"
+        and "Agrees as a set; returns Joe&#39;s twice where the reference returns it once."
+        in got.answer
+    )
 
 
 def test_nothing_of_the_reference_is_told(server: Server) -> None:
-    for text in (COUNT.replace("l.beer", "*"), "SELECT nosuch FROM drinker", "SELECT sql FROM sqlite_schema", "SELECT 1, 2",
-                 "SELECT name, 1 FROM drinker ORDER BY 1"):
+    for text in (
+        COUNT.replace("l.beer", "*"),
+        "SELECT nosuch FROM drinker",
+        "SELECT sql FROM sqlite_schema",
+        "SELECT 1, 2",
+        "SELECT name, 1 FROM drinker ORDER BY 1",
+    ):
         assert "secret" not in server.ask("6", text).body
 
 
 def test_an_endless_query_has_an_answer_in_time(server: Server) -> None:
     begun = time.monotonic()
-    got = server.ask("6", "WITH RECURSIVE r(n) AS (SELECT 1 UNION ALL SELECT n + 1 FROM r) SELECT 'x', count(*) FROM r")
+    got = server.ask(
+        "6",
+        "WITH RECURSIVE r(n) AS (SELECT 1 UNION ALL SELECT n + 1 FROM r) SELECT 'x', count(*) FROM r",
+    )
     assert got.status == 200 and got.verdict == "no verdict" and time.monotonic() - begun < 25
 
 
@@ -109,7 +145,11 @@ def test_many_ask_at_once(server: Server) -> None:
     got: list[Reply] = []
 
     def ask(number: int) -> None:
-        got.append(server.ask("6", f"{COUNT} HAVING COUNT(*) > {number % 3}", {"Cookie": f"visitor={number}"}))
+        got.append(
+            server.ask(
+                "6", f"{COUNT} HAVING COUNT(*) > {number % 3}", {"Cookie": f"visitor={number}"}
+            )
+        )
 
     threads = [threading.Thread(target=ask, args=(number,)) for number in range(8)]
     for thread in threads:
@@ -118,7 +158,10 @@ def test_many_ask_at_once(server: Server) -> None:
         thread.join()
     assert all(reply.status in (200, 503) for reply in got)
     found = {reply.verdict for reply in got if reply.status == 200}
-    assert found and all(one == "no difference found (tried)" or one.startswith("differs (tried) on ") for one in found)
+    assert found and all(
+        one == "no difference found (tried)" or one.startswith("differs (tried) on ")
+        for one in found
+    )
 
 
 def test_what_was_asked_is_shown_with_it(server: Server, exercise: Path) -> None:
@@ -134,10 +177,20 @@ def test_the_rows_are_hidden_where_only_verdicts_are_shown(ratest: Path, exercis
         assert got.verdict == "differs (tried)" and "Amy" not in got.answer
         # A remark names no row either.
         got = made.ask("7", "SELECT bar FROM serves")
-        assert got.verdict == "agrees" and "Agrees as a set; returns a row another number of times." in got.answer and "Joe" not in got.answer
+        assert (
+            got.verdict == "agrees"
+            and "Agrees as a set; returns a row another number of times." in got.answer
+            and "Joe" not in got.answer
+        )
         got = made.ask("6", f"{COUNT} UNION ALL {COUNT}")
-        assert got.verdict == "no difference found (tried)" and "returns a row another number of times" in got.answer
-        assert not any(name in got.answer.split("<form")[0].split("</textarea>")[-1] for name in ("Amy", "Ben", "Coy", "Dan"))
+        assert (
+            got.verdict == "no difference found (tried)"
+            and "returns a row another number of times" in got.answer
+        )
+        assert not any(
+            name in got.answer.split("<form")[0].split("</textarea>")[-1]
+            for name in ("Amy", "Ben", "Coy", "Dan")
+        )
 
 
 def test_older_files_of_questions_get_a_column(tmp_path: Path) -> None:
@@ -153,7 +206,9 @@ def test_older_files_of_questions_get_a_column(tmp_path: Path) -> None:
     assert "trial" in [row[1] for row in database.execute("PRAGMA table_info(text)")]
 
 
-def test_a_task_whose_reference_nothing_answers_is_not_offered(ratest: Path, exercise: Path, tmp_path: Path) -> None:
+def test_a_task_whose_reference_nothing_answers_is_not_offered(
+    ratest: Path, exercise: Path, tmp_path: Path
+) -> None:
     folder = tmp_path / "beers"
     shutil.copytree(exercise, folder)
     (folder / "8").mkdir()
@@ -177,18 +232,39 @@ class Refuses:
         return self.ends
 
 
-@pytest.mark.parametrize(("ends", "told"), [
-    (Verdict(ENGINE, WrongSql(True, "no such column: secret")), f"{ENGINE} does not answer its reference"),
-    (Verdict(ENGINE, Passed(True, "time")), f"{ENGINE} does not answer its reference"),
-    (Failed("its process ended with status 1", "KeyError: 'secret'"), "its process ended with status 1")])
-def test_what_a_database_says_of_a_reference_is_in_no_log(tmp_path: Path, caplog: pytest.LogCaptureFixture, ends: Verdict | Failed,
-                                                           told: str) -> None:
+@pytest.mark.parametrize(
+    ("ends", "told"),
+    [
+        (
+            Verdict(ENGINE, WrongSql(True, "no such column: secret")),
+            f"{ENGINE} does not answer its reference",
+        ),
+        (Verdict(ENGINE, Passed(True, "time")), f"{ENGINE} does not answer its reference"),
+        (
+            Failed("its process ended with status 1", "KeyError: 'secret'"),
+            "its process ended with status 1",
+        ),
+    ],
+)
+def test_what_a_database_says_of_a_reference_is_in_no_log(
+    tmp_path: Path, caplog: pytest.LogCaptureFixture, ends: Verdict | Failed, told: str
+) -> None:
     """The whole log, with --verbose."""
     (tmp_path / "0.reference").write_text("SELECT secret FROM drinker")
     task = Offered("1", "1", "", "0.reference", "", "", True)
     material = Material("", tmp_path, (task,), (), "", "", (), None, Window())
     trial = Trial(shop.material(), Options(), (), True)
-    asker = Asker(material, (), Limits(), Budget(1), Places(1, 1, 1), Recent(1), "", trial, cast(Any, Refuses(ends)))
+    asker = Asker(
+        material,
+        (),
+        Limits(),
+        Budget(1),
+        Places(1, 1, 1),
+        Recent(1),
+        "",
+        trial,
+        cast(Any, Refuses(ends)),
+    )
     with caplog.at_level(logging.DEBUG):
         assert asker._tried(task, "SELECT 1", witness.Refused("query 1", "", None)) is None
     assert [record.getMessage() for record in caplog.records] == [f"task '1' is not tried: {told}"]

@@ -17,7 +17,19 @@ from classroom.web.ask import shows_rows
 from classroom.exercise.settings import Settings
 from classroom.sql.clean import Text
 from classroom.verdict.compare import DUPLICATES, FAILURE, ORDER, ROWS
-from classroom.verdict.verdict import ALL, Barred, Differs, Line, NoDifference, Outcome, Passed, Remark, Side, Verdict, WrongSql
+from classroom.verdict.verdict import (
+    ALL,
+    Barred,
+    Differs,
+    Line,
+    NoDifference,
+    Outcome,
+    Passed,
+    Remark,
+    Side,
+    Verdict,
+    WrongSql,
+)
 
 ENGINE = "sqlite 3.40.1"
 SECRET = "only_in_the_reference"
@@ -30,53 +42,109 @@ def answer(query: bytes = b"SELECT count(*) FROM t") -> Answer:
 
 def refused() -> Graded:
     """An answer that `ratest` doesn't read."""
-    return Graded(Task("1", Path("1"), reference=b"SELECT a FROM t"), answer(), Grade.NOT_READ, REFUSED, REFUSED.fault)
+    return Graded(
+        Task("1", Path("1"), reference=b"SELECT a FROM t"),
+        answer(),
+        Grade.NOT_READ,
+        REFUSED,
+        REFUSED.fault,
+    )
 
 
 def differs(difference: str, failure: str = "") -> Differs:
     side = Side(1, ((1,),))
-    return Differs(difference, (), replace(side, lines=(), failure=failure) if failure else side, side, (), ALL, 1)
+    return Differs(
+        difference,
+        (),
+        replace(side, lines=(), failure=failure) if failure else side,
+        side,
+        (),
+        ALL,
+        1,
+    )
 
 
-@pytest.mark.parametrize("outcome", [WrongSql(True, f'near "{SECRET}": syntax error'), Barred(True, f"it calls {SECRET}")])
+@pytest.mark.parametrize(
+    "outcome",
+    [WrongSql(True, f'near "{SECRET}": syntax error'), Barred(True, f"it calls {SECRET}")],
+)
 @pytest.mark.parametrize("grade", [Grade.NOT_READ, Grade.NO_VERDICT])
-def test_why_a_database_refuses_the_reference_is_for_the_teacher(outcome: Outcome, grade: Grade) -> None:
+def test_why_a_database_refuses_the_reference_is_for_the_teacher(
+    outcome: Outcome, grade: Grade
+) -> None:
     of = grades.with_trial(replace(refused(), grade=grade), Verdict(ENGINE, outcome), Settings())
     assert (of.grade, of.points) == (grade, None)
     assert SECRET not in classpage.words(of, False)
-    assert all(SECRET in text for text in (classpage.words(of), of.why, of.reason, grades.answer_text(of).decode()))
+    assert all(
+        SECRET in text
+        for text in (classpage.words(of), of.why, of.reason, grades.answer_text(of).decode())
+    )
 
 
-@pytest.mark.parametrize("outcome", [WrongSql(True, "no such table: t"), Barred(True, "it calls printf"), Passed(True, "time"),
-                                     Passed(False, "time"), Barred(False, "it calls printf")])
+@pytest.mark.parametrize(
+    "outcome",
+    [
+        WrongSql(True, "no such table: t"),
+        Barred(True, "it calls printf"),
+        Passed(True, "time"),
+        Passed(False, "time"),
+        Barred(False, "it calls printf"),
+    ],
+)
 def test_what_no_database_decided_names_none(outcome: Outcome) -> None:
-    of = grades.with_trial(replace(refused(), grade=Grade.NO_VERDICT), Verdict(ENGINE, outcome), Settings())
+    of = grades.with_trial(
+        replace(refused(), grade=Grade.NO_VERDICT), Verdict(ENGINE, outcome), Settings()
+    )
     assert (of.decided_by, of.is_tried) == ("", False)
 
 
 def test_how_the_reference_fails_is_for_the_teacher() -> None:
     found = Verdict(ENGINE, differs(FAILURE, f"invalid input: {SECRET}"))
     of = grades.with_trial(refused(), found, Settings())
-    assert of.grade == Grade.DIFFERS and SECRET in of.why and SECRET in grades.answer_text(of).decode()
+    assert (
+        of.grade == Grade.DIFFERS and SECRET in of.why and SECRET in grades.answer_text(of).decode()
+    )
     shown = answer_of(REFUSED, "SELECT count(*) FROM t", (), 10, None, found)
     assert "The reference fails." in shown.told
-    assert not any(SECRET in text for text in (
-        shown.words, shown.told, classpage.words(of, False), classpage.told(of), grades.results_json([of]).decode()))
+    assert not any(
+        SECRET in text
+        for text in (
+            shown.words,
+            shown.told,
+            classpage.words(of, False),
+            classpage.told(of),
+            grades.results_json([of]).decode(),
+        )
+    )
 
 
-@pytest.mark.parametrize(("outcome", "known"), [(witness.Agree(), "Agrees as a set"), (REFUSED, "The same as a set")])
-def test_a_row_of_a_remark_counts_as_one_that_is_shown(outcome: witness.Outcome, known: str) -> None:
-    found = Verdict(ENGINE, NoDifference(4, 0, 0, False), (Remark(DUPLICATES, Line(("Ann",), 1, 2)),))
+@pytest.mark.parametrize(
+    ("outcome", "known"), [(witness.Agree(), "Agrees as a set"), (REFUSED, "The same as a set")]
+)
+def test_a_row_of_a_remark_counts_as_one_that_is_shown(
+    outcome: witness.Outcome, known: str
+) -> None:
+    found = Verdict(
+        ENGINE, NoDifference(4, 0, 0, False), (Remark(DUPLICATES, Line(("Ann",), 1, 2)),)
+    )
     text = "SELECT name FROM t UNION ALL SELECT name FROM t"
-    assert shows_rows(outcome, found) and not shows_rows(outcome, replace(found, remarks=(Remark(ORDER),)))
+    assert shows_rows(outcome, found) and not shows_rows(
+        outcome, replace(found, remarks=(Remark(ORDER),))
+    )
     shown, hidden = (answer_of(outcome, text, (), 10, hides, found).told for hides in (None, ""))
     assert f"{known}; returns Ann twice where the reference returns it once." in shown
     assert f"{known}; returns a row another number of times." in hidden and "Ann" not in hidden
 
 
-@pytest.mark.parametrize(("difference", "is_shown"), [(ROWS, True), (DUPLICATES, False), (ORDER, False)])
-def test_a_text_that_is_right_as_a_set_is_in_no_page_for_students(difference: str, is_shown: bool) -> None:
-    of = grades.with_trial(refused(), Verdict(ENGINE, differs(difference)), Settings(duplicates="wrong", order="wrong"))
+@pytest.mark.parametrize(
+    ("difference", "is_shown"), [(ROWS, True), (DUPLICATES, False), (ORDER, False)]
+)
+def test_a_text_that_is_right_as_a_set_is_in_no_page_for_students(
+    difference: str, is_shown: bool
+) -> None:
+    of = grades.with_trial(
+        refused(), Verdict(ENGINE, differs(difference)), Settings(duplicates="wrong", order="wrong")
+    )
     assert of.grade == Grade.DIFFERS
     assert classpage.shows_text(of, classpage.Showing(solutions=False)) == is_shown
     assert classpage.shows_text(of, classpage.Showing())

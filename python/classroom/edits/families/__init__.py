@@ -33,14 +33,32 @@ Family = Callable[[Node, Query], Iterator[Change]]
 
 # The usual mistakes in a right query.
 MISTAKES: tuple[Family, ...] = (
-    comparisons.changes, logic.changes, constants.changes, columns.changes, joins.changes, nulls.changes, sets.changes,
-    projection.changes)
+    comparisons.changes,
+    logic.changes,
+    constants.changes,
+    columns.changes,
+    joins.changes,
+    nulls.changes,
+    sets.changes,
+    projection.changes,
+)
 # What may make a wrong query right, the mistakes among it; they need a vocabulary.
 REPAIRS: tuple[Family, ...] = (
-    *(family for family in MISTAKES if family is not columns.changes), columns.related, columns.of_other_tables,
-    constants.others, nulls.allowed, logic.grouped, joins.as_exists,
-    conditions.changes, conditions.whole, tables.changes, quantifiers.changes, sets.operands, operands.changes,
-    projection.added)
+    *(family for family in MISTAKES if family is not columns.changes),
+    columns.related,
+    columns.of_other_tables,
+    constants.others,
+    nulls.allowed,
+    logic.grouped,
+    joins.as_exists,
+    conditions.changes,
+    conditions.whole,
+    tables.changes,
+    quantifiers.changes,
+    sets.operands,
+    operands.changes,
+    projection.added,
+)
 # What may make the reference the wrong query.
 CLASSES: tuple[Family, ...] = (*REPAIRS, empty.changes)
 # The usual mistakes beyond the proved language, whose queries a database tries; those of duplicates and of order

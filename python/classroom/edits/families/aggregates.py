@@ -15,8 +15,19 @@ from classroom.edits.query import Query
 from classroom.sql.scopes import column
 from classroom.sql.tree import Node
 
-WORDS: dict[type[Node], str] = {exp.Sum: "SUM", exp.Avg: "AVG", exp.Min: "MIN", exp.Max: "MAX", exp.Count: "COUNT"}
-INSTEAD: dict[type[Node], type[Node]] = {exp.Sum: exp.Avg, exp.Avg: exp.Sum, exp.Min: exp.Max, exp.Max: exp.Min}
+WORDS: dict[type[Node], str] = {
+    exp.Sum: "SUM",
+    exp.Avg: "AVG",
+    exp.Min: "MIN",
+    exp.Max: "MAX",
+    exp.Count: "COUNT",
+}
+INSTEAD: dict[type[Node], type[Node]] = {
+    exp.Sum: exp.Avg,
+    exp.Avg: exp.Sum,
+    exp.Min: exp.Max,
+    exp.Max: exp.Min,
+}
 
 
 def changes(node: Node, query: Query) -> Iterator[Change]:
@@ -26,13 +37,17 @@ def changes(node: Node, query: Query) -> Iterator[Change]:
     inner = node.this
     if isinstance(inner, exp.Distinct):
         values = ", ".join(query.source(value) for value in inner.expressions)
-        yield query.instead(node, f"DISTINCT in {word} dropped", Kind.AGGREGATE, 2, f"{word}({values})")
+        yield query.instead(
+            node, f"DISTINCT in {word} dropped", Kind.AGGREGATE, 2, f"{word}({values})"
+        )
     elif not isinstance(inner, exp.Star):
         value = query.source(inner)
         if isinstance(node, exp.Count):
             yield query.instead(node, f"COUNT(*) for COUNT({value})", Kind.AGGREGATE, 1, "COUNT(*)")
         if not isinstance(node, (exp.Min, exp.Max)):
-            yield query.instead(node, f"DISTINCT in {word} added", Kind.AGGREGATE, 2, f"{word}(DISTINCT {value})")
+            yield query.instead(
+                node, f"DISTINCT in {word} added", Kind.AGGREGATE, 2, f"{word}(DISTINCT {value})"
+            )
         if type(node) in INSTEAD:
             other = WORDS[INSTEAD[type(node)]]
             yield query.instead(node, f"{other} for {word}", Kind.AGGREGATE, 2, f"{other}({value})")
@@ -42,7 +57,9 @@ def counted(node: Node, query: Query) -> Iterator[Change]:
     """COUNT of a column at hand for COUNT(*)."""
     if not isinstance(node, exp.Count) or not isinstance(node.this, exp.Star):
         return
-    for source, columns in query.scopes.visible(node)[0].items() if query.scopes.visible(node) else []:
+    for source, columns in (
+        query.scopes.visible(node)[0].items() if query.scopes.visible(node) else []
+    ):
         for name in columns if source else []:
             text = f"COUNT({column(source, name)})"
             yield query.instead(node, f"{text} for COUNT(*)", Kind.AGGREGATE, 2, text)

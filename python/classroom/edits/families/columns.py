@@ -28,17 +28,23 @@ def related(node: Node, query: Query) -> Iterator[Change]:
 
 def of_other_tables(node: Node, query: Query) -> Iterator[Change]:
     """Any column at hand of the same kind, on a side of a comparison."""
-    if not isinstance(node, (exp.Column, exp.Literal)) or is_star(node) or not isinstance(node.parent, COMPARISONS):
+    if (
+        not isinstance(node, (exp.Column, exp.Literal))
+        or is_star(node)
+        or not isinstance(node.parent, COMPARISONS)
+    ):
         return
     kind = query.scopes.kind(node)
     for scope in query.scopes.visible(node) if kind else []:
         for source, columns in scope.items():
             for name, of in columns.items():
                 if source and of == kind and is_sensible(node, (source, name), query):
-                    yield changed(node, query, column(source, name), 3 if isinstance(node, exp.Column) else 4)
+                    yield changed(
+                        node, query, column(source, name), 3 if isinstance(node, exp.Column) else 4
+                    )
 
 
-Named = tuple[str, str]    # a source of FROM and its column
+Named = tuple[str, str]  # a source of FROM and its column
 
 
 def others(node: Node, query: Query) -> Iterator[tuple[str, Named]]:
@@ -51,8 +57,11 @@ def others(node: Node, query: Query) -> Iterator[tuple[str, Named]]:
     visible = query.scopes.visible(node)
     for other, of in columns.items():
         if other != name and (of == kind or None in (of, kind)):
-            is_ambiguous = any(sum(other in of_one for of_one in scope.values()) > 1
-                               for scope in visible if table in scope)
+            is_ambiguous = any(
+                sum(other in of_one for of_one in scope.values()) > 1
+                for scope in visible
+                if table in scope
+            )
             yield column(written_table or (table if is_ambiguous else ""), other), (table, other)
     for scope in visible:
         for source, more in scope.items():
@@ -72,7 +81,9 @@ def is_sensible(node: Node, other: Named, query: Query) -> bool:
     if other == (scopes.source_of(beside)[0], name_of(beside.this)):
         return False
     table = scopes.table_named(node, other[0])
-    return query.vocabulary.are_related((table, other[1]), (scopes.table_of(beside), name_of(beside.this)))
+    return query.vocabulary.are_related(
+        (table, other[1]), (scopes.table_of(beside), name_of(beside.this))
+    )
 
 
 def changed(node: Node, query: Query, other: str, cost: int = 2) -> Change:

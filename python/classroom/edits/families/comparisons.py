@@ -14,7 +14,13 @@ from classroom.edits.query import Query
 from classroom.sql.tree import COMPARISONS, Node
 
 # With or without equality, and the other way round.
-NEAR = ({exp.LT, exp.LTE}, {exp.GT, exp.GTE}, {exp.LT, exp.GT}, {exp.LTE, exp.GTE}, {exp.EQ, exp.NEQ})
+NEAR = (
+    {exp.LT, exp.LTE},
+    {exp.GT, exp.GTE},
+    {exp.LT, exp.GT},
+    {exp.LTE, exp.GTE},
+    {exp.EQ, exp.NEQ},
+)
 SIGNS = {exp.EQ: "=", exp.NEQ: "<>", exp.LT: "<", exp.LTE: "<=", exp.GT: ">", exp.GTE: ">="}
 
 
@@ -24,5 +30,10 @@ def changes(node: Node, query: Query) -> Iterator[Change]:
     for kind in COMPARISONS:
         if not isinstance(node, kind):
             is_near = {kind, type(node)} in NEAR
-            yield query.instead(node, f"{SIGNS[kind]} for {SIGNS[type(node)]}", Kind.COMPARISON, 1 if is_near else 2,
-                                f"{query.source(node.this)} {SIGNS[kind]} {query.source(node.expression)}")
+            yield query.instead(
+                node,
+                f"{SIGNS[kind]} for {SIGNS[type(node)]}",
+                Kind.COMPARISON,
+                1 if is_near else 2,
+                f"{query.source(node.this)} {SIGNS[kind]} {query.source(node.expression)}",
+            )

@@ -26,8 +26,8 @@ class Wanted:
 
     text: str
     cost: int
-    is_link: bool    # it joins two tables
-    sign: str        # of a comparison; empty of others
+    is_link: bool  # it joins two tables
+    sign: str  # of a comparison; empty of others
 
 
 @dataclass(frozen=True)
@@ -35,10 +35,10 @@ class Seen:
     """A column at hand."""
 
     source: str
-    table: str       # empty of a query's
+    table: str  # empty of a query's
     name: str
     kind: str | None
-    is_own: bool     # of the SELECT itself, and not of one around
+    is_own: bool  # of the SELECT itself, and not of one around
 
     @property
     def text(self) -> str:
@@ -62,10 +62,18 @@ def changes(node: Node, query: Query) -> Iterator[Change]:
         span, text = block.replaced([*texts, wanted.text])
         yield Change(f"{wanted.text} added", kind, wanted.cost, span, text, block.place())
         for at, old in enumerate(block.conditions):
-            span, text = block.replaced([*texts[:at], wanted.text, *texts[at + 1:]])
-            is_near = wanted.sign and isinstance(old, exp.Binary) and not isinstance(old, exp.Connector)
-            yield Change(f"{wanted.text} for {written(old)}", Kind.CONDITION, wanted.cost + (1 if is_near else 2), span,
-                         text, query.span(old))
+            span, text = block.replaced([*texts[:at], wanted.text, *texts[at + 1 :]])
+            is_near = (
+                wanted.sign and isinstance(old, exp.Binary) and not isinstance(old, exp.Connector)
+            )
+            yield Change(
+                f"{wanted.text} for {written(old)}",
+                Kind.CONDITION,
+                wanted.cost + (1 if is_near else 2),
+                span,
+                text,
+                query.span(old),
+            )
 
 
 def whole(node: Node, query: Query) -> Iterator[Change]:
@@ -92,7 +100,7 @@ def of_columns(block: Block) -> Iterator[Wanted]:
     words = block.query.vocabulary
     own = [one for one in seen if one.is_own]
     for at, one in enumerate(own):
-        for other in [*own[at + 1:], *(far for far in seen if not far.is_own)]:
+        for other in [*own[at + 1 :], *(far for far in seen if not far.is_own)]:
             if one.source != other.source:
                 yield from of_two(one, other, words)
         if one.place not in words.whole:
@@ -101,7 +109,12 @@ def of_columns(block: Block) -> Iterator[Wanted]:
         for value in words.constants(one.kind):
             signs = ("=", "<>", "<", "<=", ">", ">=") if one.kind == "INTEGER" else ("=", "<>")
             for sign in signs:
-                yield Wanted(f"{one.text} {sign} {literal(value)}", 4 if sign in ("=", "<>") else 5, False, sign)
+                yield Wanted(
+                    f"{one.text} {sign} {literal(value)}",
+                    4 if sign in ("=", "<>") else 5,
+                    False,
+                    sign,
+                )
 
 
 def of_two(one: Seen, other: Seen, words: Vocabulary) -> Iterator[Wanted]:
@@ -128,8 +141,10 @@ def columns_at_hand(block: Block) -> list[Seen]:
             name = name_in_from(source)
             if name and name not in names:
                 names.add(name)
-                found += [Seen(name, table_in(source), column_name, kind, level == 0)
-                          for column_name, kind in query.scopes.columns(source).items()]
+                found += [
+                    Seen(name, table_in(source), column_name, kind, level == 0)
+                    for column_name, kind in query.scopes.columns(source).items()
+                ]
     return found
 
 

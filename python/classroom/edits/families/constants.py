@@ -24,7 +24,9 @@ def changes(node: Node, query: Query) -> Iterator[Change]:
 
 def others(node: Node, query: Query) -> Iterator[Change]:
     """The constants that the queries have."""
-    if not isinstance(node, (exp.Literal, exp.Neg)) or isinstance(node.parent, (exp.Neg, exp.Limit, exp.Offset)):
+    if not isinstance(node, (exp.Literal, exp.Neg)) or isinstance(
+        node.parent, (exp.Neg, exp.Limit, exp.Offset)
+    ):
         return
     value = number(node)
     if value is None and not (isinstance(node, exp.Literal) and node.is_string):

@@ -20,16 +20,24 @@ UNION = re.compile(r"(?i)\bunion(\s+all)?\b")
 def changes(node: Node, query: Query) -> Iterator[Change]:
     if isinstance(node, exp.Select) and node.expressions:
         whole, first = query.span(node), query.span(node.expressions[0]).begin
-        head = query.text[whole.begin:first]
+        head = query.text[whole.begin : first]
         found = re.search(r"(?i)\bselect\s+(distinct\s+)?(?=\Z)", head)
         if found and not node.args.get("group"):
             place = Span(whole.begin + found.start(), first)
-            words, text = ("DISTINCT dropped", "SELECT ") if found[1] else ("DISTINCT added", "SELECT DISTINCT ")
+            words, text = (
+                ("DISTINCT dropped", "SELECT ")
+                if found[1]
+                else ("DISTINCT added", "SELECT DISTINCT ")
+            )
             yield Change(words, Kind.DISTINCT, 1, place, text, place)
     if type(node) is exp.Union:
         begin, end = query.span(node.this).end, query.span(node.expression).begin
         word = UNION.search(query.text, begin, end)
         if word:
-            words, text = ("UNION for UNION ALL", "UNION") if word[1] else ("UNION ALL for UNION", "UNION ALL")
+            words, text = (
+                ("UNION for UNION ALL", "UNION")
+                if word[1]
+                else ("UNION ALL for UNION", "UNION ALL")
+            )
             place = Span(word.start(), word.end())
             yield Change(words, Kind.DISTINCT, 1, place, text, place)

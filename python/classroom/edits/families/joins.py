@@ -18,8 +18,13 @@ from classroom.sql.tree import Node, bare
 
 def changes(node: Node, query: Query) -> Iterator[Change]:
     if isinstance(node, exp.Join) and node.args.get("on"):
-        yield query.instead(node, "the condition of JOIN dropped", Kind.CONDITION_TOO_MANY, 3,
-                            f"CROSS JOIN {query.source(node.this)}")
+        yield query.instead(
+            node,
+            "the condition of JOIN dropped",
+            Kind.CONDITION_TOO_MANY,
+            3,
+            f"CROSS JOIN {query.source(node.this)}",
+        )
     block = block_of(node, query)
     if block:
         yield from joined(block)
@@ -42,16 +47,27 @@ def joined(block: Block) -> Iterator[Change]:
         if is_negated and conditions:
             texts[-1] = conditions[-1][1]
         outer = [block.qualified(other) for other in block.conditions]
-        outer[at:at + 1] = texts
+        outer[at : at + 1] = texts
         word = "EXISTS" if isinstance(test, exp.Exists) else "IN"
         yield query.instead(
-            block.select, f"JOIN for {'NOT ' if is_negated else ''}{word}", Kind.JOIN, 6,
-            block.written(f"{block.from_text()}, {inner.from_text()}", outer), place=query.span(condition))
+            block.select,
+            f"JOIN for {'NOT ' if is_negated else ''}{word}",
+            Kind.JOIN,
+            6,
+            block.written(f"{block.from_text()}, {inner.from_text()}", outer),
+            place=query.span(condition),
+        )
 
 
 def semijoin_of(test: Node, query: Query) -> Block | None:
     """The SELECT of an EXISTS or IN; None of what is neither."""
-    inner = test.this if isinstance(test, exp.Exists) else test.args.get("query") if isinstance(test, exp.In) else None
+    inner = (
+        test.this
+        if isinstance(test, exp.Exists)
+        else test.args.get("query")
+        if isinstance(test, exp.In)
+        else None
+    )
     while isinstance(inner, exp.Subquery):
         inner = inner.this
     return block_of(inner, query) if inner is not None else None
@@ -61,7 +77,9 @@ def conditions_of(test: Node, inner: Block) -> list[tuple[str, str]] | None:
     """What a semijoin asks of a pair of rows, the link of IN last, each with its negation; None where it
     can't be told."""
     query = inner.query
-    found = [(inner.qualified(condition), inner.negated(condition)) for condition in inner.conditions]
+    found = [
+        (inner.qualified(condition), inner.negated(condition)) for condition in inner.conditions
+    ]
     if isinstance(test, exp.In):
         items = inner.select.expressions
         if len(items) != 1 or is_star(items[0]):
@@ -78,8 +96,13 @@ def semijoined(block: Block) -> Iterator[Change]:
         where = " WHERE " + " AND ".join(map(block.qualified, inside)) if inside else ""
         test = f"EXISTS(SELECT * FROM {block.query.source(member)}{where})"
         yield block.query.instead(
-            block.select, f"EXISTS for the JOIN with {name_in_from(member)}", Kind.JOIN, 6,
-            block.written(others, [*map(block.qualified, outside), test]), place=block.query.span(member))
+            block.select,
+            f"EXISTS for the JOIN with {name_in_from(member)}",
+            Kind.JOIN,
+            6,
+            block.written(others, [*map(block.qualified, outside), test]),
+            place=block.query.span(member),
+        )
 
 
 def apart(block: Block) -> Iterator[tuple[Node, list[Node], list[Node], str]]:
@@ -103,8 +126,17 @@ def as_exists(node: Node, query: Query) -> Iterator[Change]:
     inner = semijoin_of(node, query)
     conditions = conditions_of(node, inner) if inner else None
     around = {name for scope in query.scopes.visible(node) for name in scope}
-    if inner and conditions and not around & set(inner.names()) and not inner.select.args.get("group"):
+    if (
+        inner
+        and conditions
+        and not around & set(inner.names())
+        and not inner.select.args.get("group")
+    ):
         where = " AND ".join(text for text, _ in conditions)
-        yield query.instead(node, "EXISTS for IN", Kind.NULL, 2, f"EXISTS (SELECT * FROM {inner.from_text()} WHERE {where})")
-
-
+        yield query.instead(
+            node,
+            "EXISTS for IN",
+            Kind.NULL,
+            2,
+            f"EXISTS (SELECT * FROM {inner.from_text()} WHERE {where})",
+        )

@@ -21,25 +21,50 @@ TESTS = (exp.Exists, exp.In)
 def changes(node: Node, query: Query) -> Iterator[Change]:
     if isinstance(node, exp.Where):
         begin, end = query.span(node)
-        yield Change("the condition dropped", Kind.CONDITION_TOO_MANY, 2,
-                     Span(len(query.text[:begin].rstrip(" ")), end), "", Span(begin, end))
+        yield Change(
+            "the condition dropped",
+            Kind.CONDITION_TOO_MANY,
+            2,
+            Span(len(query.text[:begin].rstrip(" ")), end),
+            "",
+            Span(begin, end),
+        )
     if isinstance(node, exp.Connector):
         sign, words = ("OR", "OR for AND") if isinstance(node, exp.And) else ("AND", "AND for OR")
         for part, rest in ((node.this, node.expression), (node.expression, node.this)):
             if not isinstance(bare(part), type(node)):
-                yield query.instead(node, f"{written(bare(part))} dropped", Kind.CONDITION_TOO_MANY, 2,
-                                    query.source(bare(rest)), isinstance(bare(rest), exp.Connector),
-                                    query.span(bare(part)))
-        yield query.instead(node, words, Kind.CONNECTIVE, 2,
-                            f"{query.source(node.this)} {sign} {query.source(node.expression)}", True)
+                yield query.instead(
+                    node,
+                    f"{written(bare(part))} dropped",
+                    Kind.CONDITION_TOO_MANY,
+                    2,
+                    query.source(bare(rest)),
+                    isinstance(bare(rest), exp.Connector),
+                    query.span(bare(part)),
+                )
+        yield query.instead(
+            node,
+            words,
+            Kind.CONNECTIVE,
+            2,
+            f"{query.source(node.this)} {sign} {query.source(node.expression)}",
+            True,
+        )
     if isinstance(node, exp.Not):
         inner = bare(node.this)
         kind = Kind.QUANTIFIER if isinstance(inner, TESTS) else Kind.NEGATION
-        yield query.instead(node, "NOT dropped", kind, 2, query.source(inner), isinstance(inner, exp.Connector))
+        yield query.instead(
+            node, "NOT dropped", kind, 2, query.source(inner), isinstance(inner, exp.Connector)
+        )
     elif can_be_negated(node):
         whole = query.source(node)
-        yield query.instead(node, "NOT added", Kind.QUANTIFIER if isinstance(node, TESTS) else Kind.NEGATION, 2,
-                            f"NOT ({whole})" if isinstance(node, exp.Connector) else f"NOT {whole}")
+        yield query.instead(
+            node,
+            "NOT added",
+            Kind.QUANTIFIER if isinstance(node, TESTS) else Kind.NEGATION,
+            2,
+            f"NOT ({whole})" if isinstance(node, exp.Connector) else f"NOT {whole}",
+        )
 
 
 def can_be_negated(node: Node) -> bool:
@@ -48,7 +73,9 @@ def can_be_negated(node: Node) -> bool:
     outer = above(node)
     if isinstance(node, exp.Connector):
         return not isinstance(outer, (exp.Not, exp.Connector))
-    return isinstance(node, (exp.Exists, exp.In, exp.Between, exp.Is)) and not isinstance(outer, exp.Not)
+    return isinstance(node, (exp.Exists, exp.In, exp.Between, exp.Is)) and not isinstance(
+        outer, exp.Not
+    )
 
 
 def above(node: Node) -> Node | None:
@@ -65,17 +92,30 @@ def grouped(node: Node, query: Query) -> Iterator[Change]:
     if isinstance(node, exp.Or):
         for side, other in ((node.this, node.expression), (node.expression, node.this)):
             if isinstance(side, exp.And):
-                near, far = (side.expression, side.this) if side is node.this else (side.this, side.expression)
+                near, far = (
+                    (side.expression, side.this)
+                    if side is node.this
+                    else (side.this, side.expression)
+                )
                 first, last = (near, other) if side is node.this else (other, near)
                 inner = f"({query.source(first)} OR {query.source(last)})"
-                whole = f"{query.source(far)} AND {inner}" if side is node.this else f"{inner} AND {query.source(far)}"
+                whole = (
+                    f"{query.source(far)} AND {inner}"
+                    if side is node.this
+                    else f"{inner} AND {query.source(far)}"
+                )
                 yield query.instead(node, words, Kind.CONNECTIVE, 2, whole, True)
     if isinstance(node, exp.And):
         for side, other in ((node.this, node.expression), (node.expression, node.this)):
             inside = bare(side)
             if isinstance(inside, exp.Or):
-                ways = ((f"{query.source(inside.this)} AND {query.source(other)} OR {query.source(inside.expression)}"),
-                        (f"{query.source(inside.this)} OR {query.source(inside.expression)} AND {query.source(other)}"))
+                ways = (
+                    (
+                        f"{query.source(inside.this)} AND {query.source(other)} OR {query.source(inside.expression)}"
+                    ),
+                    (
+                        f"{query.source(inside.this)} OR {query.source(inside.expression)} AND {query.source(other)}"
+                    ),
+                )
                 for way in ways:
                     yield query.instead(node, words, Kind.CONNECTIVE, 2, way, True)
-

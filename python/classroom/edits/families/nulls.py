@@ -37,8 +37,24 @@ def allowed(node: Node, query: Query) -> Iterator[Change]:
         return
     whole = query.source(node)
     for side in sides:
-        if isinstance(side, exp.Column) and not is_star(side) and place_of(side, query.scopes) not in query.vocabulary.whole:
-            yield query.instead(node, f"OR {written(side)} IS NULL added", Kind.NULL, 4,
-                                f"{whole} OR {query.source(side)} IS NULL", True)
-            yield query.instead(node, f"{written(side)} IS NOT NULL added", Kind.NULL, 4,
-                                f"{whole} AND {query.source(side)} IS NOT NULL", True)
+        if (
+            isinstance(side, exp.Column)
+            and not is_star(side)
+            and place_of(side, query.scopes) not in query.vocabulary.whole
+        ):
+            yield query.instead(
+                node,
+                f"OR {written(side)} IS NULL added",
+                Kind.NULL,
+                4,
+                f"{whole} OR {query.source(side)} IS NULL",
+                True,
+            )
+            yield query.instead(
+                node,
+                f"{written(side)} IS NOT NULL added",
+                Kind.NULL,
+                4,
+                f"{whole} AND {query.source(side)} IS NOT NULL",
+                True,
+            )

@@ -25,5 +25,3 @@ def changes(node: Node, query: Query) -> Iterator[Change]:
         text = f"({text})" if isinstance(bare_query(part), SETS) else text
         made = f"{own} {word} {text}" if is_last else f"{text} {word} {own}"
         yield query.instead(node, f"{word} with {text} missing", Kind.OPERAND_MISSING, 6, made)
-
-

@@ -24,6 +24,14 @@ def changes(node: Node, query: Query) -> Iterator[Change]:
     if not found:
         return
     if found[3]:
-        yield query.instead(node, f"JOIN for {found[3].upper()} JOIN", Kind.JOIN, 2, f"JOIN{query.text[found.end():span.end]}")
+        yield query.instead(
+            node,
+            f"JOIN for {found[3].upper()} JOIN",
+            Kind.JOIN,
+            2,
+            f"JOIN{query.text[found.end():span.end]}",
+        )
     else:
-        yield query.instead(node, "LEFT JOIN for JOIN", Kind.JOIN, 2, f"LEFT JOIN{query.text[found.end():span.end]}")
+        yield query.instead(
+            node, "LEFT JOIN for JOIN", Kind.JOIN, 2, f"LEFT JOIN{query.text[found.end():span.end]}"
+        )

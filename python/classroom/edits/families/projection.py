@@ -20,38 +20,69 @@ def changes(node: Node, query: Query) -> Iterator[Change]:
         return
     items = list(node.expressions)
     for at, item in enumerate(items):
-        yield selecting(node, query, f"{written(item)} dropped from SELECT", 3, items[:at] + items[at + 1:], item)
+        yield selecting(
+            node,
+            query,
+            f"{written(item)} dropped from SELECT",
+            3,
+            items[:at] + items[at + 1 :],
+            item,
+        )
     for at, item in enumerate(items):
         for other in range(at + 1, len(items)):
             exchanged = list(items)
             exchanged[at], exchanged[other] = items[other], item
-            yield selecting(node, query, f"{written(item)} and {written(items[other])} exchanged", 3, exchanged)
+            yield selecting(
+                node, query, f"{written(item)} and {written(items[other])} exchanged", 3, exchanged
+            )
 
 
 def added(node: Node, query: Query) -> Iterator[Change]:
     """A column at hand more, or in the place of one of its kind."""
-    if not isinstance(node, exp.Select) or isinstance(node.parent, exp.Exists) or any(map(is_star, node.expressions)):
+    if (
+        not isinstance(node, exp.Select)
+        or isinstance(node.parent, exp.Exists)
+        or any(map(is_star, node.expressions))
+    ):
         return
     items: list[Node | str] = list(node.expressions)
-    columns = [(column(source, name), kind) for source, of in query.scopes.sources(node).items() if source
-               for name, kind in of.items()]
+    columns = [
+        (column(source, name), kind)
+        for source, of in query.scopes.sources(node).items()
+        if source
+        for name, kind in of.items()
+    ]
     for at, item in enumerate(node.expressions):
         inner = item.this if isinstance(item, exp.Alias) else item
         kind = query.scopes.kind(inner) if isinstance(inner, exp.Column) else None
         for text, of in columns:
             if kind and of == kind:
-                other = [*items[:at], text, *items[at + 1:]]
-                yield selecting(node, query, f"{text} for {written(item)} in SELECT", 3, other, item)
+                other = [*items[:at], text, *items[at + 1 :]]
+                yield selecting(
+                    node, query, f"{text} for {written(item)} in SELECT", 3, other, item
+                )
     for text, _ in columns:
         for at in range(len(items) + 1):
-            yield selecting(node, query, f"{text} added to SELECT", 4, [*items[:at], text, *items[at:]])
+            yield selecting(
+                node, query, f"{text} added to SELECT", 4, [*items[:at], text, *items[at:]]
+            )
 
 
-def selecting(select: Node, query: Query, mistake: str, cost: int, items: list[Node | str] | list[Node],
-              shown: Node | None = None) -> Change:
+def selecting(
+    select: Node,
+    query: Query,
+    mistake: str,
+    cost: int,
+    items: list[Node | str] | list[Node],
+    shown: Node | None = None,
+) -> Change:
     begin, end = query.span(select.expressions[0]).begin, query.span(select.expressions[-1]).end
     texts = [item if isinstance(item, str) else query.source(item) for item in items]
-    return Change(mistake, Kind.SELECT, cost, Span(begin, end), ", ".join(texts),
-                  query.span(shown) if shown else Span(begin, end))
-
-
+    return Change(
+        mistake,
+        Kind.SELECT,
+        cost,
+        Span(begin, end),
+        ", ".join(texts),
+        query.span(shown) if shown else Span(begin, end),
+    )

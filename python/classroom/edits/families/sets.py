@@ -22,7 +22,9 @@ def changes(node: Node, query: Query) -> Iterator[Change]:
     # Except and Intersect are kinds of Union in sqlglot.
     for kind, word in WORDS.items():
         if kind is not type(node):
-            yield change(node, query, f"{word} for {WORDS[type(node)]}", 3, f"{left} {word} {right}")
+            yield change(
+                node, query, f"{word} for {WORDS[type(node)]}", 3, f"{left} {word} {right}"
+            )
     word = WORDS[type(node)]
     yield change(node, query, f"the operands of {word} exchanged", 3, f"{right} {word} {left}")
 
@@ -32,18 +34,31 @@ def operands(node: Node, query: Query) -> Iterator[Change]:
     if not isinstance(node, SETS):
         return
     word = WORDS[type(node)]
-    for part, other, which in ((node.this, node.expression, "first"), (node.expression, node.this, "second")):
+    for part, other, which in (
+        (node.this, node.expression, "first"),
+        (node.expression, node.this, "second"),
+    ):
         whole = bare_query(part)
         text = query.source(whole)
         is_below = isinstance(whole, SETS) and isinstance(around(node), SETS)
-        yield Change(f"the {which} operand of {word} alone", Kind.OPERAND_TOO_MANY, 2, query.span(node),
-                     f"({text})" if is_below else text, query.span(other))
+        yield Change(
+            f"the {which} operand of {word} alone",
+            Kind.OPERAND_TOO_MANY,
+            2,
+            query.span(node),
+            f"({text})" if is_below else text,
+            query.span(other),
+        )
 
 
 def change(node: Node, query: Query, mistake: str, cost: int, text: str) -> Change:
     """In parentheses below another set operator, unless they stand there."""
-    is_below = isinstance(node.parent, SETS) or isinstance(node.parent, exp.Subquery) and \
-        isinstance(around(node), SETS) and not stands_in_parentheses(node, query)
+    is_below = (
+        isinstance(node.parent, SETS)
+        or isinstance(node.parent, exp.Subquery)
+        and isinstance(around(node), SETS)
+        and not stands_in_parentheses(node, query)
+    )
     return query.instead(node, mistake, Kind.SET, cost, f"({text})" if is_below else text)
 
 

@@ -17,7 +17,7 @@ from classroom.sql.scopes import column, is_star, name_in_from, name_of
 from classroom.sql.tree import Node
 from classroom.sql.schema import spelled
 
-MOST_WAYS = 12    # to add one table
+MOST_WAYS = 12  # to add one table
 
 
 def changes(node: Node, query: Query) -> Iterator[Change]:
@@ -54,19 +54,33 @@ def linked(block: Block) -> Iterator[Change]:
         table, name = table_in(member), name_in_from(member)
         if not table:
             continue
-        used = [one for one in block.select.find_all(exp.Column)
-                if not is_star(one) and query.scopes.source_of(one)[0] == name]
+        used = [
+            one
+            for one in block.select.find_all(exp.Column)
+            if not is_star(one) and query.scopes.source_of(one)[0] == name
+        ]
         own = {name_of(one.this) for one in used}
         for other, columns in words.tables.items():
-            ways = [[to for to in columns if words.are_linked((table, one), (other, to))] for one in sorted(own)]
+            ways = [
+                [to for to in columns if words.are_linked((table, one), (other, to))]
+                for one in sorted(own)
+            ]
             if other == table or not own or not all(ways) or own <= set(columns):
                 continue
             for way in itertools.islice(itertools.product(*ways), MOST_WAYS):
                 names = dict(zip(sorted(own), way))
-                pieces = [(*query.span(one), column(name, names[name_of(one.this)])) for one in used]
+                pieces = [
+                    (*query.span(one), column(name, names[name_of(one.this)])) for one in used
+                ]
                 pieces.append((*query.span(member), f"{spelled(other)} AS {spelled(name)}"))
-                yield query.instead(block.select, f"{other} for {table}", Kind.TABLE, 4,
-                                    query.source(block.select, pieces), place=query.span(member))
+                yield query.instead(
+                    block.select,
+                    f"{other} for {table}",
+                    Kind.TABLE,
+                    4,
+                    query.source(block.select, pieces),
+                    place=query.span(member),
+                )
 
 
 def too_many(block: Block) -> Iterator[Change]:
@@ -77,11 +91,17 @@ def too_many(block: Block) -> Iterator[Change]:
         others = [other for other in block.sources if other is not member]
         if not others or name in shown:
             continue
-        kept = [block.qualified(one) for one in block.all_conditions if not block.mentions(one, name)]
+        kept = [
+            block.qualified(one) for one in block.all_conditions if not block.mentions(one, name)
+        ]
         yield block.query.instead(
-            block.select, f"{name} dropped from FROM", Kind.TABLE_TOO_MANY, 4,
+            block.select,
+            f"{name} dropped from FROM",
+            Kind.TABLE_TOO_MANY,
+            4,
             block.written(", ".join(block.query.source(other) for other in others), kept),
-            place=block.query.span(member))
+            place=block.query.span(member),
+        )
 
 
 def missing(block: Block) -> Iterator[Change]:
@@ -93,14 +113,20 @@ def missing(block: Block) -> Iterator[Change]:
         alias = fresh(block, table)
         per_column = []
         for name in [name for name in columns if (table, name) in words.classes]:
-            links = [f"{column(source, to)} = {column(alias, name)}" for source, of in own
-                     for to in words.tables.get(of, {}) if words.are_linked((of, to), (table, name))]
+            links = [
+                f"{column(source, to)} = {column(alias, name)}"
+                for source, of in own
+                for to in words.tables.get(of, {})
+                if words.are_linked((of, to), (table, name))
+            ]
             if links:
                 per_column.append(links)
         ways = [[link] for links in per_column for link in links]
         costs = [6] * len(ways)
         if len(per_column) > 1:
-            both = [list(way) for way in itertools.islice(itertools.product(*per_column), MOST_WAYS)]
+            both = [
+                list(way) for way in itertools.islice(itertools.product(*per_column), MOST_WAYS)
+            ]
             ways, costs = ways + both, costs + [5] * len(both)
         for way, cost in zip(ways, costs):
             yield adding(block, table, alias, way, cost)
@@ -110,16 +136,25 @@ def adding(block: Block, table: str, alias: str, links: list[str], cost: int) ->
     text = f"{spelled(table)} AS {spelled(alias)}" if alias != table else spelled(table)
     conditions = [*map(block.qualified, block.conditions), *links]
     return block.query.instead(
-        block.select, f"{table} joined by {' AND '.join(links)}", Kind.TABLE_MISSING, cost,
-        block.written(f"{block.from_text()}, {text}", conditions), place=block.begin_text())
+        block.select,
+        f"{table} joined by {' AND '.join(links)}",
+        Kind.TABLE_MISSING,
+        cost,
+        block.written(f"{block.from_text()}, {text}", conditions),
+        place=block.begin_text(),
+    )
 
 
 def fresh(block: Block, table: str) -> str:
     """A name for a table that nothing at hand has."""
-    taken = {name for scope in block.query.scopes.visible(block.select) for name in scope} | set(block.names())
+    taken = {name for scope in block.query.scopes.visible(block.select) for name in scope} | set(
+        block.names()
+    )
     taken |= {name_in_from(one) for one in block.query.tree.find_all(exp.Table)}
     if table not in taken:
         return table
-    return next(name for name in (f"{table[0].lower()}{number}" for number in itertools.count(2)) if name not in taken)
-
-
+    return next(
+        name
+        for name in (f"{table[0].lower()}{number}" for number in itertools.count(2))
+        if name not in taken
+    )

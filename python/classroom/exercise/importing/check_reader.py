@@ -6,7 +6,18 @@ from collections.abc import Callable, Mapping, Sequence
 from dataclasses import dataclass
 from typing import ClassVar, NoReturn, Union
 
-from classroom.exercise.importing.checks import EQUALITY, ORDER, Check, Joined, Leaf, Node, Not, Side, Unread, conditions_of
+from classroom.exercise.importing.checks import (
+    EQUALITY,
+    ORDER,
+    Check,
+    Joined,
+    Leaf,
+    Node,
+    Not,
+    Side,
+    Unread,
+    conditions_of,
+)
 
 # What an operand may turn out to be: a condition in parentheses, a side, or a list of sides.
 Operand = Union[Node, Side, list[Side]]
@@ -23,8 +34,8 @@ TOKEN = r"""(?P<gap>(?:[ \t\r\n\f\v]|--[^\n]*|/\*.*?(?:\*/|\Z))+)
 
 @dataclass(frozen=True)
 class Token:
-    kind: str    # word, number, sign, end, or the quote that opens it
-    text: str    # without its quotes
+    kind: str  # word, number, sign, end, or the quote that opens it
+    text: str  # without its quotes
     start: int
     stop: int
 
@@ -52,7 +63,7 @@ def shortened(text: str, found: Sequence[Token]) -> str:
     """The text of some tokens in one line, without its comments."""
     shown, stop = "", found[0].start
     for token in found:
-        shown += (" " if stop < token.start else "") + text[token.start:token.stop]
+        shown += (" " if stop < token.start else "") + text[token.start : token.stop]
         stop = token.stop
     return shown
 
@@ -60,7 +71,7 @@ def shortened(text: str, found: Sequence[Token]) -> str:
 class Reader:
     """Reads one condition, with the sides that its names stand for. What differs by product is in subclasses."""
 
-    form: ClassVar[re.Pattern[str]]    # of its tokens
+    form: ClassVar[re.Pattern[str]]  # of its tokens
 
     def __init__(self, text: str, sides: Mapping[str, Side]) -> None:
         self.sides = sides
@@ -73,11 +84,23 @@ class Reader:
             if self.here.kind != "end":
                 self.stop()
             conditions = conditions_of(node)
-            sides = [side for parts in conditions for part in parts for leaf in part for side in leaf.sides]
-            return Check(name, {side.column for side in sides if side.column is not None}, conditions)
+            sides = [
+                side
+                for parts in conditions
+                for part in parts
+                for leaf in part
+                for side in leaf.sides
+            ]
+            return Check(
+                name, {side.column for side in sides if side.column is not None}, conditions
+            )
         except Unread as why:
             named = [self.side_of(token) for token in self.tokens]
-            return Check(name, {side.column for side in named if side and side.column is not None}, why=str(why))
+            return Check(
+                name,
+                {side.column for side in named if side and side.column is not None},
+                why=str(why),
+            )
 
     @property
     def here(self) -> Token:
@@ -258,7 +281,7 @@ class Reader:
         text = minus + self.here.text
         if not re.fullmatch("-?[0-9]+", text):
             raise Unread(f"has the number {text}, which is not whole")
-        if len(text) > 20 or not -2**63 <= int(text) < 2**63:
+        if len(text) > 20 or not -(2**63) <= int(text) < 2**63:
             raise Unread(f"has the number {text}, which is past 64 bits")
         self.at += 1
         return Side(value=int(text), kind="INTEGER")

@@ -23,12 +23,15 @@ class Unread(Exception):
 @dataclass(frozen=True)
 class Side:
     """A column or a constant; without a column and a value it is NULL."""
+
     column: str | None = None
     value: int | str | None = None
-    kind: str | None = ""    # INTEGER or TEXT; None for a column of another type
-    type: str = ""           # the database's own, where more than the kind counts
-    texts: int | None = None    # what its collation shares with the order of bytes; None where it has no say
-    told: bool = False       # by a COLLATE in the condition itself
+    kind: str | None = ""  # INTEGER or TEXT; None for a column of another type
+    type: str = ""  # the database's own, where more than the kind counts
+    texts: int | None = (
+        None  # what its collation shares with the order of bytes; None where it has no say
+    )
+    told: bool = False  # by a COLLATE in the condition itself
 
     def written(self, names: Mapping[str, str]) -> str:
         return literal(self.value) if self.column is None else names[self.column]
@@ -36,17 +39,19 @@ class Side:
 
 @dataclass
 class Leaf:
-    form: str             # with {} for each side
+    form: str  # with {} for each side
     sides: tuple[Side, ...]
     negated: bool = False
 
     def written(self, names: Mapping[str, str]) -> str:
-        return ("NOT " if self.negated else "") + self.form.format(*(side.written(names) for side in self.sides))
+        return ("NOT " if self.negated else "") + self.form.format(
+            *(side.written(names) for side in self.sides)
+        )
 
 
 @dataclass
 class Joined:
-    word: str             # AND or OR
+    word: str  # AND or OR
     of: list[Node]
 
 
@@ -62,14 +67,18 @@ Parts = list[list[Leaf]]
 
 @dataclass
 class Check:
-    name: str             # as it is told
-    columns: set[str]     # that it names
+    name: str  # as it is told
+    columns: set[str]  # that it names
     conditions: list[Parts] = field(default_factory=list)
-    why: str = ""         # why it is left out
+    why: str = ""  # why it is left out
 
     def written(self, names: Mapping[str, str]) -> list[str]:
-        return ["CHECK (" + " OR ".join(" AND ".join(leaf.written(names) for leaf in part) for part in parts) + ")"
-                for parts in self.conditions]
+        return [
+            "CHECK ("
+            + " OR ".join(" AND ".join(leaf.written(names) for leaf in part) for part in parts)
+            + ")"
+            for parts in self.conditions
+        ]
 
 
 def spread(node: Node, negated: bool = False) -> Leaf | Joined:
@@ -104,4 +113,6 @@ def conditions_of(node: Node) -> list[Parts]:
     if isinstance(spread_out, Leaf) or spread_out.word == "OR":
         return [parts_of(spread_out)]
     plain = [leaf for leaf in spread_out.of if isinstance(leaf, Leaf)]
-    return ([[plain]] if plain else []) + [parts_of(part) for part in spread_out.of if isinstance(part, Joined)]
+    return ([[plain]] if plain else []) + [
+        parts_of(part) for part in spread_out.of if isinstance(part, Joined)
+    ]

@@ -7,9 +7,11 @@ from datetime import date, time
 
 DATE = r"[0-9]{4}-[0-9]{2}-[0-9]{2}"
 TIME = r"[0-9]{2}:[0-9]{2}"
-MOMENT = re.compile(rf"(?:(?P<date>{DATE})(?:(?P<between>[ T])(?={TIME}))?)?"
-                    rf"(?:(?P<time>{TIME})(?P<seconds>:[0-9]{{2}}(?:\.(?P<fraction>[0-9]{{1,9}}))?)?"
-                    r"(?P<zone>Z|[+]00(?::?00)?)?)?")
+MOMENT = re.compile(
+    rf"(?:(?P<date>{DATE})(?:(?P<between>[ T])(?={TIME}))?)?"
+    rf"(?:(?P<time>{TIME})(?P<seconds>:[0-9]{{2}}(?:\.(?P<fraction>[0-9]{{1,9}}))?)?"
+    r"(?P<zone>Z|[+]00(?::?00)?)?)?"
+)
 
 
 def form_of(text: str) -> str | None:
@@ -24,9 +26,17 @@ def form_of(text: str) -> str | None:
             time.fromisoformat(found["time"] + (found["seconds"] or "")[:3])
     except ValueError:
         return None
-    return "|".join(part if part is not None else "" for part in (
-        found["date"] and "date", found["between"], found["time"] and "time", found["seconds"] and "seconds",
-        found["fraction"] and str(len(found["fraction"])), found["zone"]))
+    return "|".join(
+        part if part is not None else ""
+        for part in (
+            found["date"] and "date",
+            found["between"],
+            found["time"] and "time",
+            found["seconds"] and "seconds",
+            found["fraction"] and str(len(found["fraction"])),
+            found["zone"],
+        )
+    )
 
 
 def one_form(texts: Iterable[str]) -> bool:
@@ -51,5 +61,5 @@ def padded(text: str, digits: int) -> str | None:
     fraction = (found["fraction"] or "").ljust(digits, "0")
     if len(fraction) > digits:
         return None
-    start = text[:found.end("seconds")].partition(".")[0]
+    start = text[: found.end("seconds")].partition(".")[0]
     return start + (f".{fraction}" if digits else "") + (found["zone"] or "")

@@ -41,7 +41,10 @@ def export(source: Source, folder: Path, names: Sequence[str], rows: int | None)
     engine = source.engine()
     source.close()
     if rows is not None:
-        notes += [f"{shown(table.name)}: {len(table.rows)} of {table.count} rows" for table in chosen.values()]
+        notes += [
+            f"{shown(table.name)}: {len(table.rows)} of {table.count} rows"
+            for table in chosen.values()
+        ]
     texts = {"schema.sql": schema_text(chosen)}
     texts.update({f"{table.written}.csv": csv_text(table) for table in chosen.values()})
     for name, text in texts.items():
@@ -64,7 +67,11 @@ def export(source: Source, folder: Path, names: Sequence[str], rows: int | None)
 def note_engine(path: Path, engine: Mapping[str, str]) -> None:
     """Puts the keys in front of what the file says, where it doesn't say them."""
     text = path.read_text(encoding="utf-8") if path.is_file() else ""
-    lines = [f"{key} = {json.dumps(value)}\n" for key, value in engine.items() if not re.search(rf"(?m)^\s*{key}\s*=", text)]
+    lines = [
+        f"{key} = {json.dumps(value)}\n"
+        for key, value in engine.items()
+        if not re.search(rf"(?m)^\s*{key}\s*=", text)
+    ]
     if lines:
         write(path, ("".join(lines) + text).encode())
 
@@ -87,7 +94,9 @@ def choose(source: Source, names: Sequence[str]) -> Tables:
         if source.fold(name) not in folded:
             raise Fault(f"there is no table {shown(name)}")
     wanted = {source.fold(name) for name in names}
-    chosen = {name: table for name, table in tables.items() if not names or source.fold(name) in wanted}
+    chosen = {
+        name: table for name, table in tables.items() if not names or source.fold(name) in wanted
+    }
     for name, table in chosen.items():
         if not table.written or "/" in table.written:
             raise Fault(f"{shown(name)}: no file can have the name of this table")
@@ -105,14 +114,21 @@ def leave_out(chosen: Tables) -> Iterator[str]:
     for table in chosen.values():
         where = shown(table.name)
         for column in table.columns:
-            if not column.why and (not column.name or column.written.strip(" \t") != column.written):
-                column.why = "a name with a blank at an end or without a letter can't stand in a CSV file"
+            if not column.why and (
+                not column.name or column.written.strip(" \t") != column.written
+            ):
+                column.why = (
+                    "a name with a blank at an end or without a letter can't stand in a CSV file"
+                )
             if column.why:
                 yield f"{where}.{shown(column.name)}: left out: {column.why}"
             elif column.note:
                 yield f"{where}.{shown(column.name)}: {column.note}"
         yield from (f"{where}: {note}" for note in table.notes)
-    gone = {name: {column.name for column in table.columns if column.why} for name, table in chosen.items()}
+    gone = {
+        name: {column.name for column in table.columns if column.why}
+        for name, table in chosen.items()
+    }
     for name, table in chosen.items():
         yield from leave_out_keys(chosen, table, gone)
         yield from leave_out_checks(table, gone[name])
@@ -140,8 +156,10 @@ def leave_out_keys(chosen: Tables, table: Table, gone: dict[str, set[str]]) -> I
             lost = gone[foreign.table] & set(foreign.to)
         if lost:
             table.foreigns.remove(foreign)
-            yield (f"{shown(table.name)}: left out with its column: FOREIGN KEY ({shown(*foreign.columns)}); "
-                   f"a witness may lack the row of {shown(foreign.table)}")
+            yield (
+                f"{shown(table.name)}: left out with its column: FOREIGN KEY ({shown(*foreign.columns)}); "
+                f"a witness may lack the row of {shown(foreign.table)}"
+            )
 
 
 def leave_out_checks(table: Table, gone: set[str]) -> Iterator[str]:
@@ -167,47 +185,70 @@ def check_target(table: Table, foreign: Foreign, chosen: Tables) -> None:
         raise Fault(f"{where} refers to {shown(foreign.table)}, which has no primary key")
     for name in foreign.to:
         if name not in names:
-            raise Fault(f"{where} refers to {shown(foreign.table)}.{shown(name)}, which is not there")
+            raise Fault(
+                f"{where} refers to {shown(foreign.table)}.{shown(name)}, which is not there"
+            )
 
 
 def check_kinds(table: Table, foreign: Foreign, chosen: Tables) -> None:
     target = chosen[foreign.table]
-    kinds = [[of.columns[place].kind for place in of.places(names)]
-             for of, names in ((table, foreign.columns), (target, foreign.to))]
-    if kinds[0] != kinds[1] or any(len(set(names)) < len(names) for names in (foreign.columns, foreign.to)):
-        raise Fault(f"{shown(table.name)}: FOREIGN KEY ({shown(*foreign.columns)}) and "
-                    f"{shown(foreign.table)} ({shown(*foreign.to)}) differ in number or type")
+    kinds = [
+        [of.columns[place].kind for place in of.places(names)]
+        for of, names in ((table, foreign.columns), (target, foreign.to))
+    ]
+    if kinds[0] != kinds[1] or any(
+        len(set(names)) < len(names) for names in (foreign.columns, foreign.to)
+    ):
+        raise Fault(
+            f"{shown(table.name)}: FOREIGN KEY ({shown(*foreign.columns)}) and "
+            f"{shown(foreign.table)} ({shown(*foreign.to)}) differ in number or type"
+        )
 
 
 def check_limits(chosen: Tables, rows: int | None) -> None:
     if len(chosen) > MOST_TABLES:
-        raise Fault(f"{len(chosen)} tables are more than the {MOST_TABLES} that are read; name some")
+        raise Fault(
+            f"{len(chosen)} tables are more than the {MOST_TABLES} that are read; name some"
+        )
     for table in chosen.values():
         if len(table.columns) > MOST_COLUMNS or len(table.keys) + len(table.foreigns) > MOST_RULES:
-            raise Fault(f"{shown(table.name)}: more than {MOST_COLUMNS} columns, or keys and foreign keys")
+            raise Fault(
+                f"{shown(table.name)}: more than {MOST_COLUMNS} columns, or keys and foreign keys"
+            )
     total = sum(table.count for table in chosen.values())
     if rows is None and total > MOST_ROWS:
-        raise Fault(f"{total} rows are more than the {MOST_ROWS} that are read; --rows N takes N of each table, "
-                    "and `classroom pick` finds those that tell the mistakes")
+        raise Fault(
+            f"{total} rows are more than the {MOST_ROWS} that are read; --rows N takes N of each table, "
+            "and `classroom pick` finds those that tell the mistakes"
+        )
 
 
 def close(source: Source, chosen: Tables) -> None:
     """Adds the rows that rows refer to, until none is missing but those that aren't in the database."""
     grown = True
     while grown:
-        grown = any([fetched(source, table, foreign, chosen[foreign.table])
-                     for table in chosen.values() for foreign in table.foreigns])
+        grown = any(
+            [
+                fetched(source, table, foreign, chosen[foreign.table])
+                for table in chosen.values()
+                for foreign in table.foreigns
+            ]
+        )
         total = sum(len(table.rows) for table in chosen.values())
         if total > MOST_ROWS:
-            raise Fault(f"with the rows that they refer to these are {total}, more than the {MOST_ROWS} "
-                        "that are read; take fewer")
+            raise Fault(
+                f"with the rows that they refer to these are {total}, more than the {MOST_ROWS} "
+                "that are read; take fewer"
+            )
 
 
 def fetched(source: Source, table: Table, foreign: Foreign, target: Table) -> bool:
     """Adds the rows of the target that rows of the table refer to; whether there were any."""
     places = table.places(foreign.columns), target.places(foreign.to)
-    ours, theirs = ({tuple(row[place] for place in picks) for row in of.rows.values()}
-                    for of, picks in zip((table, target), places))
+    ours, theirs = (
+        {tuple(row[place] for place in picks) for row in of.rows.values()}
+        for of, picks in zip((table, target), places)
+    )
     wanted = {values for values in ours - theirs - foreign.unmet if None not in values}
     grown = False
     for number, row in source.matching(target, places[1], sorted(wanted, key=repr)).items():
@@ -227,12 +268,16 @@ def check_rows(chosen: Tables) -> Iterator[str]:
         where = shown(table.name)
         for foreign in table.foreigns:
             if foreign.unmet:
-                yield (f"{where}: FOREIGN KEY ({shown(*foreign.columns)}): values that no row of "
-                       f"{shown(foreign.table)} has: {len(foreign.unmet)}; no witness has rows with them")
+                yield (
+                    f"{where}: FOREIGN KEY ({shown(*foreign.columns)}): values that no row of "
+                    f"{shown(foreign.table)} has: {len(foreign.unmet)}; no witness has rows with them"
+                )
         lines = list(table.rows.values())
         for at, column in enumerate(table.columns):
             if any(line[at] == "" for line in lines):
-                raise Fault(f"{where}.{shown(column.name)}: an empty text, which a CSV file can't tell from NULL")
+                raise Fault(
+                    f"{where}.{shown(column.name)}: an empty text, which a CSV file can't tell from NULL"
+                )
             if column.not_null and any(line[at] is None for line in lines):
                 raise Fault(f"{where}.{shown(column.name)}: NULL in a column that is NOT NULL")
         for key in table.keys:
@@ -246,16 +291,26 @@ def schema_text(chosen: Tables) -> str:
     texts = []
     for table in chosen.values():
         write_as = {column.name: spelled(column.written) for column in table.columns}
-        items = [f"{write_as[column.name]} {column.kind}{' NOT NULL' if column.not_null else ''}"
-                 for column in table.columns]
-        items += [f"{'PRIMARY KEY' if key.primary else 'UNIQUE'} ({', '.join(write_as[name] for name in key.columns)})"
-                  for key in table.keys]
+        items = [
+            f"{write_as[column.name]} {column.kind}{' NOT NULL' if column.not_null else ''}"
+            for column in table.columns
+        ]
+        items += [
+            f"{'PRIMARY KEY' if key.primary else 'UNIQUE'} ({', '.join(write_as[name] for name in key.columns)})"
+            for key in table.keys
+        ]
         for foreign in table.foreigns:
-            target = {column.name: spelled(column.written) for column in chosen[foreign.table].columns}
-            items.append(f"FOREIGN KEY ({', '.join(write_as[name] for name in foreign.columns)}) REFERENCES "
-                         f"{spelled(chosen[foreign.table].written)} ({', '.join(target[name] for name in foreign.to)})")
+            target = {
+                column.name: spelled(column.written) for column in chosen[foreign.table].columns
+            }
+            items.append(
+                f"FOREIGN KEY ({', '.join(write_as[name] for name in foreign.columns)}) REFERENCES "
+                f"{spelled(chosen[foreign.table].written)} ({', '.join(target[name] for name in foreign.to)})"
+            )
         items += [text for check in table.checks for text in check.written(write_as)]
-        texts.append(f"CREATE TABLE {spelled(table.written)} (\n  " + ",\n  ".join(items) + "\n);\n")
+        texts.append(
+            f"CREATE TABLE {spelled(table.written)} (\n  " + ",\n  ".join(items) + "\n);\n"
+        )
     return "\n".join(texts)
 
 

@@ -18,8 +18,14 @@ from classroom.exercise.importing.postgres_checks import MOMENTS, Condition
 from classroom.base.errors import Fault, library, shown
 from classroom.sql.schema import literal, quoted
 
-KINDS = {"smallint": "INTEGER", "integer": "INTEGER", "bigint": "INTEGER",
-         "text": "TEXT", "character varying": "TEXT", "character": "TEXT"}
+KINDS = {
+    "smallint": "INTEGER",
+    "integer": "INTEGER",
+    "bigint": "INTEGER",
+    "text": "TEXT",
+    "character varying": "TEXT",
+    "character": "TEXT",
+}
 # How many rows are looked up at once.
 AT_ONCE = 100
 # Of the fraction of a second, where a moment of the database has one; and the moments with so many.
@@ -27,7 +33,8 @@ DIGITS = 6
 FRACTIONS = {
     "time without time zone": "to_char({}::interval, 'HH24:MI:SS.US')",
     "timestamp without time zone": "to_char({}, 'YYYY-MM-DD HH24:MI:SS.US')",
-    "timestamp with time zone": "to_char({}, 'YYYY-MM-DD HH24:MI:SS.US') || '+00'"}
+    "timestamp with time zone": "to_char({}, 'YYYY-MM-DD HH24:MI:SS.US') || '+00'",
+}
 
 TABLES = """SELECT c.oid, c.relname, c.relkind FROM pg_class c JOIN pg_namespace n ON n.oid = c.relnamespace
     WHERE c.relkind IN ('r', 'p', 'v', 'm', 'f') AND NOT c.relispartition AND pg_table_is_visible(c.oid)
@@ -96,10 +103,18 @@ class Postgres:
                 self.connection = psycopg.connect(words, client_encoding="UTF8", autocommit=True)
             except psycopg.OperationalError as fault:
                 # The words may have a password in them.
-                what = f"no file {shown(database)}, and no such database of PostgreSQL" if is_name else "no such database"
+                what = (
+                    f"no file {shown(database)}, and no such database of PostgreSQL"
+                    if is_name
+                    else "no such database"
+                )
                 raise Fault(f"{what}: {shown(str(fault).strip().splitlines()[-1])}") from None
-            for setting in ("BEGIN ISOLATION LEVEL REPEATABLE READ READ ONLY", "SET LOCAL DateStyle = ISO",
-                            "SET LOCAL TimeZone = 'UTC'", "SET LOCAL standard_conforming_strings = on"):
+            for setting in (
+                "BEGIN ISOLATION LEVEL REPEATABLE READ READ ONLY",
+                "SET LOCAL DateStyle = ISO",
+                "SET LOCAL TimeZone = 'UTC'",
+                "SET LOCAL standard_conforming_strings = on",
+            ):
                 self.connection.execute(setting)
 
     @contextmanager
@@ -107,7 +122,9 @@ class Postgres:
         try:
             yield
         except self.error as fault:
-            raise Fault(shown((str(fault).strip().splitlines() or ["the database was closed"])[0])) from None
+            raise Fault(
+                shown((str(fault).strip().splitlines() or ["the database was closed"])[0])
+            ) from None
 
     def fold(self, name: str) -> str:
         return name
@@ -115,13 +132,17 @@ class Postgres:
     def ask(self, query: str, values: Sequence[Cell] = ()) -> list[tuple[Any, ...]]:
         with self.faults():
             # Without values a % in the query stands for itself.
-            rows: list[tuple[Any, ...]] = self.connection.execute(query, list(values) or None).fetchall()
+            rows: list[tuple[Any, ...]] = self.connection.execute(
+                query, list(values) or None
+            ).fetchall()
             return rows
 
     def close(self) -> None:
         self.connection.close()
 
-    def full(self, tables: Sequence[Table], numbers: Mapping[str, Sequence[int]]) -> tuple[str, bytes | str]:
+    def full(
+        self, tables: Sequence[Table], numbers: Mapping[str, Sequence[int]]
+    ) -> tuple[str, bytes | str]:
         with self.faults():
             return full.SCRIPT, full.of_postgres(self.connection, tables, numbers)
 
@@ -129,7 +150,10 @@ class Postgres:
         """The two roles and the database that docs/GUIDE.md makes, on the same server; passwords are in none."""
         info = self.connection.info
         place = {"host": info.host, "port": info.port, "dbname": "ratest_scratch"}
-        return {key: self.made(**place, user=user) for key, user in (("engine", "ratest_loader"), ("engine_asker", "ratest_asker"))}
+        return {
+            key: self.made(**place, user=user)
+            for key, user in (("engine", "ratest_loader"), ("engine_asker", "ratest_asker"))
+        }
 
     def tables(self, names: Sequence[str]) -> dict[str, Table]:
         found: dict[int, Table] = {}
@@ -138,7 +162,9 @@ class Postgres:
             if kind in "rp":
                 found[number] = Table(name, name)
             else:
-                self.left.append(f"{shown(name)}: left out: a {'foreign table' if kind == 'f' else 'view'}")
+                self.left.append(
+                    f"{shown(name)}: left out: a {'foreign table' if kind == 'f' else 'view'}"
+                )
         self.read_collations()
         of = self.read_columns(found, names)
         self.read_uniques(found, of)
@@ -160,14 +186,20 @@ class Postgres:
     def read_collations(self) -> None:
         """What each collation shares with the order of bytes of UTF-8."""
         self.in_c = ORDER if self.ask("SHOW server_encoding")[0][0] == "UTF8" else EQUALITY
-        self.collations = {number: NOTHING if not is_exact else self.in_c if is_c else EQUALITY
-                           for number, is_exact, is_c in self.ask(COLLATIONS)}
+        self.collations = {
+            number: NOTHING if not is_exact else self.in_c if is_c else EQUALITY
+            for number, is_exact, is_c in self.ask(COLLATIONS)
+        }
 
-    def read_columns(self, found: Mapping[int, Table], names: Sequence[str]) -> dict[int, dict[int, str]]:
+    def read_columns(
+        self, found: Mapping[int, Table], names: Sequence[str]
+    ) -> dict[int, dict[int, str]]:
         """The names of the columns by their numbers, of each table."""
         self.sides: dict[int, dict[str, Side]] = {}
         of: dict[int, dict[int, str]] = {}
-        for own, number, name, declared, base, collation, not_null, is_generated in self.ask(COLUMNS):
+        for own, number, name, declared, base, collation, not_null, is_generated in self.ask(
+            COLUMNS
+        ):
             if own not in found:
                 continue
             table = found[own]
@@ -182,8 +214,11 @@ class Postgres:
                     self.read_values(table, column, declared, base)
             table.columns.append(column)
             self.sides.setdefault(own, {})[name] = Side(
-                name, kind=column.kind, type="bpchar" if base == "character" else base,
-                texts=self.collations.get(collation))
+                name,
+                kind=column.kind,
+                type="bpchar" if base == "character" else base,
+                texts=self.collations.get(collation),
+            )
         for table in found.values():
             for column in table.columns:
                 if self.bases[table.name, column.name] in FRACTIONS:
@@ -200,20 +235,34 @@ class Postgres:
         elif base == "numeric":
             lacks = "are not whole numbers of 64 bits"
             # What is no number or without an end stands before or behind all others.
-            (stray,), = self.ask(
+            ((stray,),) = self.ask(
                 f"SELECT count(*) FROM {rows} WHERE {name} NOT BETWEEN -9223372036854775808 AND 9223372036854775807 "
-                f"OR {name} <> trunc({name})")
+                f"OR {name} <> trunc({name})"
+            )
             is_good = stray == 0
         elif base in MOMENTS:
-            kind, note, lacks = "TEXT", "texts of ISO 8601, which compare by their bytes", "have no one form of ISO 8601"
-            texts = [text for text, in self.ask(f"SELECT DISTINCT {name}::text FROM {rows} WHERE {name} IS NOT NULL")]
+            kind, note, lacks = (
+                "TEXT",
+                "texts of ISO 8601, which compare by their bytes",
+                "have no one form of ISO 8601",
+            )
+            texts = [
+                text
+                for text, in self.ask(
+                    f"SELECT DISTINCT {name}::text FROM {rows} WHERE {name} IS NOT NULL"
+                )
+            ]
             whole = [padded(text, DIGITS) for text in texts]
             is_good = one_form([text or "" for text in whole])
             if is_good and any("." in text for text in texts):
                 # One form for all columns, so that they compare with one another too.
                 self.digits = DIGITS
         if is_good:
-            column.kind, column.why, column.note = kind, "", f"{shown(declared)} becomes {kind}: {note}"
+            column.kind, column.why, column.note = (
+                kind,
+                "",
+                f"{shown(declared)} becomes {kind}: {note}",
+            )
         elif lacks:
             column.why += f", since its values {lacks}"
 
@@ -224,7 +273,9 @@ class Postgres:
             sides = self.sides.get(own, {})
             if of is not None:
                 name = f"{name} of {of}"
-                shared = [self.collations[number] for number in collations if number in self.collations]
+                shared = [
+                    self.collations[number] for number in collations if number in self.collations
+                ]
                 sides = {"VALUE": replace(sides[of], texts=min(shared, default=None))}
             check = Condition(condition, sides, self.in_c, self.digits).check(shown(name))
             if not valid:
@@ -245,43 +296,67 @@ class Postgres:
                 if of[own][column] not in indexes[number].columns:
                     indexes[number].columns.append(of[own][column])
         for table in found.values():
-            texts = {column.name for column in table.columns
-                     if KINDS.get(self.bases[table.name, column.name]) == "TEXT"}
-            table.order = [quoted(name) + (' COLLATE "C"' if name in texts else "")
-                           for key in table.keys if key.primary for name in key.columns] or ["tableoid", "ctid"]
+            texts = {
+                column.name
+                for column in table.columns
+                if KINDS.get(self.bases[table.name, column.name]) == "TEXT"
+            }
+            table.order = [
+                quoted(name) + (' COLLATE "C"' if name in texts else "")
+                for key in table.keys
+                if key.primary
+                for name in key.columns
+            ] or ["tableoid", "ctid"]
 
     def look(self, table: Table) -> None:
-        if self.ask("SELECT 1 FROM pg_inherits h JOIN pg_class c ON c.oid = h.inhparent "
-                    f"WHERE c.relkind = 'r' AND c.oid = {literal(quoted(table.name))}::regclass"):
-            raise Fault(f"{shown(table.name)}: rows of other tables, which inherit from it, stand in it too")
-        (table.count,), = self.ask(f"SELECT count(*) FROM {quoted(table.name)}")
+        if self.ask(
+            "SELECT 1 FROM pg_inherits h JOIN pg_class c ON c.oid = h.inhparent "
+            f"WHERE c.relkind = 'r' AND c.oid = {literal(quoted(table.name))}::regclass"
+        ):
+            raise Fault(
+                f"{shown(table.name)}: rows of other tables, which inherit from it, stand in it too"
+            )
+        ((table.count,),) = self.ask(f"SELECT count(*) FROM {quoted(table.name)}")
 
     def first(self, table: Table, count: int) -> dict[int, tuple[Cell, ...]]:
         return self.rows(table, "n <= %s", [count])
 
-    def matching(self, table: Table, places: Sequence[int],
-                 values: Sequence[tuple[Cell, ...]]) -> dict[int, tuple[Cell, ...]]:
+    def matching(
+        self, table: Table, places: Sequence[int], values: Sequence[tuple[Cell, ...]]
+    ) -> dict[int, tuple[Cell, ...]]:
         found: dict[int, tuple[Cell, ...]] = {}
         one = f"({', '.join('%s' for _ in places)})"
         kinds = ["bigint" if table.columns[place].kind == "INTEGER" else "text" for place in places]
-        cells = ", ".join(f'c{place}::{kind} COLLATE "C"' if kind == "text" else f"c{place}"
-                          for place, kind in zip(places, kinds))
+        cells = ", ".join(
+            f'c{place}::{kind} COLLATE "C"' if kind == "text" else f"c{place}"
+            for place, kind in zip(places, kinds)
+        )
         for start in range(0, len(values), AT_ONCE):
-            part = values[start:start + AT_ONCE]
+            part = values[start : start + AT_ONCE]
             names = ", ".join(f"v{at}" for at in range(len(places)))
             typed = ", ".join(f"v{at}::{kind}" for at, kind in enumerate(kinds))
-            found.update(self.rows(
-                table, f"({cells}) IN (SELECT {typed} FROM (VALUES {', '.join(one for _ in part)}) v ({names}))",
-                [cell for row in part for cell in row]))
+            found.update(
+                self.rows(
+                    table,
+                    f"({cells}) IN (SELECT {typed} FROM (VALUES {', '.join(one for _ in part)}) v ({names}))",
+                    [cell for row in part for cell in row],
+                )
+            )
         return found
 
-    def rows(self, table: Table, condition: str, values: Sequence[Cell]) -> dict[int, tuple[Cell, ...]]:
+    def rows(
+        self, table: Table, condition: str, values: Sequence[Cell]
+    ) -> dict[int, tuple[Cell, ...]]:
         cells = [f"{self.cell(table, column)} AS c{at}" for at, column in enumerate(table.columns)]
-        inner = ", ".join([f"row_number() OVER (ORDER BY {', '.join(table.order)}) AS n", *cells]).replace("%", "%%")
+        inner = ", ".join(
+            [f"row_number() OVER (ORDER BY {', '.join(table.order)}) AS n", *cells]
+        ).replace("%", "%%")
         try:
             answer = self.ask(
                 f"SELECT n, {', '.join(f'c{at}' for at in range(len(cells)))} FROM (SELECT {inner} "
-                f"FROM {quoted(table.name).replace('%', '%%')}) AS x WHERE {condition} ORDER BY n", values)
+                f"FROM {quoted(table.name).replace('%', '%%')}) AS x WHERE {condition} ORDER BY n",
+                values,
+            )
         except UnicodeDecodeError:
             raise Fault(f"{shown(table.name)}: a text that is not UTF-8") from None
         return {number: tuple(row) for number, *row in answer}

@@ -12,7 +12,12 @@ from classroom.exercise.importing.check_reader import Operand, Reader, Token, pa
 FORM = pattern(r"""'(?:[^']|'')*'|"(?:[^"]|"")*\"""", r"::|[-+*/<>=~!@\#%^&|?`]+")
 # A whole NUMERIC may have more than 64 bits.
 BITS = {"boolean": 2, "smallint": 16, "integer": 32, "bigint": 64, "numeric": 1000}
-MOMENTS = ("date", "time without time zone", "timestamp without time zone", "timestamp with time zone")
+MOMENTS = (
+    "date",
+    "time without time zone",
+    "timestamp without time zone",
+    "timestamp with time zone",
+)
 TEXTS = ("text", "character varying", "bpchar")
 
 
@@ -21,8 +26,8 @@ class Condition(Reader):
 
     def __init__(self, text: str, sides: Mapping[str, Side], in_c: int, digits: int) -> None:
         super().__init__(text, sides)
-        self.digits = digits    # of the fraction of a second in each moment
-        self.in_c = in_c        # what the collation "C" shares with the order of bytes of UTF-8
+        self.digits = digits  # of the fraction of a second in each moment
+        self.in_c = in_c  # what the collation "C" shares with the order of bytes of UTF-8
 
     def named(self, token: Token) -> Side | None:
         if token.says("TRUE", "FALSE"):
@@ -86,9 +91,17 @@ class Condition(Reader):
     def cast_side(self, side: Side, to: str) -> Side:
         if to not in MOMENTS or side == Side() or side.type == to:
             return cast(side, to)
-        text = padded(side.value, self.digits) if isinstance(side.value, str) and not side.type else None
+        text = (
+            padded(side.value, self.digits)
+            if isinstance(side.value, str) and not side.type
+            else None
+        )
         if text is None:
-            raise Unread(f"casts to {to}" if side.value is None or side.type else f"has the moment {side.value}")
+            raise Unread(
+                f"casts to {to}"
+                if side.value is None or side.type
+                else f"has the moment {side.value}"
+            )
         return Side(value=text, kind="TEXT", type=to)
 
     def collated(self, side: Side, name: str) -> Side:
@@ -107,7 +120,9 @@ def holds(to: str, side: Side) -> bool:
     """Whether an integer type has all values of a side."""
     if side.column is not None:
         return BITS[side.type] <= BITS[to]
-    return isinstance(side.value, int) and -2 ** (BITS[to] - 1) <= side.value < 2 ** (BITS[to] - 1)
+    return isinstance(side.value, int) and -(2 ** (BITS[to] - 1)) <= side.value < 2 ** (
+        BITS[to] - 1
+    )
 
 
 def cast(side: Side, to: str) -> Side:

@@ -13,8 +13,10 @@ def opened(source: str) -> Source:
     is_connection = "=" in source or re.match("postgres(ql)?://", source)
     if not is_connection and Path(source).is_file():
         from classroom.exercise.importing.from_sqlite import Sqlite
+
         return Sqlite(Path(source))
     if not is_connection and ("/" in source or re.search(r"\.(db3?|sqlite3?)$", source)):
         raise Fault(f"there is no file {shown(source)}")
     from classroom.exercise.importing.from_postgres import Postgres
+
     return Postgres(source)

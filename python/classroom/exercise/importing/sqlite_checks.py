@@ -15,11 +15,16 @@ from classroom.exercise.importing.model import Column
 from classroom.exercise.importing.check_reader import Reader, Token, pattern, shortened, tokens
 from classroom.base.errors import shown
 
-FORM = pattern(r"""'(?:[^']|'')*'|"(?:[^"]|"")*"|`(?:[^`]|``)*`|\[[^\]]*\]""", "<>|<=|>=|==|!=|[|][|]|<<|>>|->>|->")
+FORM = pattern(
+    r"""'(?:[^']|'')*'|"(?:[^"]|"")*"|`(?:[^`]|``)*`|\[[^\]]*\]""",
+    "<>|<=|>=|==|!=|[|][|]|<<|>>|->>|->",
+)
 ROWID = ("rowid", "_rowid_", "oid")
 # The affinity of columns of moments: SQLite makes numbers of the texts that they are compared with.
 NUMERIC = "numeric"
-NUMBER = re.compile(r"[ \t\n\v\f\r]*[-+]?([0-9]+\.?[0-9]*|\.[0-9]+)([eE][-+]?[0-9]+)?[ \t\n\v\f\r]*")
+NUMBER = re.compile(
+    r"[ \t\n\v\f\r]*[-+]?([0-9]+\.?[0-9]*|\.[0-9]+)([eE][-+]?[0-9]+)?[ \t\n\v\f\r]*"
+)
 Items = list[list[tuple[Token, int]]]
 
 
@@ -64,8 +69,15 @@ class Condition(Reader):
     def fit_texts(self, sign: str, left: Side, right: Side) -> None:
         super().fit_texts(sign, left, right)
         for side, other in ((left, right), (right, left)):
-            if side.type == NUMERIC and other.type != NUMERIC and (
-                    other.column is not None or isinstance(other.value, str) and NUMBER.fullmatch(other.value)):
+            if (
+                side.type == NUMERIC
+                and other.type != NUMERIC
+                and (
+                    other.column is not None
+                    or isinstance(other.value, str)
+                    and NUMBER.fullmatch(other.value)
+                )
+            ):
                 raise Unread("compares a text as a number")
 
 
@@ -105,7 +117,7 @@ def bodies_of(items: Items) -> Iterator[tuple[str | None, list[Token]]]:
         for at, (token, depth) in enumerate(item):
             if depth == 1 and token.says("CHECK"):
                 inside = []
-                for part, deeper in item[at + 2:]:
+                for part, deeper in item[at + 2 :]:
                     if deeper == 1:
                         break
                     inside.append(part)
@@ -117,17 +129,24 @@ def has_collation(statement: str) -> bool:
     return any(token.says("COLLATE") for token in tokens(statement, FORM))
 
 
-def checks_of(statement: str, table: str, columns: Sequence[Column], encoding: str,
-              moments: Sequence[str]) -> Iterator[Check]:
+def checks_of(
+    statement: str, table: str, columns: Sequence[Column], encoding: str, moments: Sequence[str]
+) -> Iterator[Check]:
     """The CHECKs of a table, which may name these columns, of which some are of moments."""
     # The collation BINARY orders texts of UTF-16 by the bytes of that.
     binary = ORDER if encoding == "utf-8" else EQUALITY
     items = items_of(tokens(statement, FORM))
     collations = collations_of(items)
-    sides = {fold(column.name): Side(column.name, kind=column.kind, type=NUMERIC if column.name in moments else "",
-                                     texts=shared(collations.get(fold(column.name), "BINARY"), binary))
-             for column in columns}
+    sides = {
+        fold(column.name): Side(
+            column.name,
+            kind=column.kind,
+            type=NUMERIC if column.name in moments else "",
+            texts=shared(collations.get(fold(column.name), "BINARY"), binary),
+        )
+        for column in columns
+    }
     for name, found in bodies_of(items):
-        text = statement[found[0].start:found[-1].stop]
+        text = statement[found[0].start : found[-1].stop]
         told = shown(name) if name is not None else f"({shown(shortened(statement, found))})"
         yield Condition(text, sides, table, binary).check(told)

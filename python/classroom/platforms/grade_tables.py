@@ -35,7 +35,7 @@ class Back:
     of: Standing
     sheet: Sheet
     page: bytes
-    members: tuple[str, ...]    # the files of the archive from which the answers were collected
+    members: tuple[str, ...]  # the files of the archive from which the answers were collected
 
     @property
     def comment(self) -> str:
@@ -59,31 +59,59 @@ def moodle_number(back: Back) -> str:
 
 def moodle_csv(backs: Sequence[Back], assignment: str) -> Made:
     rows = [("Identifier", "Full name", "Grade", "Feedback comments")]
-    rows += [(f"Participant {moodle_number(back)}", safe(back.of.student.name), points(back), safe(back.comment))
-             for back in backs if moodle_number(back)]
+    rows += [
+        (
+            f"Participant {moodle_number(back)}",
+            safe(back.of.student.name),
+            points(back),
+            safe(back.comment),
+        )
+        for back in backs
+        if moodle_number(back)
+    ]
     return Made(written(rows), without(backs, moodle_number))
 
 
 def canvas_csv(backs: Sequence[Back], assignment: str) -> Made:
     rows = [("Student", "ID", "SIS Login ID", "Section", safe(assignment))]
-    rows += [(safe(back.of.student.name), safe(back.of.student.canvas), safe(back.of.student.id), "", points(back))
-             for back in backs if back.of.student.canvas]
+    rows += [
+        (
+            safe(back.of.student.name),
+            safe(back.of.student.canvas),
+            safe(back.of.student.id),
+            "",
+            points(back),
+        )
+        for back in backs
+        if back.of.student.canvas
+    ]
     return Made(written(rows), without(backs, lambda back: back.of.student.canvas))
 
 
 def gradescope_json(backs: Sequence[Back], assignment: str, visibility: str = "visible") -> Made:
     """The score, and a test a task with its output as Markdown; one that is graded by hand has no score."""
     if len(backs) != 1:
-        raise Fault(f"gradescope: the autograder grades one student at a time, and here are {len(backs)}")
+        raise Fault(
+            f"gradescope: the autograder grades one student at a time, and here are {len(backs)}"
+        )
     tests = []
     for number, (part, of) in enumerate(zip(backs[0].sheet.parts, backs[0].of.answers), 1):
-        test: dict[str, object] = {"name": f"Task {part.title}", "number": str(number), "output": markdown.part_of(part).lstrip(),
-                                   "output_format": "md", "visibility": visibility}
+        test: dict[str, object] = {
+            "name": f"Task {part.title}",
+            "number": str(number),
+            "output": markdown.part_of(part).lstrip(),
+            "output_format": "md",
+            "visibility": visibility,
+        }
         if of:
             test["decided_by"] = of.decided_by
         if of is None or of.points is not None:
             score = of.points if of else 0
-            test |= {"score": score, "max_score": part.most, "status": "passed" if of and of.grade.share else "failed"}
+            test |= {
+                "score": score,
+                "max_score": part.most,
+                "status": "passed" if of and of.grade.share else "failed",
+            }
         tests.append(test)
     content = json.dumps({"score": backs[0].of.points, "tests": tests}, indent=1)
     return Made(f"{content}\n".encode("ascii"), ())
@@ -111,7 +139,11 @@ def moodle_folder(back: Back, assignment: str) -> str:
             if MOODLE.fullmatch(part):
                 return part
     student = back.of.student
-    return f"{student.name.replace('/', '_')}_{student.moodle}_assignsubmission_file_" if student.moodle else ""
+    return (
+        f"{student.name.replace('/', '_')}_{student.moodle}_assignsubmission_file_"
+        if student.moodle
+        else ""
+    )
 
 
 def nbgrader_folder(back: Back, assignment: str) -> str:
@@ -134,10 +166,18 @@ def archive(backs: Sequence[Back], folder: Callable[[Back, str], str], assignmen
                 info.compress_type = zipfile.ZIP_DEFLATED
                 info.external_attr = 0o644 << 16
                 made.writestr(info, back.page)
-    return Made(content.getvalue(), tuple(back.of.student for back in backs if not folder(back, assignment)))
+    return Made(
+        content.getvalue(), tuple(back.of.student for back in backs if not folder(back, assignment))
+    )
 
 
-TABLES: Mapping[str, Callable[[Sequence[Back], str], Made]] = {"moodle": moodle_csv, "canvas": canvas_csv}
+TABLES: Mapping[str, Callable[[Sequence[Back], str], Made]] = {
+    "moodle": moodle_csv,
+    "canvas": canvas_csv,
+}
 GRADESCOPE = "gradescope"
 VISIBILITIES = ("visible", "after_due_date", "after_published", "hidden")
-FOLDERS: Mapping[str, Callable[[Back, str], str]] = {"moodle": moodle_folder, "nbgrader": nbgrader_folder}
+FOLDERS: Mapping[str, Callable[[Back, str], str]] = {
+    "moodle": moodle_folder,
+    "nbgrader": nbgrader_folder,
+}
