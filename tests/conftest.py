@@ -1,8 +1,7 @@
 """What all tests share: the repository's folder, the proved programs, and a browser.
 
-A test of a proved program is skipped where the program is not built: `rt ci` at the top builds both, and so
-do `./ratest --build` and `./ratest_plus --build`.
-"""
+A test of a proved program is skipped where the program is not built: `rt ci` at the top builds
+both, and so do `./ratest --build` and `./ratest_plus --build`. """
 from __future__ import annotations
 
 import os

@@ -1,5 +1,5 @@
-"""A thousand random cases against each of the programs that others wrote, and one more comparison whose cases
-hypothesis draws and makes smaller. `COMPARE_COUNT` is another number of cases."""
+"""A thousand random cases against each of the programs that others wrote, and one more comparison
+whose cases hypothesis draws and makes smaller. `COMPARE_COUNT` is another number of cases."""
 from __future__ import annotations
 
 import os

@@ -1,4 +1,5 @@
-"""The documents: their links lead somewhere, the files that they name are there, and what they count is so."""
+"""The documents: their links lead somewhere, the files that they name are there, and what they
+count is so."""
 from __future__ import annotations
 
 import os
@@ -29,7 +30,8 @@ BLOCK = re.compile(r"^```.*?^```\s*?$", re.DOTALL | re.MULTILINE)
 QUOTED = re.compile(r"`([^`\n]+)`")
 LINK = re.compile(r"\[[^\]]*\]\(([^)\s]+)\)")
 HEADING = re.compile(r"^#+ (.*)$", re.MULTILINE)
-# A path of the repository: its first folder is one of the top's, and no part of it is a placeholder.
+# A path of the repository: its first folder is one of the top's, and no part of it is a
+# placeholder.
 PATH = re.compile(r"[A-Za-z0-9_.][A-Za-z0-9_./-]*/[A-Za-z0-9_./-]*")
 # What is made by a call and so is no file of the repository.
 MADE = ("results", "out", "asked.db")
@@ -171,7 +173,8 @@ def test_limits_of_the_readme_are_those_of_the_definitions() -> None:
 
 
 def defines(file: Path, name: str) -> bool:
-    """Whether a file of specs/ has a definition of this name, or one of its types or fields has it."""
+    """Whether a file of specs/ has a definition of this name, or one of its types or fields has
+    it."""
     if not file.exists():
         return False
     pattern = rf"^(?:abbrev |unfoldable )?(?:pub )?(?:record |data )?{re.escape(name)}\b"
@@ -236,7 +239,8 @@ def test_definitions_are_where_the_page_says() -> None:
 
 
 def clauses_of_public_functions(crate: str) -> list[tuple[dict[str, str], str]]:
-    """Of each public function of a crate: the definitions that its file uses, and the text of its clauses."""
+    """Of each public function of a crate: the definitions that its file uses, and the text of its
+    clauses."""
     sources = TOP / "crates" / crate / "src"
     if not (sources / "lib.rt").exists():
         return []
@@ -312,7 +316,8 @@ def test_tests_that_the_decisions_name_are_there() -> None:
 
 
 def refusals() -> list[tuple[str, str, str | None]]:
-    """The guide's table of refused queries: what is written, what is printed, and what is to be written instead."""
+    """The guide's table of refused queries: what is written, what is printed, and what is to be
+    written instead."""
     section = (
         (TOP / "docs/GUIDE.md")
         .read_text(encoding="utf-8")
@@ -486,8 +491,8 @@ def test_lines_of_the_crates_are_counted() -> None:
 
 
 def test_code_that_the_decisions_compare_is_in_the_crates_that_they_name() -> None:
-    """Of each row of "Code that looks the same and stays": each function, type or module is in a crate that its cell
-    names."""
+    """Of each row of "Code that looks the same and stays": each function, type or module is in a
+    crate that its cell names."""
     section = (
         (TOP / "docs/DECISIONS.md")
         .read_text(encoding="utf-8")
@@ -516,8 +521,8 @@ def test_code_that_the_decisions_compare_is_in_the_crates_that_they_name() -> No
 
 
 def test_installation_names_what_the_package_recommends() -> None:
-    """Each package of INSTALL's table is one that the Debian package recommends, and the other way round; and each extra
-    is one of the wheel."""
+    """Each package of INSTALL's table is one that the Debian package recommends, and the other way
+    round; and each extra is one of the wheel."""
     import tomllib
 
     text = (
@@ -628,6 +633,6 @@ def test_files_below_the_dozen_are_counted() -> None:
     clauses = cited((TOP / "crates/rt_top/src/top.rt").read_text(encoding="utf-8"))
     assert len(dozen) == 12
     assert (
-        f"in {len(below(dozen))} files of `specs/` in all, and the clauses on {len(below({*dozen, *clauses}))}:"
-        in section
+        f"in {len(below(dozen))} files of `specs/` in all, and the clauses on"
+        f" {len(below({*dozen, *clauses}))}:" in section
     )

@@ -1,10 +1,10 @@
-"""Each allocation of a program refused in turn: the first, then the second and so on, until a run meets none
-that is refused. Each run ends with the answer that ample memory gives, or with status 7 and at most the beginning
-of that answer written.
+"""Each allocation of a program refused in turn: the first, then the second and so on, until a run
+meets none that is refused. Each run ends with the answer that ample memory gives, or with status 7
+and at most the beginning of that answer written.
 
-The allocations are those that a program asks of the C library; a small library in C is put before it.
-`MEMORY_STEP` is another step than the gate's 7, with which each 7th allocation is refused; 1 refuses all.
-"""
+The allocations are those that a program asks of the C library; a small library in C is put before
+it. `MEMORY_STEP` is another step than the gate's 7, with which each 7th allocation is refused; 1
+refuses all. """
 from __future__ import annotations
 
 import os

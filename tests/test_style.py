@@ -1,4 +1,5 @@
-"""Types are checked by mypy, scripts of the shell by shellcheck, and the layers of `classroom` by its imports."""
+"""Types are checked by mypy, scripts of the shell by shellcheck, and the layers of `classroom` by
+its imports."""
 from __future__ import annotations
 
 import ast
@@ -31,6 +32,8 @@ FOUND = (
     *(f"tests/classroom/{name}" for name in ROOMS),
     "tools",
 )
+# What black and flake8 look at.
+PYTHON = ("python", "tools", "tests")
 SCRIPTS = [".ci/run", "bench/classroom", "bench/run", "tests/mutants"]
 
 
@@ -57,6 +60,19 @@ def test_types(folder: str, checked: list[str], top: Path, tmp_path: Path) -> No
         env={**os.environ, "MYPYPATH": ":".join(str(top / it) for it in FOUND)},
     )
     assert done.returncode == 0, done.stdout
+
+
+def test_format(top: Path) -> None:
+    if not shutil.which("black"):
+        pytest.skip("there is no black: apt-get install black")
+    done = subprocess.run(
+        ["/usr/bin/python3", "-m", "black", "--check", "-q", "-l", "100", *PYTHON],
+        cwd=top,
+        capture_output=True,
+        text=True,
+        check=False,
+    )
+    assert done.returncode == 0, "black -l 100 " + " ".join(PYTHON)
 
 
 def test_scripts(top: Path) -> None:
@@ -93,7 +109,8 @@ LAYERS = {
 
 
 def imports(path: Path) -> Iterator[tuple[int, str]]:
-    """Which packages of `classroom` a module imports, in functions and for types too, with the lines."""
+    """Which packages of `classroom` a module imports, in functions and for types too, with the
+    lines."""
     for node in ast.walk(ast.parse(path.read_text(encoding="utf-8"))):
         if isinstance(node, ast.ImportFrom) and (node.module or "").startswith("classroom."):
             yield node.lineno, (node.module or "").split(".")[1]

@@ -1,9 +1,8 @@
 """The command `classroom`: reads the words and runs the subcommand.
 
 A subcommand is a module in `classroom.commands` with SUMMARY, `add_arguments(parser)` and
-`run(arguments)`, which gives the exit status. No module imports a library that Debian doesn't ship with
-Python before it needs it, so a missing one stops only its subcommand.
-"""
+`run(arguments)`, which gives the exit status. No module imports a library that Debian doesn't ship
+with Python before it needs it, so a missing one stops only its subcommand. """
 from __future__ import annotations
 
 import argparse
@@ -27,7 +26,10 @@ def parser() -> argparse.ArgumentParser:
         prog="classroom",
         allow_abbrev=False,
         description="From a school's database to a graded class.",
-        epilog="`classroom COMMAND --help` tells more of each. docs/GUIDE.md begins with a class in four commands.",
+        epilog=(
+            "`classroom COMMAND --help` tells more of each. docs/GUIDE.md begins with a class in"
+            " four commands."
+        ),
     )
     top.add_argument("--version", action="version", version=f"classroom {VERSION}")
     subparsers = top.add_subparsers(metavar="COMMAND", dest="command", required=True)

@@ -1,12 +1,10 @@
 """RATest: the fewest rows on which two SQL queries answer differently.
 
-    import ratest
-    answer = ratest.explain("CREATE TABLE t (a INTEGER)", {"t": [[1], [2]]}, "SELECT a FROM t", "SELECT a FROM t WHERE a > 1")
-    print(answer)
+    import ratest answer = ratest.explain("CREATE TABLE t (a INTEGER)", {"t": [[1], [2]]}, "SELECT a
+    FROM t", "SELECT a FROM t WHERE a > 1") print(answer)
 
-It calls the shared object `libratest.so`, whose answers are those of the programs `ratest` and `ratest_plus`.
-Calls may be made from several threads at once.
-"""
+It calls the shared object `libratest.so`, whose answers are those of the programs `ratest` and
+`ratest_plus`. Calls may be made from several threads at once. """
 from __future__ import annotations
 
 from ratest.answers import (

@@ -64,10 +64,9 @@ def explain(
 ) -> Answer:
     """The fewest rows on which the queries answer differently, or that they agree.
 
-    A schema or a query is a text, or a path. `tables` maps names to lists of rows, paths of CSV files or pandas
-    DataFrames, or is an sqlite3 connection. `conflicts` is a budget of the search, `work` the limit of
-    intermediate results. With `limits` the call is made in a child process.
-    """
+    A schema or a query is a text, or a path. `tables` maps names to lists of rows, paths of CSV
+    files or pandas DataFrames, or is an sqlite3 connection. `conflicts` is a budget of the search,
+    `work` the limit of intermediate results. With `limits` the call is made in a child process."""
     asked = question(schema, tables, {FIRST: query1, SECOND: query2})
     words = [SCHEMA, DATA, FIRST, SECOND, *options(conflicts, work)]
     answer = answer_of(asked, said(words, asked.files, limits))
@@ -85,7 +84,8 @@ def why(
     work: int | None = None,
     limits: Limits | None = None,
 ) -> Reason:
-    """The fewest rows on which the first query answers with this row and the second doesn't, or `Never`."""
+    """The fewest rows on which the first query answers with this row and the second doesn't, or
+    `Never`."""
     asked = question(schema, tables, {FIRST: query1, SECOND: query2})
     words = ["row", row_text(row), SCHEMA, DATA, FIRST, SECOND, *options(conflicts, work)]
     answer = answer_of(asked, said(words, asked.files, limits))

@@ -11,7 +11,10 @@ from ratest.library import NoLibrary
 from ratest.limited import MALFORMED, NO_LIBRARY
 from ratest.printed import OUT_OF_MEMORY
 
-PROGRAM = "import sys; sys.path.insert(0, sys.argv[1]); from ratest.limited import main; sys.exit(main(*sys.argv[2:]))"
+PROGRAM = (
+    "import sys; sys.path.insert(0, sys.argv[1]); from ratest.limited import main;"
+    " sys.exit(main(*sys.argv[2:]))"
+)
 
 
 @dataclass(frozen=True)

@@ -1,4 +1,5 @@
-"""Draws a witness as HTML: the page of a class, the page where students ask and a notebook share it.
+"""Draws a witness as HTML: the page of a class, the page where students ask and a notebook share
+it.
 
 Every text goes through `pictures` and is escaped.
 """
@@ -27,7 +28,8 @@ ESCAPED = {
     ord("'"): "&#39;",
     ord('"'): "&#34;",
 }
-# Characters that a page may not hold, or that would not be seen, as the pictures that stand for them.
+# Characters that a page may not hold, or that would not be seen, as the pictures that stand for
+# them.
 PICTURES = (
     {code: 0x2400 + code for code in range(32) if chr(code) not in "\t\n"}
     | {0x7F: 0x2421}
@@ -124,8 +126,8 @@ def cell(value: Value) -> Cell:
 def sql(kept: Sequence[Kept], tables: Sequence[Table]) -> str:
     """CREATE TABLE for each table and INSERT for the kept rows, as SQLite and PostgreSQL read them.
 
-    The rules of the schema are left out: the rows meet them, and a database may not have all of them.
-    """
+    The rules of the schema are left out: the rows meet them, and a database may not have all of
+    them."""
     statements = [
         f"CREATE TABLE {quoted(table.name)} ("
         + ", ".join(
@@ -143,7 +145,8 @@ def sql(kept: Sequence[Kept], tables: Sequence[Table]) -> str:
 
 
 def pictures(text: object) -> str:
-    """A text without characters that a page may not hold or that would hide or turn what stands beside them."""
+    """A text without characters that a page may not hold or that would hide or turn what stands
+    beside them."""
     return str(text).replace("\r\n", "\n").translate(PICTURES)
 
 
@@ -184,13 +187,19 @@ def tables_drawn(title: str, tables: Sequence[KeptTable]) -> Iterator[str]:
             f'<thead><tr><th scope="col" class="row">row</th>{heads}</tr></thead>\n<tbody>\n'
         )
         for line in table.lines:
-            yield f'<tr><th scope="row" class="row">{line.number}</th>{cells_drawn(line.cells)}</tr>\n'
+            yield (
+                '<tr><th scope="row"'
+                f' class="row">{line.number}</th>{cells_drawn(line.cells)}</tr>\n'
+            )
         yield "</tbody>\n</table></div>\n"
     yield "</div>\n"
 
 
 def answer_drawn(title: str, rows: Sequence[AnswerRow]) -> Iterator[str]:
-    yield f"<div class=\"box\"><table class=\"result\">\n<caption>{escaped(title)}: {counted(len(rows), 'row')}</caption>\n<tbody>\n"
+    yield (
+        f'<div class="box"><table class="result">\n<caption>{escaped(title)}:'
+        f' {counted(len(rows), "row")}</caption>\n<tbody>\n'
+    )
     for row in rows:
         kind, words = ("only", "only here") if row.is_only else ("both", "in both")
         yield f'<tr class="{kind}"><th scope="row">{words}</th>{cells_drawn(row.cells)}</tr>\n'
@@ -211,6 +220,7 @@ def in_notebook(drawing: Drawing, title: str, reference: str, answer: str) -> st
     """The same with its styles, which hold inside of it alone."""
     styles = STYLES.read_text(encoding="utf-8")
     return (
-        f'<div class="ratest"><style>.ratest {{\n{COLOURS}\n{styles}}}\n</style>\n<p><strong>{escaped(title)}</strong></p>\n'
+        '<div class="ratest"><style>.ratest'
+        f" {{\n{COLOURS}\n{styles}}}\n</style>\n<p><strong>{escaped(title)}</strong></p>\n"
         f"{drawn(drawing, reference, answer)}</div>\n"
     )

@@ -1,8 +1,9 @@
-"""The commands `ratest` and `ratest_plus` of a wheel: the packed program takes this process's place.
+"""The commands `ratest` and `ratest_plus` of a wheel: the packed program takes this process's
+place.
 
-`--help`, `--version` and a call without words are answered by texts that are packed with the program, as the
-front of an installation below a prefix answers them (tools/release/front in the repository).
-"""
+`--help`, `--version` and a call without words are answered by texts that are packed with the
+program, as the front of an installation below a prefix answers them (tools/release/front in the
+repository). """
 from __future__ import annotations
 
 import os
@@ -27,7 +28,8 @@ def run(name: str, words: list[str]) -> int:
 
 
 def asked(words: list[str]) -> str:
-    """Which of the packed texts is asked for: usage, help or version; "" where the program answers."""
+    """Which of the packed texts is asked for: usage, help or version; "" where the program
+    answers."""
     if not words:
         return "usage"
     if words[0] in HELP or (len(words) == 2 and words[1] in HELP):

@@ -1,4 +1,5 @@
-"""Where the programs `ratest` and `ratest_plus` and the shared object are, and which version this is.
+"""Where the programs `ratest` and `ratest_plus` and the shared object are, and which version this
+is.
 
     a wheel         ratest/programs/NAME, in this package
     a repository    TOP/python/ratest is this package; what is built stands where its tools leave it

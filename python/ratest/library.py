@@ -1,4 +1,5 @@
-"""The shared object `libratest.so`: one call from the bytes of a request to the bytes of a reply."""
+"""The shared object `libratest.so`: one call from the bytes of a request to the bytes of a
+reply."""
 from __future__ import annotations
 
 import ctypes
@@ -29,8 +30,8 @@ class Said(NamedTuple):
 
 
 def path() -> Path:
-    """The shared object: the one that $LIBRATEST names, else that of the wheel, of the repository or of the
-    installation below a prefix."""
+    """The shared object: the one that $LIBRATEST names, else that of the wheel, of the repository
+    or of the installation below a prefix."""
     named = os.environ.get("LIBRATEST")
     if named:
         return Path(named)

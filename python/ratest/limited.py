@@ -1,4 +1,5 @@
-"""The child's side of a call within limits: it reads a request on standard input and writes the reply."""
+"""The child's side of a call within limits: it reads a request on standard input and writes the
+reply."""
 from __future__ import annotations
 
 import resource

@@ -1,8 +1,7 @@
 """What the programs print, read back into values.
 
-A text in it may hold line ends, commas and quotes, so it is read from the left by its grammar and never cut
-into lines first. What has any other form is `Unreadable`.
-"""
+A text in it may hold line ends, commas and quotes, so it is read from the left by its grammar and
+never cut into lines first. What has any other form is `Unreadable`. """
 from __future__ import annotations
 
 import re
@@ -98,7 +97,8 @@ class Unreadable(Exception):
 
 
 def outcome_of(status: int, out: str, err: str, tables: Sequence[Table]) -> Outcome:
-    """The outcome of one call of `ratest`, `ratest_plus ra` or `ratest_plus row` over these tables."""
+    """The outcome of one call of `ratest`, `ratest_plus ra` or `ratest_plus row` over these
+    tables."""
     if status in (FINE, WITNESS, SPENT):
         outcome = _Reader(out, {table.name: len(table.columns) for table in tables}).outcome()
         fits: dict[int, tuple[type, ...]] = {
@@ -122,9 +122,9 @@ def outcome_of(status: int, out: str, err: str, tables: Sequence[Table]) -> Outc
 def refusal(err: str, tables: Sequence[Table]) -> Refused | None:
     """The refusal in what was printed on standard error.
 
-    A first run of the launcher says there how far its build is, so it isn't always the first line. A name
-    in it may hold anything, so known names are tried, the longest first, and it goes to the end.
-    """
+    A first run of the launcher says there how far its build is, so it isn't always the first line.
+    A name in it may hold anything, so known names are tried, the longest first, and it goes to the
+    end."""
     names = sorted((table.name for table in tables), key=len, reverse=True)
     parts = ["schema", "query 1", "query 2", "queries", "row", *(f"table {name}" for name in names)]
     found = re.search(
@@ -150,7 +150,8 @@ def grades_of(out: str, names: Sequence[str]) -> list[Grade]:
 
 
 def valid_of(out: str) -> int | None:
-    """What a certificate that is valid shows: the size of the witness, or None where the queries agree."""
+    """What a certificate that is valid shows: the size of the witness, or None where the queries
+    agree."""
     found = re.fullmatch(r"valid: (?:agree|witness ([0-9]{1,9}))\n", out)
     if not found:
         raise Unreadable
@@ -226,8 +227,8 @@ class _Reader:
         return tuple(cells)
 
     def kept_row(self) -> Kept:
-        """A row behind its table's name and number. One table may be named `t` and another `t 1: 5`, so
-        each name is tried, the longest first."""
+        """A row behind its table's name and number. One table may be named `t` and another `t 1:
+        5`, so each name is tried, the longest first."""
         start = self.at
         for table, width in self.widths.items():
             self.at = start
@@ -253,8 +254,8 @@ class _Reader:
         return tuple(rows)
 
     def grade(self, name: str, later: Sequence[str]) -> Grade:
-        """The grade in the line of this name. The names that come later are what ends a refusal, since a
-        name in it may hold line ends."""
+        """The grade in the line of this name. The names that come later are what ends a refusal,
+        since a name in it may hold line ends."""
         self.take(re.escape(name) + ": ")
         said = self.take(GRADE)
         if said == "refused: ":

@@ -1,7 +1,7 @@
 """The tables and columns of a `schema.sql`, in the words that `ratest` reads.
 
-Only names and kinds are read here. Whether the text is a schema at all says `ratest`, which is asked first.
-"""
+Only names and kinds are read here. Whether the text is a schema at all says `ratest`, which is
+asked first. """
 from __future__ import annotations
 
 import re
@@ -28,9 +28,9 @@ MARK = "\ufeff"
 RULES = ("constraint", "primary", "unique", "foreign", "check", "dependency")
 PLAIN = re.compile(r"[a-z_][a-z0-9_]*")
 RESERVED = frozenset(
-    "all and as between case cast check constraint create cross distinct except exists foreign from full "
-    "group having in inner intersect is join left like limit natural not null on or order outer primary "
-    "references right select table union unique using where with".split()
+    "all and as between case cast check constraint create cross distinct except exists foreign from"
+    " full group having in inner intersect is join left like limit natural not null on or order"
+    " outer primary references right select table union unique using where with".split()
 )
 
 
@@ -91,8 +91,8 @@ def tables_of(text: str) -> tuple[Table, ...]:
 
 
 def items_of(text: str) -> Iterator[tuple[str, list[list[Token]]]]:
-    """The name of each table of a schema, with the tokens of each item between its parentheses; NoSchema where
-    one has no end."""
+    """The name of each table of a schema, with the tokens of each item between its parentheses;
+    NoSchema where one has no end."""
     found = list(tokens(unmarked(text)))
     at = 0
     while at < len(found):

@@ -1,8 +1,7 @@
 """Tables as they are given, written as the CSV files that `ratest` reads.
 
-Tables come as a dictionary from names to rows, paths of CSV files or pandas DataFrames, or as a connection to
-an SQLite database.
-"""
+Tables come as a dictionary from names to rows, paths of CSV files or pandas DataFrames, or as a
+connection to an SQLite database. """
 from __future__ import annotations
 
 import csv
@@ -23,7 +22,8 @@ Source = Union[Mapping[str, Union[Rows, Path, Any]], sqlite3.Connection]
 
 
 def csv_files(source: Source, tables: Sequence[Table]) -> dict[str, bytes]:
-    """The CSV file of each table of the schema, by its name. A table that isn't given has no rows."""
+    """The CSV file of each table of the schema, by its name. A table that isn't given has no
+    rows."""
     if isinstance(source, sqlite3.Connection):
         return {table.name: csv_text(table, from_sqlite(source, table)) for table in tables}
     unknown = sorted(set(source) - {table.name for table in tables})
@@ -77,13 +77,15 @@ def csv_text(table: Table, rows: Iterable[Sequence[Any]]) -> bytes:
 
 
 def cell_text(table: Table, number: int, cell: Any) -> str:
-    """A value as a field. A whole number may come as a float, since pandas makes floats of columns with gaps."""
+    """A value as a field. A whole number may come as a float, since pandas makes floats of columns
+    with gaps."""
     if cell is None:
         return ""
     if isinstance(cell, str):
         if not cell:
             raise ValueError(
-                f"row {number} of {table.name}: an empty text, which a CSV file can't tell from NULL"
+                f"row {number} of {table.name}: an empty text, which a CSV file can't tell from"
+                " NULL"
             )
         return cell
     if isinstance(cell, float) and cell.is_integer():

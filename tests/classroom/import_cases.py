@@ -3,8 +3,8 @@ from __future__ import annotations
 
 from products import Postgres, Sqlite
 
-# Odd names, NULL, quotes, commas, line ends, composite keys, a reference of a table to itself, cycles of
-# rows, CHECK. What only one of the products has stands for the words in braces.
+# Odd names, NULL, quotes, commas, line ends, composite keys, a reference of a table to itself,
+# cycles of rows, CHECK. What only one of the products has stands for the words in braces.
 ODD = r'''
 CREATE TABLE "odd, ""table""" (
   id INTEGER PRIMARY KEY, "select" VARCHAR(40) UNIQUE, "a,b" TEXT, "line
@@ -87,33 +87,40 @@ SELECT two FROM pair WHERE one = 77
 ODD_NOTES = """odd, "table".it's real: left out: the type {real} is not read"""
 
 SERIES = (
-    "CREATE TABLE t (a INTEGER PRIMARY KEY, b INTEGER REFERENCES t); INSERT INTO t WITH RECURSIVE n (a) AS "
-    "(SELECT 1 UNION ALL SELECT a + 1 FROM n WHERE a < 2001) SELECT a, 2002 - a FROM n;"
+    "CREATE TABLE t (a INTEGER PRIMARY KEY, b INTEGER REFERENCES t); INSERT INTO t WITH RECURSIVE n"
+    " (a) AS (SELECT 1 UNION ALL SELECT a + 1 FROM n WHERE a < 2001) SELECT a, 2002 - a FROM n;"
 )
 
 # Each a database, the words after it, whether it is exported, and what is told.
 CASES = {
     "types": (
-        "CREATE TABLE t (a INTEGER, b {real} NOT NULL, c {odd} UNIQUE, PRIMARY KEY (a, b));"
-        "CREATE TABLE u (a INTEGER, b {real}, n TEXT, FOREIGN KEY (a, b) REFERENCES t);"
-        "CREATE TABLE w (b {real}); CREATE VIEW v AS SELECT a FROM t;",
+        (
+            "CREATE TABLE t (a INTEGER, b {real} NOT NULL, c {odd} UNIQUE, PRIMARY KEY (a, b));"
+            "CREATE TABLE u (a INTEGER, b {real}, n TEXT, FOREIGN KEY (a, b) REFERENCES t);"
+            "CREATE TABLE w (b {real}); CREATE VIEW v AS SELECT a FROM t;"
+        ),
         "",
         True,
-        "v: left out: a view\n"
-        "t.b: left out: the type {real} is not read\nt.c: left out: the type {odd} is not read\n"
-        "u.b: left out: the type {real} is not read\nw.b: left out: the type {real} is not read\n"
-        "t: left out with its column: PRIMARY KEY (a, b)\nt: left out with its column: UNIQUE (c)\n"
-        "u: left out with its column: FOREIGN KEY (a, b); a witness may lack the row of t\n"
-        "w: left out: no column of it is carried over",
+        (
+            "v: left out: a view\nt.b: left out: the type {real} is not read\nt.c: left out: the"
+            " type {odd} is not read\nu.b: left out: the type {real} is not read\nw.b: left out:"
+            " the type {real} is not read\nt: left out with its column: PRIMARY KEY (a, b)\nt: left"
+            " out with its column: UNIQUE (c)\nu: left out with its column: FOREIGN KEY (a, b); a"
+            " witness may lack the row of t\nw: left out: no column of it is carried over"
+        ),
     ),
     "indexes": (
-        "CREATE TABLE t (a INTEGER, b TEXT); CREATE UNIQUE INDEX half ON t (a) WHERE a > 1;"
-        "CREATE UNIQUE INDEX made ON t (lower(b)); CREATE UNIQUE INDEX whole ON t (b, a);"
-        "CREATE INDEX plain ON t (a);",
+        (
+            "CREATE TABLE t (a INTEGER, b TEXT); CREATE UNIQUE INDEX half ON t (a) WHERE a > 1;"
+            "CREATE UNIQUE INDEX made ON t (lower(b)); CREATE UNIQUE INDEX whole ON t (b, a);"
+            "CREATE INDEX plain ON t (a);"
+        ),
         "",
         True,
-        "t: left out: the unique index half, which is partial or on an expression\n"
-        "t: left out: the unique index made, which is partial or on an expression",
+        (
+            "t: left out: the unique index half, which is partial or on an expression\n"
+            "t: left out: the unique index made, which is partial or on an expression"
+        ),
     ),
     "generated": (
         "CREATE TABLE t (a INTEGER UNIQUE, b INTEGER GENERATED ALWAYS AS (a + 1) STORED UNIQUE);",
@@ -122,9 +129,11 @@ CASES = {
         "t.b: left out: a generated column\nt: left out with its column: UNIQUE (b)",
     ),
     "first": (
-        "CREATE TABLE u (k INTEGER PRIMARY KEY, up INTEGER REFERENCES u);"
-        "CREATE TABLE t (k INTEGER REFERENCES u);"
-        "INSERT INTO u VALUES (1, NULL), (2, 1), (7, 1), (8, 2), (9, 8); INSERT INTO t VALUES (9), (1), (NULL);",
+        (
+            "CREATE TABLE u (k INTEGER PRIMARY KEY, up INTEGER REFERENCES u);CREATE TABLE t (k"
+            " INTEGER REFERENCES u);INSERT INTO u VALUES (1, NULL), (2, 1), (7, 1), (8, 2), (9, 8);"
+            " INSERT INTO t VALUES (9), (1), (NULL);"
+        ),
         "--rows 1",
         True,
         "u: 4 of 5 rows\nt: 1 of 3 rows",
@@ -134,21 +143,28 @@ CASES = {
         SERIES,
         "",
         False,
-        "2001 rows are more than the 2000 that are read; --rows N takes N of each table, "
-        "and `classroom pick` finds those that tell the mistakes",
+        (
+            "2001 rows are more than the 2000 that are read; --rows N takes N of each table, "
+            "and `classroom pick` finds those that tell the mistakes"
+        ),
     ),
     "over": (
         SERIES,
         "--rows 1500",
         False,
-        "with the rows that they refer to these are 2001, more than the 2000 that "
-        "are read; take fewer",
+        (
+            "with the rows that they refer to these are 2001, more than the 2000 that "
+            "are read; take fewer"
+        ),
     ),
     "blank": (
         'CREATE TABLE t (a INTEGER, " b" INTEGER);',
         "",
         True,
-        "t. b: left out: a name with a blank at an end or without a letter can't stand in a CSV file",
+        (
+            "t. b: left out: a name with a blank at an end or without a letter can't stand in a CSV"
+            " file"
+        ),
     ),
     "line": (
         'CREATE TABLE "t\nt" (a INTEGER, b {real});',
@@ -177,8 +193,10 @@ CASES = {
     "absent": ("CREATE TABLE t (a TEXT);", "t nosuch", False, "there is no table nosuch"),
     "bare": ("CREATE VIEW v AS SELECT 1 AS a;", "", False, "there is no table"),
     "rules": (
-        "CREATE TABLE t (a INTEGER UNIQUE, "
-        f"{', '.join(f'CONSTRAINT n{n} CHECK (a <> {n})' for n in range(10, 74))});",
+        (
+            "CREATE TABLE t (a INTEGER UNIQUE, "
+            f"{', '.join(f'CONSTRAINT n{n} CHECK (a <> {n})' for n in range(10, 74))});"
+        ),
         "",
         True,
         "t: left out: CHECK n73, which is past the 64 rules of a table",
@@ -193,33 +211,46 @@ CASES = {
 
 SQLITE_CASES = {
     "stray": (
-        "CREATE TABLE s (a TEXT); CREATE TABLE t (a INTEGER, b TEXT UNIQUE, c INTEGER, d);"
-        "INSERT INTO t VALUES ('x', x'00', 1.5, 1);",
+        (
+            "CREATE TABLE s (a TEXT); CREATE TABLE t (a INTEGER, b TEXT UNIQUE, c INTEGER, d);"
+            "INSERT INTO t VALUES ('x', x'00', 1.5, 1);"
+        ),
         "",
         True,
-        "t.a: left out: INTEGER, but 1 of its values are of another type\n"
-        "t.b: left out: TEXT, but 1 of its values are of another type\n"
-        "t.c: left out: INTEGER, but 1 of its values are of another type\n"
-        "t.d: left out: the type without a name is not read\n"
-        "t: left out with its column: UNIQUE (b)\nt: left out: no column of it is carried over",
+        (
+            "t.a: left out: INTEGER, but 1 of its values are of another type\n"
+            "t.b: left out: TEXT, but 1 of its values are of another type\n"
+            "t.c: left out: INTEGER, but 1 of its values are of another type\n"
+            "t.d: left out: the type without a name is not read\n"
+            "t: left out with its column: UNIQUE (b)\nt: left out: no column of it is carried over"
+        ),
     ),
     "nulls": (
-        "CREATE TABLE t (a TEXT PRIMARY KEY COLLATE NOCASE); INSERT INTO t VALUES (NULL), (NULL), ('A');",
+        (
+            "CREATE TABLE t (a TEXT PRIMARY KEY COLLATE NOCASE); INSERT INTO t VALUES (NULL),"
+            " (NULL), ('A');"
+        ),
         "",
         True,
-        "t: left out: COLLATE; texts are compared by their bytes\n"
-        "t: PRIMARY KEY (a) has NULL in some rows: written as UNIQUE",
+        (
+            "t: left out: COLLATE; texts are compared by their bytes\n"
+            "t: PRIMARY KEY (a) has NULL in some rows: written as UNIQUE"
+        ),
     ),
     "unmet": (
-        "CREATE TABLE u (k INTEGER PRIMARY KEY); CREATE TABLE t (k INTEGER REFERENCES u);"
-        "INSERT INTO t VALUES (5), (6), (5);",
+        (
+            "CREATE TABLE u (k INTEGER PRIMARY KEY); CREATE TABLE t (k INTEGER REFERENCES u);"
+            "INSERT INTO t VALUES (5), (6), (5);"
+        ),
         "",
         True,
         "t: FOREIGN KEY (k): values that no row of u has: 2; no witness has rows with them",
     ),
     "loose": (
-        "CREATE TABLE u (k INTEGER, n TEXT); CREATE TABLE t (k INTEGER REFERENCES u (k));"
-        "INSERT INTO t VALUES (2); INSERT INTO u VALUES (1, 'a'), (2, 'b'), (2, 'c');",
+        (
+            "CREATE TABLE u (k INTEGER, n TEXT); CREATE TABLE t (k INTEGER REFERENCES u (k));"
+            "INSERT INTO t VALUES (2); INSERT INTO u VALUES (1, 'a'), (2, 'b'), (2, 'c');"
+        ),
         "--rows 1",
         True,
         "u: 2 of 3 rows\nt: 1 of 1 rows",
@@ -282,9 +313,11 @@ POSTGRES_CASES = {
         "t: rows of other tables, which inherit from it, stand in it too",
     ),
     "ranges": (
-        "CREATE TABLE t (k INT PRIMARY KEY) PARTITION BY RANGE (k);"
-        "CREATE TABLE t1 PARTITION OF t FOR VALUES FROM (0) TO (9); INSERT INTO t VALUES (3), (2);"
-        "CREATE TABLE u (k INT REFERENCES t, i UUID, UNIQUE (k) INCLUDE (i)); INSERT INTO u VALUES (3);",
+        (
+            "CREATE TABLE t (k INT PRIMARY KEY) PARTITION BY RANGE (k);CREATE TABLE t1 PARTITION OF"
+            " t FOR VALUES FROM (0) TO (9); INSERT INTO t VALUES (3), (2);CREATE TABLE u (k INT"
+            " REFERENCES t, i UUID, UNIQUE (k) INCLUDE (i)); INSERT INTO u VALUES (3);"
+        ),
         "",
         True,
         "u.i: left out: the type uuid is not read",
@@ -296,7 +329,10 @@ POSTGRES_CASES = {
         "t.b: left out: the type integer[] is not read",
     ),
     "schemas": (
-        "CREATE SCHEMA s; CREATE TABLE s.u (k INT PRIMARY KEY); CREATE TABLE t (k INT REFERENCES s.u);",
+        (
+            "CREATE SCHEMA s; CREATE TABLE s.u (k INT PRIMARY KEY); CREATE TABLE t (k INT"
+            " REFERENCES s.u);"
+        ),
         "",
         False,
         "t: FOREIGN KEY (k) refers to the table s.u, which is not exported",
@@ -314,14 +350,18 @@ FILES = {
         "t.csv": "a,b\n",
     },
     "ranges": {
-        "schema.sql": "CREATE TABLE t (\n  k INTEGER NOT NULL,\n  PRIMARY KEY (k)\n);\n\nCREATE TABLE u (\n"
-        "  k INTEGER,\n  UNIQUE (k),\n  FOREIGN KEY (k) REFERENCES t (k)\n);\n",
+        "schema.sql": (
+            "CREATE TABLE t (\n  k INTEGER NOT NULL,\n  PRIMARY KEY (k)\n);\n\nCREATE TABLE u (\n"
+            "  k INTEGER,\n  UNIQUE (k),\n  FOREIGN KEY (k) REFERENCES t (k)\n);\n"
+        ),
         "t.csv": "k\n2\n3\n",
         "u.csv": "k\n3\n",
     },
     "loose": {
-        "schema.sql": "CREATE TABLE u (\n  k INTEGER,\n  n TEXT\n);\n\nCREATE TABLE t (\n  k INTEGER,\n"
-        "  FOREIGN KEY (k) REFERENCES u (k)\n);\n",
+        "schema.sql": (
+            "CREATE TABLE u (\n  k INTEGER,\n  n TEXT\n);\n\nCREATE TABLE t (\n  k INTEGER,\n"
+            "  FOREIGN KEY (k) REFERENCES u (k)\n);\n"
+        ),
         "t.csv": "k\n2\n",
         "u.csv": "k,n\n1,a\n2,b\n",
     },

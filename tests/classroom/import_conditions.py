@@ -39,8 +39,9 @@ COLUMNS: dict[str, tuple[str, Sequence[int | str | None]]] = {
     'it\'s, "odd"': ("INTEGER", [None, 0, 1, 2]),
 }
 
-# A condition, and what is written of it: by both tools, or by from-sqlite and by from-postgres, whose server
-# has words of its own for the same. In place of an empty one stands the condition itself.
+# A condition, and what is written of it: by both tools, or by from-sqlite and by from-postgres,
+# whose server has words of its own for the same. In place of an empty one stands the condition
+# itself.
 CARRIED = [
     ("a > 0", ""),
     ("0 <= a", ""),
@@ -128,8 +129,8 @@ DOMAINS = [
 ]
 
 
-# A condition, and why it is left out: by both tools, or by from-sqlite and by from-postgres. Without a reason
-# it is left out with its column.
+# A condition, and why it is left out: by both tools, or by from-sqlite and by from-postgres.
+# Without a reason it is left out with its column.
 LEFT: list[tuple[str, ...]] = [
     ("length(s) > 3", "calls length"),
     ("s LIKE 'a%'", "has the word LIKE", "has the operator ~~"),
@@ -232,7 +233,10 @@ COLLATIONS = {
         [
             ": left out: COLLATE; texts are compared by their bytes",
             ": left out: CHECK (s > 'a'), which orders texts otherwise than by their bytes",
-            ": left out: CHECK (s COLLATE BINARY > 'a'), which orders texts otherwise than by their bytes",
+            (
+                ": left out: CHECK (s COLLATE BINARY > 'a'), which orders texts otherwise than by"
+                " their bytes"
+            ),
         ],
         ["s = 'a' OR s IN ('b', 'c')", "s <> 'a'"],
     ),

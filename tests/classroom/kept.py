@@ -8,8 +8,8 @@ from pathlib import Path
 
 
 def without_seconds(exercise: Path) -> dict[str, bytes]:
-    """The files of the results by their names. In the records of the runs and in grades.csv, the one place
-    where they are told, the seconds are left out; answers.json, too, names no time."""
+    """The files of the results by their names. In the records of the runs and in grades.csv, the
+    one place where they are told, the seconds are left out; answers.json, too, names no time."""
     results = exercise / "results"
     texts = {
         str(path.relative_to(results)): path.read_bytes()

@@ -1,4 +1,5 @@
-"""Archives as learning platforms export them, made of a class: zip files of each form, and some that are hostile.
+"""Archives as learning platforms export them, made of a class: zip files of each form, and some
+that are hostile.
 
 As a program it writes one of each into a folder: `made_archives.py FOLDER`.
 """
@@ -138,8 +139,8 @@ def folders(path: Path, answers: Answers) -> Path:
 
 
 def hostile(path: Path) -> Path:
-    """Names that lead out of the archive, a link, a device, what the archive says to be small and is not, and one
-    answer as it should be."""
+    """Names that lead out of the archive, a link, a device, what the archive says to be small and
+    is not, and one answer as it should be."""
     made = written(
         path,
         [

@@ -1,4 +1,5 @@
-"""A class of any size over the tasks of examples/beers: right, wrong and refused answers in many spellings."""
+"""A class of any size over the tasks of examples/beers: right, wrong and refused answers in many
+spellings."""
 from __future__ import annotations
 
 import random
@@ -57,7 +58,8 @@ def spelled(query: str, student: int, chosen: random.Random) -> str:
 
 
 def left(folder: Path) -> str:
-    """What is told on standard error of a class: the answers that `ratest` refuses and SQLite does not count."""
+    """What is told on standard error of a class: the answers that `ratest` refuses and SQLite does
+    not count."""
     texts = [" ".join(path.read_text().lower().split()) for path in folder.glob("*/answers/*.sql")]
     by_hand = sum("count(*)" in text or "city = 3" in text for text in texts)
     return f"classroom: {by_hand} of {len(texts)} answers are to be graded by hand\n"

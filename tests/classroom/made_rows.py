@@ -1,5 +1,5 @@
-"""Databases of any size with tasks over them: a school in SQLite, and orders as those of TPC-H in PostgreSQL.
-The same rows for each seed."""
+"""Databases of any size with tasks over them: a school in SQLite, and orders as those of TPC-H in
+PostgreSQL. The same rows for each seed."""
 from __future__ import annotations
 
 import random
@@ -16,16 +16,26 @@ CREATE TABLE enrol (student INTEGER REFERENCES student, course INTEGER REFERENCE
 CREATE TABLE requires (course INTEGER REFERENCES course, needs INTEGER REFERENCES course, PRIMARY KEY (course, needs));
 """
 SCHOOL_TASKS = {
-    "1": "SELECT s.name FROM student s WHERE NOT EXISTS (SELECT * FROM enrol e WHERE e.student = s.id AND e.grade > 4)",
-    "2": "SELECT s.name FROM student s JOIN enrol e ON e.student = s.id JOIN course c ON e.course = c.id "
-    "WHERE c.dept = 'CS' AND e.grade >= 5",
+    "1": (
+        "SELECT s.name FROM student s WHERE NOT EXISTS (SELECT * FROM enrol e WHERE e.student ="
+        " s.id AND e.grade > 4)"
+    ),
+    "2": (
+        "SELECT s.name FROM student s JOIN enrol e ON e.student = s.id JOIN course c ON e.course ="
+        " c.id WHERE c.dept = 'CS' AND e.grade >= 5"
+    ),
     "3": "SELECT id FROM course EXCEPT SELECT course FROM enrol WHERE grade IS NOT NULL",
-    "4": "SELECT t.name FROM teacher t WHERE t.id IN (SELECT c.teacher FROM course c WHERE c.dept <> t.dept)",
+    "4": (
+        "SELECT t.name FROM teacher t WHERE t.id IN (SELECT c.teacher FROM course c WHERE c.dept <>"
+        " t.dept)"
+    ),
 }
 SCHOOL_ANSWERS = {
     "1": {
         "forgets": "SELECT name FROM student WHERE id NOT IN (SELECT student FROM enrol)",
-        "right": "SELECT name FROM student WHERE id NOT IN (SELECT student FROM enrol WHERE grade > 4)",
+        "right": (
+            "SELECT name FROM student WHERE id NOT IN (SELECT student FROM enrol WHERE grade > 4)"
+        ),
         "typing": "SELECT nmae FROM student",
     }
 }
@@ -42,11 +52,22 @@ CREATE TABLE lineitem (l_orderkey INTEGER REFERENCES orders, l_linenumber INTEGE
   PRIMARY KEY (l_orderkey, l_linenumber));
 """
 ORDERS_TASKS = {
-    "1": "SELECT c.c_name FROM customer c WHERE NOT EXISTS (SELECT * FROM orders o WHERE o.o_custkey = c.c_custkey)",
-    "2": "SELECT o.o_orderkey FROM orders o WHERE o.o_orderdate >= '1994-01-01' AND EXISTS "
-    "(SELECT * FROM lineitem l WHERE l.l_orderkey = o.o_orderkey AND l.l_commitdate < l.l_shipdate)",
-    "3": "SELECT p_partkey FROM part WHERE p_size > 10 EXCEPT SELECT l_partkey FROM lineitem WHERE l_returnflag = 'R'",
-    "4": "SELECT n.n_name FROM nation n, customer c WHERE n.n_nationkey = c.c_nationkey AND c.c_acctbal > 100",
+    "1": (
+        "SELECT c.c_name FROM customer c WHERE NOT EXISTS (SELECT * FROM orders o WHERE o.o_custkey"
+        " = c.c_custkey)"
+    ),
+    "2": (
+        "SELECT o.o_orderkey FROM orders o WHERE o.o_orderdate >= '1994-01-01' AND EXISTS (SELECT *"
+        " FROM lineitem l WHERE l.l_orderkey = o.o_orderkey AND l.l_commitdate < l.l_shipdate)"
+    ),
+    "3": (
+        "SELECT p_partkey FROM part WHERE p_size > 10 EXCEPT SELECT l_partkey FROM lineitem WHERE"
+        " l_returnflag = 'R'"
+    ),
+    "4": (
+        "SELECT n.n_name FROM nation n, customer c WHERE n.n_nationkey = c.c_nationkey AND"
+        " c.c_acctbal > 100"
+    ),
 }
 
 

@@ -1,5 +1,5 @@
-"""A class with odd names and texts and every kind of grade, what a program prints of it that stands for
-`ratest`, and what its page has to show."""
+"""A class with odd names and texts and every kind of grade, what a program prints of it that stands
+for `ratest`, and what its page has to show."""
 from __future__ import annotations
 
 import hashlib
@@ -61,7 +61,10 @@ TABLES = {
 PRINTED = {
     ANSWER: (WITNESS, "", 1),
     "broad": (
-        f"witness: 1\nbroad 1: {BROAD_ROW}\nonly query 1: 0\nonly query 2: 1\n  {BROAD_ROW}\nboth: 0\n",
+        (
+            f"witness: 1\nbroad 1: {BROAD_ROW}\nonly query 1: 0\nonly query 2: 1\n "
+            f" {BROAD_ROW}\nboth: 0\n"
+        ),
         "",
         1,
     ),
@@ -124,7 +127,8 @@ sys.exit(status)
 
 
 def make(folder: Path) -> Path:
-    """Writes the exercise into a folder, and gives the program that stands for `ratest` beside it."""
+    """Writes the exercise into a folder, and gives the program that stands for `ratest` beside
+    it."""
     answers = folder / "answers"
     answers.mkdir(parents=True)
     (folder / "schema.sql").write_text(SCHEMA)

@@ -83,8 +83,8 @@ Product = Sqlite | Postgres
 
 @contextmanager
 def server(work: Path) -> Iterator[Postgres | None]:
-    """A server of PostgreSQL in a folder of its own, under another user where this is root; None where
-    it can't be had."""
+    """A server of PostgreSQL in a folder of its own, under another user where this is root; None
+    where it can't be had."""
     found = [shutil.which("initdb") or "", *sorted(glob.glob("/usr/lib/postgresql/*/bin/initdb"))]
     initdb = next((path for path in found if os.access(path, os.X_OK)), None)
     if not initdb or not shutil.which("psql"):
@@ -158,8 +158,9 @@ def content(folder: Path) -> dict[str, str]:
     }
 
 
-# Whole answers. Query 1 is the query where each given row is there, and nothing where one is not; query 2
-# is nothing. So the only witness is all rows, and what is printed for query 1 is the answer on them.
+# Whole answers. Query 1 is the query where each given row is there, and nothing where one is not;
+# query 2 is nothing. So the only witness is all rows, and what is printed for query 1 is the answer
+# on them.
 
 
 def guard(folder: Path) -> str:
@@ -168,9 +169,14 @@ def guard(folder: Path) -> str:
     for table in tables_of(texts["schema.sql"]):
         for row in list(csv.reader(io.StringIO(texts[f"{table.name}.csv"], newline="")))[1:]:
             parts = [
-                f"x.{quoted(column.name)} IS NULL"
-                if value == ""
-                else f"x.{quoted(column.name)} = {value if column.kind == 'INTEGER' else literal(value)}"
+                (
+                    f"x.{quoted(column.name)} IS NULL"
+                    if value == ""
+                    else (
+                        f"x.{quoted(column.name)} ="
+                        f" {value if column.kind == 'INTEGER' else literal(value)}"
+                    )
+                )
                 for column, value in zip(table.columns, row, strict=True)
             ]
             conditions.append(
@@ -184,7 +190,8 @@ def quoted(name: str) -> str:
 
 
 def printed_answer(text: str) -> set[tuple[str, ...]] | None:
-    """The rows after `only query 1`, of a text whose other two lists are empty; each value as a text."""
+    """The rows after `only query 1`, of a text whose other two lists are empty; each value as a
+    text."""
     if text == "agree\n":
         return set()
     start = re.search(r"^only query 1: (\d+)\n", text, re.MULTILINE)
@@ -214,7 +221,8 @@ def printed_answer(text: str) -> set[tuple[str, ...]] | None:
 
 
 def whole_answers(ratest: Path, product: Product, work: Path, queries: Sequence[str]) -> str:
-    """What is told of an export whose answers to queries are compared with those of the database."""
+    """What is told of an export whose answers to queries are compared with those of the
+    database."""
     folder = work / "whole folder"
     made = export(product, folder)
     assert made.returncode == 0, made.stderr

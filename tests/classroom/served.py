@@ -143,7 +143,8 @@ class Server:
         ) * os.sysconf("SC_PAGE_SIZE")
 
     def processor(self, process: int = 0) -> tuple[float, float]:
-        """Seconds of the server itself, or of one of its processes, and of what it ran and waited for."""
+        """Seconds of the server itself, or of one of its processes, and of what it ran and waited
+        for."""
         parts = (
             Path(f"/proc/{process or self.process.pid}/stat").read_text().rpartition(")")[2].split()
         )
@@ -171,8 +172,8 @@ def serving(
     socket_path: Path | None = None,
     tries: bool = False,
 ) -> Iterator[Server]:
-    """Serves a course at a free port, or at a socket, and stops; then standard error has to be just `errors`. Nothing
-    is tried by a database, unless the test says so."""
+    """Serves a course at a free port, or at a socket, and stops; then standard error has to be just
+    `errors`. Nothing is tried by a database, unless the test says so."""
     words = words if tries else ("--only-proved", *words)
     path = exercise.parent / "errors"
     # What a server leaves that is killed goes with the test's folder.

@@ -32,7 +32,8 @@ def pairs(names: list[str], left: str, right: str, sign: str = "=") -> str:
 
 
 class Algebra:
-    """Columns are named after their kinds, i0 or s0 say, so that columns of one name can always be compared."""
+    """Columns are named after their kinds, i0 or s0 say, so that columns of one name can always be
+    compared."""
 
     def __init__(self, draw: Draw) -> None:
         self.draw = draw
@@ -108,8 +109,10 @@ class Algebra:
             no = "NOT " if word == "anti" else ""
             return Relation(
                 text,
-                f"SELECT * FROM ({left.sql}) AS l WHERE {no}EXISTS (SELECT 1 FROM ({right.sql}) AS r "
-                f"WHERE {on})",
+                (
+                    f"SELECT * FROM ({left.sql}) AS l WHERE {no}EXISTS (SELECT 1 FROM ({right.sql})"
+                    f" AS r WHERE {on})"
+                ),
                 left.columns,
             )
         kept = listed(left.names, "l.") + "".join(f", r.{name}" for name, _ in further)
@@ -123,7 +126,8 @@ class Algebra:
     def set_operation(self, depth: int) -> Relation:
         left = self.relation(depth)
         right = self.relation(self.draw.pick((0, depth)))
-        # Both sides get the same kinds: the columns that the kinds of the shorter one have in common, in order.
+        # Both sides get the same kinds: the columns that the kinds of the shorter one have in
+        # common, in order.
         fitting = common_kinds(left, right)
         if not fitting:
             return left
@@ -151,9 +155,9 @@ class Algebra:
             divisor = of
         divisor = projected(divisor, [column for column in divisor.columns if column[0] in names])
         sql = (
-            f"SELECT DISTINCT {listed(rest)} FROM ({of.sql}) AS x WHERE NOT EXISTS (SELECT 1 FROM ({divisor.sql}) AS y "
-            f"WHERE NOT EXISTS (SELECT 1 FROM ({of.sql}) AS z WHERE {pairs(rest, 'z', 'x', 'IS')} "
-            f"AND {pairs(names, 'z', 'y', 'IS')}))"
+            f"SELECT DISTINCT {listed(rest)} FROM ({of.sql}) AS x WHERE NOT EXISTS (SELECT 1 FROM"
+            f" ({divisor.sql}) AS y WHERE NOT EXISTS (SELECT 1 FROM ({of.sql}) AS z WHERE"
+            f" {pairs(rest, 'z', 'x', 'IS')} AND {pairs(names, 'z', 'y', 'IS')}))"
         )
         return Relation(f"divide({of.text}, {divisor.text})", sql, further)
 

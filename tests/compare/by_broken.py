@@ -1,5 +1,6 @@
-"""Broken texts: the files and arguments of a small case, of which some bytes are changed, cut, doubled or
-exchanged. Each call has to end in time with a status that is known, and to write to one of its two outputs."""
+"""Broken texts: the files and arguments of a small case, of which some bytes are changed, cut,
+doubled or exchanged. Each call has to end in time with a status that is known, and to write to one
+of its two outputs."""
 from __future__ import annotations
 
 from dataclasses import dataclass

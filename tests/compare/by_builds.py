@@ -20,7 +20,8 @@ PLAIN, PLUS = "ratest", "ratest_plus"
 
 @dataclass(frozen=True)
 class Build:
-    """A folder with both programs, each under its name or as `tools/launch` makes it without proofs."""
+    """A folder with both programs, each under its name or as `tools/launch` makes it without
+    proofs."""
 
     folder: str
 
@@ -42,13 +43,15 @@ def told(name: str, words: Sequence[str], old: Answer, new: Answer) -> str:
     parts = [f"{name} {' '.join(words)}"]
     for side, answer in (("old", old), ("new", new)):
         parts.append(
-            f"{side}: status {answer.status}, output {answer.out[:400]!r}, error {answer.err[:400]!r}"
+            f"{side}: status {answer.status}, output {answer.out[:400]!r}, error"
+            f" {answer.err[:400]!r}"
         )
     return "\n".join(parts)
 
 
 def apart(old: Answer, new: Answer, words: Sequence[str]) -> bool:
-    """A certificate may have other steps from build to build: of `prove` the status and the claim count."""
+    """A certificate may have other steps from build to build: of `prove` the status and the claim
+    count."""
     if words[:1] == ["prove"]:
         return (old.status, old.err, claim_of(old.out)) != (new.status, new.err, claim_of(new.out))
     return old != new
@@ -61,7 +64,8 @@ def claim_of(certificate: bytes) -> list[bytes]:
 
 @dataclass(frozen=True)
 class Builds:
-    """Of a seeded case: both programs on it, on its texts with some bytes changed, and on each other's certificate."""
+    """Of a seeded case: both programs on it, on its texts with some bytes changed, and on each
+    other's certificate."""
 
     old: Build
     new: Build

@@ -1,5 +1,5 @@
-"""The second program: grades and certificates against the first one, named rows and algebra texts against
-SQLite."""
+"""The second program: grades and certificates against the first one, named rows and algebra texts
+against SQLite."""
 from __future__ import annotations
 
 from contextlib import closing
@@ -97,8 +97,8 @@ class Rows:
         if (answer.status, answer.out.decode(), answer.err) == (status, wanted, b""):
             return None
         return (
-            f"row {cells(row)}\nwanted status {status} and\n{wanted}\ngot status {answer.status} and\n"
-            f"{answer.out.decode()}{answer.err.decode()}"
+            f"row {cells(row)}\nwanted status {status} and\n{wanted}\ngot status"
+            f" {answer.status} and\n{answer.out.decode()}{answer.err.decode()}"
         )
 
     def row_of(self, database: Database) -> Row:
@@ -154,8 +154,8 @@ class AlgebraTexts:
 
 @dataclass(frozen=True)
 class Certificates:
-    """The verdict is that of `ratest`, `check` accepts the file, and so does a checker of steps that shares
-    nothing with it."""
+    """The verdict is that of `ratest`, `check` accepts the file, and so does a checker of steps
+    that shares nothing with it."""
 
     name: str = "compare_certificates"
     limits: Limits = Limits(rows=12)
@@ -174,8 +174,9 @@ class Certificates:
         if told is None and (checked.status, checked.out, checked.err) == (0, wanted, b""):
             return None
         return (
-            f"verdict {verdict}\n{told}\nprove: status {made.status} {made.err!r}\n{made.out.decode()}\n"
-            f"check: status {checked.status} {checked.out!r} {checked.err!r}"
+            f"verdict {verdict}\n{told}\nprove: status"
+            f" {made.status} {made.err!r}\n{made.out.decode()}\ncheck: status"
+            f" {checked.status} {checked.out!r} {checked.err!r}"
         )
 
     def fault(self, verdict: str, made: Answer, encoding: Answer) -> Optional[str]:

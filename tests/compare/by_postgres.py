@@ -1,5 +1,5 @@
-"""PostgreSQL has to accept the rows that are printed, with all constraints on, and to answer both queries on
-them with just the rows that are printed."""
+"""PostgreSQL has to accept the rows that are printed, with all constraints on, and to answer both
+queries on them with just the rows that are printed."""
 from __future__ import annotations
 
 import glob
@@ -47,7 +47,8 @@ def programs() -> Optional[Path]:
 
 @contextmanager
 def server() -> Iterator[str]:
-    """A server in a folder of its own, reached by its socket there; yields what psycopg connects to."""
+    """A server in a folder of its own, reached by its socket there; yields what psycopg connects
+    to."""
     where = programs()
     if where is None:
         raise SystemExit(lack())
@@ -76,7 +77,10 @@ def server() -> Iterator[str]:
             ],
             **quiet,
         )
-        options = f"-k {place} -c listen_addresses= -c fsync=off -c synchronous_commit=off -c full_page_writes=off"
+        options = (
+            f"-k {place} -c listen_addresses= -c fsync=off -c synchronous_commit=off -c"
+            " full_page_writes=off"
+        )
         subprocess.run(
             [
                 where / "pg_ctl",
@@ -110,7 +114,8 @@ class Database:
         # Two at once may have the same case.
         self.name = f"case_{os.getpid()}"
         self.run(
-            f"DROP SCHEMA IF EXISTS {self.name} CASCADE; CREATE SCHEMA {self.name}; SET search_path = {self.name}"
+            f"DROP SCHEMA IF EXISTS {self.name} CASCADE; CREATE SCHEMA {self.name}; SET search_path"
+            f" = {self.name}"
         )
         self.run(schema(case, "postgres") + add_foreign_keys(case))
         writer = Writer("postgres")
@@ -120,7 +125,8 @@ class Database:
         self.connection.execute(text.encode())
 
     def put(self, places: list[Place]) -> bool:
-        """Makes these the rows of the database; whether they meet the schema, else it stays empty."""
+        """Makes these the rows of the database; whether they meet the schema, else it stays
+        empty."""
         try:
             with self.connection.transaction():
                 for name, rows in by_table(places).items():
@@ -153,8 +159,8 @@ def by_table(places: list[Place]) -> dict[str, list[int]]:
 
 
 def kept(case: Case, text: str) -> Optional[tuple[list[Place], str]]:
-    """The places of the rows that a printed text begins with, and the rest of it. A cell may hold a line end,
-    so each line is looked for as it has to be."""
+    """The places of the rows that a printed text begins with, and the rest of it. A cell may hold a
+    line end, so each line is looked for as it has to be."""
     places = []
     for place in case.places():
         line = kept_lines(case, [place])

@@ -1,5 +1,5 @@
-"""The truth of SQLite: every part of the rows is put into a database with the schema's constraints on, and
-both queries are asked there."""
+"""The truth of SQLite: every part of the rows is put into a database with the schema's constraints
+on, and both queries are asked there."""
 from __future__ import annotations
 
 import sqlite3
@@ -25,14 +25,17 @@ class Database:
         self.connection.execute("PRAGMA foreign_keys = ON")
         self.connection.executescript(schema(case, "sqlite"))
         self.insert = {
-            table.name: f"INSERT INTO {quoted(table.name)} VALUES ("
-            + ", ".join("?" * len(table.columns))
-            + ")"
+            table.name: (
+                f"INSERT INTO {quoted(table.name)} VALUES ("
+                + ", ".join("?" * len(table.columns))
+                + ")"
+            )
             for table in case.tables
         }
 
     def put(self, places: tuple[Place, ...]) -> bool:
-        """Makes these the rows of the database; whether they meet the schema, else it stays empty."""
+        """Makes these the rows of the database; whether they meet the schema, else it stays
+        empty."""
         run = self.connection.execute
         run("BEGIN")
         try:

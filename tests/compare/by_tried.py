@@ -1,4 +1,5 @@
-"""What `classroom` tries with SQLite against what is proved: never another verdict, and no smaller witness."""
+"""What `classroom` tries with SQLite against what is proved: never another verdict, and no smaller
+witness."""
 from __future__ import annotations
 
 import importlib.util
@@ -68,6 +69,9 @@ class ByTried:
             return f"a witness of {rows} rows is proved to be the smallest, and tried is {found}"
         if len(found.kept) > rows:
             if found.least in (ALL, JOINS):
-                return f"a witness of {rows} rows is proved, and of {len(found.kept)} it is said that all smaller ones were tried"
+                return (
+                    f"a witness of {rows} rows is proved, and of {len(found.kept)} it is said that"
+                    " all smaller ones were tried"
+                )
             raise Passed("with a larger tried witness")
         return None

@@ -1,5 +1,6 @@
-"""Least sizes against the solver Z3, over an encoding of its own: each query is evaluated once, with a formula
-beside each row of an answer that says on which choices of rows it is there (the provenance of the paper)."""
+"""Least sizes against the solver Z3, over an encoding of its own: each query is evaluated once,
+with a formula beside each row of an answer that says on which choices of rows it is there (the
+provenance of the paper)."""
 from __future__ import annotations
 
 from dataclasses import dataclass
@@ -151,7 +152,8 @@ class Provenance:
         return names, {row: one_of(formulas) for row, formulas in found.items()}
 
     def select(self, select: Select, scopes: list[Scope]) -> dict[Row, Formula]:
-        # Joined rows so far: the cells of all sources in order, the scope that they make, and the formula.
+        # Joined rows so far: the cells of all sources in order, the scope that they make, and the
+        # formula.
         joined: list[tuple[Row, Scope, Formula]] = [((), {}, True)]
         for source in select.sources:
             own: list[str] = []

@@ -1,4 +1,5 @@
-"""One change of a query, as a mistake makes it; and the smaller queries that a failure is reduced to."""
+"""One change of a query, as a mistake makes it; and the smaller queries that a failure is reduced
+to."""
 from __future__ import annotations
 
 import dataclasses
@@ -74,8 +75,8 @@ def children(node: Any) -> Iterator[tuple[str, Any]]:
 
 
 def changes(node: Any) -> Iterator[Any]:
-    """The node with one change, at each place below it. The names of what comes out of a derived table stay,
-    since the query around it may name them."""
+    """The node with one change, at each place below it. The names of what comes out of a derived
+    table stay, since the query around it may name them."""
     yield from variants(node)
     for name, value in children(node):
         if isinstance(value, tuple):

@@ -20,7 +20,8 @@ from .program import Passed, limit_memory, missing, query_text
 
 
 class Comparison(Protocol):
-    """What is compared: how large the cases are, and how the programs differ on one (None: not at all)."""
+    """What is compared: how large the cases are, and how the programs differ on one (None: not at
+    all)."""
 
     @property
     def name(self) -> str:
@@ -50,11 +51,15 @@ def shown(case: Case) -> str:
     tables = "".join(
         f"-- {table.name}.csv\n{csv_text(table, case.rows[table.name])}" for table in case.tables
     )
-    return f"{schema(case, 'ratest')}{tables}-- query 1\n{query_text(case.first)}-- query 2\n{query_text(case.second)}"
+    return (
+        f"{schema(case, 'ratest')}{tables}-- query 1\n{query_text(case.first)}-- query"
+        f" 2\n{query_text(case.second)}"
+    )
 
 
 def tried(difference: Callable[[Case], Optional[str]], case: Case) -> Optional[str]:
-    """The difference; an error of the other program is one too, since it stands for a wrong case."""
+    """The difference; an error of the other program is one too, since it stands for a wrong
+    case."""
     try:
         return difference(case)
     except Passed:
@@ -144,6 +149,7 @@ def main(comparison: Comparison, about: str) -> int:
         return 130
     counts = ", ".join(f"{count} {outcome}" for outcome, count in sorted(outcomes.items()))
     print(
-        f"{comparison.name}: {words.count} cases from seed {words.first} in {time.monotonic() - start:.0f} seconds: {counts}"
+        f"{comparison.name}: {words.count} cases from seed {words.first} in"
+        f" {time.monotonic() - start:.0f} seconds: {counts}"
     )
     return 1 if outcomes["differs"] else 0

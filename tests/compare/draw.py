@@ -1,11 +1,10 @@
-"""Random cases. Everything is drawn from one `random.Random`, so that a seed says which case it is, and
-hypothesis can put a generator of its own in its place.
+"""Random cases. Everything is drawn from one `random.Random`, so that a seed says which case it is,
+and hypothesis can put a generator of its own in its place.
 
-SQLite is kept away from what it does otherwise than the standard: no sum that could leave 64 bits, no text
-compared with a number (`ratest` refuses it), no column in ON of a source outside of its join, also where a
-source around has the same name, foreign keys to keys alone. PostgreSQL has no type for an expression of NULLs
-alone, so none is drawn.
-"""
+SQLite is kept away from what it does otherwise than the standard: no sum that could leave 64 bits,
+no text compared with a number (`ratest` refuses it), no column in ON of a source outside of its
+join, also where a source around has the same name, foreign keys to keys alone. PostgreSQL has no
+type for an expression of NULLs alone, so none is drawn. """
 from __future__ import annotations
 
 from dataclasses import dataclass, field, replace
@@ -171,7 +170,8 @@ class Draw:
         table.foreign_keys.append(ForeignKey(tuple(columns), other.name, referenced))
 
     def check(self, table: Table) -> Condition:
-        """The form that a CHECK may have: comparisons of columns and constants, with no parentheses inside."""
+        """The form that a CHECK may have: comparisons of columns and constants, with no parentheses
+        inside."""
         columns = tuple((column.name, column.kind) for column in table.columns)
         parts = tuple(
             self.leaf([Visible("", columns)], arithmetic=False)
@@ -210,7 +210,8 @@ class Draw:
             rows.append(row)
         return found
 
-    # Queries. `outer` are the scopes around, the nearest one first; `kinds` what the columns have to be.
+    # Queries. `outer` are the scopes around, the nearest one first; `kinds` what the columns have
+    # to be.
 
     def query(
         self, depth: int, outer: list[list[Visible]], kinds: Optional[tuple[Kind, ...]]

@@ -12,8 +12,8 @@ Value = Union[int, str, None]
 Row = tuple[Value, ...]
 Dialect = Literal["ratest", "sqlite", "postgres"]
 
-# INT is no alias of SQLite's row number where it is a primary key, as INTEGER is; PostgreSQL's INTEGER has
-# 32 bits.
+# INT is no alias of SQLite's row number where it is a primary key, as INTEGER is; PostgreSQL's
+# INTEGER has 32 bits.
 TYPES: dict[Dialect, dict[Kind, str]] = {
     "ratest": {"int": "INTEGER", "text": "TEXT"},
     "sqlite": {"int": "INT", "text": "TEXT"},
@@ -63,7 +63,8 @@ class Case:
     is_wide: bool = False
 
     def places(self) -> list[tuple[str, int]]:
-        """The table and the number from 0 of each row, in the order in which `ratest` counts them."""
+        """The table and the number from 0 of each row, in the order in which `ratest` counts
+        them."""
         return [
             (table.name, at) for table in self.tables for at in range(len(self.rows[table.name]))
         ]
@@ -90,7 +91,8 @@ def create_table(table: Table, dialect: Dialect) -> str:
         # Rows are put in one after the other, and may refer to one another.
         late = " DEFERRABLE INITIALLY DEFERRED" if dialect == "sqlite" else ""
         items += [
-            f"FOREIGN KEY {names(key.columns)} REFERENCES {quoted(key.table)} {names(key.referenced)}{late}"
+            f"FOREIGN KEY {names(key.columns)} REFERENCES"
+            f" {quoted(key.table)} {names(key.referenced)}{late}"
             for key in table.foreign_keys
         ]
     items += [
@@ -105,8 +107,8 @@ def schema(case: Case, dialect: Dialect) -> str:
 
 def add_foreign_keys(case: Case) -> str:
     return "\n".join(
-        f"ALTER TABLE {quoted(table.name)} ADD FOREIGN KEY {names(key.columns)} REFERENCES {quoted(key.table)} "
-        f"{names(key.referenced)} DEFERRABLE INITIALLY DEFERRED;"
+        f"ALTER TABLE {quoted(table.name)} ADD FOREIGN KEY {names(key.columns)} REFERENCES"
+        f" {quoted(key.table)} {names(key.referenced)} DEFERRABLE INITIALLY DEFERRED;"
         for table in case.tables
         for key in table.foreign_keys
     )
@@ -136,11 +138,13 @@ def cells(row: Row) -> str:
 def sort_key(row: Row) -> list[tuple[int, int, bytes]]:
     """NULL first, then whole numbers, then texts by their bytes."""
     return [
-        (0, 0, b"")
-        if value is None
-        else (1, value, b"")
-        if isinstance(value, int)
-        else (2, 0, value.encode())
+        (
+            (0, 0, b"")
+            if value is None
+            else (1, value, b"")
+            if isinstance(value, int)
+            else (2, 0, value.encode())
+        )
         for value in row
     ]
 
@@ -150,7 +154,8 @@ def kept_lines(case: Case, kept: Optional[list[tuple[str, int]]]) -> str:
 
 
 def witness_text(case: Case, kept: list[tuple[str, int]], first: set[Row], second: set[Row]) -> str:
-    """What `ratest` has to print of a witness, by the answers that another program gives on these rows."""
+    """What `ratest` has to print of a witness, by the answers that another program gives on these
+    rows."""
     text = f"witness: {len(kept)}\n" + kept_lines(case, kept)
     for title, rows in (("only query 1", first - second), ("only query 2", second - first)):
         text += f"{title}: {len(rows)}\n" + "".join(

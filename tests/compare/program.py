@@ -17,12 +17,14 @@ TOP = Path(__file__).resolve().parents[2]
 SECONDS = 60.0
 MEMORY = 4 << 30
 NO_VARIABLES: dict[str, str] = {}
-# A file system in memory: on a disk, making and removing the folder takes longer than all else of a small case.
+# A file system in memory: on a disk, making and removing the folder takes longer than all else of a
+# small case.
 IN_MEMORY = "/dev/shm"
 
 
 def program(name: str) -> str:
-    """The proved program, or the one that the environment names, as RATEST, RATEST_PLUS and MEASURE."""
+    """The proved program, or the one that the environment names, as RATEST, RATEST_PLUS and
+    MEASURE."""
     return os.environ.get(name.upper()) or str(TOP / "crates" / name / "out" / name)
 
 
@@ -34,7 +36,10 @@ def missing() -> Optional[str]:
     """What to tell where a program is not there."""
     for name in ("ratest", "ratest_plus", "measure"):
         if not os.access(program(name), os.X_OK):
-            return f"{program(name)} is not there: `rt ci` proves and builds it, or {name.upper()} names another"
+            return (
+                f"{program(name)} is not there: `rt ci` proves and builds it, or"
+                f" {name.upper()} names another"
+            )
     return None
 
 
@@ -47,7 +52,8 @@ class Answer:
 
 
 def limit_memory() -> None:
-    """Of this process and all that it starts. A limit set between fork and exec would take most of a call's time."""
+    """Of this process and all that it starts. A limit set between fork and exec would take most of
+    a call's time."""
     resource.setrlimit(resource.RLIMIT_AS, (MEMORY, MEMORY))
 
 
@@ -72,7 +78,8 @@ def query_text(query: Query) -> str:
 
 
 def place_of_folders() -> Optional[str]:
-    """Where folders are made: in memory where that can be had, unless TMPDIR says where; else where Python makes them."""
+    """Where folders are made: in memory where that can be had, unless TMPDIR says where; else where
+    Python makes them."""
     return (
         None if "TMPDIR" in os.environ or not os.access(IN_MEMORY, os.W_OK | os.X_OK) else IN_MEMORY
     )

@@ -151,9 +151,9 @@ Node = Union[Query, Source, Join, Base, Condition, Expression]
 
 @dataclass(frozen=True)
 class Writer:
-    """Writes queries for a program. Parentheses stand where the grammar needs them, and nowhere else, so that
-    the readers' precedence is compared too; SQLite, which has none around an operand of a set operator, gets
-    derived tables there."""
+    """Writes queries for a program. Parentheses stand where the grammar needs them, and nowhere
+    else, so that the readers' precedence is compared too; SQLite, which has none around an operand
+    of a set operator, gets derived tables there."""
 
     dialect: Literal["ratest", "sqlite", "postgres"]
     # Whether columns stand without their source, as in CHECK.
@@ -163,7 +163,10 @@ class Writer:
         if isinstance(query, Select):
             return self.select(query)
         if self.dialect == "sqlite":
-            return f"SELECT * FROM ({self.query(query.left)}) {query.word} SELECT * FROM ({self.query(query.right)})"
+            return (
+                f"SELECT * FROM ({self.query(query.left)}) {query.word} SELECT * FROM"
+                f" ({self.query(query.right)})"
+            )
         tight = query.word == "INTERSECT"
         left = self.query(query.left)
         if tight and isinstance(query.left, SetOperation) and query.left.word != "INTERSECT":
@@ -235,7 +238,10 @@ class Writer:
                 + ", ".join(self.expression(member) for member in condition.members)
                 + ")"
             )
-        return f"{of} {word}BETWEEN {self.expression(condition.low)} AND {self.expression(condition.high)}"
+        return (
+            f"{of} {word}BETWEEN {self.expression(condition.low)} AND"
+            f" {self.expression(condition.high)}"
+        )
 
     def expression(self, expression: Expression, within: str = "") -> str:
         if isinstance(expression, Col):

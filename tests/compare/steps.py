@@ -1,8 +1,8 @@
-"""An independent check of a certificate's steps, as LRAT has them: each clause follows from the lines that it
-names by unit propagation, in their order, and the last one refutes what is assumed.
+"""An independent check of a certificate's steps, as LRAT has them: each clause follows from the
+lines that it names by unit propagation, in their order, and the last one refutes what is assumed.
 
-The lines that the steps stand on are those that the program `measure` says; no code of the checker in the
-crates is used."""
+The lines that the steps stand on are those that the program `measure` says; no code of the checker
+in the crates is used."""
 from __future__ import annotations
 
 from dataclasses import dataclass

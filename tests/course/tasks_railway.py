@@ -9,11 +9,17 @@ TASKS = [
         [
             ("SELECT name, (SELECT COUNT(*) FROM train WHERE line = l.id) FROM line l", RIGHT),
             (
-                "SELECT l.name, COUNT(*) FROM line l LEFT JOIN train t ON t.line = l.id GROUP BY l.id",
+                (
+                    "SELECT l.name, COUNT(*) FROM line l LEFT JOIN train t ON t.line = l.id GROUP"
+                    " BY l.id"
+                ),
                 WRONG,
             ),
             (
-                "SELECT l.name, COUNT(t.no) FROM line l JOIN train t ON t.line = l.id GROUP BY l.id",
+                (
+                    "SELECT l.name, COUNT(t.no) FROM line l JOIN train t ON t.line = l.id GROUP BY"
+                    " l.id"
+                ),
                 WRONG,
             ),
             ("SELECT l.name, COUNT(t.no) FROM line l LEFT JOIN train t ON t.line = l.id", ERROR),
@@ -44,8 +50,11 @@ TASKS = [
         "SELECT train, AVG(price) FROM ticket GROUP BY train",
         [
             (
-                "SELECT train, SUM(price) / COUNT(price) FROM ticket GROUP BY train HAVING COUNT(price) > 0 UNION ALL "
-                "SELECT train, NULL FROM ticket GROUP BY train HAVING COUNT(price) = 0",
+                (
+                    "SELECT train, SUM(price) / COUNT(price) FROM ticket GROUP BY train HAVING"
+                    " COUNT(price) > 0 UNION ALL SELECT train, NULL FROM ticket GROUP BY train"
+                    " HAVING COUNT(price) = 0"
+                ),
                 RIGHT,
             ),
             ("SELECT train, AVG(coalesce(price, 0)) FROM ticket GROUP BY train", WRONG),
@@ -54,43 +63,69 @@ TASKS = [
         ],
     ),
     (
-        "SELECT class, COUNT(*) FROM ticket WHERE class IS NOT NULL GROUP BY class HAVING COUNT(*) > 3",
+        (
+            "SELECT class, COUNT(*) FROM ticket WHERE class IS NOT NULL GROUP BY class HAVING"
+            " COUNT(*) > 3"
+        ),
         [
             ("SELECT class, COUNT(*) FROM ticket GROUP BY class HAVING COUNT(class) >= 4", RIGHT),
             (
-                "SELECT class, COUNT(*) FROM ticket WHERE class IS NOT NULL GROUP BY class HAVING COUNT(*) >= 3",
+                (
+                    "SELECT class, COUNT(*) FROM ticket WHERE class IS NOT NULL GROUP BY class"
+                    " HAVING COUNT(*) >= 3"
+                ),
                 WRONG,
             ),
             (
-                "SELECT class, COUNT(*) FROM ticket WHERE class IS NOT NULL GROUP BY class HAVING COUNT(DISTINCT train) > 3",
+                (
+                    "SELECT class, COUNT(*) FROM ticket WHERE class IS NOT NULL GROUP BY class"
+                    " HAVING COUNT(DISTINCT train) > 3"
+                ),
                 WRONG,
             ),
             (
-                "SELECT class, COUNT(*) FROM ticket WHERE class IS NOT NULL AND COUNT(*) > 3 GROUP BY class",
+                (
+                    "SELECT class, COUNT(*) FROM ticket WHERE class IS NOT NULL AND COUNT(*) > 3"
+                    " GROUP BY class"
+                ),
                 ERROR,
             ),
         ],
     ),
     (
-        "SELECT s.name FROM station s WHERE NOT EXISTS (SELECT * FROM line l WHERE l.electric AND NOT EXISTS "
-        "(SELECT * FROM stop p WHERE p.line = l.id AND p.station = s.code))",
+        (
+            "SELECT s.name FROM station s WHERE NOT EXISTS (SELECT * FROM line l WHERE l.electric"
+            " AND NOT EXISTS (SELECT * FROM stop p WHERE p.line = l.id AND p.station = s.code))"
+        ),
         [
             (
-                "SELECT name FROM station s WHERE NOT EXISTS (SELECT id FROM line WHERE electric EXCEPT SELECT line FROM stop WHERE station = s.code)",
+                (
+                    "SELECT name FROM station s WHERE NOT EXISTS (SELECT id FROM line WHERE"
+                    " electric EXCEPT SELECT line FROM stop WHERE station = s.code)"
+                ),
                 RIGHT,
             ),
             (
-                "SELECT s.name FROM station s JOIN stop p ON p.station = s.code JOIN line l ON l.id = p.line WHERE l.electric GROUP BY s.code HAVING "
-                "COUNT(*) = (SELECT COUNT(*) FROM line WHERE electric)",
+                (
+                    "SELECT s.name FROM station s JOIN stop p ON p.station = s.code JOIN line l ON"
+                    " l.id = p.line WHERE l.electric GROUP BY s.code HAVING COUNT(*) = (SELECT"
+                    " COUNT(*) FROM line WHERE electric)"
+                ),
                 WRONG,
             ),
             (
-                "SELECT DISTINCT s.name FROM station s JOIN stop p ON p.station = s.code JOIN line l ON l.id = p.line WHERE l.electric",
+                (
+                    "SELECT DISTINCT s.name FROM station s JOIN stop p ON p.station = s.code JOIN"
+                    " line l ON l.id = p.line WHERE l.electric"
+                ),
                 WRONG,
             ),
             (
-                "SELECT s.name FROM station s WHERE (SELECT bool_and(EXISTS (SELECT * FROM stop p WHERE p.line = l.id AND p.station = s.code)) "
-                "FROM line l WHERE l.electric) IS NOT FALSE",
+                (
+                    "SELECT s.name FROM station s WHERE (SELECT bool_and(EXISTS (SELECT * FROM stop"
+                    " p WHERE p.line = l.id AND p.station = s.code)) FROM line l WHERE l.electric)"
+                    " IS NOT FALSE"
+                ),
                 RIGHT,
             ),
         ],
@@ -99,14 +134,20 @@ TASKS = [
         "SELECT no FROM train WHERE seats >= ALL (SELECT seats FROM train WHERE seats IS NOT NULL)",
         [
             (
-                "SELECT no FROM train WHERE seats = (SELECT MAX(seats) FROM train) OR (SELECT COUNT(seats) FROM train) = 0",
+                (
+                    "SELECT no FROM train WHERE seats = (SELECT MAX(seats) FROM train) OR (SELECT"
+                    " COUNT(seats) FROM train) = 0"
+                ),
                 RIGHT,
             ),
             # Of no seats at all every number is the largest.
             ("SELECT no FROM train WHERE seats = (SELECT MAX(seats) FROM train)", WRONG),
             ("SELECT no FROM train WHERE seats >= ALL (SELECT seats FROM train)", WRONG),
             (
-                "SELECT no FROM train WHERE seats > ALL (SELECT seats FROM train WHERE seats IS NOT NULL)",
+                (
+                    "SELECT no FROM train WHERE seats > ALL (SELECT seats FROM train WHERE seats IS"
+                    " NOT NULL)"
+                ),
                 WRONG,
             ),
         ],
@@ -115,12 +156,18 @@ TASKS = [
         "SELECT DISTINCT ON (line) line, no FROM train ORDER BY line, leaves",
         [
             (
-                "SELECT line, no FROM train t WHERE NOT EXISTS (SELECT * FROM train u WHERE u.line = t.line AND u.leaves < t.leaves)",
+                (
+                    "SELECT line, no FROM train t WHERE NOT EXISTS (SELECT * FROM train u WHERE"
+                    " u.line = t.line AND u.leaves < t.leaves)"
+                ),
                 RIGHT,
             ),
             ("SELECT line, MIN(no) FROM train GROUP BY line", RIGHT),
             (
-                "SELECT line, no FROM (SELECT line, no, rank() OVER (PARTITION BY line ORDER BY leaves DESC) AS r FROM train) x WHERE r = 1",
+                (
+                    "SELECT line, no FROM (SELECT line, no, rank() OVER (PARTITION BY line ORDER BY"
+                    " leaves DESC) AS r FROM train) x WHERE r = 1"
+                ),
                 WRONG,
             ),
             ("SELECT line, MAX(no) FROM train GROUP BY line", WRONG),
@@ -130,7 +177,10 @@ TASKS = [
         "SELECT line, string_agg(station, ',' ORDER BY pos) FROM stop GROUP BY line",
         [
             (
-                "SELECT line, array_to_string(array_agg(station ORDER BY pos), ',') FROM stop GROUP BY line",
+                (
+                    "SELECT line, array_to_string(array_agg(station ORDER BY pos), ',') FROM stop"
+                    " GROUP BY line"
+                ),
                 RIGHT,
             ),
             (
@@ -160,19 +210,31 @@ TASKS = [
         "SELECT s.name, p.line FROM station s FULL JOIN stop p ON p.station = s.code AND p.pos = 1",
         [
             (
-                "SELECT s.name, p.line FROM stop p FULL JOIN station s ON s.code = p.station AND 1 = p.pos",
+                (
+                    "SELECT s.name, p.line FROM stop p FULL JOIN station s ON s.code = p.station"
+                    " AND 1 = p.pos"
+                ),
                 RIGHT,
             ),
             (
-                "SELECT s.name, p.line FROM station s LEFT JOIN stop p ON p.station = s.code AND p.pos = 1",
+                (
+                    "SELECT s.name, p.line FROM station s LEFT JOIN stop p ON p.station = s.code"
+                    " AND p.pos = 1"
+                ),
                 WRONG,
             ),
             (
-                "SELECT s.name, p.line FROM station s FULL JOIN stop p ON p.station = s.code WHERE p.pos = 1",
+                (
+                    "SELECT s.name, p.line FROM station s FULL JOIN stop p ON p.station = s.code"
+                    " WHERE p.pos = 1"
+                ),
                 WRONG,
             ),
             (
-                "SELECT s.name, p.line FROM station s RIGHT JOIN stop p ON p.station = s.code AND p.pos = 1",
+                (
+                    "SELECT s.name, p.line FROM station s RIGHT JOIN stop p ON p.station = s.code"
+                    " AND p.pos = 1"
+                ),
                 WRONG,
             ),
         ],
@@ -181,13 +243,19 @@ TASKS = [
         "SELECT train, COUNT(*) FILTER (WHERE class = 'first') FROM ticket GROUP BY train",
         [
             (
-                "SELECT train, SUM(CASE WHEN class = 'first' THEN 1 ELSE 0 END) FROM ticket GROUP BY train",
+                (
+                    "SELECT train, SUM(CASE WHEN class = 'first' THEN 1 ELSE 0 END) FROM ticket"
+                    " GROUP BY train"
+                ),
                 RIGHT,
             ),
             ("SELECT train, COUNT(*) FROM ticket WHERE class = 'first' GROUP BY train", WRONG),
             ("SELECT train, COUNT(class = 'first') FROM ticket GROUP BY train", WRONG),
             (
-                "SELECT train, COUNT(CASE WHEN class = 'first' THEN 0 END) FROM ticket GROUP BY train",
+                (
+                    "SELECT train, COUNT(CASE WHEN class = 'first' THEN 0 END) FROM ticket GROUP BY"
+                    " train"
+                ),
                 RIGHT,
             ),
         ],
@@ -214,7 +282,10 @@ TASKS = [
         "SELECT zone, COUNT(*) FROM station GROUP BY zone ORDER BY COUNT(*) DESC, zone LIMIT 1",
         [
             (
-                "SELECT zone, n FROM (SELECT zone, COUNT(*) AS n FROM station GROUP BY zone) x ORDER BY n DESC, zone FETCH FIRST 1 ROW ONLY",
+                (
+                    "SELECT zone, n FROM (SELECT zone, COUNT(*) AS n FROM station GROUP BY zone) x"
+                    " ORDER BY n DESC, zone FETCH FIRST 1 ROW ONLY"
+                ),
                 RIGHT,
             ),
             (
@@ -222,51 +293,84 @@ TASKS = [
                 WRONG,
             ),
             (
-                "SELECT zone, COUNT(zone) FROM station GROUP BY zone ORDER BY COUNT(zone) DESC, zone LIMIT 1",
+                (
+                    "SELECT zone, COUNT(zone) FROM station GROUP BY zone ORDER BY COUNT(zone) DESC,"
+                    " zone LIMIT 1"
+                ),
                 WRONG,
             ),
             (
-                "SELECT zone, COUNT(*) FROM station GROUP BY zone HAVING COUNT(*) = (SELECT MAX(n) FROM (SELECT COUNT(*) AS n FROM station GROUP BY zone) x)",
+                (
+                    "SELECT zone, COUNT(*) FROM station GROUP BY zone HAVING COUNT(*) = (SELECT"
+                    " MAX(n) FROM (SELECT COUNT(*) AS n FROM station GROUP BY zone) x)"
+                ),
                 WRONG,
             ),
         ],
     ),
     (
-        "SELECT a.station, b.station FROM stop a JOIN stop b ON b.line = a.line AND b.pos = a.pos + 1",
+        (
+            "SELECT a.station, b.station FROM stop a JOIN stop b ON b.line = a.line AND b.pos ="
+            " a.pos + 1"
+        ),
         [
             (
-                "SELECT a.station, b.station FROM stop a, stop b WHERE a.line = b.line AND a.pos = b.pos - 1",
+                (
+                    "SELECT a.station, b.station FROM stop a, stop b WHERE a.line = b.line AND"
+                    " a.pos = b.pos - 1"
+                ),
                 RIGHT,
             ),
             (
-                "SELECT a.station, b.station FROM stop a JOIN stop b ON b.line = a.line AND b.pos > a.pos",
+                (
+                    "SELECT a.station, b.station FROM stop a JOIN stop b ON b.line = a.line AND"
+                    " b.pos > a.pos"
+                ),
                 WRONG,
             ),
             ("SELECT a.station, b.station FROM stop a JOIN stop b ON b.pos = a.pos + 1", WRONG),
             # Where a station in between is left out, the next one is farther.
             (
-                "SELECT station, next FROM (SELECT station, lead(station) OVER (PARTITION BY line ORDER BY pos) AS next FROM stop) x WHERE next IS NOT NULL",
+                (
+                    "SELECT station, next FROM (SELECT station, lead(station) OVER (PARTITION BY"
+                    " line ORDER BY pos) AS next FROM stop) x WHERE next IS NOT NULL"
+                ),
                 WRONG,
             ),
         ],
     ),
     (
-        "SELECT t.no, coalesce(SUM(k.price), 0) FROM train t LEFT JOIN ticket k ON k.train = t.no GROUP BY t.no",
+        (
+            "SELECT t.no, coalesce(SUM(k.price), 0) FROM train t LEFT JOIN ticket k ON k.train ="
+            " t.no GROUP BY t.no"
+        ),
         [
             (
-                "SELECT no, coalesce((SELECT SUM(price) FROM ticket WHERE train = no), 0.00) FROM train",
+                (
+                    "SELECT no, coalesce((SELECT SUM(price) FROM ticket WHERE train = no), 0.00)"
+                    " FROM train"
+                ),
                 RIGHT,
             ),
             (
-                "SELECT t.no, SUM(coalesce(k.price, 0)) FROM train t LEFT JOIN ticket k ON k.train = t.no GROUP BY t.no",
+                (
+                    "SELECT t.no, SUM(coalesce(k.price, 0)) FROM train t LEFT JOIN ticket k ON"
+                    " k.train = t.no GROUP BY t.no"
+                ),
                 RIGHT,
             ),
             (
-                "SELECT t.no, SUM(k.price) FROM train t LEFT JOIN ticket k ON k.train = t.no GROUP BY t.no",
+                (
+                    "SELECT t.no, SUM(k.price) FROM train t LEFT JOIN ticket k ON k.train = t.no"
+                    " GROUP BY t.no"
+                ),
                 WRONG,
             ),
             (
-                "SELECT t.no, coalesce(SUM(DISTINCT k.price), 0) FROM train t LEFT JOIN ticket k ON k.train = t.no GROUP BY t.no",
+                (
+                    "SELECT t.no, coalesce(SUM(DISTINCT k.price), 0) FROM train t LEFT JOIN ticket"
+                    " k ON k.train = t.no GROUP BY t.no"
+                ),
                 WRONG,
             ),
         ],
@@ -276,7 +380,10 @@ TASKS = [
         [
             ("SELECT code FROM station WHERE code NOT IN (SELECT station FROM stop)", RIGHT),
             (
-                "SELECT code FROM station s LEFT JOIN stop p ON p.station = s.code WHERE p.line IS NULL",
+                (
+                    "SELECT code FROM station s LEFT JOIN stop p ON p.station = s.code WHERE p.line"
+                    " IS NULL"
+                ),
                 RIGHT,
             ),
             ("SELECT station FROM stop EXCEPT SELECT code FROM station", WRONG),
@@ -291,7 +398,10 @@ TASKS = [
                 RIGHT,
             ),
             (
-                "SELECT s.name FROM station s JOIN stop p ON p.station = s.code JOIN line l ON l.id = p.line WHERE l.id = 1",
+                (
+                    "SELECT s.name FROM station s JOIN stop p ON p.station = s.code JOIN line l ON"
+                    " l.id = p.line WHERE l.id = 1"
+                ),
                 RIGHT,
             ),
             (
@@ -305,16 +415,25 @@ TASKS = [
         "SELECT class, MAX(price) - MIN(price) FROM ticket GROUP BY class",
         [
             (
-                "SELECT DISTINCT class, MAX(price) OVER w - MIN(price) OVER w FROM ticket WINDOW w AS (PARTITION BY class)",
+                (
+                    "SELECT DISTINCT class, MAX(price) OVER w - MIN(price) OVER w FROM ticket"
+                    " WINDOW w AS (PARTITION BY class)"
+                ),
                 RIGHT,
             ),
             ("SELECT class, MAX(price) FROM ticket GROUP BY class", WRONG),
             (
-                "SELECT class, MAX(price) - MIN(price) FROM ticket WHERE class IS NOT NULL GROUP BY class",
+                (
+                    "SELECT class, MAX(price) - MIN(price) FROM ticket WHERE class IS NOT NULL"
+                    " GROUP BY class"
+                ),
                 WRONG,
             ),
             (
-                "SELECT class, MAX(price) - MIN(price) AS spread, COUNT(*) FROM ticket GROUP BY class",
+                (
+                    "SELECT class, MAX(price) - MIN(price) AS spread, COUNT(*) FROM ticket GROUP BY"
+                    " class"
+                ),
                 WRONG,
             ),
         ],

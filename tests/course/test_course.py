@@ -1,4 +1,5 @@
-"""A course over two databases: forty tasks and 160 answers, of which each has a verdict and none a wrong one."""
+"""A course over two databases: forty tasks and 160 answers, of which each has a verdict and none a
+wrong one."""
 from __future__ import annotations
 
 import csv
@@ -64,8 +65,9 @@ def check(
     least = sum(one.least in (ALL, JOINS) for one in differing)
     with capsys.disabled():
         print(
-            f"\n{len(found)} answers in {seconds:.1f} s, {sum(line['decided_by'] == 'proved' for line in found.values())} proved; "
-            f"{least} of {len(differing)} tried differences are the smallest"
+            f"\n{len(found)} answers in {seconds:.1f} s,"
+            f" {sum(line['decided_by'] == 'proved' for line in found.values())} proved; {least} of"
+            f" {len(differing)} tried differences are the smallest"
         )
     assert differing and least >= LEAST * len(differing)
 

@@ -1,5 +1,6 @@
-"""Texts of up to four megabytes, and certificates of up to 64, that are one long list or one deep nest. Each
-call ends within 20 seconds of a processor, 2 gigabytes and a stack of 8 megabytes, with the status that the text deserves."""
+"""Texts of up to four megabytes, and certificates of up to 64, that are one long list or one deep
+nest. Each call ends within 20 seconds of a processor, 2 gigabytes and a stack of 8 megabytes, with
+the status that the text deserves."""
 from __future__ import annotations
 
 from dataclasses import dataclass, field
@@ -89,8 +90,9 @@ QUERIES = [
         3,
         {
             "schema": lambda: (
-                f"CREATE TABLE p ({numbered(60_000, 'a', ' INTEGER', ',')}, PRIMARY KEY ({numbered(60_000, 'a', '', ',')})); "
-                f"CREATE TABLE q (b INTEGER, {repeated(60_000, 'FOREIGN KEY (b) REFERENCES p', ',')});"
+                f"CREATE TABLE p ({numbered(60_000, 'a', ' INTEGER', ',')}, PRIMARY KEY"
+                f" ({numbered(60_000, 'a', '', ',')})); CREATE TABLE q (b INTEGER,"
+                f" {repeated(60_000, 'FOREIGN KEY (b) REFERENCES p', ',')});"
             )
         },
     ),
@@ -108,7 +110,8 @@ QUERIES = [
         {
             **MANY,
             "1": lambda: (
-                f"{WHERE}NOT EXISTS (SELECT b FROM none WHERE {repeated(200_000, 'b = t.a', ' AND ')})"
+                f"{WHERE}NOT EXISTS (SELECT b FROM none WHERE"
+                f" {repeated(200_000, 'b = t.a', ' AND ')})"
             ),
         },
     ),
@@ -118,7 +121,8 @@ QUERIES = [
         {
             **MANY,
             "1": lambda: (
-                f"{WHERE}NOT EXISTS (SELECT b FROM t x, none WHERE {repeated(100_000, 'b = t.a AND x.a = b', ' AND ')})"
+                f"{WHERE}NOT EXISTS (SELECT b FROM t x, none WHERE"
+                f" {repeated(100_000, 'b = t.a AND x.a = b', ' AND ')})"
             ),
         },
     ),
@@ -156,7 +160,8 @@ LISTS = [
     Case("past the limit", 5, {"list": lambda: repeated(4_194_305, "\n")}),
 ]
 
-# The cells of a row that is asked for, whose query has one column. Linux takes no argument of over 128 KiB.
+# The cells of a row that is asked for, whose query has one column. Linux takes no argument of over
+# 128 KiB.
 ROWS = [
     ("a row that is no answer", 0, lambda: "7"),
     ("a row of the answer", 1, lambda: "1"),

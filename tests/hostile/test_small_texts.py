@@ -1,5 +1,5 @@
-"""The files of small exercises, cut to each length, and with each byte exchanged by others: each call ends twice
-with the same known status, and writes to one of its two outputs."""
+"""The files of small exercises, cut to each length, and with each byte exchanged by others: each
+call ends twice with the same known status, and writes to one of its two outputs."""
 from __future__ import annotations
 
 import os
@@ -43,14 +43,17 @@ def wrong(words: list[str], file: Path, texts: Iterable[bytes], folder: Path) ->
 
     def tried(numbered: tuple[int, bytes]) -> bytes | None:
         number, text = numbered
-        # Each text in a folder of its own, where tables are looked for, so that many can be tried at once.
+        # Each text in a folder of its own, where tables are looked for, so that many can be tried
+        # at once.
         place = folder / f"{file.name}-{number}"
         shutil.copytree(file.parent, place)
         (place / file.name).write_bytes(text)
         moved = [
-            str(place) + word[len(str(file.parent)) :]
-            if word.startswith(str(file.parent))
-            else word
+            (
+                str(place) + word[len(str(file.parent)) :]
+                if word.startswith(str(file.parent))
+                else word
+            )
             for word in words
         ]
         good = is_good(ended(moved), ended(moved))

@@ -20,7 +20,8 @@ IDENTITY = {
 
 
 def copy_repository(top: Path, to: Path, ratest: Path, ratest_plus: Path, archive: Path) -> Path:
-    """A copy of the repository as a repository of one commit, which is the same wherever it is made."""
+    """A copy of the repository as a repository of one commit, which is the same wherever it is
+    made."""
     shutil.copytree(
         top,
         to,
@@ -74,5 +75,8 @@ def packages(copy: Path) -> Path:
 def beers(top: Path) -> str:
     """What README.md prints of the beers."""
     text = (top / "README.md").read_text()
-    call = "$ ./ratest examples/beers/schema.sql examples/beers examples/beers/3/reference.sql examples/beers/3/answers/b.sql\n"
+    call = (
+        "$ ./ratest examples/beers/schema.sql examples/beers examples/beers/3/reference.sql"
+        " examples/beers/3/answers/b.sql\n"
+    )
     return text.split(call)[1].split("```")[0]

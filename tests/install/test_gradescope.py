@@ -12,13 +12,13 @@ import pytest
 SECONDS = 600
 # The machine's files below, and all that is written in a folder of its own.
 MOUNTED = (
-    'set -eu; mount -t tmpfs tmpfs "$1"; mkdir "$1/up" "$1/work" "$1/root"\n'
-    'mount -t overlay overlay -o "lowerdir=/,upperdir=$1/up,workdir=$1/work" "$1/root"\n'
-    'mount -t tmpfs tmpfs "$1/root/tmp"; mount -t proc proc "$1/root/proc"; cp -r "$2" "$1/root/autograder"\n'
-    'cp /dev/null "$1/root/dev/null" 2>/dev/null || mount --bind /dev "$1/root/dev"\n'
-    'chroot "$1/root" /autograder/source/setup.sh >"$3/setup.log" 2>&1\n'
-    'chroot "$1/root" sh -c "cd / && /autograder/source/run_autograder" >"$3/run.log" 2>&1\n'
-    'cp "$1/root/autograder/results/results.json" "$3"\n'
+    'set -eu; mount -t tmpfs tmpfs "$1"; mkdir "$1/up" "$1/work" "$1/root"\nmount -t overlay'
+    ' overlay -o "lowerdir=/,upperdir=$1/up,workdir=$1/work" "$1/root"\nmount -t tmpfs tmpfs'
+    ' "$1/root/tmp"; mount -t proc proc "$1/root/proc"; cp -r "$2" "$1/root/autograder"\ncp'
+    ' /dev/null "$1/root/dev/null" 2>/dev/null || mount --bind /dev "$1/root/dev"\nchroot "$1/root"'
+    ' /autograder/source/setup.sh >"$3/setup.log" 2>&1\nchroot "$1/root" sh -c "cd / &&'
+    ' /autograder/source/run_autograder" >"$3/run.log" 2>&1\ncp'
+    ' "$1/root/autograder/results/results.json" "$3"\n'
 )
 
 

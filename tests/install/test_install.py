@@ -1,4 +1,5 @@
-"""tools/install: what is installed works with no toolchain, and --uninstall leaves nothing of it."""
+"""tools/install: what is installed works with no toolchain, and --uninstall leaves nothing of
+it."""
 from __future__ import annotations
 
 import gzip
@@ -106,8 +107,8 @@ def test_classroom(prefix: Path, top: Path, tmp_path: Path) -> None:
 
 def test_the_python_package(prefix: Path) -> None:
     code = (
-        "import ratest; print(ratest.explain('CREATE TABLE t (a INT)', {'t': [[1], [2]]}, 'SELECT a FROM t', "
-        "'SELECT a FROM t WHERE a > 1'), ratest.__file__)"
+        "import ratest; print(ratest.explain('CREATE TABLE t (a INT)', {'t': [[1], [2]]}, 'SELECT a"
+        " FROM t', 'SELECT a FROM t WHERE a > 1'), ratest.__file__)"
     )
     folder = prefix / "lib/python3.11/dist-packages"
     ran = subprocess.run(
@@ -119,8 +120,8 @@ def test_the_python_package(prefix: Path) -> None:
         cwd="/",
     )
     assert (ran.returncode, ran.stderr) == (0, "")
-    assert ran.stdout == (
-        "witness: 1\nt 1: 1\nonly query 1: 1\n  1\nonly query 2: 0\nboth: 0\n "
+    assert (
+        ran.stdout == "witness: 1\nt 1: 1\nonly query 1: 1\n  1\nonly query 2: 0\nboth: 0\n "
         f"{folder}/ratest/__init__.py\n"
     )
 

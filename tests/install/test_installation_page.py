@@ -1,4 +1,5 @@
-"""Each command of docs/INSTALL.md, as it stands: what installs for all runs in a root of its own."""
+"""Each command of docs/INSTALL.md, as it stands: what installs for all runs in a root of its
+own."""
 from __future__ import annotations
 
 import os
@@ -23,10 +24,10 @@ BLOCKS = {
 }
 # The machine's files below, and all that is written in a folder of its own.
 IN_A_ROOT = (
-    'set -eu; mount -t tmpfs tmpfs "$1"; mkdir "$1/up" "$1/work" "$1/root"\n'
-    'mount -t overlay overlay -o "lowerdir=/,upperdir=$1/up,workdir=$1/work" "$1/root" || exit 77\n'
-    'mount -t tmpfs tmpfs "$1/root/tmp"; mount -t proc proc "$1/root/proc"; mount --bind /dev "$1/root/dev"\n'
-    'cp "$2" "$1/root/tmp"; exec chroot "$1/root" sh -euc "$3"\n'
+    'set -eu; mount -t tmpfs tmpfs "$1"; mkdir "$1/up" "$1/work" "$1/root"\nmount -t overlay'
+    ' overlay -o "lowerdir=/,upperdir=$1/up,workdir=$1/work" "$1/root" || exit 77\nmount -t tmpfs'
+    ' tmpfs "$1/root/tmp"; mount -t proc proc "$1/root/proc"; mount --bind /dev "$1/root/dev"\ncp'
+    ' "$2" "$1/root/tmp"; exec chroot "$1/root" sh -euc "$3"\n'
 )
 
 
@@ -46,7 +47,11 @@ def test_every_block_is_tried() -> None:
 def test_the_debian_package(packages: Path, tmp_path: Path) -> None:
     if os.geteuid() != 0 or ran(["unshare", "--mount", "true"]).returncode:
         pytest.skip("only root has a root of its own to install in")
-    script = f"cd /tmp; export DEBIAN_FRONTEND=noninteractive\n{BLOCKS['From a Debian package'].replace('apt install', 'apt install --yes')}ratest --version"
+    script = (
+        "cd /tmp; export"
+        f" DEBIAN_FRONTEND=noninteractive\n{BLOCKS['From a Debian package'].replace('apt install', 'apt install --yes')}ratest"
+        " --version"
+    )
     (tmp_path / "mounted").mkdir()
     found = ran(
         [

@@ -127,7 +127,8 @@ def test_lintian_is_quiet(packages: Path) -> None:
 
 @pytest.fixture
 def root(packages: Path, tmp_path: Path) -> Path:
-    """An empty root in which the package is installed, beside a shell, two of its tools and the C library."""
+    """An empty root in which the package is installed, beside a shell, two of its tools and the C
+    library."""
     if os.geteuid() != 0:
         pytest.skip("only root installs a package in another root")
     place = tmp_path / "root"
@@ -198,7 +199,8 @@ def test_the_steps_of_the_container(root: Path, top: Path) -> None:
     assert (ran.returncode, ran.stderr) == (0, "")
     assert (
         ran.stdout
-        == "/answers/a.sql: witness 5\n/answers/b.sql: witness 5\n/answers/reference.sql: agree\ngraded: 3\n"
+        == "/answers/a.sql: witness 5\n/answers/b.sql: witness 5\n/answers/reference.sql:"
+        " agree\ngraded: 3\n"
     )
 
 
@@ -260,8 +262,9 @@ def test_two_versions_are_refused(copy: Path, tmp_path: Path) -> None:
 
 
 def test_two_proved_builds_are_the_same(top: Path, tmp_path: Path) -> None:
-    """In another folder the proved build makes the same file. It costs little where the proofs are kept, which
-    a gate run before leaves, and is tried where the program here is proved and built."""
+    """In another folder the proved build makes the same file. It costs little where the proofs are
+    kept, which a gate run before leaves, and is tried where the program here is proved and
+    built."""
     if "RATEST" in os.environ or not shutil.which("rt"):
         pytest.skip(
             "RATEST names another program"

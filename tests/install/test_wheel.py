@@ -88,8 +88,8 @@ def test_the_programs(environment: Path, top: Path, ratest: Path, beers: str) ->
 
 def test_the_library(environment: Path) -> None:
     code = (
-        "import ratest; print(ratest.explain('CREATE TABLE t (a INT)', {'t': [[1], [2]]}, 'SELECT a FROM t', "
-        "'SELECT a FROM t WHERE a > 1'), end='')"
+        "import ratest; print(ratest.explain('CREATE TABLE t (a INT)', {'t': [[1], [2]]}, 'SELECT a"
+        " FROM t', 'SELECT a FROM t WHERE a > 1'), end='')"
     )
     ran = run(environment / "bin/python", "-c", code)
     assert (ran.returncode, ran.stderr) == (0, "")

@@ -41,7 +41,8 @@ class Repository:
     def run(
         self, *words: str | Path, program: str | Path = "./ratest", **more: str
     ) -> subprocess.CompletedProcess[str]:
-        """Calls the program in the repository's folder; the names in `more` go into its environment."""
+        """Calls the program in the repository's folder; the names in `more` go into its
+        environment."""
         return subprocess.run(
             [program, *words],
             cwd=self.top,
@@ -89,8 +90,8 @@ class Repository:
         )
 
     def processes(self) -> list[str]:
-        """The processes that run in this repository's name: those with its temporary folder in their
-        environment."""
+        """The processes that run in this repository's name: those with its temporary folder in
+        their environment."""
         found = []
         for folder in Path("/proc").glob("[0-9]*"):
             try:

@@ -20,7 +20,8 @@ def test_moon(): pass
 
 @pytest.fixture
 def place(top: Path, tmp_path: Path) -> Path:
-    """A folder with ./test and a test that passes, one that {value} rules, and one that is skipped."""
+    """A folder with ./test and a test that passes, one that {value} rules, and one that is
+    skipped."""
     shutil.copy(top / "test", tmp_path)
     (tmp_path / "tools").mkdir()
     for tool in ("setup", "count-tests"):

@@ -1,4 +1,5 @@
-"""The launcher over a command rt that proves nothing: which build answers, statuses, and what is told."""
+"""The launcher over a command rt that proves nothing: which build answers, statuses, and what is
+told."""
 from __future__ import annotations
 
 import contextlib
@@ -395,7 +396,7 @@ def test_failed_builds(repository: Repository) -> None:
     ran = repository.run("--build", "a", FAKE_FAILS="ci")
     assert (ran.returncode, ran.stdout) == (70, "")
     assert ran.stderr.endswith(
-        "error: high: not proved\n0 passed, 1 failed\n" "ratest: it could not be proved and built\n"
+        "error: high: not proved\n0 passed, 1 failed\nratest: it could not be proved and built\n"
     )
     ran = repository.run("a", FAKE_FAILS="try")
     assert (ran.returncode, ran.stdout) == (70, "")

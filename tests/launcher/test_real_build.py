@@ -1,7 +1,8 @@
-"""The launcher with the real toolchain: the build without proofs, made once for all tests of this file.
+"""The launcher with the real toolchain: the build without proofs, made once for all tests of this
+file.
 
-It watches the place where `rt try` keeps the program that it runs, which the toolchain does not document.
-"""
+It watches the place where `rt try` keeps the program that it runs, which the toolchain does not
+document. """
 from __future__ import annotations
 
 import os
@@ -24,7 +25,8 @@ SECONDS = 1200
 FASTEST_OF = 5
 BEFORE_INTERRUPT = 12
 SECONDS_TO_START = 120
-# Words of which the copy's main makes an index past the end of an array, which no word of the program does.
+# Words of which the copy's main makes an index past the end of an array, which no word of the
+# program does.
 HEAD = "    let alloc = rt.alloc();\n"
 FAULT = """    if words.as_slice().len() == 1 {
         let places = [2_u8; 4];
@@ -102,14 +104,18 @@ def running_in(temporary: str) -> list[str]:
 def answer_in_readme(top: Path) -> str:
     """What README.md prints below the call of the beers."""
     text = (top / "README.md").read_text()
-    call = "$ ./ratest examples/beers/schema.sql examples/beers examples/beers/3/reference.sql examples/beers/3/answers/b.sql\n"
+    call = (
+        "$ ./ratest examples/beers/schema.sql examples/beers examples/beers/3/reference.sql"
+        " examples/beers/3/answers/b.sql\n"
+    )
     return text.split(call)[1].split("```")[0]
 
 
 def test_first_call_answers(built: Built) -> None:
     load = os.getloadavg()[0]
     print(
-        f"the first answer took {built.seconds:.0f} s; the load is {load:.1f} on {os.cpu_count()} processors"
+        f"the first answer took {built.seconds:.0f} s; the load is {load:.1f} on"
+        f" {os.cpu_count()} processors"
     )
     assert (built.first.returncode, built.first.stdout) == (1, answer_in_readme(built.top))
     assert len(built.first.stderr.splitlines()) == 2

@@ -10,7 +10,8 @@ import pytest
 
 TOP = Path(__file__).resolve().parents[2]
 EXAMPLE = TOP / "examples/c/explain.c"
-# By hand: NULL <> 4 is unknown, so query 2 leaves Corona out, and no fewer rows than one can differ.
+# By hand: NULL <> 4 is unknown, so query 2 leaves Corona out, and no fewer rows than one can
+# differ.
 EXPLAINED = (
     "witness: 1\nbeer 2: 'Corona', NULL\nonly query 1: 1\n  'Corona'\nonly query 2: 0\nboth: 0\n"
 )
@@ -56,8 +57,8 @@ def test_the_example(built: Path, tmp_path: Path, library: str) -> None:
 def test_the_header_is_read_by_cpp(built: Path, tmp_path: Path) -> None:
     source = tmp_path / "one.cc"
     source.write_text(
-        "#include <ratest.h>\n#include <ratest.h>\n"
-        "int main() { uint8_t one = 0; return ratest_ask(&one, 1, &one, 1) == RATEST_MALFORMED ? 0 : 1; }\n"
+        "#include <ratest.h>\n#include <ratest.h>\nint main() { uint8_t one = 0; return"
+        " ratest_ask(&one, 1, &one, 1) == RATEST_MALFORMED ? 0 : 1; }\n"
     )
     subprocess.run(
         [

@@ -119,7 +119,8 @@ def test_which_frames_are_malformed(shared: Path) -> None:
 
 
 def test_random_bytes_are_answered(shared: Path) -> None:
-    """No request of any bytes ends the process, and a whole one that was changed is malformed or has a status."""
+    """No request of any bytes ends the process, and a whole one that was changed is malformed or
+    has a status."""
     draw = random.Random(7)
     whole = library.framed(
         ["s", "d", "1", "2"],
@@ -225,7 +226,8 @@ NESTS = {
 
 @pytest.mark.parametrize("kind", NESTS)
 def test_the_stack_that_the_header_names(shared: Path, kind: str) -> None:
-    """Nests up to the limit, in a thread of 4 MiB. A child runs them, which too small a stack would end."""
+    """Nests up to the limit, in a thread of 4 MiB. A child runs them, which too small a stack would
+    end."""
     code = f"""if True:
         import ratest, threading
         def run():

@@ -24,7 +24,10 @@ SECONDS = 120
 SCHEMA = "CREATE TABLE serves (bar TEXT, beer TEXT, price INTEGER, PRIMARY KEY (bar, beer))"
 ROWS = [("Joe's", "Dixie", 3), ("Joe's", "Corona", None), ("Blue", "Dixie", 5)]
 FIRST, SECOND = "SELECT bar, beer FROM serves", "SELECT bar, beer FROM serves WHERE price = price"
-WITNESS = "witness: 1\nserves 2: 'Joe''s', 'Corona', NULL\nonly query 1: 1\n  'Joe''s', 'Corona'\nonly query 2: 0\nboth: 0\n"
+WITNESS = (
+    "witness: 1\nserves 2: 'Joe''s', 'Corona', NULL\nonly query 1: 1\n  'Joe''s', 'Corona'\nonly"
+    " query 2: 0\nboth: 0\n"
+)
 
 
 @pytest.fixture(autouse=True)
@@ -155,8 +158,8 @@ def test_paths_of_the_texts() -> None:
     readme = (TOP / "README.md").read_text()
     assert (
         isinstance(answer, ratest.Witness)
-        and f"```\n$ ./ratest examples/beers/schema.sql examples/beers examples/beers/3/"
-        f"reference.sql examples/beers/3/answers/b.sql\n{answer}```" in readme
+        and f"```\n$ ./ratest examples/beers/schema.sql examples/beers examples/beers/3/reference.sql examples/beers/3/answers/b.sql\n{answer}```"
+        in readme
     )
     with pytest.raises(FileNotFoundError):
         ratest.explain(BEERS / "none.sql", tables, FIRST, SECOND)
@@ -271,8 +274,8 @@ def test_a_notebook_shows_what_the_class_page_shows() -> None:
 
 def test_no_library_is_said_at_the_call(tmp_path: Path) -> None:
     code = (
-        "import ratest\ntry:\n    ratest.explain('CREATE TABLE t (a INT)', {}, 'SELECT a FROM t', 'SELECT a FROM t')\n"
-        "except ratest.NoLibrary as error:\n    print(error)\n"
+        "import ratest\ntry:\n    ratest.explain('CREATE TABLE t (a INT)', {}, 'SELECT a FROM t',"
+        " 'SELECT a FROM t')\nexcept ratest.NoLibrary as error:\n    print(error)\n"
     )
     copied = tmp_path / "lib/python3/dist-packages/ratest"
     copied.mkdir(parents=True)

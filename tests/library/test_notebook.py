@@ -35,9 +35,10 @@ def test_explain(shared: Path, monkeypatch: pytest.MonkeyPatch) -> None:
         cell for cell in ran("explain.ipynb", shared, monkeypatch).cells if cell.cell_type == "code"
     ]
     # By hand: a bar and its two beers, one of an unknown price; with one beer the queries agree.
-    assert printed(cells[2]) == (
-        "witness: 3\nbar 1: 'Joe''s', 'Durham'\nserves 1: 'Joe''s', 'Dixie', 3\n"
-        "serves 2: 'Joe''s', 'Corona', NULL\nonly query 1: 0\nonly query 2: 1\n  'Joe''s'\nboth: 0\n\n"
+    assert (
+        printed(cells[2])
+        == "witness: 3\nbar 1: 'Joe''s', 'Durham'\nserves 1: 'Joe''s', 'Dixie', 3\nserves 2:"
+        " 'Joe''s', 'Corona', NULL\nonly query 1: 0\nonly query 2: 1\n  'Joe''s'\nboth: 0\n\n"
     )
     page = cells[3].outputs[0].data["text/html"]
     assert (
@@ -78,7 +79,8 @@ def test_homework(shared: Path, monkeypatch: pytest.MonkeyPatch) -> None:
     ]
     assert [len(errors) for errors in failed] == [1, 0]
     assert failed[0][0].ename == "AssertionError"
-    # By hand: the answer forgets that others may like Ben's beer too, which two rows of likes and the beer show.
+    # By hand: the answer forgets that others may like Ben's beer too, which two rows of likes and
+    # the beer show.
     assert failed[0][0].evalue.startswith(
         "the answer is wrong here:\nwitness: 3\nbeer 2: 'Corona', 'Grupo Modelo'\n"
         "likes 2: 'Amy', 'Corona'\nlikes 3: 'Ben', 'Corona'\nonly query 1: 0\nonly query 2: 1\n"

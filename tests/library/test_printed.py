@@ -60,7 +60,10 @@ HOSTILE = [
         ),
         (
             1,
-            "witness: 2\nt 1: 5, 'x'\nt 1: 5,  3: 4\nonly query 1: 0\nonly query 2: 0\nboth: 1\n  'a\nb'\n",
+            (
+                "witness: 2\nt 1: 5, 'x'\nt 1: 5,  3: 4\nonly query 1: 0\nonly query 2: 0\nboth:"
+                " 1\n  'a\nb'\n"
+            ),
             "",
             Witness((Kept("t", 1, (5, "x")), Kept("t 1: 5, ", 3, (4,))), (), (), (("a\nb",),)),
         ),
@@ -118,8 +121,8 @@ def test_what_no_program_prints(status: int, out: str, err: str) -> None:
 
 def test_grades() -> None:
     text = (
-        "1: agree\n2: witness 3\n3: refused: unknown column: x\n2: agree\n4: undecided\n5: work 77\n6: too long\n"
-        "7: refused: a\n\ngraded: 1\n\ngraded: 7\n"
+        "1: agree\n2: witness 3\n3: refused: unknown column: x\n2: agree\n4: undecided\n5: work"
+        " 77\n6: too long\n7: refused: a\n\ngraded: 1\n\ngraded: 7\n"
     )
     assert grades_of(text, [str(number) for number in range(1, 8)]) == [
         Grade("agrees", None, ""),
@@ -198,7 +201,8 @@ def test_pairs_of_hostile_tables(shared: object) -> None:
             f"SELECT a FROM {quoted(second)}",
             f"SELECT a FROM {quoted(first)}",
         )
-        # Either row alone shows the difference, and the first of these choices is the one without the first row.
+        # Either row alone shows the difference, and the first of these choices is the one without
+        # the first row.
         assert isinstance(answer, ratest.Witness) and answer.size == 1
         assert sum(len(rows.rows) for rows in answer.kept.values()) == 1 and set(answer.kept) <= {
             first,

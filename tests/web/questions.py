@@ -111,8 +111,8 @@ def of_seed(seed: int, limits: Limits) -> Question:
 def hard() -> Question:
     """One that takes many seconds: the fewest of 40 numbers that have one in each of 120 triples.
 
-    A number that is kept needs the first triple, and each triple the next one, so that all of them are kept.
-    """
+    A number that is kept needs the first triple, and each triple the next one, so that all of them
+    are kept."""
     random = Random(1)
     triples = [random.sample(range(40), 3) for _ in range(120)]
     rows = "".join(
@@ -120,13 +120,18 @@ def hard() -> Question:
         for at, triple in enumerate(triples)
     )
     texts = {
-        "schema.sql": "CREATE TABLE e (id INTEGER PRIMARY KEY, a INTEGER, b INTEGER, c INTEGER,\n"
-        "  next INTEGER REFERENCES e (id));\nCREATE TABLE v (a INTEGER, head INTEGER REFERENCES e (id));\n",
+        "schema.sql": (
+            "CREATE TABLE e (id INTEGER PRIMARY KEY, a INTEGER, b INTEGER, c INTEGER,\n  next"
+            " INTEGER REFERENCES e (id));\nCREATE TABLE v (a INTEGER, head INTEGER REFERENCES e"
+            " (id));\n"
+        ),
         "data/e.csv": f"id,a,b,c,next\n{rows}",
         "data/v.csv": "a,head\n" + "".join(f"{at},0\n" for at in range(40)),
         "1.sql": "SELECT a FROM v WHERE a < 0\n",
-        "2.sql": "SELECT 1 FROM v x WHERE NOT EXISTS (SELECT * FROM e WHERE NOT EXISTS (\n"
-        "  SELECT * FROM v y WHERE y.a = e.a OR y.a = e.b OR y.a = e.c))\n",
+        "2.sql": (
+            "SELECT 1 FROM v x WHERE NOT EXISTS (SELECT * FROM e WHERE NOT EXISTS (\n"
+            "  SELECT * FROM v y WHERE y.a = e.a OR y.a = e.b OR y.a = e.c))\n"
+        ),
     }
     return Question(WORDS, {name: text.encode() for name, text in texts.items()})
 

@@ -1,5 +1,5 @@
-"""The page without a server: its answers are the native program's, byte for byte, in a browser and in node; what
-it draws is what the page of a class draws; and it is used as a student does."""
+"""The page without a server: its answers are the native program's, byte for byte, in a browser and
+in node; what it draws is what the page of a class draws; and it is used as a student does."""
 from __future__ import annotations
 
 import os

@@ -1,4 +1,5 @@
-"""The build of the page says in a word what it lacks, and where the toolchain's interface is another."""
+"""The build of the page says in a word what it lacks, and where the toolchain's interface is
+another."""
 from __future__ import annotations
 
 import os
@@ -193,12 +194,15 @@ def in_node(top: Path, folder: Path, text: str, script: str) -> str:
 
 
 def test_a_narrowed_module_does_the_same(top: Path, tmp_path: Path) -> None:
-    """Accesses of each width, blocks that are filled and copied, calls by a table, and a memory that grows."""
-    # The sum of 253 and five times -3, a byte that was copied and one that was not, and so on by hand.
+    """Accesses of each width, blocks that are filled and copied, calls by a table, and a memory
+    that grows."""
+    # The sum of 253 and five times -3, a byte that was copied and one that was not, and so on by
+    # hand.
     assert in_node(top, tmp_path, IN_C, IN_NODE) == "238,7000,18,81,0,2,-1\n"
 
 
-# Blocks of all sizes are taken, made larger and smaller, and freed, in an order of chance; each keeps its bytes.
+# Blocks of all sizes are taken, made larger and smaller, and freed, in an order of chance; each
+# keeps its bytes.
 HEAP_IN_C = """
 #include "%s"
 #define BLOCKS 300
@@ -317,8 +321,8 @@ def test_no_toolchain(top: Path, tmp_path: Path) -> None:
     ran = built(top, f"{tmp_path}/kit/bin:/usr/bin:/bin", tmp_path / "page.html")
     assert (ran.returncode, ran.stdout) == (1, "")
     assert (
-        ran.stderr
-        == f"build: the toolchain's interface has changed: there is no program {tmp_path}/kit/toolchain/bin/clang\n"
+        ran.stderr == "build: the toolchain's interface has changed: there is no program"
+        f" {tmp_path}/kit/toolchain/bin/clang\n"
     )
     assert not (tmp_path / "page.html").exists()
 

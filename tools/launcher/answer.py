@@ -68,7 +68,10 @@ def build_proved(program: Program) -> None:
         program.proved,
         program.crates_file,
         prove.make,
-        f"proves and builds the program, {len(program.crate_lines())} crates, {prove.expected(program)}",
+        (
+            f"proves and builds the program, {len(program.crate_lines())} crates,"
+            f" {prove.expected(program)}"
+        ),
         "it could not be proved and built",
     )
 
@@ -83,14 +86,16 @@ def build_unproved(program: Program) -> None:
             program.unproved,
             os.path.join(program.top, "crates", program.name, "src", "main.rt"),
             unproved.make,
-            "is not proved and built here: builds it without proofs first, in a minute or two "
-            "on four idle cores",
+            (
+                "is not proved and built here: builds it without proofs first, in a minute or two "
+                "on four idle cores"
+            ),
             f"it could not be built without proofs; {instead}",
         )
     except unproved.NotThere:
         raise Failed(
-            "`rt try` built it without proofs, but the file is not where this toolchain is known to put it; "
-            + instead
+            "`rt try` built it without proofs, but the file is not where this toolchain is known to"
+            " put it; " + instead
         ) from None
 
 
@@ -102,8 +107,8 @@ def build(
     does: str,
     failed: str,
 ) -> None:
-    """Makes the build of the program at `path` by `make`, in a folder of its own, so that an interrupt leaves
-    nothing behind. One call at a time makes it, and others wait."""
+    """Makes the build of the program at `path` by `make`, in a folder of its own, so that an
+    interrupt leaves nothing behind. One call at a time makes it, and others wait."""
     if not shutil.which("rt"):
         raise Failed(toolchain.missing(program.top))
     with open(lock, "rb") as held:
@@ -139,8 +144,8 @@ def need_room(path: str) -> None:
 
 
 def put(made: str, path: str, started: int) -> None:
-    """Puts a program in its place, whole or not at all, with the time at which its build began, so that a
-    source which changed meanwhile is newer."""
+    """Puts a program in its place, whole or not at all, with the time at which its build began, so
+    that a source which changed meanwhile is newer."""
     partly = f"{path}.{os.getpid()}"
     try:
         os.makedirs(os.path.dirname(path), exist_ok=True)

@@ -1,4 +1,5 @@
-"""The proved build: `rt ci` over the program's crates alone, in a folder of their own, and what it took."""
+"""The proved build: `rt ci` over the program's crates alone, in a folder of their own, and what it
+took."""
 from __future__ import annotations
 
 import json
@@ -18,15 +19,16 @@ PROVED = re.compile(r"rt: (\S+) proved$")
 
 
 def make(program: Program, folder: str, log: str) -> bool:
-    """Proves and builds the program as `folder`/program; whether it could be. `log` gets what rt prints.
+    """Proves and builds the program as `folder`/program; whether it could be. `log` gets what rt
+    prints.
 
-    `rt ci` proves side by side, first what most stands on, takes what an earlier run on this machine proved,
-    and builds and runs the program.
-    """
+    `rt ci` proves side by side, first what most stands on, takes what an earlier run on this
+    machine proved, and builds and runs the program."""
     top, temporary = os.path.join(folder, "repository"), os.path.join(folder, "temporary")
     crates = copy_crates(program, top)
     os.mkdir(temporary)
-    # As root, rt runs the program as nobody in a temporary folder, of which an interrupted rt leaves some.
+    # As root, rt runs the program as nobody in a temporary folder, of which an interrupted rt
+    # leaves some.
     for path in (folder, temporary):
         os.chmod(path, 0o711)
     started, anew = time.monotonic(), 0
@@ -68,8 +70,8 @@ def make(program: Program, folder: str, log: str) -> bool:
 
 
 def copy_crates(program: Program, to_top: str) -> int:
-    """Copies the crates below the program, which is the only one on top, with the run that it is compared
-    with; gives their number."""
+    """Copies the crates below the program, which is the only one on top, with the run that it is
+    compared with; gives their number."""
     lines = program.crate_lines()
     os.mkdir(to_top)
     with open(os.path.join(to_top, "crates.txt"), "w", encoding="utf-8") as file:

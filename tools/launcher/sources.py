@@ -32,7 +32,8 @@ class Program:
         print(f"{self.name}: {text}", file=sys.stderr, flush=True)
 
     def crate_lines(self) -> list[str]:
-        """The lines of crates.txt for the program's crate and all that it stands on, in their order."""
+        """The lines of crates.txt for the program's crate and all that it stands on, in their
+        order."""
         with open(self.crates_file, encoding="utf-8") as file:
             lines = {
                 crate_of(line): line for line in file if ":" in line and not line.startswith("#")

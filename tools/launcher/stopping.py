@@ -32,7 +32,8 @@ def heeded() -> list[signal.Signals]:
 
 @contextlib.contextmanager
 def stoppable() -> Iterator[None]:
-    """Within, an ending signal raises Stopped; once it has, further ones wait for what is tidied up."""
+    """Within, an ending signal raises Stopped; once it has, further ones wait for what is tidied
+    up."""
     numbers = heeded()
 
     def stop(number: int, _: FrameType | None) -> None:
@@ -51,7 +52,8 @@ def stoppable() -> Iterator[None]:
 
 @contextlib.contextmanager
 def temporary_folder() -> Iterator[str]:
-    """A folder that is removed at the end, also where a process that has been ended still writes to it."""
+    """A folder that is removed at the end, also where a process that has been ended still writes to
+    it."""
     folder = tempfile.mkdtemp(prefix="ratest-")
     try:
         yield folder
@@ -76,7 +78,8 @@ def dies_with_parent(number: int) -> None:
 
 
 def end_group(leader: subprocess.Popen[bytes]) -> None:
-    """Ends a child that leads a process group, and what is left of the group, where the child has not ended."""
+    """Ends a child that leads a process group, and what is left of the group, where the child has
+    not ended."""
     if leader.poll() is not None:
         return
     # A process of the group that was being started may miss the first of these.

@@ -37,10 +37,10 @@ def found() -> str | None:
 def missing(top: str) -> str:
     """What to tell where there is no command rt."""
     return (
-        f"there is no command rt on the PATH, which builds the program. It comes with the toolchain\n"
-        f"  {wanted(top)}\n"
-        "for Linux on x86-64, a folder that whoever gave you this repository has: put a link to its bin/rt into a\n"
-        "folder of the PATH. It needs Python 3.8 or later; `rt selftest` shows whether it works."
+        "there is no command rt on the PATH, which builds the program. It comes with the"
+        f" toolchain\n  {wanted(top)}\nfor Linux on x86-64, a folder that whoever gave you this"
+        " repository has: put a link to its bin/rt into a\nfolder of the PATH. It needs Python 3.8"
+        " or later; `rt selftest` shows whether it works."
     )
 
 
@@ -49,4 +49,7 @@ def other(top: str) -> str | None:
     here, named = found(), wanted(top)
     if here is None or here == named:
         return None
-    return f"the toolchain here is '{here}', and README.md names '{named}': a build with another may fail"
+    return (
+        f"the toolchain here is '{here}', and README.md names '{named}': a build with another may"
+        " fail"
+    )

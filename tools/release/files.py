@@ -19,8 +19,8 @@ def put(content: bytes, path: Path, executable: bool = False) -> None:
 
 
 def moment(top: Path) -> int:
-    """The time of the commit, which stands for the time of all that is made of it; of the file VERSION where
-    git does not tell it."""
+    """The time of the commit, which stands for the time of all that is made of it; of the file
+    VERSION where git does not tell it."""
     try:
         ran = subprocess.run(
             ["git", "-C", top, "log", "-1", "--format=%ct"], capture_output=True, text=True
@@ -36,8 +36,8 @@ def files_below(folder: Path) -> list[Path]:
 
 
 def settle(folder: Path, seconds: int) -> None:
-    """Gives all below the folder this time and plain permissions, so that what is packed of it depends on
-    nothing else."""
+    """Gives all below the folder this time and plain permissions, so that what is packed of it
+    depends on nothing else."""
     for path in [*folder.rglob("*"), folder]:
         mode = 0o755 if path.is_dir() or path.stat().st_mode & stat.S_IXUSR else 0o644
         path.chmod(mode)

@@ -1,8 +1,7 @@
 """A copy of the toolchain's compiler, by links, whose clang keeps the LLVM module that it is given.
 
-The toolchain compiles a library by an LLVM module, which it hands to its clang. The page without a server is
-made of that module.
-"""
+The toolchain compiles a library by an LLVM module, which it hands to its clang. The page without a
+server is made of that module. """
 from __future__ import annotations
 
 from pathlib import Path

@@ -1,4 +1,5 @@
-"""The library for C: a shared object and a static library that needs nothing else, of the proved archive."""
+"""The library for C: a shared object and a static library that needs nothing else, of the proved
+archive."""
 from __future__ import annotations
 
 import os
@@ -42,9 +43,9 @@ def is_new(top: Path, path: Path) -> bool:
 
 
 def build(top: Path) -> None:
-    """Proves and builds the archive: `rt ci` over the crates that it needs, in a folder of their own, which
-    takes what an earlier run on this machine proved, and then the toolchain's compiler over what that made.
-    """
+    """Proves and builds the archive: `rt ci` over the crates that it needs, in a folder of their
+    own, which takes what an earlier run on this machine proved, and then the toolchain's compiler
+    over what that made."""
     if not shutil.which("rt"):
         raise Refused("there is no command rt on the PATH; README.md says where it comes from")
     program = Program(str(top), CRATE, "")
@@ -77,7 +78,8 @@ def build(top: Path) -> None:
 
 
 def compiler(program: Program, made: Path, toolchain: Path) -> list[str]:
-    """The command that compiles the crate to `archive`, beside the folder of the crates that `rt ci` proved."""
+    """The command that compiles the crate to `archive`, beside the folder of the crates that `rt
+    ci` proved."""
     own, lines = kit(), {crate_of(line): line for line in program.crate_lines()}
     used = lines.pop(CRATE).split(":")[1].split()
     words = [

@@ -1,4 +1,5 @@
-"""The Debian package, the tar.gz and the wheel, which depend on the commit and the proved programs alone."""
+"""The Debian package, the tar.gz and the wheel, which depend on the commit and the proved programs
+alone."""
 from __future__ import annotations
 
 import gzip
@@ -89,7 +90,8 @@ ratest: initial-upload-closes-no-bugs *
 
 
 def pack(top: Path, output: Path) -> list[Path]:
-    """Makes the packages and the wheel, a file that names the build, and SHA256SUMS in the folder; gives their paths."""
+    """Makes the packages and the wheel, a file that names the build, and SHA256SUMS in the folder;
+    gives their paths."""
     commit = texts.commit(str(top))
     if not re.match(r"[0-9a-f]{40}\b", commit):
         raise Refused(f"the commit is {commit}: a package names its commit")

@@ -28,8 +28,8 @@ LINK = re.compile(r"\]\(([^)#:\s]+)[^)]*\)")
 
 
 def lay_out(top: Path, to: Path, zsh: str = "site-functions", python: str = "python3.11") -> None:
-    """Writes below the folder what stands below a prefix. `zsh` names the folder of its completions, and
-    `python` the one in lib/ where Debian's Python looks."""
+    """Writes below the folder what stands below a prefix. `zsh` names the folder of its
+    completions, and `python` the one in lib/ where Debian's Python looks."""
     for name in NAMES:
         lay_out_program(top, to, name)
     lay_out_library(top, to)
@@ -40,7 +40,8 @@ def lay_out(top: Path, to: Path, zsh: str = "site-functions", python: str = "pyt
 
 
 def lay_out_program(top: Path, to: Path, name: str) -> None:
-    """A proved program behind its front, the texts that the front prints, the manual page and completion."""
+    """A proved program behind its front, the texts that the front prints, the manual page and
+    completion."""
     program = Program(str(top), name, f"./{name}")
     if not program.is_built(program.proved):
         raise Refused(f"{name} is not proved and built here: ./{name} --build")
@@ -89,7 +90,10 @@ def lay_out_classroom(top: Path, to: Path, python: str) -> None:
     script = (top / "classroom").read_text()
     if script.count(FOUND) != 1:
         raise Refused("the script classroom does not find its package as it did")
-    place = f'os.path.join(os.path.dirname(os.path.dirname(os.path.realpath(__file__))), "lib/{python}/dist-packages")'
+    place = (
+        "os.path.join(os.path.dirname(os.path.dirname(os.path.realpath(__file__))),"
+        f' "lib/{python}/dist-packages")'
+    )
     put(script.replace(FOUND, place).encode(), to / "bin/classroom", executable=True)
     said = subprocess.run(
         [sys.executable, top / "classroom", "--help"],
@@ -104,7 +108,8 @@ def lay_out_classroom(top: Path, to: Path, python: str) -> None:
 
 
 def lay_out_documents(top: Path, to: Path) -> None:
-    """The documents and the examples, and the files to which they link, with the links as they are."""
+    """The documents and the examples, and the files to which they link, with the links as they
+    are."""
     about = to / "share/doc/ratest"
     for document in DOCUMENTS:
         put((top / document).read_bytes(), about / Path(document).name)

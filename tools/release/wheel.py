@@ -1,4 +1,5 @@
-"""The wheel: both packages of Python with the proved programs and the shared object in them, for pip."""
+"""The wheel: both packages of Python with the proved programs and the shared object in them, for
+pip."""
 from __future__ import annotations
 
 import os
@@ -44,12 +45,14 @@ def write_wheel(top: Path, path: Path) -> None:
         )
         if "No module named" in ran.stderr:
             raise Refused(
-                "setuptools or wheel, which make the wheel, are not there: apt-get install python3-setuptools python3-wheel"
+                "setuptools or wheel, which make the wheel, are not there: apt-get install"
+                " python3-setuptools python3-wheel"
             )
         found = sorted(made.glob("*.whl")) if made.is_dir() else []
         if ran.returncode or len(found) != 1:
             raise Refused(
-                f"the wheel could not be made: {ran.stderr.strip().splitlines()[-1:] or [it.name for it in found]}"
+                "the wheel could not be made:"
+                f" {ran.stderr.strip().splitlines()[-1:] or [it.name for it in found]}"
             )
         if found[0].name != path.name:
             raise Refused(

@@ -1,5 +1,5 @@
-"""What is kept in out/web: the WebAssembly module, for as long as nothing changes of which it is made. The name of
-its file is a digest of that."""
+"""What is kept in out/web: the WebAssembly module, for as long as nothing changes of which it is
+made. The name of its file is a digest of that."""
 from __future__ import annotations
 
 import hashlib
@@ -18,7 +18,8 @@ def digest(paths: Iterable[Path]) -> str:
 
 
 def kept(path: Path, make: Callable[[Path], Path]) -> Path:
-    """A file that is made in a folder for the time being, where it is not there yet; older ones of its kind go."""
+    """A file that is made in a folder for the time being, where it is not there yet; older ones of
+    its kind go."""
     if not path.exists():
         path.parent.mkdir(parents=True, exist_ok=True)
         with tempfile.TemporaryDirectory(dir=path.parent) as folder:

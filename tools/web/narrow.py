@@ -1,9 +1,10 @@
-"""A WebAssembly module with a memory and a table of 64 bits as one with 32 bits, which every browser runs.
+"""A WebAssembly module with a memory and a table of 64 bits as one with 32 bits, which every
+browser runs.
 
-Addresses stay numbers of 64 bits, and each is cut to 32 where the memory or the table takes it. The memory has
-at most 4 GiB then, so that no address of a block has a bit that is lost. A module of any other form than the
-linker gives today is refused. (Debian 12 has binaryen 108, whose pass for this refuses a table of 64 bits.)
-"""
+Addresses stay numbers of 64 bits, and each is cut to 32 where the memory or the table takes it. The
+memory has at most 4 GiB then, so that no address of a block has a bit that is lost. A module of any
+other form than the linker gives today is refused. (Debian 12 has binaryen 108, whose pass for this
+refuses a table of 64 bits.) """
 from __future__ import annotations
 
 from collections.abc import Callable

@@ -1,4 +1,5 @@
-"""The page: the template with the style, the scripts, the module and the exercises in their places."""
+"""The page: the template with the style, the scripts, the module and the exercises in their
+places."""
 from __future__ import annotations
 
 import base64

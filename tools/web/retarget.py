@@ -1,9 +1,8 @@
 """An LLVM module for x86-64 as one for wasm64.
 
-Both have pointers of 64 bits and the same sizes and places of all that a module names, so that only the
-layout, the name of the target and what is said of the processor change. What could mean something else on the
-other target, as code in assembler, is refused.
-"""
+Both have pointers of 64 bits and the same sizes and places of all that a module names, so that only
+the layout, the name of the target and what is said of the processor change. What could mean
+something else on the other target, as code in assembler, is refused. """
 from __future__ import annotations
 
 import re
@@ -21,7 +20,10 @@ OF_PROCESSOR = re.compile(
 FRAME, NO_FRAME = b'"frame-pointer"="all"', b'"frame-pointer"="none"'
 ATTRIBUTES = re.compile(rb"^attributes #\d+ = .*$", re.MULTILINE)
 EXPORT = re.compile(
-    rb"^define (?!internal |private )[^@\n]*\bi64 @ratest_ask\(ptr [^,)]*, i64 [^,)]*, ptr [^,)]*, i64 [^,)]*\)",
+    (
+        rb"^define (?!internal |private )[^@\n]*\bi64 @ratest_ask\(ptr [^,)]*, i64 [^,)]*, ptr"
+        rb" [^,)]*, i64 [^,)]*\)"
+    ),
     re.MULTILINE,
 )
 REFUSED = (

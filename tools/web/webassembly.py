@@ -1,5 +1,5 @@
-"""The WebAssembly module: compiled from the library's LLVM module and the heap, linked, checked, and given a
-memory of 32 bits."""
+"""The WebAssembly module: compiled from the library's LLVM module and the heap, linked, checked,
+and given a memory of 32 bits."""
 from __future__ import annotations
 
 from pathlib import Path
@@ -31,7 +31,8 @@ TARGET = (
     "-ffunction-sections",
     "-fdata-sections",
 )
-# Integers of more than 64 bits are divided, and floats made of them, in place: there is no library of such calls.
+# Integers of more than 64 bits are divided, and floats made of them, in place: there is no library
+# of such calls.
 IN_PLACE = ("-mllvm", "-expand-div-rem-bits=64", "-mllvm", "-expand-fp-convert-bits=64")
 
 

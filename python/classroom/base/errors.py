@@ -40,7 +40,8 @@ def library(name: str, package: str) -> ModuleType:
 
 
 def tool(name: str, package: str) -> str:
-    """The path of a program that one subcommand needs; where it is missing, the line that installs it."""
+    """The path of a program that one subcommand needs; where it is missing, the line that installs
+    it."""
     path = shutil.which(name)
     if path is None:
         raise Fault(f"the program {name} is not there: apt-get install {package}")

@@ -1,8 +1,8 @@
-"""Files of others, read without following links, and files of ours, written as a whole or not at all.
+"""Files of others, read without following links, and files of ours, written as a whole or not at
+all.
 
-Each folder of others is opened below the one that has it, so no link, device or pipe that somebody put among the
-answers is ever opened, whatever happens meanwhile.
-"""
+Each folder of others is opened below the one that has it, so no link, device or pipe that somebody
+put among the answers is ever opened, whatever happens meanwhile. """
 from __future__ import annotations
 
 import json
@@ -21,7 +21,8 @@ FLAGS = os.O_RDONLY | os.O_CLOEXEC | os.O_NONBLOCK
 
 
 def bounded(path: Path, most: int) -> bytes | None:
-    """The bytes of a file of the teacher's, None where there is none; a Fault where it can't be read, or has more."""
+    """The bytes of a file of the teacher's, None where there is none; a Fault where it can't be
+    read, or has more."""
     try:
         with open(path, "rb") as file:
             raw = file.read(most + 1)
@@ -85,7 +86,8 @@ class Folder:
             os.close(descriptor)
 
     def read(self, name: str, most: int) -> bytes:
-        """The first bytes of a plain file in this folder, at most so many; NotRead where it is none."""
+        """The first bytes of a plain file in this folder, at most so many; NotRead where it is
+        none."""
         # A device is not even opened.
         if not stat.S_ISREG(self._mode(name, False)):
             raise NotRead(NO_FILE)
@@ -113,7 +115,8 @@ def opened(path: str | os.PathLike[str]) -> Iterator[Folder]:
 
 
 def write(path: Path, content: bytes) -> None:
-    """Writes a file as a whole or not at all; one that has this content already is left as it is."""
+    """Writes a file as a whole or not at all; one that has this content already is left as it
+    is."""
     try:
         if path.read_bytes() == content:
             return
@@ -146,8 +149,8 @@ class Written:
             return set()
 
     def put(self, files: Mapping[str, bytes]) -> None:
-        """Writes these files and removes those that were written before and are none of them. The list goes first, so
-        that what a killed run leaves is known."""
+        """Writes these files and removes those that were written before and are none of them. The
+        list goes first, so that what a killed run leaves is known."""
         self.folder.mkdir(parents=True, exist_ok=True)
         before = self.names()
         self._list(before | set(files))

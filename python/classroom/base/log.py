@@ -29,7 +29,8 @@ def begin(is_verbose: bool) -> None:
 
 @contextmanager
 def progress(count: int, is_shown: bool) -> Iterator[Callable[[], None]]:
-    """Shows on standard error how many of so many steps are done, each time that what it gives is called."""
+    """Shows on standard error how many of so many steps are done, each time that what it gives is
+    called."""
     done, begun, shown = 0, time.monotonic(), 0.0
 
     def step() -> None:

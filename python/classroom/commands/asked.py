@@ -1,11 +1,11 @@
 """Tells what is kept of what was asked at the page of `classroom serve`, and removes it.
 
-With --forget the questions go, or those before a day, and with --hand-ins what was handed in as well. What would go is
-told first; on a terminal it is asked whether to go on, elsewhere --yes says so.
+With --forget the questions go, or those before a day, and with --hand-ins what was handed in as
+well. What would go is told first; on a terminal it is asked whether to go on, elsewhere --yes says
+so.
 
-Exit status: 0 where it was told or removed, 1 where there is nothing, or nothing was removed, 2 for words that can't
-be read.
-"""
+Exit status: 0 where it was told or removed, 1 where there is nothing, or nothing was removed, 2 for
+words that can't be read. """
 from __future__ import annotations
 
 import argparse

@@ -7,20 +7,21 @@ SOURCE is a zip file or a folder. Its form is told by the names in it, or by --f
     nbgrader    submitted/ID/ASSIGNMENT/FILE.sql
     folders     ID/FILE.sql
 
-With --asked there is no SOURCE: the last text that each login handed in at the page of `classroom serve` before the
-exercise closed is the answer.
+With --asked there is no SOURCE: the last text that each login handed in at the page of `classroom
+serve` before the exercise closed is the answer.
 
-The answers go to EXERCISE/TASK/answers/ID.sql. The id is that of the class list (class/students.csv, or --students),
-which knows the numbers by its columns moodle and canvas; without it, the name in the archive. The task of a file is
-that of --task; else that of its name; else the file is split at comments `-- task T`. Of several submissions of one
-student Canvas's last one counts.
+The answers go to EXERCISE/TASK/answers/ID.sql. The id is that of the class list
+(class/students.csv, or --students), which knows the numbers by its columns moodle and canvas;
+without it, the name in the archive. The task of a file is that of --task; else that of its name;
+else the file is split at comments `-- task T`. Of several submissions of one student Canvas's last
+one counts.
 
-Where each answer came from is written to EXERCISE/class/collected.csv. An answer that is there already with another
-text is kept, and named, unless --force is given. So the same command may be run again.
+Where each answer came from is written to EXERCISE/class/collected.csv. An answer that is there
+already with another text is kept, and named, unless --force is given. So the same command may be
+run again.
 
-Exit status: 0 where everything is placed, 1 where something could not be placed or was kept, which standard error
-tells, 2 for words that can't be read.
-"""
+Exit status: 0 where everything is placed, 1 where something could not be placed or was kept, which
+standard error tells, 2 for words that can't be read. """
 from __future__ import annotations
 
 import argparse
@@ -68,13 +69,19 @@ def add_arguments(parser: argparse.ArgumentParser) -> None:
         metavar="RE",
         type=pattern,
         default=re.compile(placing.SPLIT, re.M | re.I),
-        help="what begins the answer to a task in a file with several: a regular expression, whose first group is the task",
+        help=(
+            "what begins the answer to a task in a file with several: a regular expression, whose"
+            " first group is the task"
+        ),
     )
     parser.add_argument(
         "--students",
         metavar="FILE",
         type=Path,
-        help="the class list (what `students` of exercise.toml names, else EXERCISE/class/students.csv)",
+        help=(
+            "the class list (what `students` of exercise.toml names, else"
+            " EXERCISE/class/students.csv)"
+        ),
     )
     parser.add_argument(
         "--asked", action="store_true", help="what was handed in at the page of `classroom serve`"
@@ -202,7 +209,7 @@ def tell(
         log.warning("not in the class list: %s", shown(*strangers))
     people = len({answer.student for answer in answers})
     print(
-        f"{counted(people, 'student')}, {counted(len(answers), 'answer')}: {done.new} new, {done.replaced} replaced, {done.same} as they were, "
-        f"{len(done.kept)} kept"
+        f"{counted(people, 'student')}, {counted(len(answers), 'answer')}: {done.new} new,"
+        f" {done.replaced} replaced, {done.same} as they were, {len(done.kept)} kept"
     )
     return 1 if rest or done.kept or strangers else 0

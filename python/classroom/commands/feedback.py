@@ -1,8 +1,10 @@
-"""Writes for each student a page and a Markdown text: the own answers, their verdicts, and the rows on which they go
-wrong, as tables and as SQL to try. Nothing of another student is in them, and no text of a reference.
+"""Writes for each student a page and a Markdown text: the own answers, their verdicts, and the rows
+on which they go wrong, as tables and as SQL to try. Nothing of another student is in them, and no
+text of a reference.
 
-The exercise has to be graded. The students are those of the class list (class/students.csv, or --students), and those
-who answered; without a list, the names of the answers. The files are EXERCISE/results/feedback/ID.html and ID.md.
+The exercise has to be graded. The students are those of the class list (class/students.csv, or
+--students), and those who answered; without a list, the names of the answers. The files are
+EXERCISE/results/feedback/ID.html and ID.md.
 
     --zip moodle      feedback/moodle.zip, with the folders of the submissions, to upload as feedback files
     --zip nbgrader    feedback/nbgrader.zip, feedback/ID/ASSIGNMENT/feedback.html
@@ -10,14 +12,15 @@ who answered; without a list, the names of the answers. The files are EXERCISE/r
     --for canvas      feedback/canvas.csv: Student, ID, SIS Login ID, Section, the assignment's column
     --for gradescope  feedback/gradescope.json, the results.json of one student
 
-Where `classroom mistakes` has looked for them, hints say where the mistake is, up to the step that `hints` of
-exercise.toml names and from `hints_from` on; a page shows each when it is opened.
+Where `classroom mistakes` has looked for them, hints say where the mistake is, up to the step that
+`hints` of exercise.toml names and from `hints_from` on; a page shows each when it is opened.
 
---reference adds the references, for after the deadline: before `closes` of exercise.toml it is refused.
+--reference adds the references, for after the deadline: before `closes` of exercise.toml it is
+refused.
 
-Exit status: 0 where everything is written, 1 where something is missing, changed since it was graded, or somebody is
-not in a platform's file, which standard error tells, 2 for words that can't be read.
-"""
+Exit status: 0 where everything is written, 1 where something is missing, changed since it was
+graded, or somebody is not in a platform's file, which standard error tells, 2 for words that can't
+be read. """
 from __future__ import annotations
 
 import argparse
@@ -34,7 +37,7 @@ from classroom.people import roster as students
 from classroom.exercise.exercise import Exercise
 from classroom.base.errors import Fault, shown
 from classroom.views import markdown
-from classroom.platforms import grade_tables as tables as platforms
+from classroom.platforms import grade_tables as platforms
 from classroom.views import for_student as sheet
 from classroom.platforms.grade_tables import Back
 from classroom.platforms import collect as collecting
@@ -53,7 +56,10 @@ def add_arguments(parser: argparse.ArgumentParser) -> None:
         "--students",
         metavar="FILE",
         type=Path,
-        help="the class list (what `students` of exercise.toml names, else EXERCISE/class/students.csv)",
+        help=(
+            "the class list (what `students` of exercise.toml names, else"
+            " EXERCISE/class/students.csv)"
+        ),
     )
     parser.add_argument(
         "--reference", action="store_true", help="with the references, for after the deadline"

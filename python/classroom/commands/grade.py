@@ -1,19 +1,19 @@
-"""Grades every answer of every task of an exercise, each by its own call of `ratest`. What that doesn't
-decide a database tries: both queries run on parts of the rows.
+"""Grades every answer of every task of an exercise, each by its own call of `ratest`. What that
+doesn't decide a database tries: both queries run on parts of the rows.
 
-EXERCISE is a folder with schema.sql, a CSV file a table, and one folder a task, which has reference.sql
-and the folder answers with one file NAME.sql an answer; or with reference.sql and answers at the top. Its
-exercise.toml, where there is one, says points and limits.
+EXERCISE is a folder with schema.sql, a CSV file a table, and one folder a task, which has
+reference.sql and the folder answers with one file NAME.sql an answer; or with reference.sql and
+answers at the top. Its exercise.toml, where there is one, says points and limits.
 
-Into EXERCISE/results go grades.csv, class.csv with a line a student, results.json for an autograder as Gradescope reads it, page.html, for
-each answer tasks/TASK/ANSWER.txt with its status and what was printed, and in runs the record of each call.
-Answers whose bytes are the same are run once. What is stopped, or killed, goes on where it was: a record
-that is there is not made again, unless the answer, the reference, the schema, a row, the program, --work
-or --conflicts is another.
+Into EXERCISE/results go grades.csv, class.csv with a line a student, results.json for an autograder
+as Gradescope reads it, page.html, for each answer tasks/TASK/ANSWER.txt with its status and what
+was printed, and in runs the record of each call. Answers whose bytes are the same are run once.
+What is stopped, or killed, goes on where it was: a record that is there is not made again, unless
+the answer, the reference, the schema, a row, the program, --work or --conflicts is another.
 
-Exit status: 0 where every answer has a score, 1 where some are to be graded by hand, which a list at the end
-tells, or nothing could be graded, which standard error tells, 2 for words that can't be read.
-"""
+Exit status: 0 where every answer has a score, 1 where some are to be graded by hand, which a list
+at the end tells, or nothing could be graded, which standard error tells, 2 for words that can't be
+read. """
 from __future__ import annotations
 
 import argparse
@@ -116,9 +116,11 @@ def entries_of(opened: Opened) -> list[Entry]:
         Entry(
             task,
             answer,
-            ""
-            if task.fault or answer.fault
-            else digest(common.encode(), task.reference, answer.text.query),
+            (
+                ""
+                if task.fault or answer.fault
+                else digest(common.encode(), task.reference, answer.text.query)
+            ),
         )
         for task in opened.given.tasks
         for answer in task.answers

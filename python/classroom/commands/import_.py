@@ -1,21 +1,20 @@
 """Makes the schema and the rows of an exercise from a database.
 
 SOURCE is an SQLite file or a PostgreSQL database as `psql -d` takes it: a name, a URI, or a text as
-"host=.. dbname=..". EXERCISE gets schema.sql and one CSV file a table, of all tables or of those that are
-named; of PostgreSQL of those on the search path. It is made where it is not there, and files of these
-names in it are written over. Tables stand in the order in which they were made, rows in that of the primary
-key, else in the database's own.
+"host=.. dbname=..". EXERCISE gets schema.sql and one CSV file a table, of all tables or of those
+that are named; of PostgreSQL of those on the search path. It is made where it is not there, and
+files of these names in it are written over. Tables stand in the order in which they were made, rows
+in that of the primary key, else in the database's own.
 
-What can't be carried over, and what becomes of a type, is told on standard error by table and column.
-With --rows the first hundred rows of each table go to EXERCISE/guard, where they keep `classroom mistakes` and hints
-from what holds on a few rows by chance.
+What can't be carried over, and what becomes of a type, is told on standard error by table and
+column. With --rows the first hundred rows of each table go to EXERCISE/guard, where they keep
+`classroom mistakes` and hints from what holds on a few rows by chance.
 
-CHECKs are written as far as `ratest` has their form and means the same by it. Nothing in the database is
-changed.
+CHECKs are written as far as `ratest` has their form and means the same by it. Nothing in the
+database is changed.
 
-Exit status: 0 where the files are written, 1 where something was refused, which one line tells, 2 for
-words that can't be read.
-"""
+Exit status: 0 where the files are written, 1 where something was refused, which one line tells, 2
+for words that can't be read. """
 from __future__ import annotations
 
 import argparse

@@ -1,20 +1,21 @@
-"""Looks in each answer that differs, or of which duplicates or order are remarked on, for the mistake: which one it is, and
-where.
+"""Looks in each answer that differs, or of which duplicates or order are remarked on, for the
+mistake: which one it is, and where.
 
-For an answer changes of one place are made. One with which the answer is proved to agree with the reference on
-every lawful part of the rows is a repair: there is the mistake. A change of the reference that agrees with the answer
-says which mistake it is, as "the reference with < for <=". What holds on the exercise's few rows by chance is not
-told: other rows of the schema refute it, those in EXERCISE/guard, which `classroom pick` and `classroom import --rows`
-leave there, and rows that are made for the schema. Where a database decided, changes are tried by that database and nothing of it is proved.
+For an answer changes of one place are made. One with which the answer is proved to agree with the
+reference on every lawful part of the rows is a repair: there is the mistake. A change of the
+reference that agrees with the answer says which mistake it is, as "the reference with < for <=".
+What holds on the exercise's few rows by chance is not told: other rows of the schema refute it,
+those in EXERCISE/guard, which `classroom pick` and `classroom import --rows` leave there, and rows
+that are made for the schema. Where a database decided, changes are tried by that database and
+nothing of it is proved.
 
-The answers have to be graded. EXERCISE/results/mistakes.csv gets for each task the mistakes, the most frequent first,
-with the answers that have one, its place in them, and the text of one of them with its repair; the page of the class
-is made again with them. --deep also looks for two changes where one is not enough, 25 seconds at most for an answer.
-What is stopped goes on where it was.
+The answers have to be graded. EXERCISE/results/mistakes.csv gets for each task the mistakes, the
+most frequent first, with the answers that have one, its place in them, and the text of one of them
+with its repair; the page of the class is made again with them. --deep also looks for two changes
+where one is not enough, 25 seconds at most for an answer. What is stopped goes on where it was.
 
-Exit status: 0 where each answer was looked at, 1 where one was not or nothing could be, which standard error tells, 2
-for words that can't be read.
-"""
+Exit status: 0 where each answer was looked at, 1 where one was not or nothing could be, which
+standard error tells, 2 for words that can't be read. """
 from __future__ import annotations
 
 import argparse

@@ -1,18 +1,18 @@
 """Makes the usual mistakes in each task's reference query, and tells which of them the rows show.
 
-A mutant is the reference with one mistake: another comparison, a condition dropped, AND for OR, NOT dropped
-or added, a constant one higher or lower, another column, a join condition dropped, JOIN for EXISTS or IN and
-back, IN for NOT IN, UNION, EXCEPT and INTERSECT for one another, IS NULL for = NULL, a column of SELECT
-dropped or exchanged. Of a reference that `ratest` doesn't read also another aggregate, DISTINCT in one, HAVING,
-GROUP BY, LIMIT, the order, an outer join for a join and back; these a database tries. What is refused is left out. All of them are graded against the reference; those
-that agree with it are shown: such a query means the same on every lawful part of these rows, so either it is
-right or the rows lack something.
+A mutant is the reference with one mistake: another comparison, a condition dropped, AND for OR, NOT
+dropped or added, a constant one higher or lower, another column, a join condition dropped, JOIN for
+EXISTS or IN and back, IN for NOT IN, UNION, EXCEPT and INTERSECT for one another, IS NULL for =
+NULL, a column of SELECT dropped or exchanged. Of a reference that `ratest` doesn't read also
+another aggregate, DISTINCT in one, HAVING, GROUP BY, LIMIT, the order, an outer join for a join and
+back; these a database tries. What is refused is left out. All of them are graded against the
+reference; those that agree with it are shown: such a query means the same on every lawful part of
+these rows, so either it is right or the rows lack something.
 
 EXERCISE/mutants/mutants.csv tells all of them. What is stopped, or killed, goes on where it was.
 
-Exit status: 0 where every mutant has a verdict, 1 where one has none or a task could not be tried, which
-standard error tells, 2 for words that can't be read.
-"""
+Exit status: 0 where every mutant has a verdict, 1 where one has none or a task could not be tried,
+which standard error tells, 2 for words that can't be read. """
 from __future__ import annotations
 
 import argparse

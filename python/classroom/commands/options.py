@@ -40,7 +40,8 @@ def jobs(parser: argparse.ArgumentParser, note: str = "") -> None:
 def limits(
     parser: argparse.ArgumentParser, noun: str, time: int, conflicts: int | None = None
 ) -> None:
-    """What one call may take. Where a word isn't said, `exercise.toml` says it, else what is told here."""
+    """What one call may take. Where a word isn't said, `exercise.toml` says it, else what is told
+    here."""
     parser.add_argument("--time", metavar="S", type=seconds, help=f"seconds for {noun} ({time})")
     parser.add_argument(
         "--memory", metavar="MB", type=count, default=2000, help=f"megabytes for {noun} (2000)"

@@ -1,15 +1,15 @@
 """Makes the page of a class that was graded: EXERCISE/results/page.html.
 
-It is one file that asks for nothing from anywhere and needs no script. `classroom grade` makes it too; this
-makes it again. With --no-reference it is one that students may see before the deadline: it has neither the
-references nor any text that may be as good as one, so of the answers only the texts that differ.
+It is one file that asks for nothing from anywhere and needs no script. `classroom grade` makes it
+too; this makes it again. With --no-reference it is one that students may see before the deadline:
+it has neither the references nor any text that may be as good as one, so of the answers only the
+texts that differ.
 
-With --asked it makes EXERCISE/results/asked.html instead, of what was asked at the page of `classroom serve`:
-which mistakes are made in each task, the most frequent first.
+With --asked it makes EXERCISE/results/asked.html instead, of what was asked at the page of
+`classroom serve`: which mistakes are made in each task, the most frequent first.
 
-Exit status: 0 where it is written, 1 where something is missing or changed since it was graded, which
-standard error tells, 2 for words that can't be read.
-"""
+Exit status: 0 where it is written, 1 where something is missing or changed since it was graded,
+which standard error tells, 2 for words that can't be read. """
 from __future__ import annotations
 
 import argparse

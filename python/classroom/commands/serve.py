@@ -1,24 +1,26 @@
-"""Serves a page at which students ask: they pick a task, type a query and see at once whether it agrees with
-the reference, or the fewest rows on which the two differ, or why it is refused and where.
+"""Serves a page at which students ask: they pick a task, type a query and see at once whether it
+agrees with the reference, or the fewest rows on which the two differ, or why it is refused and
+where.
 
-COURSE is the folder of an exercise, or a folder of exercises. The reference queries are never sent, but after the
-exercise closes where exercise.toml says so. All is read at the start, so a change counts from the next start on.
-exercise.toml has titles, and when an exercise opens and closes; question.txt in the folder of a task, in Markdown,
-is shown above the query. What is asked is kept in an SQLite file with its hour and without anybody's name;
-`classroom page --asked` makes a page of it.
+COURSE is the folder of an exercise, or a folder of exercises. The reference queries are never sent,
+but after the exercise closes where exercise.toml says so. All is read at the start, so a change
+counts from the next start on. exercise.toml has titles, and when an exercise opens and closes;
+question.txt in the folder of a task, in Markdown, is shown above the query. What is asked is kept
+in an SQLite file with its hour and without anybody's name; `classroom page --asked` makes a page of
+it.
 
-What `ratest` doesn't read a database tries, for three seconds in a process of its own; what comes of that is called
-tried. A question is one call of `ratest` without environment and network, with the limits below; a text that was
-asked before is answered from memory. At most --jobs calls run at once, one for each visitor, and beside them as many that
-take longer than a second; further ones wait for three seconds at most, --queue of them, and the others are told to ask
-again (status 503).
+What `ratest` doesn't read a database tries, for three seconds in a process of its own; what comes
+of that is called tried. A question is one call of `ratest` without environment and network, with
+the limits below; a text that was asked before is answered from memory. At most --jobs calls run at
+once, one for each visitor, and beside them as many that take longer than a second; further ones
+wait for three seconds at most, --queue of them, and the others are told to ask again (status 503).
 
-Who asks is told by a random cookie and by the address, or by --user-header where a web server in front asks for a
-login; this is believed of --proxy and of --socket alone. With a login students may hand in.
+Who asks is told by a random cookie and by the address, or by --user-header where a web server in
+front asks for a login; this is believed of --proxy and of --socket alone. With a login students may
+hand in.
 
-Exit status: 0 where it was stopped, 1 where it can't serve, which standard error tells, 2 for words that
-can't be read.
-"""
+Exit status: 0 where it was stopped, 1 where it can't serve, which standard error tells, 2 for words
+that can't be read. """
 from __future__ import annotations
 
 import argparse
@@ -226,8 +228,8 @@ def run(arguments: argparse.Namespace) -> int:
 def served(
     arguments: argparse.Namespace, work: Path, jobs: int, stack: contextlib.ExitStack
 ) -> tuple[Course, dict[str, tuple[opening.Opened, Path]]]:
-    """The course, each exercise copied below `work`, with what has to be closed on the stack; and for the teacher each
-    exercise with its file."""
+    """The course, each exercise copied below `work`, with what has to be closed on the stack; and
+    for the teacher each exercise with its file."""
     from classroom.web.hint_buttons import (
         hinter,
     )  # with itsdangerous, which other commands do without
@@ -359,6 +361,7 @@ def keeps_network() -> bool:
     if child.can_be_alone():
         return False
     log.warning(
-        "this machine lets no process give up its network (unshare --map-root-user --net): `ratest` runs with it"
+        "this machine lets no process give up its network (unshare --map-root-user --net): `ratest`"
+        " runs with it"
     )
     return True

@@ -8,7 +8,8 @@ from classroom.sql.spans import Span
 
 
 class Kind(enum.Enum):
-    """What is changed, as far as a student may be told; a sentence of `classroom.repair.hints` goes with each."""
+    """What is changed, as far as a student may be told; a sentence of `classroom.repair.hints` goes
+    with each."""
 
     COMPARISON = "comparison"
     CONSTANT = "constant"

@@ -45,6 +45,6 @@ class Words:
 
 
 def vocabulary(schema: str, reference: str, answer: str) -> Vocabulary:
-    """The columns that mean the same by foreign keys, the constants and comparisons of both queries, and the
-    conditions of the reference. A Fault where sqlglot doesn't read one of them."""
+    """The columns that mean the same by foreign keys, the constants and comparisons of both
+    queries, and the conditions of the reference. A Fault where sqlglot doesn't read one of them."""
     return Words(schema, reference).of(answer)

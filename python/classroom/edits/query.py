@@ -1,4 +1,5 @@
-"""A query as text, tree and places, from which the texts of changes are made without a copy of the tree."""
+"""A query as text, tree and places, from which the texts of changes are made without a copy of the
+tree."""
 from __future__ import annotations
 
 from collections.abc import Iterator, Sequence
@@ -20,8 +21,8 @@ class Query:
     """A query that changes are made of."""
 
     def __init__(self, text: str, vocabulary: Vocabulary, is_own: bool = True) -> None:
-        """A Fault where sqlglot doesn't read the text, or its tree is not found in it. `is_own` tells that
-        the text is the one that somebody wrote, whose places can be shown."""
+        """A Fault where sqlglot doesn't read the text, or its tree is not found in it. `is_own`
+        tells that the text is the one that somebody wrote, whose places can be shown."""
         self.text = text
         self.tree = parsed(text)
         found = spans_of(text, self.tree)
@@ -69,7 +70,8 @@ class Query:
         return at + self.text[at : at + 1].isspace()
 
     def qualified(self, node: Node, renamed: dict[str, str] | None = None) -> str:
-        """The text of a node in which each column has the name of its table before it, or another for it."""
+        """The text of a node in which each column has the name of its table before it, or another
+        for it."""
         return self.source(node, list(self.qualifications(node, renamed or {})))
 
     def qualifications(self, node: Node, renamed: dict[str, str]) -> Iterator[Insertion]:

@@ -28,7 +28,8 @@ class Transplant:
 
 
 def transplants(block: Block, is_whole: bool) -> Iterator[Transplant]:
-    """Each condition of the reference over tables here that are the same, or each SELECT's as a whole."""
+    """Each condition of the reference over tables here that are the same, or each SELECT's as a
+    whole."""
     reference = block.query.vocabulary.reference
     if reference is None:
         return
@@ -59,7 +60,8 @@ def transplants(block: Block, is_whole: bool) -> Iterator[Transplant]:
 def over(
     group: list[Node], reference: Query, here: list[tuple[str, str]]
 ) -> Iterator[tuple[str, set[str]]]:
-    """The conditions over each choice of tables here that are those of the reference, with their names here."""
+    """The conditions over each choice of tables here that are those of the reference, with their
+    names here."""
     inner = {
         name_in_from(source)
         for one in group

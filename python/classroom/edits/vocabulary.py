@@ -1,4 +1,5 @@
-"""Of what a change may be made: the tables, the columns that mean the same, the constants and the reference."""
+"""Of what a change may be made: the tables, the columns that mean the same, the constants and the
+reference."""
 from __future__ import annotations
 
 from collections.abc import Iterable, Mapping, Sequence
@@ -40,8 +41,8 @@ class Vocabulary:
         return self.classes.get(one, one) == self.classes.get(other, other)
 
     def are_related(self, one: Place, other: Place) -> bool:
-        """Whether it can mean something to compare two columns: they are linked or have one name, or a query
-        compares them. Columns of derived tables are taken as related to all."""
+        """Whether it can mean something to compare two columns: they are linked or have one name,
+        or a query compares them. Columns of derived tables are taken as related to all."""
         return (
             not one[0]
             or not other[0]

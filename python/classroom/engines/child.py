@@ -1,9 +1,10 @@
-"""Questions in processes of their own, which `classroom.forking` makes: each about a material, a file of JSON.
+"""Questions in processes of their own, which `classroom.forking` makes: each about a material, a
+file of JSON.
 
-The material is what `classroom.trial.material` writes. A question, JSON too, has `reference`, `answer`, `seconds`,
-`looks`, `duplicates`, `order`, `agrees`, and for PostgreSQL `engine` and `asker`, the two connections. What comes back is
-a verdict, as `classroom.trial.verdict` writes it, or `{"fault": TEXT}` where the engine can't be had.
-"""
+The material is what `classroom.trial.material` writes. A question, JSON too, has `reference`,
+`answer`, `seconds`, `looks`, `duplicates`, `order`, `agrees`, and for PostgreSQL `engine` and
+`asker`, the two connections. What comes back is a verdict, as `classroom.trial.verdict` writes it,
+or `{"fault": TEXT}` where the engine can't be had. """
 from __future__ import annotations
 
 import contextlib

@@ -114,7 +114,8 @@ class Search:
         )
 
     def clock(self) -> float:
-        """The seconds by which the time is told: the engine's, or as many as the looks at parts stand for."""
+        """The seconds by which the time is told: the engine's, or as many as the looks at parts
+        stand for."""
         return (
             self.looks.tried / self.most_looks * self.wanted.seconds
             if self.most_looks
@@ -122,8 +123,8 @@ class Search:
         )
 
     def kind(self, part: Mask) -> str:
-        """How the queries differ on a part; "" where they don't, or where it depends on the order in which the
-        rows are stored."""
+        """How the queries differ on a part; "" where they don't, or where it depends on the order
+        in which the rows are stored."""
         found = self.looks.known.get(part)
         if found is None:
             found = self.look(part)
@@ -259,7 +260,8 @@ class Search:
     def unions(
         self, units: list[Mask], is_joined: bool, less_than: int, most: int | None = None
     ) -> Iterator[Mask | None]:
-        """The parts of fewer rows than that by which all can be told; None where there are more than `most`."""
+        """The parts of fewer rows than that by which all can be told; None where there are more
+        than `most`."""
         made: Iterator[Mask | None] = (
             joins.unions(units, less_than, MOST_UNIONS, most and most + 1)
             if is_joined
@@ -292,8 +294,8 @@ class Search:
             best = found
 
     def smaller(self, best: Mask) -> tuple[Mask | None, str, int]:
-        """A smaller part on which they differ; else by what it is known that there is none, and how many were
-        tried for that."""
+        """A smaller part on which they differ; else by what it is known that there is none, and how
+        many were tried for that."""
         size = best.bit_count()
         few = self.listed(self.parts.below(self.tables, size))
         parts: Iterator[Mask | None]
@@ -316,8 +318,8 @@ class Search:
     def shrunk(
         self, part: Mask, holds: Callable[[Mask], bool], chance: random.Random | None, until: float
     ) -> tuple[Mask, bool]:
-        """A part for which it holds, and no longer without any one row and what refers to it, if the time was
-        enough for that."""
+        """A part for which it holds, and no longer without any one row and what refers to it, if
+        the time was enough for that."""
         size = max(1, part.bit_count() // 2)
         while True:
             order = sorted(bits(part), key=lambda at: (-self.parts.up[at].bit_count(), at))
@@ -369,7 +371,8 @@ class Search:
         )
 
     def remarks(self) -> tuple[Remark, ...]:
-        """What differs in duplicates or order alone, each with a part as small as one shrinking makes it."""
+        """What differs in duplicates or order alone, each with a part as small as one shrinking
+        makes it."""
         made = []
         for kind, part in sorted(self.looks.slight.items()):
             small, _ = self.shrunk(part, lambda less, kind=kind: self.kind(less) == kind, None, self.clock() + 1.0)  # type: ignore[misc]
@@ -382,7 +385,8 @@ class Search:
 
 
 def lines(reference: Answer, answer: Answer) -> tuple[verdict.Line, ...]:
-    """The rows of both answers, each once, in the order in which they came, with how often each has it."""
+    """The rows of both answers, each once, in the order in which they came, with how often each has
+    it."""
     bags = reference.bag(), answer.bag()
     shown: dict[tuple[object, ...], Cells] = {}
     for of in (reference, answer):

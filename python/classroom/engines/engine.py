@@ -51,13 +51,14 @@ class Engine(Protocol):
         """The numbers of the tables that the queries read."""
 
     def answers(self, part: Mask, backwards: bool = False) -> tuple[Answer, Answer]:
-        """What both queries answer on a part, whose rows are stored in their order or the other way round."""
+        """What both queries answer on a part, whose rows are stored in their order or the other way
+        round."""
 
     def joined(
         self, tables: Sequence[tuple[int, str]], condition: str
     ) -> Iterator[tuple[int, ...]]:
-        """The places of the rows of each tuple of some tables, given by their numbers and the names that they
-        have in the condition, which holds for it, over all rows."""
+        """The places of the rows of each tuple of some tables, given by their numbers and the names
+        that they have in the condition, which holds for it, over all rows."""
 
     def close(self) -> None:
         ...

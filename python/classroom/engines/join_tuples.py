@@ -1,11 +1,11 @@
 """Which rows can matter together, by the tree of a query.
 
-A SELECT depends on a part of the rows only by the tuples of the tables in its FROM that lie in the part: of
-inner joins those for which the conditions hold, and of an outer join also each row of the outer side alone.
-So each part answers as the union of such tuples in it, with what their rows refer to, and a smallest witness
-is a union of tuples. A condition that isn't understood is dropped, which gives more tuples; where a FROM
-isn't, each row of its tables counts alone, as in all lawful parts. This is an argument and tests, no proof.
-"""
+A SELECT depends on a part of the rows only by the tuples of the tables in its FROM that lie in the
+part: of inner joins those for which the conditions hold, and of an outer join also each row of the
+outer side alone. So each part answers as the union of such tuples in it, with what their rows refer
+to, and a smallest witness is a union of tuples. A condition that isn't understood is dropped, which
+gives more tuples; where a FROM isn't, each row of its tables counts alone, as in all lawful parts.
+This is an argument and tests, no proof. """
 from __future__ import annotations
 
 from collections.abc import Iterator, Mapping, Sequence
@@ -133,7 +133,8 @@ def found(tree: Node, kind: type[Node]) -> list[Node]:
 
 
 def no_tables(tree: Node) -> Iterator[str]:
-    """The names in a query that stand for a column, or that it gives itself, without a dot beside."""
+    """The names in a query that stand for a column, or that it gives itself, without a dot
+    beside."""
     for node in found(tree, exp.Column):
         # SQLite has X IN TABLE.
         if node.args.get("table") is None and not (
@@ -209,7 +210,8 @@ def block(
 def joined(
     select: Node, numbers: Mapping[str, int], gone: set[str], schema: Schema
 ) -> list[Joined] | None:
-    """The tables of a FROM with how they are joined; None where it isn't of a form that is understood."""
+    """The tables of a FROM with how they are joined; None where it isn't of a form that is
+    understood."""
     begin = select.args.get("from")
     if begin is None or select.args.get("laterals"):
         return None
@@ -237,8 +239,8 @@ def joined(
         items.append(Joined(source, side == "LEFT", tuple(parts)))
         nodes.append(join.this)
     if any(item.is_left and item.source is None for item in items):
-        # What an outer join gives of a query is not known by the rows of its tables alone, but the rows of the
-        # tables beside it are.
+        # What an outer join gives of a query is not known by the rows of its tables alone, but the
+        # rows of the tables beside it are.
         items = [item for item in items if item.source or not item.is_left]
         items.append(Joined(None, False, ()))
     if any(isinstance(node, exp.Table) and node.args.get("joins") for node in nodes):
@@ -299,7 +301,8 @@ def conjuncts(condition: Node) -> list[Node]:
 
 
 class Writer:
-    """Writes the conditions of one FROM that are understood, all columns with the name of their table."""
+    """Writes the conditions of one FROM that are understood, all columns with the name of their
+    table."""
 
     def __init__(
         self, tables: Mapping[str, int], schema: Schema, dialect: str, is_plain: bool
@@ -414,9 +417,9 @@ def ordered_by_tokens(text: str) -> bool:
 def unions(
     masks: Sequence[int], less_than: int, most: int, wanted: int | None = None
 ) -> Iterator[int | None]:
-    """All unions of masks that have fewer rows than that, the smallest first, each once; None, and then no
-    more, where more than `most` would have to be remembered, or as many as are wanted were found.
-    """
+    """All unions of masks that have fewer rows than that, the smallest first, each once; None, and
+    then no more, where more than `most` would have to be remembered, or as many as are wanted were
+    found."""
     own = sorted(
         {mask for mask in masks if mask and mask.bit_count() < less_than},
         key=lambda mask: (mask.bit_count(), mask),

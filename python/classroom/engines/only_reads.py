@@ -1,7 +1,8 @@
-"""SQLite in memory for texts that others wrote: they read tables, and nothing of them grows without a bound.
+"""SQLite in memory for texts that others wrote: they read tables, and nothing of them grows without
+a bound.
 
-The time of a query is the caller's to bound, by a progress handler, and that of the process around it by `prlimit`.
-"""
+The time of a query is the caller's to bound, by a progress handler, and that of the process around
+it by `prlimit`. """
 from __future__ import annotations
 
 import sqlite3

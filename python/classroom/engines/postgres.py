@@ -1,9 +1,8 @@
 """PostgreSQL as the engine, in an empty database of its own, through psycopg.
 
-A loader owns a schema of this process with the tables and puts the rows; an asker may only read them, and calls
-no volatile routine. Each query has a session of its own, so that neither sees the other's text, and is one
-statement by PREPARE.
-"""
+A loader owns a schema of this process with the tables and puts the rows; an asker may only read
+them, and calls no volatile routine. Each query has a session of its own, so that neither sees the
+other's text, and is one statement by PREPARE. """
 from __future__ import annotations
 
 import re
@@ -57,12 +56,17 @@ PREPARE = "PREPARE query AS "
 # What an asker may do that it shouldn't, with what is told then.
 RIGHTS = (
     (
-        "SELECT rolsuper OR rolcreaterole OR rolcreatedb OR rolbypassrls OR rolreplication FROM pg_roles "
-        "WHERE rolname = current_user",
+        (
+            "SELECT rolsuper OR rolcreaterole OR rolcreatedb OR rolbypassrls OR rolreplication FROM"
+            " pg_roles WHERE rolname = current_user"
+        ),
         "is a superuser, or may make roles or databases",
     ),
     (
-        "SELECT has_database_privilege(current_database(), 'CREATE') OR has_database_privilege(current_database(), 'TEMP')",
+        (
+            "SELECT has_database_privilege(current_database(), 'CREATE') OR"
+            " has_database_privilege(current_database(), 'TEMP')"
+        ),
         "may create in the database",
     ),
     (
@@ -70,9 +74,12 @@ RIGHTS = (
         "may create in a schema",
     ),
     (
-        "SELECT count(*) > 0 FROM pg_proc WHERE prokind IN ('f', 'p', 'w') AND has_function_privilege(oid, 'EXECUTE') AND "
-        "(provolatile = 'v' OR proname IN ('pg_stat_get_activity', 'pg_prepared_statement', 'pg_cursor', 'txid_current', "
-        "'pg_current_xact_id'))",
+        (
+            "SELECT count(*) > 0 FROM pg_proc WHERE prokind IN ('f', 'p', 'w') AND"
+            " has_function_privilege(oid, 'EXECUTE') AND (provolatile = 'v' OR proname IN"
+            " ('pg_stat_get_activity', 'pg_prepared_statement', 'pg_cursor', 'txid_current',"
+            " 'pg_current_xact_id'))"
+        ),
         "may execute volatile routines, or see other sessions",
     ),
     ("SELECT current_setting('temp_file_limit') = '-1'", "has no temp_file_limit"),
@@ -81,7 +88,8 @@ LOADER_RIGHT = "SELECT rolsuper FROM pg_roles WHERE rolname = current_user"
 
 
 class Server:
-    """A session of the loader, the tables of a material in a schema of its own, and sessions of the asker."""
+    """A session of the loader, the tables of a material in a schema of its own, and sessions of the
+    asker."""
 
     def __init__(self, material: Material, loader: str) -> None:
         self.psycopg = library("psycopg", "python3-psycopg")
@@ -100,9 +108,15 @@ class Server:
 
     def connected(self, address: str, key: str, seconds: float = 0.0) -> Any:
         """A session; of the asker it has limits, and its user few rights."""
-        options = "-c timezone=UTC -c jit=off -c max_parallel_workers_per_gather=0 -c synchronous_commit=off"
+        options = (
+            "-c timezone=UTC -c jit=off -c max_parallel_workers_per_gather=0 -c"
+            " synchronous_commit=off"
+        )
         if seconds:
-            options += " -c default_transaction_read_only=on -c work_mem=4MB -c plan_cache_mode=force_generic_plan"
+            options += (
+                " -c default_transaction_read_only=on -c work_mem=4MB -c"
+                " plan_cache_mode=force_generic_plan"
+            )
         try:
             session = self.psycopg.connect(
                 address, autocommit=True, options=options, connect_timeout=10
@@ -122,7 +136,8 @@ class Server:
             for query, told in RIGHTS:
                 if self.one(session, query):
                     raise Fault(
-                        f"{key}: its user {told}; docs/GUIDE.md tells how to make one that only reads"
+                        f"{key}: its user {told}; docs/GUIDE.md tells how to make one that only"
+                        " reads"
                     )
             # The catalogue was asked without, since on a busy machine it takes its time.
             session.execute(

@@ -1,4 +1,5 @@
-"""Rows of a schema in PostgreSQL, where that database decides: the tables of a trial, and a session that only reads."""
+"""Rows of a schema in PostgreSQL, where that database decides: the tables of a trial, and a session
+that only reads."""
 from __future__ import annotations
 
 import time
@@ -40,7 +41,8 @@ class Database:
         self.all_steps = 0
 
     def lawful(self) -> frozenset[Row]:
-        """Each row is put by itself: what is of another type, or breaks a rule, is left out with what refers to it."""
+        """Each row is put by itself: what is of another type, or breaks a rule, is left out with
+        what refers to it."""
         self.tables.loader.execute(";".join(f"DELETE FROM {name}" for name in self.tables.names))
         self.tables.held = None
         broken = set()

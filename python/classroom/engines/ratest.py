@@ -15,10 +15,9 @@ from ratest import installed
 
 
 def find(name: str = "ratest") -> Path:
-    """The program of a name: the one that the variable of this name in capitals tells; else that of the wheel
-    that this package came in; else that of the repository, which is built where it isn't; else the one that was
-    installed with this package below a prefix; else the one on the PATH.
-    """
+    """The program of a name: the one that the variable of this name in capitals tells; else that of
+    the wheel that this package came in; else that of the repository, which is built where it isn't;
+    else the one that was installed with this package below a prefix; else the one on the PATH."""
     told = os.environ.get(name.upper())
     if told:
         path = Path(told).absolute()
@@ -44,13 +43,15 @@ def find(name: str = "ratest") -> Path:
     on_path = shutil.which(name)
     if on_path is None:
         raise Fault(
-            f"the program {name} is not there: neither the variable {name.upper()} nor PATH names it"
+            f"the program {name} is not there: neither the variable {name.upper()} nor PATH"
+            " names it"
         )
     return Path(on_path).absolute()
 
 
 def there(name: str) -> Path:
-    """The program as `find` gives it; a Fault, and no build of the repository's, where it isn't built."""
+    """The program as `find` gives it; a Fault, and no build of the repository's, where it isn't
+    built."""
     launcher = installed.REPOSITORY / name
     if not os.environ.get(name.upper()) and not installed.packed(name) and launcher.is_file():
         if not (installed.REPOSITORY / "crates" / name / "out" / name).is_file():

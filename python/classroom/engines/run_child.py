@@ -22,15 +22,16 @@ from classroom.exercise.typed_rows import Material
 from classroom.verdict.verdict import Passed, Verdict
 
 CHILD = Path(__file__).with_name("child.py")
-# What a process may take by the clock, so that a busy machine changes no verdict: that of its processor is bounded by
-# the process itself.
+# What a process may take by the clock, so that a busy machine changes no verdict: that of its
+# processor is bounded by the process itself.
 TIMES, MORE_SECONDS = 4.0, 60.0
 MEGABYTES, OUTPUT = 1500, 16.0
 
 
 @dataclass(frozen=True)
 class Options:
-    """How an exercise is tried; of PostgreSQL also the connections of the loader and of the asker."""
+    """How an exercise is tried; of PostgreSQL also the connections of the loader and of the
+    asker."""
 
     seconds: float = 10.0
     counts_duplicates: bool = False
@@ -50,8 +51,8 @@ class Failed(Fault):
 
 
 def forks(seconds: float, folder: Path, around: Sequence[str] = ()) -> Forks:
-    """What makes the processes of questions that have so many seconds; `around` are the words before those of the
-    process that makes them."""
+    """What makes the processes of questions that have so many seconds; `around` are the words
+    before those of the process that makes them."""
     return Forks(
         [*around, sys.executable, "-I", os.fspath(CHILD)],
         os.fspath(folder),
@@ -72,9 +73,9 @@ class Trier:
         self.material.write_text(json.dumps(materials.to_json(material)))
 
     def ask(self, reference: str, answer: str, agrees: bool = False) -> Verdict:
-        """The verdict of one question; a Fault where the engine can't be had, Failed where its process ended without a
-        verdict. Of two queries that are known to agree as sets only duplicates and order are looked at.
-        """
+        """The verdict of one question; a Fault where the engine can't be had, Failed where its
+        process ended without a verdict. Of two queries that are known to agree as sets only
+        duplicates and order are looked at."""
         question = {
             "reference": reference,
             "answer": answer,

@@ -1,7 +1,8 @@
-"""Rows of a schema in a database, as all of them and as random lawful parts, over which queries are tried.
+"""Rows of a schema in a database, as all of them and as random lawful parts, over which queries are
+tried.
 
-What is found here is tried and never proved: it rejects a change, and says of none that it is right.
-"""
+What is found here is tried and never proved: it rejects a change, and says of none that it is
+right. """
 from __future__ import annotations
 
 import random
@@ -25,10 +26,11 @@ MOST_STEPS, MOST_ROWS = 10_000, 20_000
 STEPS = 200
 FEW = 20  # changes that are looked at further where many steps were needed
 
-# How many columns, and the rows in the database's order; None where the query is refused or passes a limit.
+# How many columns, and the rows in the database's order; None where the query is refused or passes
+# a limit.
 Listed = Optional[tuple[int, Sequence[tuple[Any, ...]]]]
-# How many columns, and what counts of the rows: a set, how often each comes, or the rows in the order of both ways in
-# which they can be stored.
+# How many columns, and what counts of the rows: a set, how often each comes, or the rows in the
+# order of both ways in which they can be stored.
 Answer = Optional[tuple[int, Any]]
 
 
@@ -51,7 +53,8 @@ class Holds(Protocol):
 
 
 class Base:
-    """The lawful rows of a pool, with random parts of them, the smallest first, of which one is loaded at a time."""
+    """The lawful rows of a pool, with random parts of them, the smallest first, of which one is
+    loaded at a time."""
 
     def __init__(
         self,
@@ -74,7 +77,8 @@ class Base:
         self.rejected = [0] * len(self.parts)
 
     def answers(self, query: str) -> list[Answer]:
-        """Over each part; None too where the order that counts depends on how the rows are stored."""
+        """Over each part; None too where the order that counts depends on how the rows are
+        stored."""
         text = self.database.written(query)
         found = [self.answer(at, text) for at in range(len(self.parts))]
         return [None if self.kind == ORDER and of and of[1][0] != of[1][1] else of for of in found]
@@ -90,14 +94,15 @@ class Base:
         return again and (found[0], (tuple(found[1]), tuple(again[1])))
 
     def passes(self, query: str, wanted: Sequence[Answer]) -> bool:
-        """Whether a query has these answers on the parts; a part of which none is known says nothing."""
+        """Whether a query has these answers on the parts; a part of which none is known says
+        nothing."""
         return bool(self.passing([query], wanted))
 
     def passing(
         self, queries: Sequence[str], wanted: Sequence[Answer], steps: int | None = None
     ) -> list[int]:
-        """The places of the queries with these answers. Where so many steps were needed, of those that are left
-        the first few alone are looked at further."""
+        """The places of the queries with these answers. Where so many steps were needed, of those
+        that are left the first few alone are looked at further."""
         texts = [self.database.written(query) for query in queries]
         return self.left(len(texts), wanted, lambda at, part: self.answer(part, texts[at]), steps)
 
@@ -108,8 +113,8 @@ class Base:
         answer: Callable[[int, int], Answer],
         steps: int | None = None,
     ) -> list[int]:
-        """Those of so many that have these answers, by what gives the answer of one on a part. The parts that
-        rejected most so far are asked first."""
+        """Those of so many that have these answers, by what gives the answer of one on a part. The
+        parts that rejected most so far are asked first."""
         most = None if steps is None else self.database.all_steps + steps
         left = list(range(count))
         order = sorted(

@@ -243,7 +243,8 @@ class Sqlite:
 
     @property
     def tables(self) -> frozenset[int]:
-        """Those that SQLite reads columns of, and, since it doesn't tell all of USING, those that are named."""
+        """Those that SQLite reads columns of, and, since it doesn't tell all of USING, those that
+        are named."""
         numbers = places(self.material)
         return frozenset(numbers[name] for name in self.stored[0].read if name in numbers).union(
             *(named(text, numbers, "sqlite") for text in with_views(self.queries, self.material))
@@ -317,9 +318,9 @@ def with_rowid(statement: str) -> str:
 
 
 def turned(statement: str) -> str:
-    """The statement of a table that stores its rows the other way round: no column is the rowid (INT for
-    INTEGER), keys of several columns and primary keys go down, and a UNIQUE at a column is left out; the rows
-    meet it."""
+    """The statement of a table that stores its rows the other way round: no column is the rowid
+    (INT for INTEGER), keys of several columns and primary keys go down, and a UNIQUE at a column is
+    left out; the rows meet it."""
     found = words(with_rowid(statement))
     made: list[str] = []
     solid = [at for at, (kind, _) in enumerate(found) if kind != "gap"]

@@ -1,9 +1,9 @@
 """An exercise: a folder with `schema.sql`, a CSV file a table, and one folder a task with
 `reference.sql` and `answers/*.sql`; or with a single task at the top.
 
-All of it is read once, so everything that is made of it is made of the same bytes. A fault of the whole is a
-Fault of one line. One of a single task or answer is kept with it, so that the others are graded all the same.
-"""
+All of it is read once, so everything that is made of it is made of the same bytes. A fault of the
+whole is a Fault of one line. One of a single task or answer is kept with it, so that the others are
+graded all the same. """
 from __future__ import annotations
 
 import hashlib
@@ -138,7 +138,8 @@ def _rows(folder: Path, tables: tuple[Table, ...]) -> Iterator[tuple[str, bytes]
 
 
 def tasks_of(folder: Path) -> tuple[tuple[Task, ...], tuple[Path, ...]]:
-    """The tasks in a folder, which may be none, and the files among the answers that are no answers."""
+    """The tasks in a folder, which may be none, and the files among the answers that are no
+    answers."""
     ignored: list[Path] = []
     with reading.opened(folder) as top:
         tasks = tuple(_tasks(folder, top, ignored))
@@ -162,7 +163,8 @@ def _tasks(folder: Path, top: Folder, ignored: list[Path]) -> Iterator[Task]:
     if top.holds(REFERENCE) or top.holds(ANSWERS):
         if inner:
             raise Fault(
-                f"{shown(str(folder))}: a task at the top and tasks in folders, as {shown(inner[0])}"
+                f"{shown(str(folder))}: a task at the top and tasks in folders, as"
+                f" {shown(inner[0])}"
             )
         yield _task(folder.resolve().name or "task", folder, top, ignored)
     for name in inner:
@@ -209,7 +211,8 @@ def in_order(name: str) -> tuple[list[int | str], str]:
 
 
 def read(path: Path) -> bytes:
-    """The bytes of a file of the teacher's, one more than `ratest` reads at most; OSError where it is none."""
+    """The bytes of a file of the teacher's, one more than `ratest` reads at most; OSError where it
+    is none."""
     if not stat.S_ISREG(os.stat(path).st_mode):
         raise OSError(0, "not a file", os.fspath(path))
     with open(path, "rb") as file:

@@ -1,5 +1,5 @@
-"""Rows that are made for a schema from a seed: few values, so that there are ties, NULLs, and what the rows at
-hand lack. They obey the schema: SQLite takes them under all of its rules."""
+"""Rows that are made for a schema from a seed: few values, so that there are ties, NULLs, and what
+the rows at hand lack. They obey the schema: SQLite takes them under all of its rules."""
 from __future__ import annotations
 
 import random
@@ -22,8 +22,8 @@ SMALL = (0, 1, 2, 3)
 def pool_of(
     rows: Pool, numbers: Sequence[int], texts: Sequence[str], seed: str, about: int = ROWS
 ) -> Pool | None:
-    """Rows for the schema of a pool, with its values and with constants of queries; None where the schema
-    can't be had in SQLite or takes no rows."""
+    """Rows for the schema of a pool, with its values and with constants of queries; None where the
+    schema can't be had in SQLite or takes no rows."""
     schema = rows.schema.decode("utf-8", "replace")
     text, _ = for_sqlite(schema)
     connection = sqlite3.connect(":memory:", isolation_level=None)
@@ -89,7 +89,8 @@ class _Maker:
         }
 
     def of_column(self, like: Column) -> list[Cell]:
-        """A few values of the columns of one name and kind, which are told from one another by most queries."""
+        """A few values of the columns of one name and kind, which are told from one another by most
+        queries."""
         there = sorted(
             {
                 row[place]

@@ -1,7 +1,8 @@
-"""The guard of an exercise: other rows of its schema, in EXERCISE/guard, as those that it was picked of.
+"""The guard of an exercise: other rows of its schema, in EXERCISE/guard, as those that it was
+picked of.
 
-It is never served and never shown: a change that agrees on the exercise's rows and not on these is told to nobody.
-"""
+It is never served and never shown: a change that agrees on the exercise's rows and not on these is
+told to nobody. """
 from __future__ import annotations
 
 import itertools
@@ -21,7 +22,8 @@ log = logging.getLogger(__name__)
 
 
 def keep(exercise: Path, pool: Pool, rows: Collection[Row], seed: str) -> None:
-    """Writes the rows of an exercise with more of the pool that they were taken of, where there are more."""
+    """Writes the rows of an exercise with more of the pool that they were taken of, where there are
+    more."""
     wanted = itertools.chain(sorted(rows), parts.chosen(pool, MOST_ROWS, seed))
     chosen = parts.filled(pool, wanted, max(MOST_ROWS, len(rows)))
     if len(chosen) <= len(rows):

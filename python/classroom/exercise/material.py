@@ -18,7 +18,10 @@ from classroom.exercise.typed_rows import POSTGRESQL, SQLITE, Made, Material
 from classroom.sql.lookup import Token, tokens, without_comments
 
 MOST_BYTES = 67_108_864
-OTHER_ROWS = "full.db or full.sql has other rows than the CSV files, which are tried in its place: import makes it anew"
+OTHER_ROWS = (
+    "full.db or full.sql has other rows than the CSV files, which are tried in its place: import"
+    " makes it anew"
+)
 # How a text of COPY writes what would end a field or a line.
 ESCAPES = {"b": "\b", "f": "\f", "n": "\n", "r": "\r", "t": "\t", "v": "\v"}
 
@@ -41,12 +44,13 @@ def of_sqlite(path: Path) -> Material:
         statements, found = [], []
         for table in tables.values():
             ((statement,),) = database.execute(
-                f"SELECT sql FROM sqlite_schema WHERE type = 'table' AND name = {literal(table.name)}"
+                "SELECT sql FROM sqlite_schema WHERE type = 'table' AND name ="
+                f" {literal(table.name)}"
             ).fetchall()
             statements.append(without_comments(str(statement)))
             names = database.execute(
-                f"SELECT name, type FROM pragma_table_xinfo({literal(table.name)}) WHERE hidden = 0 "
-                "ORDER BY cid"
+                f"SELECT name, type FROM pragma_table_xinfo({literal(table.name)}) WHERE hidden = 0"
+                " ORDER BY cid"
             ).fetchall()
             rows = database.execute(
                 f"SELECT {', '.join(quoted(name) for name, _ in names)} FROM {quoted(table.name)} "

@@ -1,4 +1,5 @@
-"""Lawful parts of the rows as masks: bit I of a part stands for row I, by tables and their rows in order."""
+"""Lawful parts of the rows as masks: bit I of a part stands for row I, by tables and their rows in
+order."""
 from __future__ import annotations
 
 import random
@@ -13,8 +14,8 @@ RELATED = 0.7
 
 
 class Unit(NamedTuple):
-    """What a part gains at once: a row, or a circle of rows that refer to each other, with the rows of
-    other tables that it needs."""
+    """What a part gains at once: a row, or a circle of rows that refer to each other, with the rows
+    of other tables that it needs."""
 
     gained: Mask
     needed: Mask  # what has to be there before
@@ -74,7 +75,8 @@ class Parts:
         return made
 
     def of_size(self, tables: Collection[int], size: int) -> Iterator[Mask]:
-        """The lawful parts of just this many rows that are rows of some tables with what these need."""
+        """The lawful parts of just this many rows that are rows of some tables with what these
+        need."""
         units = self.units(tables)
 
         def grown(begin: int, part: Mask, left: int) -> Iterator[Mask]:

@@ -1,4 +1,5 @@
-"""Lawful parts of the rows: each is a list of rows of which every first piece can be made lawful."""
+"""Lawful parts of the rows: each is a list of rows of which every first piece can be made
+lawful."""
 from __future__ import annotations
 
 import random

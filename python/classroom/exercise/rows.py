@@ -76,7 +76,8 @@ class Pool:
         self.lawful -= broken
 
     def link(self) -> None:
-        """Finds for each row those that it refers to, the first where several have the same values."""
+        """Finds for each row those that it refers to, the first where several have the same
+        values."""
         self.targets = {row: [] for row in self.lawful}
         self.sources = {row: [] for row in self.lawful}
         for at, held in enumerate(self.held):

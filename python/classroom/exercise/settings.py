@@ -1,4 +1,5 @@
-"""The file `exercise.toml` of an exercise: read whole, each key checked, before anything is done."""
+"""The file `exercise.toml` of an exercise: read whole, each key checked, before anything is
+done."""
 from __future__ import annotations
 
 import math
@@ -59,7 +60,8 @@ class Settings:
 
 
 def read(folder: Path, tasks: Iterable[str]) -> Settings:
-    """The settings of the exercise in a folder that has these tasks; a Fault names the key that is wrong."""
+    """The settings of the exercise in a folder that has these tasks; a Fault names the key that is
+    wrong."""
     path = folder / FILE
     text = reading.bounded(path, MOST_BYTES)
     if text is None:
@@ -117,7 +119,8 @@ def one_of(*choices: str) -> Callable[[Any, str], str]:
     def check(value: Any, key: str) -> str:
         if value not in choices or not isinstance(value, str):
             raise Fault(
-                f"{shown(key)}: {' or '.join(map(repr, choices)).replace(chr(39), chr(34))} is wanted"
+                f"{shown(key)}: {' or '.join(map(repr, choices)).replace(chr(39), chr(34))} is"
+                " wanted"
             )
         return value
 

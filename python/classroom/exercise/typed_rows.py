@@ -43,7 +43,8 @@ class Made:
 
 @dataclass(frozen=True)
 class Material:
-    """Tables by the numbers that they have in the pool, and rows in the numbering of the CSV files."""
+    """Tables by the numbers that they have in the pool, and rows in the numbering of the CSV
+    files."""
 
     product: str  # one of PRODUCTS
     pool: Pool
@@ -73,7 +74,10 @@ def of_schema(pool: Pool, product: str) -> Material:
     database = sqlite3.connect(":memory:")
     for at, (held, made) in enumerate(zip(pool.held, statements(""))):
         database.execute(made)
-        put = f"INSERT INTO {quoted(held.table.name)} VALUES ({', '.join('?' * len(held.table.columns))})"
+        put = (
+            f"INSERT INTO {quoted(held.table.name)} VALUES"
+            f" ({', '.join('?' * len(held.table.columns))})"
+        )
         for row in sorted(row for row in pool.lawful if row.table == at):
             try:
                 database.execute(put, held.rows[row.number])

@@ -42,8 +42,8 @@ class Grade(StrEnum):
     WRONG_SQL = "wrong SQL"  # the database refuses it too
     NOT_READ = "not read"  # `ratest` refuses it, or its file is no text of one statement
     NOT_DETERMINED = "not determined"  # it depends on the order in which the rows are stored
-    NO_VERDICT = (
-        "no verdict"  # a limit of size, work, time or memory, or the budget without a result
+    NO_VERDICT = (  # a limit of size, work, time or memory, or the budget without a result
+        "no verdict"
     )
     NOT_GRADED = "not graded"  # the task's own reference is refused
 
@@ -200,7 +200,8 @@ class Meaning(NamedTuple):
 
 
 def verdict_of(outcome: Outcome, status: int = 0, is_wrong: bool = False) -> Meaning:
-    """The verdict of an outcome of a call with this exit status. `is_wrong`: a database refuses the query too."""
+    """The verdict of an outcome of a call with this exit status. `is_wrong`: a database refuses the
+    query too."""
     if isinstance(outcome, witness.Agree):
         return Meaning(Grade.AGREES)
     if isinstance(outcome, witness.Witness):
@@ -210,7 +211,10 @@ def verdict_of(outcome: Outcome, status: int = 0, is_wrong: bool = False) -> Mea
             return Meaning(Grade.DIFFERS, remarks=(PERHAPS_FEWER,))
         return Meaning(
             Grade.NO_VERDICT,
-            f"{counted(outcome.conflicts, 'conflict')} {'was' if outcome.conflicts == 1 else 'were'} not enough",
+            (
+                f"{counted(outcome.conflicts, 'conflict')} {'was' if outcome.conflicts == 1 else 'were'} not"
+                " enough"
+            ),
         )
     if isinstance(outcome, witness.Refused):
         if outcome.part == "queries" and outcome.fault == "numbers of columns differ":
@@ -281,7 +285,8 @@ def graded(
 
 
 def with_trial(of: Graded, found: Verdict, said: Settings, key: str = "") -> Graded:
-    """The grade with what a database said of an answer that `ratest` doesn't decide, or of one that agrees."""
+    """The grade with what a database said of an answer that `ratest` doesn't decide, or of one that
+    agrees."""
     of = replace(of, trial=found, trial_key=key)
     outcome = found.outcome
     if of.grade == Grade.AGREES:
@@ -293,7 +298,8 @@ def with_trial(of: Graded, found: Verdict, said: Settings, key: str = "") -> Gra
             remark for remark in found.remarks if remark.difference not in (DUPLICATES, ORDER)
         ]
         if others:
-            # As a time that is compared as a text in the CSV files: whoever is right, a teacher looks at it.
+            # As a time that is compared as a text in the CSV files: whoever is right, a teacher
+            # looks at it.
             return replace(
                 of, remarks=(*of.remarks, f"agrees {words.remark(others[0])}"), is_open=True
             )
@@ -384,7 +390,8 @@ FORMULA = ("=", "+", "-", "@", "\t", "\r", "\n")
 
 
 def safe(cell: str) -> str:
-    """A cell that no spreadsheet runs: one that it would take for a formula gets a quote in front."""
+    """A cell that no spreadsheet runs: one that it would take for a formula gets a quote in
+    front."""
     return f"'{cell}" if cell.startswith(FORMULA) else cell
 
 
@@ -393,7 +400,8 @@ def number(points: float) -> str:
 
 
 def results_json(graded: Sequence[Graded]) -> bytes:
-    """For an autograder, as Gradescope reads it: one test an answer that has a score, with what decided it."""
+    """For an autograder, as Gradescope reads it: one test an answer that has a score, with what
+    decided it."""
     tests = [
         {
             "name": f"{of.task.label}/{of.answer.label}",
@@ -417,7 +425,8 @@ def output(of: Graded) -> str:
 
 
 def answer_text(of: Graded) -> bytes:
-    """The status in the first line, and then what was printed, byte for byte; then what a database said."""
+    """The status in the first line, and then what was printed, byte for byte; then what a database
+    said."""
     trial = words.text(of.trial).encode("utf-8", "replace") if of.trial and of.is_tried else b""
     if of.ran is None:
         return trial or f"{of.grade}: {of.whole_fault}\n".encode("utf-8", "replace")
@@ -443,4 +452,7 @@ def by_hand(graded: Sequence[Graded]) -> Iterator[str]:
     for task, reasons in left.items():
         for reason, names in sorted(reasons.items(), key=lambda item: -len(item[1])):
             more = f" and {len(names) - MOST_NAMES} more" if len(names) > MOST_NAMES else ""
-            yield f"  task {shown(task)}: {counted(len(names), 'answer')}: {shown(reason)} ({shown(*names[:MOST_NAMES])}{more})"
+            yield (
+                f"  task {shown(task)}: {counted(len(names), 'answer')}:"
+                f" {shown(reason)} ({shown(*names[:MOST_NAMES])}{more})"
+            )

@@ -1,5 +1,5 @@
-"""Opens an exercise for whatever asks `ratest` about it: the program, the limits, and which tasks can be
-graded.
+"""Opens an exercise for whatever asks `ratest` about it: the program, the limits, and which tasks
+can be graded.
 
 A reference that is refused stops its own task alone; of it `Task.fault` tells why.
 """
@@ -91,8 +91,8 @@ def opened(arguments: argparse.Namespace, seconds: float, conflicts: int | None 
 def asked(
     given: Exercise, ratest: Path, limits: Limits, options: Sequence[str], goes_on: bool = False
 ) -> Exercise:
-    """The exercise with what is found of each reference. Where the schema or a row is refused, it is a Fault; if
-    it goes on it is that of each task."""
+    """The exercise with what is found of each reference. Where the schema or a row is refused, it
+    is a Fault; if it goes on it is that of each task."""
     limits = limits._replace(seconds=min(limits.seconds, REFERENCE_SECONDS))
     with tempfile.TemporaryDirectory(prefix="classroom-") as name:
         work = Path(name)

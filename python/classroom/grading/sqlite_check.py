@@ -1,9 +1,9 @@
 """Tells whether SQLite refuses a query over tables: `sqlite_check.py TABLES QUERY`, two files.
 
-TABLES is JSON, a list of a table's name and the names of its columns. What is printed is JSON, too: the
-message where SQLite refuses, "" where it doesn't, and null where it can't tell. The query is compiled and
-never run, and may do nothing but read. This stands alone, so that it starts fast and within limits.
-"""
+TABLES is JSON, a list of a table's name and the names of its columns. What is printed is JSON, too:
+the message where SQLite refuses, "" where it doesn't, and null where it can't tell. The query is
+compiled and never run, and may do nothing but read. This stands alone, so that it starts fast and
+within limits. """
 from __future__ import annotations
 
 import json
@@ -16,7 +16,8 @@ ALLOWED = (
     sqlite3.SQLITE_FUNCTION,
     sqlite3.SQLITE_RECURSIVE,
 )
-# The beginnings, or parts, of what SQLite says where the fault is the query's and no limit of its own.
+# The beginnings, or parts, of what SQLite says where the fault is the query's and no limit of its
+# own.
 REFUSALS = (
     "no such table",
     "no such column",

@@ -7,9 +7,9 @@
     written.json            which texts and records were written: what else stands there is never removed
     grades.csv, results.json, page.html
 
-A record's key is a digest of all that decides the outcome: the program, the schema, the rows, the reference,
-the answer's bytes and the options. So an answer that changed has no record, and one with the bytes of
-another answer has that one's. Every file is written under another name and renamed.
+A record's key is a digest of all that decides the outcome: the program, the schema, the rows, the
+reference, the answer's bytes and the options. So an answer that changed has no record, and one with
+the bytes of another answer has that one's. Every file is written under another name and renamed.
 """
 from __future__ import annotations
 
@@ -49,7 +49,8 @@ class Results:
 
     @contextmanager
     def held(self) -> Iterator[Path]:
-        """Holds the folder against a second run, and gives an empty folder for what is needed meanwhile."""
+        """Holds the folder against a second run, and gives an empty folder for what is needed
+        meanwhile."""
         self.runs.mkdir(parents=True, exist_ok=True)
         lock = os.open(self.folder, os.O_RDONLY)
         try:
@@ -106,9 +107,8 @@ class Results:
     def is_final(self, key: str, limits: Limits) -> bool:
         """Whether a further run with these limits would bring nothing else than what is kept.
 
-        A run that passed a limit is final for just these limits. One that was ended by a signal, or failed
-        over a file, is not final.
-        """
+        A run that passed a limit is final for just these limits. One that was ended by a signal, or
+        failed over a file, is not final."""
         record = self._record(key)
         if not record:
             return False
@@ -127,7 +127,8 @@ class Results:
             return None
 
     def note_refusal(self, key: str, engine: str, fault: str) -> None:
-        """Writes into the record of a run what a database says of the query; empty where it takes it."""
+        """Writes into the record of a run what a database says of the query; empty where it takes
+        it."""
         record = self._record(key)
         if record:
             write(self.path(key), _json({**record, "database": {"engine": engine, "fault": fault}}))
@@ -148,8 +149,8 @@ class Results:
             return None
 
     def publish(self, given: Exercise, graded: Sequence[Graded]) -> None:
-        """Writes what is made of all records, and removes what was written before and belongs to no answer any
-        more. What else there is in the folder is left alone."""
+        """Writes what is made of all records, and removes what was written before and belongs to no
+        answer any more. What else there is in the folder is left alone."""
         texts = {f"tasks/{of.task.name}/{of.answer.name}.txt": of for of in graded}
         wanted = {
             *texts,
@@ -193,7 +194,8 @@ class Results:
                 path.parent.mkdir(parents=True, exist_ok=True)
             except (FileExistsError, NotADirectoryError):
                 raise Fault(
-                    f"{shown(str(path.parent))}: no folder, so the texts of its answers are not written"
+                    f"{shown(str(path.parent))}: no folder, so the texts of its answers are not"
+                    " written"
                 ) from None
             write(path, grades.answer_text(of))
         for name in written - wanted:
@@ -201,13 +203,15 @@ class Results:
         write(self.folder / WRITTEN, _json(sorted(wanted)))
 
     def will_write(self, names: Iterable[str]) -> None:
-        """Adds names to the list of what was written, before they are: so what a killed run leaves is known."""
+        """Adds names to the list of what was written, before they are: so what a killed run leaves
+        is known."""
         known, names = self._written(), set(names)
         if not names <= known:
             write(self.folder / WRITTEN, _json(sorted(known | names)))
 
     def _written(self) -> set[str]:
-        """The files below the folder that a run has written, by the list; where there is none yet, by answers.json."""
+        """The files below the folder that a run has written, by the list; where there is none yet,
+        by answers.json."""
         try:
             return {
                 str(name)
@@ -237,8 +241,8 @@ class Results:
             pass  # a folder in which something else stands, or a file in place of a folder
 
     def graded(self, given: Exercise) -> tuple[Exercise, list[Graded]]:
-        """The exercise with what was found of its references, and the grades, as they were published; a Fault
-        where something has changed since."""
+        """The exercise with what was found of its references, and the grades, as they were
+        published; a Fault where something has changed since."""
         try:
             kept = json.loads((self.folder / "answers.json").read_bytes())
             known = {(of["task"], of["answer"]): of for of in kept["answers"]}

@@ -1,5 +1,5 @@
-"""Tries the answers of an exercise that `ratest` leaves open, and says of those that agree what differs in
-duplicates or order.
+"""Tries the answers of an exercise that `ratest` leaves open, and says of those that agree what
+differs in duplicates or order.
 
 A database answers, so what comes of it is called tried wherever it is shown, and never proved.
 """
@@ -52,8 +52,10 @@ def add_arguments(parser: argparse.ArgumentParser) -> None:
     parser.add_argument(
         "--engine",
         metavar="ENGINE",
-        help="what tries the answers that `ratest` doesn't decide: sqlite, or the "
-        "connection of an empty database of PostgreSQL; else as exercise.toml says",
+        help=(
+            "what tries the answers that `ratest` doesn't decide: sqlite, or the "
+            "connection of an empty database of PostgreSQL; else as exercise.toml says"
+        ),
     )
 
 
@@ -111,8 +113,8 @@ def trial_over(
     seconds: float,
     engine: str | None = None,
 ) -> Trial:
-    """How is tried over the rows as a database had them; where there are none of the engine's product, over the plain
-    rows of the CSV files."""
+    """How is tried over the rows as a database had them; where there are none of the engine's
+    product, over the plain rows of the CSV files."""
     library("sqlglot", "python3-sqlglot")
     word = engine or said.engine or (held.product if held else SQLITE)
     product = product_of(word)
@@ -120,7 +122,8 @@ def trial_over(
         held = material.of_schema(plain(), product)
     if product == POSTGRESQL and (word == POSTGRESQL or not said.engine_asker):
         raise Fault(
-            "exercise.toml: engine and engine_asker: the connections of two roles of PostgreSQL are wanted, as docs/GUIDE.md tells"
+            "exercise.toml: engine and engine_asker: the connections of two roles of PostgreSQL are"
+            " wanted, as docs/GUIDE.md tells"
         )
     wants = [said.duplicates == "wrong", said.order == "wrong"]
     loader, asker = (word, said.engine_asker) if product == POSTGRESQL else ("", "")
@@ -136,7 +139,8 @@ def trial_over(
 
 
 def wanted(arguments: argparse.Namespace, given: Exercise, seconds: float) -> Trial | None:
-    """How they are tried by the options of a command; None where nothing is to be tried, or can't be, which is told."""
+    """How they are tried by the options of a command; None where nothing is to be tried, or can't
+    be, which is told."""
     if arguments.only_proved:
         return None
     try:
@@ -147,7 +151,8 @@ def wanted(arguments: argparse.Namespace, given: Exercise, seconds: float) -> Tr
 
 
 def is_same(held: Material, given: Exercise) -> bool:
-    """Whether each table of schema.sql has as many rows in the CSV file as in the picture of the database."""
+    """Whether each table of schema.sql has as many rows in the CSV file as in the picture of the
+    database."""
     counts = {of.table.name: len(of.rows) for of in held.pool.held}
     for table in given.tables:
         lines = csv.reader(
@@ -166,7 +171,8 @@ def product_of(word: str) -> str:
     if "=" in word or re.match("postgres(ql)?://", word):
         return POSTGRESQL
     raise Fault(
-        f"engine: {shown(word)}: sqlite is wanted, or a connection as postgresql://USER@HOST/DATABASE"
+        f"engine: {shown(word)}: sqlite is wanted, or a connection as"
+        " postgresql://USER@HOST/DATABASE"
     )
 
 
@@ -181,7 +187,8 @@ def is_open(outcome: Outcome) -> bool:
 
 @dataclass(frozen=True)
 class Question:
-    """A pair that is tried; of one that agrees, as proved, only duplicates and order are looked at."""
+    """A pair that is tried; of one that agrees, as proved, only duplicates and order are looked
+    at."""
 
     task: Task
     answer: Answer
@@ -221,7 +228,8 @@ def question(
 
 
 def says_of_answer(found: Verdict | None) -> bool:
-    """Whether a trial says something of the answer, and not only why the reference can't be tried."""
+    """Whether a trial says something of the answer, and not only why the reference can't be
+    tried."""
     return found is not None and not (
         isinstance(found.outcome, (WrongSql, Barred, Passed)) and found.outcome.is_reference
     )
@@ -230,8 +238,8 @@ def says_of_answer(found: Verdict | None) -> bool:
 def verdicts(
     trial: Trial, asked: Mapping[str, Pair], jobs: int | None
 ) -> Iterator[tuple[str, Verdict]]:
-    """The verdicts by the keys of the pairs, as they come. An engine that can't be had ends it with a Fault; a
-    question whose process fails has no verdict, which is told."""
+    """The verdicts by the keys of the pairs, as they come. An engine that can't be had ends it with
+    a Fault; a question whose process fails has no verdict, which is told."""
     with asking.trier(trial.material, trial.options) as trier, asking.threads(
         trier, jobs
     ) as threads:

@@ -1,4 +1,5 @@
-"""Whether an answer that `ratest` refuses is wrong SQL: whether SQLite refuses it over the same tables, too.
+"""Whether an answer that `ratest` refuses is wrong SQL: whether SQLite refuses it over the same
+tables, too.
 
 Each text is compiled in a process of its own, within limits, since a hostile one may take long.
 """

@@ -46,8 +46,8 @@ def ask(
     python: Sequence[str] = (sys.executable,),
     started: Callable[[subprocess.Popen[bytes]], None] = lambda process: None,
 ) -> dict[str, Mistake]:
-    """What is found for the answers, by their keys; of one that took too long, that. `python` are the words that
-    call an interpreter. `started` gets the process."""
+    """What is found for the answers, by their keys; of one that took too long, that. `python` are
+    the words that call an interpreter. `started` gets the process."""
     most = seconds or BEGIN + len(answers) * (EACH + SECONDS_DEEP * means.deep)
     with tempfile.TemporaryDirectory(prefix="repair-") as name:
         work = Path(name) / "work"

@@ -1,4 +1,5 @@
-"""The mistakes of a whole class: each different text once, and what is kept of it for the next time."""
+"""The mistakes of a whole class: each different text once, and what is kept of it for the next
+time."""
 from __future__ import annotations
 
 import json
@@ -110,8 +111,8 @@ class Mistakes:
             threads.shutdown()
 
     def how(self, of: Graded) -> Looked | None:
-        """How the mistake of an answer is looked for; None where nothing differs, or another database decided than may be
-        asked here."""
+        """How the mistake of an answer is looked for; None where nothing differs, or another
+        database decided than may be asked here."""
         found = looked.of_graded(of, self.given.settings)
         return found if found and found.product in ("", SQLITE, POSTGRESQL) else None
 
@@ -128,7 +129,8 @@ class Mistakes:
             return None
         if found.material.product != POSTGRESQL:
             log.warning(
-                "mistakes are not looked for where PostgreSQL decides: exercise.toml has no engine and engine_asker"
+                "mistakes are not looked for where PostgreSQL decides: exercise.toml has no engine"
+                " and engine_asker"
             )
             return None
         return found

@@ -47,8 +47,8 @@ class Mistake:
 
     @property
     def name(self) -> str:
-        """By what answers are one class: as the reference with the change, else what has to be changed in the
-        answer; empty where nothing was found."""
+        """By what answers are one class: as the reference with the change, else what has to be
+        changed in the answer; empty where nothing was found."""
         if self.classes:
             first = self.classes[0]
             if first.mistake == "always empty":

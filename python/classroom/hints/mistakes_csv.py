@@ -1,5 +1,5 @@
-"""The mistakes of a class as a table: for each task the mistakes, the most frequent first, with how many answers
-have one and where."""
+"""The mistakes of a class as a table: for each task the mistakes, the most frequent first, with how
+many answers have one and where."""
 from __future__ import annotations
 
 import csv

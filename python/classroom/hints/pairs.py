@@ -1,8 +1,7 @@
 """Two changes of an answer with which it agrees, where one is not enough.
 
-The first changes are those with which the answer is right on the most parts of the rows; to each the second ones
-are tried as single changes are.
-"""
+The first changes are those with which the answer is right on the most parts of the rows; to each
+the second ones are tried as single changes are. """
 from __future__ import annotations
 
 import time
@@ -21,8 +20,8 @@ STEPS = 100_000  # of SQLite's machine for the second changes to one first, in h
 
 
 def pair(search: Search, answer: str, seconds: float) -> tuple[Edit, ...]:
-    """Two changes, of which the second is one of the text that the first makes; none where none were found within
-    the time."""
+    """Two changes, of which the second is one of the text that the first makes; none where none
+    were found within the time."""
     end = time.monotonic() + seconds
     found: list[tuple[Edit, Edit]] = []
     seen: set[str] = set()
@@ -57,7 +56,8 @@ def pair(search: Search, answer: str, seconds: float) -> tuple[Edit, ...]:
 
 
 def best(search: Search, answer: str, end: float) -> list[Edit]:
-    """The changes with which the answer comes nearest to the reference's, by the parts of the rows."""
+    """The changes with which the answer comes nearest to the reference's, by the parts of the
+    rows."""
     query = Query.of(answer, search.words.of(answer))
     made = edits(query)
     texts = [for_sqlite(edit.text) for edit in made]

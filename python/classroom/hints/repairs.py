@@ -1,9 +1,10 @@
-"""The search for the repairs and the classes of answers, proved, or tried where `ratest` doesn't read the queries.
+"""The search for the repairs and the classes of answers, proved, or tried where `ratest` doesn't
+read the queries.
 
-A repair is a change of one place of an answer with which it is proved to agree with the reference on every
-lawful part of the exercise's rows. A class is a change of the reference that agrees in the same way with the
-answer: which mistake it is. What a guard refutes, other rows on which the two differ, is neither.
-"""
+A repair is a change of one place of an answer with which it is proved to agree with the reference
+on every lawful part of the exercise's rows. A class is a change of the reference that agrees in the
+same way with the answer: which mistake it is. What a guard refutes, other rows on which the two
+differ, is neither. """
 from __future__ import annotations
 
 import sqlite3
@@ -25,8 +26,8 @@ from classroom.edits.pair_vocabulary import Words
 from classroom.process.limits import Limits
 from classroom.verdict.compare import DUPLICATES, ORDER, ROWS
 
-# Of SQLite's machine for the changes of one answer, in hundreds of two: some two seconds. What is left then is not
-# tried, the cheapest changes go first.
+# Of SQLite's machine for the changes of one answer, in hundreds of two: some two seconds. What is
+# left then is not tried, the cheapest changes go first.
 MOST_STEPS = 500_000
 # Of the rows that are made, with few parts each: several sets show more than one that is larger.
 SEEDS = tuple(str(number) for number in range(1, 13))
@@ -66,9 +67,9 @@ class Ground:
         holds: Callable[[Pool], Holds] = Database,
         engine: str = ENGINE,
     ) -> None:
-        """`guard` are other rows of the schema, as those that an exercise was picked of; `work` is an empty
-        folder for as long as the ground is used. `kind`: as what rows are compared; `holds` are the databases that hold
-        them, of this engine."""
+        """`guard` are other rows of the schema, as those that an exercise was picked of; `work` is
+        an empty folder for as long as the ground is used. `kind`: as what rows are compared;
+        `holds` are the databases that hold them, of this engine."""
         self.rows = rows
         self.schema = rows.schema.decode("utf-8", "replace")
         self.work, self.limits = work, limits
@@ -96,8 +97,9 @@ class Search:
     """Over one reference."""
 
     def __init__(self, ground: Ground, reference: str, is_tried: bool = False) -> None:
-        """A Fault where sqlglot doesn't read the reference. `is_tried`: nothing is proved, and SQLite's answers on
-        many parts take the place of that; then a Fault too where it has none."""
+        """A Fault where sqlglot doesn't read the reference. `is_tried`: nothing is proved, and
+        SQLite's answers on many parts take the place of that; then a Fault too where it has
+        none."""
         self.ground = ground
         self.is_tried = is_tried
         self.base = ground.wide if is_tried else ground.base
@@ -117,7 +119,8 @@ class Search:
 
     @cached_property
     def guards(self) -> list[Base]:
-        """Those of the exercise, and rows that are made for the schema and the constants of the reference."""
+        """Those of the exercise, and rows that are made for the schema and the constants of the
+        reference."""
         return [*self.ground.guards, *self.made()]
 
     def made(self) -> list[Base]:
@@ -190,8 +193,8 @@ class Search:
 
 
 def families_of(families: Sequence[Family], kind: str) -> tuple[Family, ...]:
-    """With those of queries beyond the proved language; of answers that differ in duplicates those of duplicates too, and
-    of those that differ in order those of order alone."""
+    """With those of queries beyond the proved language; of answers that differ in duplicates those
+    of duplicates too, and of those that differ in order those of order alone."""
     return (
         ORDERED
         if kind == ORDER
@@ -200,7 +203,8 @@ def families_of(families: Sequence[Family], kind: str) -> tuple[Family, ...]:
 
 
 class Changed:
-    """The changes of a reference with their answers on the parts, which are kept for the answers of a class."""
+    """The changes of a reference with their answers on the parts, which are kept for the answers of
+    a class."""
 
     def __init__(self, query: Query, base: Base, families: Sequence[Family]) -> None:
         self.query = query

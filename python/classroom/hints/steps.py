@@ -1,8 +1,7 @@
 """What a student is told of a repair, in steps: the clause, the place, the kind of mistake.
 
-Never the changed text, and never a part of the reference. A place is one of the student's own text, and no
-sentence has a word of SQL but those that are in this text.
-"""
+Never the changed text, and never a part of the reference. A place is one of the student's own text,
+and no sentence has a word of SQL but those that are in this text. """
 from __future__ import annotations
 
 from dataclasses import dataclass
@@ -51,10 +50,13 @@ SOME_ROW, NO_ROW = (
     "You ask that there is no row; ask for some.",
 )
 PROVED = (
-    "One change in {where} is enough: with it your query answers rightly, apart from duplicates and order, on "
-    "every part of these rows."
+    "One change in {where} is enough: with it your query answers rightly, apart from duplicates and"
+    " order, on every part of these rows."
 )
-TRIED = "One change in {where} is enough, as far as was tried: with it your query answered rightly on {count} parts of these rows."
+TRIED = (
+    "One change in {where} is enough, as far as was tried: with it your query answered rightly on"
+    " {count} parts of these rows."
+)
 OTHERS = "There are other places where one change would do."
 
 
@@ -68,7 +70,8 @@ class Hint:
 
 
 def highest(found: Found) -> int:
-    """The highest step that can be told: without a place of the own text, or without a guard, the clause alone."""
+    """The highest step that can be told: without a place of the own text, or without a guard, the
+    clause alone."""
     if found.best is None:
         return 0
     return KIND if found.is_guarded and found.query.is_own else CLAUSE
@@ -95,7 +98,8 @@ def hints(found: Found, most: int) -> list[Hint]:
 
 
 def where(edit: Edit, clauses: Clauses) -> str:
-    """The clause in words. A condition that is to be added where there is none is not said to be in FROM."""
+    """The clause in words. A condition that is to be added where there is none is not said to be in
+    FROM."""
     clause = edit.clause
     if edit.kind in ADDED and clause.name == FROM:
         clause = Clause(WHOLE, clause.number, clause.depth)

@@ -1,4 +1,5 @@
-"""As what a mistake is looked for: in the rows, in how often they come, or in their order; and by whom it is decided."""
+"""As what a mistake is looked for: in the rows, in how often they come, or in their order; and by
+whom it is decided."""
 from __future__ import annotations
 
 from dataclasses import dataclass
@@ -23,8 +24,9 @@ class Looked:
 
 
 def looked(is_proved: bool, trial: Verdict | None, said: Settings) -> Looked | None:
-    """How a mistake is looked for: `is_proved` tells that `ratest` found a difference, else the database that tried may have
-    said so, or have remarked on duplicates or order; None where nothing differs."""
+    """How a mistake is looked for: `is_proved` tells that `ratest` found a difference, else the
+    database that tried may have said so, or have remarked on duplicates or order; None where
+    nothing differs."""
     if is_proved:
         return Looked()
     if trial is None:

@@ -1,8 +1,7 @@
 """Who has which points: the students of a class against its tasks.
 
-Students are those of the class list, in its order, and then those who answered and are not in it, by name. Where there
-is no list each name of an answer is a student.
-"""
+Students are those of the class list, in its order, and then those who answered and are not in it,
+by name. Where there is no list each name of an answer is a student. """
 from __future__ import annotations
 
 import csv
@@ -58,7 +57,8 @@ def cell(of: Graded | None) -> str:
 
 
 def class_csv(given: Exercise, found: Sequence[Standing]) -> bytes:
-    """A line a student: id, name, a column a task, the points in all, and how many answers are still open."""
+    """A line a student: id, name, a column a task, the points in all, and how many answers are
+    still open."""
     text = io.StringIO(newline="")
     lines = csv.writer(text, lineterminator="\n")
     lines.writerow(["id", "name", *(safe(task.label) for task in given.tasks), "points", "open"])

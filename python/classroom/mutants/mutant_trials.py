@@ -31,8 +31,8 @@ def mutants(
 
 
 def of_task(task: Task, tables: Sequence[Table], said: Settings) -> tuple[Question, list[Question]]:
-    """A task's reference as it is written back, and its mutants; a Fault where they can't be made. Those of duplicates
-    and of order are made where these count."""
+    """A task's reference as it is written back, and its mutants; a Fault where they can't be made.
+    Those of duplicates and of order are made where these count."""
     families = (
         *MISTAKES,
         *TRIED,
@@ -64,7 +64,8 @@ def keys(trial: Trial, made: Iterable[Question]) -> dict[Question, str]:
 def asked(
     trial: Trial, made: Sequence[Question], results: Results, jobs: int | None
 ) -> dict[Question, verdict.Verdict]:
-    """The verdicts that are kept, and those of the database; none where its process failed, which is told."""
+    """The verdicts that are kept, and those of the database; none where its process failed, which
+    is told."""
     known = keys(trial, made)
     left = {
         key: Pair(of.reference, of.text, f"task {shown(of.label)}")

@@ -27,8 +27,8 @@ def plain(query: str) -> str:
 def mutants(
     query: str, tables: Sequence[Table], families: Sequence[Family] = MISTAKES
 ) -> list[Mutant]:
-    """The mutants of a query over these tables, each text once: by their places in the query, and at one
-    place by the families. A Fault where sqlglot doesn't read it."""
+    """The mutants of a query over these tables, each text once: by their places in the query, and
+    at one place by the families. A Fault where sqlglot doesn't read it."""
     whole = Query.plain(query, of_tables(tables))
     found: dict[str, Mutant] = {}
     for node in whole.nodes():

@@ -22,7 +22,8 @@ class Judged:
 
 
 def check_written_back(back: Sequence[Question], verdicts: Sequence[Verdict]) -> None:
-    """A Fault where sqlglot doesn't write a reference back as it means: its mutants would be others."""
+    """A Fault where sqlglot doesn't write a reference back as it means: its mutants would be
+    others."""
     for of, verdict in zip(back, verdicts):
         if verdict.kind in (TOLD, REFUSED):
             raise Fault(
@@ -66,18 +67,22 @@ def untold(made: Sequence[Judged]) -> Iterator[str]:
     for one in kept(made):
         if one.verdict.kind != TOLD:
             why = f", {shown(one.verdict.why)}" if one.verdict.why else ""
-            yield f"  {one.verdict.kind}{why}: {shown(one.of.mistake or f'the answer {one.of.name}')}"
+            yield (
+                f"  {one.verdict.kind}{why}: {shown(one.of.mistake or f'the answer {one.of.name}')}"
+            )
             yield f"    {shown(' '.join(one.of.text.decode('utf-8', 'replace').split()))}"
 
 
 def summary(made: Sequence[Judged], noun: str = "mutant") -> str:
-    """As `46 of 48 mutants told, 9 of 11 mutants told (tried)`: what is proved and what is tried are never one count."""
+    """As `46 of 48 mutants told, 9 of 11 mutants told (tried)`: what is proved and what is tried
+    are never one count."""
     read = kept(made)
     proved, tried = (
         [one for one in read if one.of.is_tried == is_tried] for is_tried in (False, True)
     )
     return ", ".join(
-        f"{sum(one.verdict.kind == TOLD for one in group)} of {counted(len(group), noun)} told{label}"
+        f"{sum(one.verdict.kind == TOLD for one in group)} of"
+        f" {counted(len(group), noun)} told{label}"
         for group, label in ((proved, ""), (tried, " (tried)"))
         if group or not (tried or label)
     )

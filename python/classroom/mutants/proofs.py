@@ -73,7 +73,8 @@ class Verdicts:
     def grade(
         self, asked: Sequence[Question], means: parallel.Means, work: Path
     ) -> dict[str, Verdict]:
-        """The verdicts by their keys. What passes a limit of time or memory in a list is asked once more alone."""
+        """The verdicts by their keys. What passes a limit of time or memory in a list is asked once
+        more alone."""
         found = {self.key(of): verdict for of in asked if (verdict := self.kept(of))}
         for most in (SHORT_LIST, 1):
             left = {self.key(of): of for of in asked if self.key(of) not in found}

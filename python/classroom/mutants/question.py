@@ -1,4 +1,5 @@
-"""What an exercise is asked about: the mutants of each reference, and the answers that are there."""
+"""What an exercise is asked about: the mutants of each reference, and the answers that are
+there."""
 from __future__ import annotations
 
 from collections.abc import Sequence

@@ -1,8 +1,8 @@
 """The class list: who is in the class, and under which numbers the platforms know them.
 
-A CSV file in UTF-8 with a header: `id` and `name`, and `moodle`, `canvas` and `email` where they are needed; other
-columns are passed over. Answers of a student are the files ID.sql. Commas or semicolons part the cells.
-"""
+A CSV file in UTF-8 with a header: `id` and `name`, and `moodle`, `canvas` and `email` where they
+are needed; other columns are passed over. Answers of a student are the files ID.sql. Commas or
+semicolons part the cells. """
 from __future__ import annotations
 
 import csv
@@ -18,7 +18,8 @@ from classroom.base import files as reading
 from classroom.base.errors import Fault, shown
 
 MOST_BYTES = 4_000_000
-# A name of a file has at most 255 bytes, of which four are `.sql` and some those of a name meanwhile.
+# A name of a file has at most 255 bytes, of which four are `.sql` and some those of a name
+# meanwhile.
 MOST_ID = 200
 NEEDED = ("id", "name")
 # The columns by which a platform's archive names a student, each of whose numbers is one student's.
@@ -112,8 +113,8 @@ def student_of(header: Sequence[str], cells: Sequence[str], line: int) -> Studen
 
 
 def check_new(student: Student, seen: dict[tuple[str, str], int], line: int) -> None:
-    """A Fault where an earlier line has the id, or one of the numbers. Names of files that differ in capitals
-    alone are one on some systems."""
+    """A Fault where an earlier line has the id, or one of the numbers. Names of files that differ
+    in capitals alone are one on some systems."""
     for column in ("id", *NUMBERS):
         value = getattr(student, column).casefold()
         if value and seen.setdefault((column, value), line) != line:

@@ -1,5 +1,5 @@
-"""Asks about queries over some rows, many at once or one after another, and keeps what comes of it: `ratest`, or where it
-doesn't read them a database."""
+"""Asks about queries over some rows, many at once or one after another, and keeps what comes of it:
+`ratest`, or where it doesn't read them a database."""
 from __future__ import annotations
 
 from collections.abc import Collection, Mapping, Sequence

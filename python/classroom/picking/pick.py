@@ -63,7 +63,8 @@ def pick(source: str, folder: Path, wanted: Wanted) -> int:
     """Writes the picked rows into the folder, and prints what they tell; gives the exit status."""
     if folder.is_dir() and Path(source).is_dir() and folder.samefile(source):
         raise Fault(
-            f"{shown(source)}: the rows of this folder would be written over; take another one for the picked rows"
+            f"{shown(source)}: the rows of this folder would be written over; take another one for"
+            " the picked rows"
         )
     pool, notes = sources.read(source)
     for note in notes:
@@ -85,7 +86,8 @@ def pick(source: str, folder: Path, wanted: Wanted) -> int:
         lost = [one.of for one in made if one.of in chosen and is_lost(one, chosen[one.of])]
         if lost:
             raise Fault(
-                f"{len(lost)} queries are not told by the picked rows as before, as {shown(lost[0].label)}"
+                f"{len(lost)} queries are not told by the picked rows as before, as"
+                f" {shown(lost[0].label)}"
             )
         for name, text in files.items():
             write(folder / name, text)
@@ -102,7 +104,8 @@ def pick(source: str, folder: Path, wanted: Wanted) -> int:
 def tries(
     held: Picture, said: Settings, wanted: Wanted, results: Results, work: Path, used: set[str]
 ) -> Trying | None:
-    """What tries the queries that `ratest` doesn't read; None where nothing is tried, or can't be, which is told."""
+    """What tries the queries that `ratest` doesn't read; None where nothing is tried, or can't be,
+    which is told."""
     if wanted.only_proved:
         return None
     try:

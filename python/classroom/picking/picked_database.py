@@ -1,4 +1,5 @@
-"""The rows of a source as its database has them, of which a part can be taken: `full.db` or `full.sql`."""
+"""The rows of a source as its database has them, of which a part can be taken: `full.db` or
+`full.sql`."""
 from __future__ import annotations
 
 import logging
@@ -20,14 +21,16 @@ log = logging.getLogger(__name__)
 
 @dataclass(frozen=True)
 class Picture:
-    """Of what it is taken: a name that `opened` takes, or the bytes of a script; neither where there is none."""
+    """Of what it is taken: a name that `opened` takes, or the bytes of a script; neither where
+    there is none."""
 
     pool: Pool
     database: str = ""
     script: bytes = b""
 
     def part(self, rows: Collection[Row]) -> tuple[str, bytes] | None:
-        """The name and the bytes of the file that has these rows alone; None where there is none, which is told."""
+        """The name and the bytes of the file that has these rows alone; None where there is none,
+        which is told."""
         numbers = {
             held.table.name: sorted(row.number + 1 for row in rows if row.table == at)
             for at, held in enumerate(self.pool.held)
@@ -70,7 +73,8 @@ class Picture:
         return full.read(folder)
 
     def keep(self, folder: Path, rows: Collection[Row]) -> None:
-        """Writes the file of some rows into the folder of an exercise, in place of what is there."""
+        """Writes the file of some rows into the folder of an exercise, in place of what is
+        there."""
         made = self.part(rows)
         for name in FULL:
             (folder / name).unlink(missing_ok=True)

@@ -1,5 +1,5 @@
-"""The tasks that rows are picked for, and what is asked about each: by `ratest`, or where it doesn't read the reference or
-an answer by a database."""
+"""The tasks that rows are picked for, and what is asked about each: by `ratest`, or where it
+doesn't read the reference or an answer by a database."""
 from __future__ import annotations
 
 import logging
@@ -27,7 +27,8 @@ log = logging.getLogger(__name__)
 
 
 def tasks_for(source: str, folder: Path) -> Sequence[Task]:
-    """The tasks of the folder; where it has none, those of the source are copied into it with exercise.toml."""
+    """The tasks of the folder; where it has none, those of the source are copied into it with
+    exercise.toml."""
     tasks = exercise.tasks_of(folder)[0] if folder.is_dir() else ()
     if tasks:
         return tasks
@@ -77,8 +78,8 @@ class Tasks:
         return Together(self.proving, self.trying)
 
     def add(self, given: Sequence[Task]) -> None:
-        """Adds the tasks; of those that can't be asked about it is told why not. A Fault where the schema or a row is
-        refused, or no task is left."""
+        """Adds the tasks; of those that can't be asked about it is told why not. A Fault where the
+        schema or a row is refused, or no task is left."""
         for task in given:
             try:
                 self.asked += [*self.mutants(task), *self.answers(task)]

@@ -12,7 +12,8 @@ AT_ONCE = 4
 
 
 def within(told: Mapping[Question, Rows], most: int) -> dict[Question, Rows]:
-    """Witnesses whose union has at most so many rows, in each step one of those that add the fewest."""
+    """Witnesses whose union has at most so many rows, in each step one of those that add the
+    fewest."""
     union: set[Row] = set()
     chosen: dict[Question, Rows] = {}
     left = dict(told)
@@ -26,7 +27,8 @@ def within(told: Mapping[Question, Rows], most: int) -> dict[Question, Rows]:
 
 
 def needed(asking: Asker, told: Mapping[Question, Rows], tell: Callable[[str], None]) -> Rows:
-    """Rows of the union of which none can go, so that each query is told with a witness of the least size."""
+    """Rows of the union of which none can go, so that each query is told with a witness of the
+    least size."""
     rows = frozenset(row for kept in told.values() for row in kept)
     search = Search(asking)
     search.learn(rows, list(told), told)
@@ -66,7 +68,8 @@ class Search:
         return max(rows, key=lambda row: (-uses[row], row))
 
     def tells(self, rows: Rows) -> bool:
-        """Whether each query is told over these rows with a witness as small; then these are taken."""
+        """Whether each query is told over these rows with a witness as small; then these are
+        taken."""
         taken: dict[Question, Rows] = {}
         unknown = []
         for of, kept in self.now.items():

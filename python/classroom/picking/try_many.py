@@ -26,7 +26,8 @@ from classroom.verdict.verdict import (
 )
 from classroom.grading.trials import Trial
 
-# At parts, for one query over some rows: they bound it and not seconds, so that each run finds the same.
+# At parts, for one query over some rows: they bound it and not seconds, so that each run finds the
+# same.
 LOOKS = 3_000
 
 
@@ -72,7 +73,8 @@ class Trying:
         outcome = found.outcome if found else None
         if isinstance(outcome, Differs):
             kept = self.pool.named(outcome.kept, rows)
-            # What the plain tables refer to is picked too; a row that they can't have is in no part.
+            # What the plain tables refer to is picked too; a row that they can't have is in no
+            # part.
             needed = (
                 frozenset(other for row in kept for other in self.pool.with_targets(row))
                 if kept <= self.pool.lawful

@@ -1,8 +1,7 @@
 """The files of a platform's archive, a zip file or a folder, which strangers have filled.
 
-No link is followed, no name leads out of the archive, and neither their number nor their bytes pass a bound, whatever
-the archive says of itself. What is left out is told by its name.
-"""
+No link is followed, no name leads out of the archive, and neither their number nor their bytes pass
+a bound, whatever the archive says of itself. What is left out is told by its name. """
 from __future__ import annotations
 
 import os
@@ -41,8 +40,8 @@ class Member:
 
 
 def members(source: Path) -> Iterator[Member]:
-    """The files of a zip file or a folder, but those that a computer adds by itself; a Fault where it is neither,
-    or passes a bound."""
+    """The files of a zip file or a folder, but those that a computer adds by itself; a Fault where
+    it is neither, or passes a bound."""
     if source.is_dir():
         yield from _below(source)
     elif source.is_file():
@@ -76,7 +75,8 @@ def _of_zip(source: Path) -> Iterator[Member]:
 
 
 def _name(info: zipfile.ZipInfo) -> str:
-    """The name; where nothing says how it is written, as UTF-8 if it is that, else as the format has it."""
+    """The name; where nothing says how it is written, as UTF-8 if it is that, else as the format
+    has it."""
     if info.flag_bits & UTF_8:
         return info.filename
     try:
@@ -136,9 +136,11 @@ def _below(source: Path) -> Iterator[Member]:
         total += len(content)
         if total > MOST_BYTES:
             raise Fault(f"{shown(os.fspath(source))}: more than {MOST_BYTES:,} bytes")
-        yield Member(path, fault=f"more than {MOST_OF_ONE:,} bytes") if len(
-            content
-        ) > MOST_OF_ONE else Member(path, content)
+        yield (
+            Member(path, fault=f"more than {MOST_OF_ONE:,} bytes")
+            if len(content) > MOST_OF_ONE
+            else Member(path, content)
+        )
 
 
 def _walk(folder: int, path: tuple[str, ...]) -> Iterator[tuple[tuple[str, ...], str, int]]:
@@ -159,6 +161,8 @@ def _walk(folder: int, path: tuple[str, ...]) -> Iterator[tuple[tuple[str, ...],
                     name, os.O_RDONLY | os.O_NOFOLLOW | os.O_NONBLOCK, dir_fd=folder
                 )
             else:
-                yield inner, "a link, which is not followed" if kind == stat.S_IFLNK else "no plain file", -1
+                yield inner, (
+                    "a link, which is not followed" if kind == stat.S_IFLNK else "no plain file"
+                ), -1
     finally:
         os.close(folder)

@@ -2,7 +2,8 @@
 
     class/collected.csv    a line an answer: task, answer, source, member, late, sha256
 
-A name there that a spreadsheet would take for a formula has a quote in front, which is not read back.
+A name there that a spreadsheet would take for a formula has a quote in front, which is not read
+back.
 
 An answer that is there with other bytes is only written over where that is wanted.
 """
@@ -45,8 +46,8 @@ def collect(
     overwrites: bool,
     writes: bool = True,
 ) -> Collected:
-    """Writes the answers into the folders of the tasks, `places`, and notes their sources. Where it doesn't write it
-    tells what it would do."""
+    """Writes the answers into the folders of the tasks, `places`, and notes their sources. Where it
+    doesn't write it tells what it would do."""
     done = Collected()
     listed = read_list(folder)
     for answer in answers:

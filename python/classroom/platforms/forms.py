@@ -108,7 +108,8 @@ def form_of(members: Sequence[Member]) -> str:
 
 
 def handed(members: Iterable[Member], form: str) -> tuple[list[Handed], list[Member]]:
-    """What was handed in, in a form, and the files that don't have it, but those that the platform made."""
+    """What was handed in, in a form, and the files that don't have it, but those that the platform
+    made."""
     found, others = [], []
     for member in members:
         if member.path[-1] == PLATFORM.get(form):

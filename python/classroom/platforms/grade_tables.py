@@ -89,7 +89,8 @@ def canvas_csv(backs: Sequence[Back], assignment: str) -> Made:
 
 
 def gradescope_json(backs: Sequence[Back], assignment: str, visibility: str = "visible") -> Made:
-    """The score, and a test a task with its output as Markdown; one that is graded by hand has no score."""
+    """The score, and a test a task with its output as Markdown; one that is graded by hand has no
+    score."""
     if len(backs) != 1:
         raise Fault(
             f"gradescope: the autograder grades one student at a time, and here are {len(backs)}"

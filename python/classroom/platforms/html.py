@@ -38,7 +38,8 @@ class _Text(HTMLParser):
 
 
 def text_of(page: str) -> str:
-    """The characters of the page, with a line end at each paragraph and break, and no two empty lines at a time."""
+    """The characters of the page, with a line end at each paragraph and break, and no two empty
+    lines at a time."""
     reader = _Text()
     reader.feed(page)
     reader.close()

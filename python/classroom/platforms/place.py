@@ -1,8 +1,7 @@
 """Which file is whose answer to which task.
 
-The task of a file is the one that is told for all of them; else that of its name; else the file is split at comments
-`-- task T`, each of which begins the answer to the task that it names.
-"""
+The task of a file is the one that is told for all of them; else that of its name; else the file is
+split at comments `-- task T`, each of which begins the answer to the task that it names. """
 from __future__ import annotations
 
 import re
@@ -53,7 +52,8 @@ class Rules:
 
 
 def placed(found: Iterable[Handed], rules: Rules) -> tuple[list[Placed], list[NotPlaced]]:
-    """The answers, one for each student and task, in the order of the archive; and what could not be placed."""
+    """The answers, one for each student and task, in the order of the archive; and what could not
+    be placed."""
     answers: dict[tuple[str, str], list[Placed]] = {}
     rest: list[NotPlaced] = []
     names = list(found)
@@ -84,7 +84,8 @@ def placed(found: Iterable[Handed], rules: Rules) -> tuple[list[Placed], list[No
 def _ids(
     found: Sequence[Handed], students: ClassList
 ) -> Mapping[tuple[str, str, str], tuple[str, bool] | str]:
-    """For each who handed something in the id, and whether the class list has it; or why there is none."""
+    """For each who handed something in the id, and whether the class list has it; or why there is
+    none."""
     numbers: dict[str, set[tuple[str, str]]] = {}
     for handed in found:
         numbers.setdefault(composed(handed.name).casefold(), set()).add(
@@ -101,7 +102,10 @@ def _ids(
         elif name in students.by_id:
             made = f"the class list has the id {shown(name)} for somebody else"
         elif len(numbers[composed(handed.name).casefold()]) > 1:
-            made = f"several have the name {shown(name)}: a class list with the column {handed.column} tells them apart"
+            made = (
+                f"several have the name {shown(name)}: a class list with the column"
+                f" {handed.column} tells them apart"
+            )
         else:
             made = (name, False)
         ids[handed.column, handed.number, handed.name] = made
@@ -150,9 +154,15 @@ def _split(content: bytes, rules: Rules) -> list[tuple[str, bytes]] | str:
     text = text.replace("\r\n", "\n")
     begins = list(rules.pattern.finditer(text))
     if not begins:
-        return f"no task has its name, and no comment `-- task T` is in it; the tasks are {shown(*rules.tasks)}"
+        return (
+            "no task has its name, and no comment `-- task T` is in it; the tasks are"
+            f" {shown(*rules.tasks)}"
+        )
     if COMMENT.fullmatch(text[: begins[0].start()]) is None:
-        return f"a query stands before the comment of the first task, in line {text[:begins[0].start()].count(chr(10)) + 1}"
+        return (
+            "a query stands before the comment of the first task, in line"
+            f" {text[:begins[0].start()].count(chr(10)) + 1}"
+        )
     by_fold = {task.casefold(): task for task in rules.tasks}
     parts: dict[str, bytes] = {}
     for begin, end in zip(begins, [*begins[1:], None]):
@@ -168,13 +178,17 @@ def _split(content: bytes, rules: Rules) -> list[tuple[str, bytes]] | str:
 
 
 def _last(same: Sequence[Placed]) -> Placed | NotPlaced:
-    """The last of the answers of one student to one task; where two have the same order, none is."""
+    """The last of the answers of one student to one task; where two have the same order, none
+    is."""
     most = max(one.handed.order for one in same)
     last = [one for one in same if one.handed.order == most]
     if len({one.content for one in last}) > 1:
         labels = shown(*(one.handed.member.label for one in last))
         return NotPlaced(
             labels,
-            f"task {shown(last[0].task)} has {len(last)} different answers of {shown(last[0].student)}, and nothing says which came last",
+            (
+                f"task {shown(last[0].task)} has {len(last)} different answers of"
+                f" {shown(last[0].student)}, and nothing says which came last"
+            ),
         )
     return last[-1]

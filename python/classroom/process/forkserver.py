@@ -1,10 +1,9 @@
-"""A process that has imported what questions need, and forks a child for each: else most of a short question's time
-is that of a new Python.
+"""A process that has imported what questions need, and forks a child for each: else most of a short
+question's time is that of a new Python.
 
-A child gets one question, answers it and ends. It inherits the limits of memory and of files, and bounds its
-processor time itself. Where who asked closes the connection or ends, however it does, the child is killed; where the
-process itself ends, all of its children are.
-"""
+A child gets one question, answers it and ends. It inherits the limits of memory and of files, and
+bounds its processor time itself. Where who asked closes the connection or ends, however it does,
+the child is killed; where the process itself ends, all of its children are. """
 from __future__ import annotations
 
 import ctypes
@@ -35,7 +34,8 @@ class Ended(Exception):
 
 
 class Forks:
-    """The process, begun at the first question, from any number of threads; one that died is begun again."""
+    """The process, begun at the first question, from any number of threads; one that died is begun
+    again."""
 
     def __init__(self, words: Sequence[str], folder: str, limits: Limits) -> None:
         """`words` call a program that runs `serve`."""
@@ -46,8 +46,8 @@ class Forks:
         self._is_closed = False
 
     def ask(self, subject: str, question: bytes) -> Ran:
-        """One question, a line without its end; what the child printed, and where it failed its last words as if it
-        had printed them to standard error. Ended where this was closed."""
+        """One question, a line without its end; what the child printed, and where it failed its
+        last words as if it had printed them to standard error. Ended where this was closed."""
         begun = time.monotonic()
         ours, theirs = socket.socketpair()
         with ours:
@@ -146,8 +146,8 @@ class Asked:
 
 
 def serve(ready: Callable[[str], Subject], answer: Callable[[Subject, bytes], bytes]) -> None:
-    """Forks a child for each question that comes over standard input, until that is closed. `ready` makes what the
-    questions with a name are about, once."""
+    """Forks a child for each question that comes over standard input, until that is closed. `ready`
+    makes what the questions with a name are about, once."""
     control = socket.socket(fileno=os.dup(0))
     nothing = os.open(os.devnull, os.O_RDWR)
     os.dup2(nothing, 0)

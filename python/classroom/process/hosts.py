@@ -1,11 +1,10 @@
 """Runs many jobs on the hosts of an `--sshloginfile` of GNU parallel.
 
-All that the jobs need is put into one bundle, a zip file that Python runs (see `classroom.worker`): the
-programs, the files that all jobs share, and those of each job. GNU parallel starts `python3 bundle.pyz BATCH`
-for batches of jobs; hosts get the bundle by its `--basefile` and lose it by its `--cleanup`. So no name of a
-file ever stands in a command line, and each result is one line of JSON on standard output, told by the key of
-its job.
-"""
+All that the jobs need is put into one bundle, a zip file that Python runs (see `classroom.worker`):
+the programs, the files that all jobs share, and those of each job. GNU parallel starts `python3
+bundle.pyz BATCH` for batches of jobs; hosts get the bundle by its `--basefile` and lose it by its
+`--cleanup`. So no name of a file ever stands in a command line, and each result is one line of JSON
+on standard output, told by the key of its job. """
 from __future__ import annotations
 
 import hashlib
@@ -128,8 +127,8 @@ def stop(process: subprocess.Popen[str]) -> None:
 def batches_of(jobs: Sequence[Job], means: Means, hosts: int) -> list[Sequence[Job]]:
     """The jobs in batches, neighbours in different ones, since these take alike long.
 
-    The start of a batch costs as much as a hundred short runs; but no core may wait for one that has too many.
-    """
+    The start of a batch costs as much as a hundred short runs; but no core may wait for one that
+    has too many."""
     cores = (means.jobs or os.cpu_count() or 1) * hosts
     size = min(MOST_IN_BATCH, 1 + len(jobs) // (2 * cores))
     count = -(-len(jobs) // size)
@@ -183,7 +182,8 @@ def write_bundle(
 
 
 def reached(parallel: Sequence[str], path: Path, work: Path) -> list[str]:
-    """The lines of an --sshloginfile whose hosts answer and have what is needed; the others are told.
+    """The lines of an --sshloginfile whose hosts answer and have what is needed; the others are
+    told.
 
     They are written to the file `hosts` in the folder.
     """
@@ -207,8 +207,8 @@ def reached(parallel: Sequence[str], path: Path, work: Path) -> list[str]:
 
 
 def place_on_hosts(work: Path) -> str:
-    """A folder in the home of the hosts, the same for each run: so what a run left there that was killed
-    goes with the next one."""
+    """A folder in the home of the hosts, the same for each run: so what a run left there that was
+    killed goes with the next one."""
     whole = f"{socket.gethostname()}:{work.resolve().parent}"
     return f".classroom-{hashlib.sha256(os.fsencode(whole)).hexdigest()[:16]}"
 
@@ -224,7 +224,10 @@ def fault_of(parallel: Sequence[str], host: str, work: Path) -> str:
                 SSH,
                 "--sshlogin",
                 host,
-                "for program in python3 rsync prlimit setpriv; do command -v $program >/dev/null || echo $program; done",
+                (
+                    "for program in python3 rsync prlimit setpriv; do command -v $program"
+                    " >/dev/null || echo $program; done"
+                ),
             ],
             stdin=subprocess.DEVNULL,
             capture_output=True,
@@ -242,7 +245,8 @@ def fault_of(parallel: Sequence[str], host: str, work: Path) -> str:
 
 
 def sweep(parallel: Sequence[str], place: str, work: Path) -> None:
-    """Removes the folder on the hosts; GNU parallel removes what it copied there and leaves the folder."""
+    """Removes the folder on the hosts; GNU parallel removes what it copied there and leaves the
+    folder."""
     try:
         subprocess.run(
             [*parallel, "--nonall", "--sshloginfile", "hosts", "--ssh", SSH, f"rm -rf {place}"],

@@ -1,4 +1,5 @@
-"""The words around a call of `ratest`: it gets no environment and no network, and ends with this process."""
+"""The words around a call of `ratest`: it gets no environment and no network, and ends with this
+process."""
 from __future__ import annotations
 
 import os
@@ -11,9 +12,8 @@ from classroom.base.errors import tool
 def around(program: Path, has_network: bool) -> list[str]:
     """The words of a call before those of `ratest` itself.
 
-    The network is taken away by `unshare` in a namespace of its own, which has no more than a loopback that
-    is down.
-    """
+    The network is taken away by `unshare` in a namespace of its own, which has no more than a
+    loopback that is down."""
     alone = [] if has_network else [*namespace(), "--"]
     return [
         *alone,

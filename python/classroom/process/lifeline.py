@@ -1,5 +1,5 @@
-"""`guard.py PID WORD ..` runs a program in a process group of its own, and ends the group where the process
-PID, which started this, ends. It stands alone, so that it starts fast."""
+"""`guard.py PID WORD ..` runs a program in a process group of its own, and ends the group where the
+process PID, which started this, ends. It stands alone, so that it starts fast."""
 from __future__ import annotations
 
 import ctypes

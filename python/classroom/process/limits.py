@@ -34,12 +34,14 @@ class Ran(NamedTuple):
     passed: str  # the limit that it passed: "time", "memory" or "output"; "" where it passed none
 
 
-# Where the parent ended before the signal of its death was asked for, there is none: then nothing is run.
+# Where the parent ended before the signal of its death was asked for, there is none: then nothing
+# is run.
 GUARD = '[ "$PPID" = "$1" ] || exit 1; shift; exec "$@"'
 
 
 def bounded(limits: Limits) -> List[str]:
-    """The words of a call before those of a program that gets these limits of memory and of files."""
+    """The words of a call before those of a program that gets these limits of memory and of
+    files."""
     return [
         "prlimit",
         f"--as={limits.megabytes * MEGABYTE}",
@@ -57,9 +59,9 @@ def run(
 ) -> Ran:
     """Runs a program in a folder, with nothing on its standard input and no environment but a PATH.
 
-    The first word is the program's path. A program that doesn't start raises OSError. Where the caller
-    ends, however it does, so does the program. `started` gets the process, whose group it leads.
-    """
+    The first word is the program's path. A program that doesn't start raises OSError. Where the
+    caller ends, however it does, so does the program. `started` gets the process, whose group it
+    leads."""
     if not os.access(words[0], os.X_OK):
         raise FileNotFoundError(2, "no program", words[0])
     most = round(limits.output * MEGABYTE)

@@ -34,8 +34,8 @@ def run(
 ) -> Iterator[tuple[str, Ran]]:
     """The results of jobs, as they come; no result of a job that could not be run.
 
-    `work` is a folder for what is needed meanwhile. The jobs end with this process, however it ends.
-    """
+    `work` is a folder for what is needed meanwhile. The jobs end with this process, however it
+    ends."""
     if not jobs:
         return
     with tell.progress(len(jobs), means.shows_progress) as step:

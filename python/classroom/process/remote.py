@@ -1,8 +1,7 @@
 """Runs one batch of jobs of a bundle, and prints each result as one line of JSON.
 
-The bundle is the zip file that Python runs: `python3 bundle.pyz BATCH`. This module, too, stands on the
-standard library of Python 3.8 alone, since it runs on the hosts that grade.
-"""
+The bundle is the zip file that Python runs: `python3 bundle.pyz BATCH`. This module, too, stands on
+the standard library of Python 3.8 alone, since it runs on the hosts that grade. """
 from __future__ import annotations
 
 import ctypes
@@ -20,7 +19,8 @@ PR_SET_PDEATHSIG = 1
 
 
 def main(bundle: str, batch: str) -> int:
-    """Runs the jobs of a batch in a folder of their own beside the bundle, which is removed at the end."""
+    """Runs the jobs of a batch in a folder of their own beside the bundle, which is removed at the
+    end."""
     follow_parent()
     with zipfile.ZipFile(bundle) as members:
         common = json.loads(members.read("common.json"))
@@ -65,7 +65,8 @@ def line(key: str, ran: Ran) -> str:
 
 
 def result(text: str) -> Optional[Tuple[str, Ran]]:
-    """The key of a job and its result, from a line; None for any other line, as a shell's greeting."""
+    """The key of a job and its result, from a line; None for any other line, as a shell's
+    greeting."""
     try:
         key, status, out, err, seconds, passed = json.loads(text)
         texts = [part.encode("utf-8", "surrogateescape") for part in (out, err)]

@@ -1,8 +1,7 @@
 """What a student handed in as bytes, as the text of one query.
 
-UTF-8, with a mark of byte order or without, is read as it is; UTF-16 with its mark, Windows-1252 and Latin-1
-are told by a remark.
-"""
+UTF-8, with a mark of byte order or without, is read as it is; UTF-16 with its mark, Windows-1252
+and Latin-1 are told by a remark. """
 from __future__ import annotations
 
 import codecs
@@ -45,14 +44,15 @@ class Text:
     """A text that was handed in."""
 
     whole: bytes = b""  # as UTF-8
-    query: bytes = (
-        b""  # the one statement in it, its bytes at the places that they have in the whole
+    query: bytes = (  # the one statement in it, its bytes at the places that they have in the whole
+        b""
     )
     remarks: tuple[str, ...] = ()
 
 
 def text_of(raw: bytes) -> Text:
-    """The text of these bytes; NotRead where they are more than MOST_BYTES, no text, or several statements."""
+    """The text of these bytes; NotRead where they are more than MOST_BYTES, no text, or several
+    statements."""
     if len(raw) > MOST_BYTES:
         raise NotRead("more than 64 KiB")
     text, remarks = decoded(raw)
@@ -82,8 +82,8 @@ def decoded(raw: bytes) -> tuple[str, tuple[str, ...]]:
 
 
 def statement(text: str) -> str:
-    """The one statement of a text: what stands before it is kept in place, signs that end nothing as blanks.
-    NotRead where there are several."""
+    """The one statement of a text: what stands before it is kept in place, signs that end nothing
+    as blanks. NotRead where there are several."""
     parts: list[list[re.Match[str]]] = [[]]
     for match in PIECE.finditer(text):
         if match.lastgroup == "end":
@@ -105,16 +105,18 @@ def statement(text: str) -> str:
 def backquoted(query: str) -> str:
     """The query with its names in backquotes, which SQLite never takes for texts."""
     return "".join(
-        "`" + match[0][1:-1].replace('""', '"').replace("`", "``") + "`"
-        if match.lastgroup == "name"
-        else match[0]
+        (
+            "`" + match[0][1:-1].replace('""', '"').replace("`", "``") + "`"
+            if match.lastgroup == "name"
+            else match[0]
+        )
         for match in PIECE.finditer(query)
     )
 
 
 def odd_character(query: str, byte: int) -> str:
-    """The name and the place of the character at this byte, where a word processor or another system made
-    it; else empty."""
+    """The name and the place of the character at this byte, where a word processor or another
+    system made it; else empty."""
     place = place_of(query, byte)
     name = ODD.get(place.marked[:1], "")
     return f"{name} at line {place.line}, column {place.column}" if name else ""

@@ -1,5 +1,5 @@
-"""A query of `ratest` as SQLite reads it: SQLite has no parentheses around an operand of a set operator, and
-takes all set operators from the left, where INTERSECT goes first."""
+"""A query of `ratest` as SQLite reads it: SQLite has no parentheses around an operand of a set
+operator, and takes all set operators from the left, where INTERSECT goes first."""
 from __future__ import annotations
 
 import re
@@ -38,7 +38,8 @@ class _Writer:
         return self.word(at) == "select"
 
     def chain(self, at: int) -> tuple[str, int]:
-        """Operands and set operators up to a closing parenthesis or the end, and the place behind them."""
+        """Operands and set operators up to a closing parenthesis or the end, and the place behind
+        them."""
         operand, at = self.operand(at)
         operands, signs = [operand], []
         while self.word(at) in SETS:

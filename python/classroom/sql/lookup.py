@@ -99,7 +99,8 @@ def unknown_name(text: str, names: Collection[str]) -> tuple[str, int] | None:
 
 
 def names_something(found: list[Token], at: int) -> bool:
-    """Whether the token at a place gives a name: behind AS, before AS (of WITH) or behind a column or a table."""
+    """Whether the token at a place gives a name: behind AS, before AS (of WITH) or behind a column
+    or a table."""
     before = found[at - 1]
     after = found[at + 1] if at + 1 < len(found) else Token("other", "", 0)
     if before.kind == "word" and before.text.lower() == "as":
@@ -135,8 +136,8 @@ def columns_of_with(found: list[Token]) -> list[str]:
 
 # Behind these a name is one that is used and not one that is given.
 WORDS = frozenset(
-    "all and any as asc between by case cast check collate cross desc distinct else end escape except exists filter "
-    "from full glob group having in inner intersect is isnull join left like limit match natural not notnull null "
-    "offset on or order outer over partition recursive regexp right select some then union unique using values when "
-    "where window with".split()
+    "all and any as asc between by case cast check collate cross desc distinct else end escape"
+    " except exists filter from full glob group having in inner intersect is isnull join left like"
+    " limit match natural not notnull null offset on or order outer over partition recursive regexp"
+    " right select some then union unique using values when where window with".split()
 )

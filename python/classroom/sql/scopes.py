@@ -33,7 +33,8 @@ class Scopes:
         self.known: dict[int, dict[str, Columns]] = {}
 
     def visible(self, node: Node) -> list[dict[str, Columns]]:
-        """What can be named at a node: for each SELECT around it, the innermost first, its tables at hand."""
+        """What can be named at a node: for each SELECT around it, the innermost first, its tables
+        at hand."""
         found = []
         inner, parent = node, node.parent
         while parent is not None:
@@ -77,7 +78,8 @@ class Scopes:
         return found
 
     def source_of(self, node: Node) -> tuple[str, Columns]:
-        """The table that a column is taken from, and the columns that it has; none where it isn't known."""
+        """The table that a column is taken from, and the columns that it has; none where it isn't
+        known."""
         table, name = name_of(node.args.get("table")), name_of(node.this)
         for scope in self.visible(node):
             if table in scope:

@@ -1,9 +1,8 @@
 """Where the nodes of sqlglot's tree stand in the text that it was read from.
 
-sqlglot's nodes have no places, and those of its tokens are wrong behind texts. So the leaves of the tree
-(names, constants, NULL and stars) are laid beside the own tokens, in the order of the text; a node's span
-is that of its leaves, with the words and the parentheses that belong to it.
-"""
+sqlglot's nodes have no places, and those of its tokens are wrong behind texts. So the leaves of the
+tree (names, constants, NULL and stars) are laid beside the own tokens, in the order of the text; a
+node's span is that of its leaves, with the words and the parentheses that belong to it. """
 from __future__ import annotations
 
 from collections.abc import Iterator
@@ -17,13 +16,14 @@ from classroom.sql.tree import SETS, Node
 
 # Words that are no leaves, where no leaf has them as its name.
 KEYWORDS = frozenset(
-    "select distinct all from where and or not exists in is between union except intersect join inner left right "
-    "full outer cross natural on using as group by having order asc desc nulls first last limit offset with "
-    "recursive case when then else end cast like ilike glob escape any some over partition rows range unbounded "
-    "preceding following current row filter values fetch next only ties collate interval extract integer int "
-    "bigint smallint tinyint text char character varchar varying real float double precision numeric decimal "
-    "boolean bool date time timestamp datetime current_date current_time current_timestamp true false "
-    "isnull notnull regexp similar to for lateral at zone without".split()
+    "select distinct all from where and or not exists in is between union except intersect join"
+    " inner left right full outer cross natural on using as group by having order asc desc nulls"
+    " first last limit offset with recursive case when then else end cast like ilike glob escape"
+    " any some over partition rows range unbounded preceding following current row filter values"
+    " fetch next only ties collate interval extract integer int bigint smallint tinyint text char"
+    " character varchar varying real float double precision numeric decimal boolean bool date time"
+    " timestamp datetime current_date current_time current_timestamp true false isnull notnull"
+    " regexp similar to for lateral at zone without".split()
 )
 # The parts of these nodes in the order of the text; of the others it is that of their arguments.
 ORDER = {

@@ -52,12 +52,11 @@ def conjuncts(condition: Node | None) -> list[Node]:
 
 
 def regrouped(tree: Node) -> Node:
-    """The tree with its operators grouped as SQL does: INTERSECT before the other set operators, which go
-    from the left, and AND before OR.
+    """The tree with its operators grouped as SQL does: INTERSECT before the other set operators,
+    which go from the left, and AND before OR.
 
-    sqlglot groups a chain of set operators from the right, and one of AND and OR from the left, which it
-    writes back as it was.
-    """
+    sqlglot groups a chain of set operators from the right, and one of AND and OR from the left,
+    which it writes back as it was."""
     for part in list(tree.args.values()):
         for child in part if isinstance(part, list) else [part]:
             if isinstance(child, Node):

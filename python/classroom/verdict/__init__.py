@@ -1,4 +1,5 @@
-"""What can be found of an answer: the kinds of verdict, how two results are compared, and the sentences for each.
+"""What can be found of an answer: the kinds of verdict, how two results are compared, and the
+sentences for each.
 
 For others: `verdict`, `compare`, `sentences`, `witness`.
 """

@@ -34,8 +34,9 @@ class Answer:
 
 
 def difference(reference: Answer, answer: Answer, is_ordered: bool) -> str:
-    """The kind in which two answers differ, "" where they don't: other columns, one that fails, other rows, the
-    same rows another number of times, and where the order counts, the same rows in another one.
+    """The kind in which two answers differ, "" where they don't: other columns, one that fails,
+    other rows, the same rows another number of times, and where the order counts, the same rows in
+    another one.
 
     Numbers with a fraction are equal where they are after rounding to nine digits.
     """

@@ -38,7 +38,10 @@ def least(of: Differs) -> str:
     if of.least == ALL:
         return f"No smaller lawful part of the rows differs: {every(of.parts)} tried."
     if of.least == JOINS:
-        return f"No smaller part differs: {every(of.parts, ' that joins of the queries can tell apart')} tried."
+        return (
+            "No smaller part differs:"
+            f" {every(of.parts, ' that joins of the queries can tell apart')} tried."
+        )
     if of.least == EACH:
         return "Without any one of these rows the answers are the same; fewer may do."
     return "Fewer rows may do."
@@ -100,8 +103,8 @@ def times(count: int) -> str:
 
 
 def failure(of: Differs, tells_all: bool = True) -> str:
-    """Which query the engine can't answer, and why; empty where it answers both. Without `tells_all` not what it says
-    of the reference, which may name what stands in it."""
+    """Which query the engine can't answer, and why; empty where it answers both. Without
+    `tells_all` not what it says of the reference, which may name what stands in it."""
     told = [
         fails(name, side, shows)
         for name, side, shows in (
@@ -137,7 +140,8 @@ def text(of: Verdict, tells_all: bool = True) -> str:
         lines = [f"{NOT_DETERMINED} (tried, {of.engine})", not_determined(outcome)]
     else:
         lines = [
-            f"{'the reference' if outcome.is_reference else 'the answer'}: {refusal(outcome, of.engine)}"
+            f"{'the reference' if outcome.is_reference else 'the answer'}:"
+            f" {refusal(outcome, of.engine)}"
         ]
     return "\n".join([*lines, *map(remark, of.remarks)]) + "\n"
 

@@ -7,8 +7,8 @@ from typing import Any, NamedTuple, Union
 
 from classroom.exercise.cells import Cells, cells, encoded
 
-# By what it is known that no smaller part differs: all lawful parts were tried; all that the queries' joins
-# tell apart; each row is needed; or nothing, since the time ended before.
+# By what it is known that no smaller part differs: all lawful parts were tried; all that the
+# queries' joins tell apart; each row is needed; or nothing, since the time ended before.
 ALL, JOINS, EACH, NOTHING = LEASTS = ("all", "joins", "each", "nothing")
 
 
@@ -107,7 +107,8 @@ Outcome = Union[Differs, NoDifference, NotDetermined, WrongSql, Barred, Passed]
 
 @dataclass(frozen=True)
 class Remark:
-    """What differs in duplicates or order alone; of queries that are known to agree also what differs at all."""
+    """What differs in duplicates or order alone; of queries that are known to agree also what
+    differs at all."""
 
     difference: str  # of comparison.KINDS
     line: Line | None = None  # of duplicates, one row

@@ -1,4 +1,5 @@
-"""What one call of `ratest` came to: what it printed, as the package `ratest` reads it, or no verdict."""
+"""What one call of `ratest` came to: what it printed, as the package `ratest` reads it, or no
+verdict."""
 from __future__ import annotations
 
 from collections.abc import Sequence

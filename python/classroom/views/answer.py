@@ -23,7 +23,10 @@ from classroom.verdict.verdict import (
 from ratest.places import Place, place_of
 from classroom.verdict.witness import Outcome
 
-LIMIT = "The two queries together make too many rows on the way to be compared here: join the tables by conditions."
+LIMIT = (
+    "The two queries together make too many rows on the way to be compared here: join the tables by"
+    " conditions."
+)
 REST = "No more counterexamples are shown to you within this hour."
 PASSED = {
     "time": "There is no verdict within {seconds:g} seconds.",
@@ -52,8 +55,8 @@ def answer_of(
     trial: Verdict | None = None,
     said: Settings = Settings(),
 ) -> Answer:
-    """`hides` is None where counterexamples are shown, else what is told in their place. Of what a database tried
-    it says so."""
+    """`hides` is None where counterexamples are shown, else what is told in their place. Of what a
+    database tried it says so."""
     if trial:
         found = tried(trial, text, hides, isinstance(outcome, witness.Agree), said)
         if found:
@@ -62,8 +65,10 @@ def answer_of(
         return Answer(
             "agrees",
             "agrees",
-            "The query and the reference answer alike on every part of the "
-            "exercise’s rows that meets the schema.",
+            (
+                "The query and the reference answer alike on every part of the "
+                "exercise’s rows that meets the schema."
+            ),
         )
     if isinstance(outcome, (witness.Witness, witness.Undecided)):
         return differing(outcome, tables, hides)
@@ -76,7 +81,8 @@ def answer_of(
         where = f" (line {place.line}, column {place.column})" if place else ""
         return Answer("refused", f"refused: {outcome.fault}{where}", place=place)
     if isinstance(outcome, witness.Limit):
-        # The numbers are those of both queries together, so they would say what the reference costs.
+        # The numbers are those of both queries together, so they would say what the reference
+        # costs.
         return Answer("passes-a-limit", "passes a limit", LIMIT)
     told = PASSED.get(outcome.passed, "The program failed on it.")
     return Answer("no-verdict", "no verdict", told.format(seconds=seconds))
@@ -94,7 +100,9 @@ def tried(
         return Answer(
             "differs tried",
             f"differs (tried) on {counted(len(of.kept), 'row')}: {words.KINDS[of.difference]}",
-            f"{words.least(of)} {f'{failure[:1].upper()}{failure[1:]}. ' if failure else ''}{engine}",
+            (
+                f"{words.least(of)} {f'{failure[:1].upper()}{failure[1:]}. ' if failure else ''}{engine}"
+            ),
             drawing=drawing.drawing(of),
         )
     remarks = [
@@ -104,7 +112,10 @@ def tried(
         )
     ]
     if agrees:
-        told = "The query and the reference answer alike on every part of the exercise’s rows that meets the schema."
+        told = (
+            "The query and the reference answer alike on every part of the exercise’s rows that"
+            " meets the schema."
+        )
         return Answer("agrees", "agrees", " ".join([told, *remarks])) if remarks else None
     if isinstance(of, NoDifference):
         return Answer(
@@ -132,7 +143,8 @@ def tried(
 
 
 def byte_of(text: str, place: int) -> int:
-    """The byte of the text at which a character of it stands, of which an engine saw no blanks at the beginning."""
+    """The byte of the text at which a character of it stands, of which an engine saw no blanks at
+    the beginning."""
     return len(
         text[: len(text) - len(text.lstrip("\ufeff").lstrip()) + place].encode("utf-8", "replace")
     )
@@ -145,8 +157,10 @@ def differing(
         return Answer(
             "undecided",
             "undecided",
-            "The search ended before it found rows on which the answers differ, "
-            "and before it could tell that there are none.",
+            (
+                "The search ended before it found rows on which the answers differ, "
+                "and before it could tell that there are none."
+            ),
         )
     if hides is not None:
         return Answer("differs", "differs", hides)
@@ -155,8 +169,10 @@ def differing(
         return Answer(
             "differs",
             f"differs on {counted(len(outcome.kept), 'row')}",
-            "These are the fewest of the exercise’s rows on which the query and the reference answer "
-            "differently.",
+            (
+                "These are the fewest of the exercise’s rows on which the query and the reference"
+                " answer differently."
+            ),
             drawing=drawn,
         )
     return Answer(

@@ -1,8 +1,7 @@
 """Pages by jinja2. What they show of a witness draws the package `ratest`.
 
-Every text goes through jinja2's escaping and through `pictures`. Templates that draw a query or a witness
-import the macros of `witness.html`.
-"""
+Every text goes through jinja2's escaping and through `pictures`. Templates that draw a query or a
+witness import the macros of `witness.html`. """
 from __future__ import annotations
 
 from pathlib import Path

@@ -5,7 +5,6 @@ import itertools
 
 from ratest.draw import AnswerRow, Cell, Drawing, KeptTable, Line, cell
 from ratest.schema import quoted
-from classroom.verdict import verdict
 from classroom.verdict.compare import ORDER
 from classroom.exercise import cells as values
 from classroom.exercise.cells import Cells
@@ -22,8 +21,8 @@ def drawing(of: Differs) -> Drawing:
 
 
 def answers(of: Differs) -> tuple[tuple[AnswerRow, ...], tuple[AnswerRow, ...]]:
-    """Both answers, first what only one of them has, each row as often as it comes; in their own order where
-    that is what differs."""
+    """Both answers, first what only one of them has, each row as often as it comes; in their own
+    order where that is what differs."""
     if of.difference == ORDER:
         return tuple(AnswerRow(False, cells(line)) for line in of.reference.lines), tuple(
             AnswerRow(False, cells(line)) for line in of.answer.lines
@@ -55,7 +54,8 @@ def sql(of: Differs) -> str:
     statements = [f"{table.statement};\n" for table in of.tables]
     columns = {table.name: ", ".join(map(quoted, table.columns)) for table in of.tables}
     statements += [
-        f"INSERT INTO {quoted(row.table)} ({columns[row.table]}) VALUES ({', '.join(map(literal, row.cells))});\n"
+        f"INSERT INTO {quoted(row.table)} ({columns[row.table]}) VALUES"
+        f" ({', '.join(map(literal, row.cells))});\n"
         for row in of.kept
     ]
     return "".join(statements)

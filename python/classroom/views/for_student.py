@@ -1,8 +1,8 @@
-"""What one student is told: for each task the own text, its verdict, and the rows on which it goes wrong.
+"""What one student is told: for each task the own text, its verdict, and the rows on which it goes
+wrong.
 
-No other student's name or text is in it, and nothing of the reference but what it answers on the rows that are shown;
-its text only where that is asked for.
-"""
+No other student's name or text is in it, and nothing of the reference but what it answers on the
+rows that are shown; its text only where that is asked for. """
 from __future__ import annotations
 
 from collections.abc import Mapping, Sequence
@@ -21,10 +21,21 @@ from ratest.places import Place
 
 NOTHING = "nothing was handed in"
 TOLD = {
-    Grade.AGREES: "Your query and the reference answer alike on every part of the exercise’s rows that meets the schema.",
-    Grade.NO_DIFFERENCE: "No rows were found on which your query and the reference answer differently.",
-    Grade.NOT_DETERMINED: "What a query returns depends on the order in which the rows are stored, so it is graded by hand.",
-    Grade.DIFFERS: "On these of the exercise’s rows your query and the reference answer differently. On fewer of them they don’t.",
+    Grade.AGREES: (
+        "Your query and the reference answer alike on every part of the exercise’s rows that meets"
+        " the schema."
+    ),
+    Grade.NO_DIFFERENCE: (
+        "No rows were found on which your query and the reference answer differently."
+    ),
+    Grade.NOT_DETERMINED: (
+        "What a query returns depends on the order in which the rows are stored, so it is graded by"
+        " hand."
+    ),
+    Grade.DIFFERS: (
+        "On these of the exercise’s rows your query and the reference answer differently. On fewer"
+        " of them they don’t."
+    ),
     Grade.WRONG_SQL: "A database refuses it, too.",
     Grade.NOT_READ: "It is graded by hand.",
     Grade.NO_VERDICT: "No verdict was found within the limits, so it is graded by hand.",

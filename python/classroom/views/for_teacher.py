@@ -132,8 +132,8 @@ def mark(of: Graded, group: Group) -> Mark:
 
 
 def grouped(graded: Sequence[Graded], mistakes: Mapping[str, Mistake]) -> list[list[Graded]]:
-    """The answers to one task by their mistakes, where these are known, else by their outcomes, in the order of
-    what is shown, the most frequent first."""
+    """The answers to one task by their mistakes, where these are known, else by their outcomes, in
+    the order of what is shown, the most frequent first."""
     groups: dict[object, list[Graded]] = {}
     for of in graded:
         mistake = mistakes[of.record].name if of.record in mistakes else ""
@@ -179,9 +179,11 @@ def group(
         remarks(members, showing),
         first.fault if is_unreadable(first) and showing.solutions else "",
         drawing_of(first, tables),
-        f"{mistake.name}{' (tried, not proved)' if mistake.is_tried else ''}"
-        if mistake and mistake.name
-        else "",
+        (
+            f"{mistake.name}{' (tried, not proved)' if mistake.is_tried else ''}"
+            if mistake and mistake.name
+            else ""
+        ),
         mistake.where if mistake else "",
         tuple(
             Text(f"With {one.mistake}", one.text) for one in (mistake.repairs if mistake else ())
@@ -190,8 +192,8 @@ def group(
 
 
 def shows_text(of: Graded, showing: Showing) -> bool:
-    """Whether its text is shown: without solutions those alone that are known to be none. One that differs in
-    duplicates or order alone is as good as one."""
+    """Whether its text is shown: without solutions those alone that are known to be none. One that
+    differs in duplicates or order alone is as good as one."""
     is_slight = of.tried_witness is not None and of.tried_witness.difference in (
         DUPLICATES,
         BY_ORDER,
@@ -240,12 +242,15 @@ def is_unreadable(of: Graded) -> bool:
 
 
 def words(of: Graded, tells_all: bool = True) -> str:
-    """The grade with what belongs to it. Else not what speaks of the reference, too: why it is refused, and
-    what both queries cost together."""
+    """The grade with what belongs to it. Else not what speaks of the reference, too: why it is
+    refused, and what both queries cost together."""
     if of.trial and of.is_tried:
         found = f"{of.grade} (tried)"
         if of.tried_witness:
-            found += f" on {counted(len(of.tried_witness.kept), 'row')}: {trial_words.KINDS[of.tried_witness.difference]}"
+            found += (
+                f" on {counted(len(of.tried_witness.kept), 'row')}:"
+                f" {trial_words.KINDS[of.tried_witness.difference]}"
+            )
         return (
             f"{found}: {of.fault}"
             if of.fault and (tells_all or of.grade == Grade.WRONG_SQL)
@@ -271,7 +276,10 @@ def told(of: Graded) -> str:
     if of.trial and of.is_tried:
         return told_of_trial(of.trial)
     return {
-        Grade.AGREES: "The reference and these answers answer alike on every part of the exercise’s rows that meets the schema.",
+        Grade.AGREES: (
+            "The reference and these answers answer alike on every part of the exercise’s rows that"
+            " meets the schema."
+        ),
         Grade.WRONG_SQL: "The database refuses it, too.",
         Grade.NOT_READ: "No verdict and no score: it is to be graded by hand.",
         Grade.NO_VERDICT: "There is no verdict and no score: it is to be graded by hand.",

@@ -1,7 +1,7 @@
 """A sheet as Markdown, for platforms that take no page.
 
-What a student or a database wrote stands in fences and cells that it can't leave, whatever is in it.
-"""
+What a student or a database wrote stands in fences and cells that it can't leave, whatever is in
+it. """
 from __future__ import annotations
 
 import re

@@ -1,8 +1,9 @@
-"""The pages, as an application of Flask: the exercises of a course, a form with the query and below it the answer.
+"""The pages, as an application of Flask: the exercises of a course, a form with the query and below
+it the answer.
 
-Everything works without a script; those that there are keep the page while the answer is looked for, and make an
-editor of the field. No page asks for anything from elsewhere, which the Content-Security-Policy tells the browser too.
-"""
+Everything works without a script; those that there are keep the page while the answer is looked
+for, and make an editor of the field. No page asks for anything from elsewhere, which the
+Content-Security-Policy tells the browser too. """
 from __future__ import annotations
 
 from dataclasses import dataclass, replace
@@ -145,10 +146,14 @@ class Pages:
     def with_cookie(self, response: flask.Response, visitor: Visitor) -> flask.Response:
         if visitor.cookie:
             if self.showing.is_framed:
-                # Werkzeug can't write the last word, by which a browser keeps the cookie to the platform around.
+                # Werkzeug can't write the last word, by which a browser keeps the cookie to the
+                # platform around.
                 response.headers.add(
                     "Set-Cookie",
-                    f"{COOKIE}={visitor.cookie}; Path=/; HttpOnly; Secure; SameSite=None; Partitioned",
+                    (
+                        f"{COOKIE}={visitor.cookie}; Path=/; HttpOnly; Secure; SameSite=None;"
+                        " Partitioned"
+                    ),
                 )
             else:
                 response.set_cookie(
@@ -212,7 +217,8 @@ class Pages:
 
     def ask(self, name: str) -> flask.Response:
         """The answer to the form that was sent."""
-        # A browser says so of a form that another site sends, with whatever login it holds: as a hand-in for somebody.
+        # A browser says so of a form that another site sends, with whatever login it holds: as a
+        # hand-in for somebody.
         if flask.request.headers.get("Sec-Fetch-Site", "same-origin") not in (
             "same-origin",
             "none",
@@ -282,8 +288,8 @@ class Pages:
         visitor: Visitor,
         step: str,
     ) -> Hinted | None:
-        """What is shown of hints where this step is asked for, as a digit; none is where it is empty. Each counts as
-        a counterexample does."""
+        """What is shown of hints where this step is asked for, as a digit; none is where it is
+        empty. Each counts as a counterexample does."""
         hinter = served.hinter
         if hinter is None or self.showing.only_verdict or not hinter.is_open():
             return None

@@ -27,8 +27,8 @@ if TYPE_CHECKING:
     from classroom.web.visitors import Visitor
 
 MOST_BYTES = 65_536
-# Of the time of a question, what is left for the best rows so far where the whole search takes too long; and
-# the budget of conflicts with which these are looked for.
+# Of the time of a question, what is left for the best rows so far where the whole search takes too
+# long; and the budget of conflicts with which these are looked for.
 LAST = 0.3
 FEW_CONFLICTS = 50
 # Bytes that are kept of a call beside its texts.
@@ -82,8 +82,8 @@ class Asker:
         trial: Trial | None = None,
         trier: Trier | None = None,
     ) -> None:
-        """`words` call the program; `foundation` is what its verdicts rest on, as a digest. What it leaves open the
-        trier tries, if there is one."""
+        """`words` call the program; `foundation` is what its verdicts rest on, as a digest. What it
+        leaves open the trier tries, if there is one."""
         self.material = material
         self.words = tuple(words)
         self.limits = limits
@@ -175,7 +175,8 @@ class Asker:
 
 
 def shows_rows(outcome: Outcome, trial: Verdict | None = None) -> bool:
-    """Whether rows belong to what is told: a counterexample, or one that is returned another number of times."""
+    """Whether rows belong to what is told: a counterexample, or one that is returned another number
+    of times."""
     return (
         is_mistake(outcome, trial)
         or trial is not None

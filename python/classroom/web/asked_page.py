@@ -1,5 +1,5 @@
-"""The page of what was asked: the mistakes in each task, the most frequent first, and the texts that make
-them."""
+"""The page of what was asked: the mistakes in each task, the most frequent first, and the texts
+that make them."""
 from __future__ import annotations
 
 from collections.abc import Sequence
@@ -101,11 +101,13 @@ def mistakes(
             one = with_trial(one, text.trial, given.settings)
         same = (
             one.grade,
-            None
-            if one.grade == Grade.AGREES
-            else one.trial.outcome
-            if one.trial and one.is_tried
-            else one.outcome,
+            (
+                None
+                if one.grade == Grade.AGREES
+                else one.trial.outcome
+                if one.trial and one.is_tried
+                else one.outcome
+            ),
         )
         groups.setdefault(same, []).append((text, one))
     made = [mistake(members, given.tables, showing) for members in groups.values()]

@@ -9,8 +9,8 @@ Value = TypeVar("Value")
 
 
 class Recent(Generic[Value]):
-    """Values by their keys, so long as their sizes together stay within a bound: what was used longest ago
-    goes first."""
+    """Values by their keys, so long as their sizes together stay within a bound: what was used
+    longest ago goes first."""
 
     def __init__(self, most: int) -> None:
         self.most = most

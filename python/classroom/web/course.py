@@ -53,7 +53,8 @@ class Course:
 
 
 def folders(course: Path) -> list[tuple[str, Path]]:
-    """The exercises of a course with their names in addresses; one without a name where the folder is one."""
+    """The exercises of a course with their names in addresses; one without a name where the folder
+    is one."""
     if (course / "schema.sql").is_file():
         return [("", course)]
     if not course.is_dir():
@@ -73,7 +74,8 @@ def folders(course: Path) -> list[tuple[str, Path]]:
 
 
 def place_of_log(name: str, exercise: Path, asked: Path | None) -> Path:
-    """Where it is kept what was asked of an exercise: in its results, or where `--asked-file` says."""
+    """Where it is kept what was asked of an exercise: in its results, or where `--asked-file`
+    says."""
     if asked is None:
         place = exercise / "results"
         place.mkdir(exist_ok=True)
@@ -93,7 +95,8 @@ def check_apart(names: Sequence[str], asked: Path) -> None:
             other = owners.setdefault(path, name)
             if other != name:
                 raise Fault(
-                    f"--asked-file: the exercises {shown(other)} and {shown(name)} would share {shown(path.name)}: rename one of them"
+                    f"--asked-file: the exercises {shown(other)} and {shown(name)} would share"
+                    f" {shown(path.name)}: rename one of them"
                 )
 
 

@@ -44,8 +44,10 @@ def amounts(files: Files, before: str | None) -> Amounts:
     end = before or EVER
     ((questions, texts, first, last),) = rows(
         files.log,
-        "SELECT count(*), count(DISTINCT text), coalesce(min(time), ''), coalesce(max(time), '') FROM question "
-        f"WHERE time < '{end}'",
+        (
+            "SELECT count(*), count(DISTINCT text), coalesce(min(time), ''), coalesce(max(time),"
+            f" '') FROM question WHERE time < '{end}'"
+        ),
     )
     hand_ins = logins = 0
     if files.hand_ins.is_file():

@@ -1,8 +1,8 @@
-"""What students handed in at the page, in an SQLite file of its own: the exact time, the login, the task and the text.
+"""What students handed in at the page, in an SQLite file of its own: the exact time, the login, the
+task and the text.
 
-It is outside of what `--keep-days` takes, and bounded by what each may have there. A hand-in is on the disk before its
-receipt is shown, so a server that is killed loses none.
-"""
+It is outside of what `--keep-days` takes, and bounded by what each may have there. A hand-in is on
+the disk before its receipt is shown, so a server that is killed loses none. """
 from __future__ import annotations
 
 import hashlib
@@ -63,12 +63,18 @@ class HandIns:
             try:
                 self._database.execute("BEGIN IMMEDIATE")
                 self._database.execute(
-                    "INSERT INTO handed_in (time, login, task, text, digest) VALUES (?, ?, ?, ?, ?)",
+                    (
+                        "INSERT INTO handed_in (time, login, task, text, digest) VALUES (?, ?, ?,"
+                        " ?, ?)"
+                    ),
                     (moment.isoformat(), login, task, text, receipt.digest),
                 )
                 self._database.execute(
-                    "DELETE FROM handed_in WHERE login = ? AND task = ? AND id NOT IN "
-                    f"(SELECT id FROM handed_in WHERE login = ? AND task = ? ORDER BY id DESC LIMIT {MOST})",
+                    (
+                        "DELETE FROM handed_in WHERE login = ? AND task = ? AND id NOT IN (SELECT"
+                        " id FROM handed_in WHERE login = ? AND task = ? ORDER BY id DESC LIMIT"
+                        f" {MOST})"
+                    ),
                     (login, task) * 2,
                 )
                 self._database.execute("COMMIT")
@@ -82,7 +88,10 @@ class HandIns:
         """The newest one of a login for a task."""
         with self._lock:
             row = self._database.execute(
-                "SELECT time, digest FROM handed_in WHERE login = ? AND task = ? ORDER BY id DESC LIMIT 1",
+                (
+                    "SELECT time, digest FROM handed_in WHERE login = ? AND task = ? ORDER BY id"
+                    " DESC LIMIT 1"
+                ),
                 (login, task),
             ).fetchone()
         return Receipt(datetime.fromisoformat(row[0]), row[1]) if row else None

@@ -56,8 +56,8 @@ class Hinter:
         places: Places,
         trial: Trial | None = None,
     ) -> None:
-        """`other_rows` is the folder of the guard; `pythons` are the words that call an interpreter, and one that has the
-        network, for a database there, which the trial has."""
+        """`other_rows` is the folder of the guard; `pythons` are the words that call an
+        interpreter, and one that has the network, for a database there, which the trial has."""
         self.material = material
         self.means = asking.Means(material.folder, other_rows, classes=False)
         self.most = most
@@ -134,8 +134,8 @@ def hinter(
     places: Places,
     trial: Trial | None,
 ) -> Hinter | None:
-    """The hints of an exercise, whose guard is copied into an empty folder; None where none are told, or what they
-    need is not there."""
+    """The hints of an exercise, whose guard is copied into an empty folder; None where none are
+    told, or what they need is not there."""
     if not given.settings.hints:
         return None
     try:

@@ -1,9 +1,8 @@
 """Who asks: the address and the login of a request, believed only of the web server in front.
 
-What a client says of itself in a header counts for nothing unless it came by the trusted peer: through the Unix
-socket, or from the one address that is named. From any other peer such headers are dropped before anything reads
-them.
-"""
+What a client says of itself in a header counts for nothing unless it came by the trusted peer:
+through the Unix socket, or from the one address that is named. From any other peer such headers are
+dropped before anything reads them. """
 from __future__ import annotations
 
 import ipaddress
@@ -44,7 +43,8 @@ class Front:
 
 
 class Behind:
-    """An application behind a web server: what that one says of a client takes the place of what is seen here."""
+    """An application behind a web server: what that one says of a client takes the place of what is
+    seen here."""
 
     def __init__(self, application: Application, front: Front) -> None:
         self.application = application

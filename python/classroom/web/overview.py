@@ -1,5 +1,5 @@
-"""The teacher's page while the server runs, on this machine alone: how much is asked, which mistakes are made, what is
-refused. It needs no login, so it is never where others reach it."""
+"""The teacher's page while the server runs, on this machine alone: how much is asked, which
+mistakes are made, what is refused. It needs no login, so it is never where others reach it."""
 from __future__ import annotations
 
 import re
@@ -25,7 +25,10 @@ HOURS = 48
 MOST_FAULTS = 20
 HOSTS = ("127.0.0.1", "localhost")  # by which it is asked, at whatever port a tunnel has
 HEADERS = {
-    "Content-Security-Policy": "default-src 'none'; style-src 'unsafe-inline'; img-src data:; base-uri 'none'; frame-ancestors 'none'",
+    "Content-Security-Policy": (
+        "default-src 'none'; style-src 'unsafe-inline'; img-src data:; base-uri 'none';"
+        " frame-ancestors 'none'"
+    ),
     "X-Content-Type-Options": "nosniff",
     "Referrer-Policy": "no-referrer",
     "Cache-Control": "no-store",

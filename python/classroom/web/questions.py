@@ -1,4 +1,5 @@
-"""What was asked, in an SQLite file: each question with its hour, task, text and verdict, and nothing of who asked.
+"""What was asked, in an SQLite file: each question with its hour, task, text and verdict, and
+nothing of who asked.
 
     text      each text once for all that its verdict rests on, with what `ratest` printed of it
     question  a row for each time that one was asked, with the hour alone
@@ -37,8 +38,8 @@ CREATE VIEW IF NOT EXISTS asked (time, task, text, verdict) AS
     SELECT question.time, text.task, text.text, text.verdict
     FROM question JOIN text ON text.id = question.text ORDER BY question.id;
 """
-# What a file of each earlier version gets: the first had whole seconds and not what a verdict is of, the second
-# nothing of what a database said.
+# What a file of each earlier version gets: the first had whole seconds and not what a verdict is
+# of, the second nothing of what a database said.
 OLDER = {
     1: """
 ALTER TABLE text ADD COLUMN exercise TEXT NOT NULL DEFAULT '';
@@ -56,8 +57,8 @@ log = logging.getLogger(__name__)
 
 
 def key_of(foundation: str, task: str, reference: str, text: str) -> str:
-    """The key of a verdict: of all that it rests on beside these (see `foundation_of`), the task's name, the digest of
-    its reference and the text."""
+    """The key of a verdict: of all that it rests on beside these (see `foundation_of`), the task's
+    name, the digest of its reference and the text."""
     return digest(
         foundation.encode(),
         task.encode("utf-8", "replace"),
@@ -67,8 +68,8 @@ def key_of(foundation: str, task: str, reference: str, text: str) -> str:
 
 
 def foundation_of(exercise: str, program: str, engine: str, words: Sequence[str]) -> str:
-    """What the verdicts of one server rest on: digests of the schema with the rows and of the program, the database
-    beside it with its version, and the limits and options of a question."""
+    """What the verdicts of one server rest on: digests of the schema with the rows and of the
+    program, the database beside it with its version, and the limits and options of a question."""
     return digest(
         *(word.encode("utf-8", "surrogateescape") for word in (exercise, program, engine, *words))
     )
@@ -136,8 +137,8 @@ class Log:
         self._database.execute(f"PRAGMA user_version = {VERSION}")
 
     def keep(self, question: Question) -> None:
-        """Keeps one question; where the file is full or fails, that is told once. Of one text the newest verdict
-        counts."""
+        """Keeps one question; where the file is full or fails, that is told once. Of one text the
+        newest verdict counts."""
         hour = time.strftime("%Y-%m-%dT%H:00Z", time.gmtime())
         ran = question.ran
         with self._lock:
@@ -149,10 +150,13 @@ class Log:
                     self._drop_old()
                     self._hour = hour
                 self._database.execute(
-                    "INSERT INTO text (key, exercise, reference, task, text, verdict, status, passed, stdout, stderr, trial) "
-                    "VALUES (?, ?, ?, ?, ?, ?, ?, ?, ?, ?, ?) ON CONFLICT (key) DO UPDATE SET verdict = excluded.verdict, "
-                    "status = excluded.status, passed = excluded.passed, stdout = excluded.stdout, stderr = excluded.stderr, "
-                    "trial = excluded.trial",
+                    (
+                        "INSERT INTO text (key, exercise, reference, task, text, verdict, status,"
+                        " passed, stdout, stderr, trial) VALUES (?, ?, ?, ?, ?, ?, ?, ?, ?, ?, ?)"
+                        " ON CONFLICT (key) DO UPDATE SET verdict = excluded.verdict, status ="
+                        " excluded.status, passed = excluded.passed, stdout = excluded.stdout,"
+                        " stderr = excluded.stderr, trial = excluded.trial"
+                    ),
                     (
                         question.key,
                         question.exercise,
@@ -202,8 +206,8 @@ def opened(path: Path, synchronous: str) -> sqlite3.Connection:
 
 
 def drop_before(database: sqlite3.Connection, hour: str) -> int:
-    """Removes the questions of the hours before this one, and texts that no question has any more; gives the number
-    of questions."""
+    """Removes the questions of the hours before this one, and texts that no question has any more;
+    gives the number of questions."""
     gone = database.execute("DELETE FROM question WHERE time < ?", (hour,)).rowcount
     if gone:
         database.execute("DELETE FROM text WHERE id NOT IN (SELECT text FROM question)")
@@ -214,8 +218,11 @@ def texts(path: Path) -> Iterator[Text]:
     """All texts that were asked, the most frequent first."""
     for row in rows(
         path,
-        "SELECT exercise, reference, task, text.text, verdict, status, passed, stdout, stderr, count(*), trial "
-        "FROM text JOIN question ON question.text = text.id GROUP BY text.id ORDER BY count(*) DESC, text.id",
+        (
+            "SELECT exercise, reference, task, text.text, verdict, status, passed, stdout, stderr,"
+            " count(*), trial FROM text JOIN question ON question.text = text.id GROUP BY text.id"
+            " ORDER BY count(*) DESC, text.id"
+        ),
     ):
         exercise, reference, task, text, verdict, status, passed, out, err, count, trial = row
         yield Text(

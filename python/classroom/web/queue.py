@@ -1,10 +1,12 @@
-"""So many calls at once; further ones wait in a line of bounded length, in which nobody starves the others.
+"""So many calls at once; further ones wait in a line of bounded length, in which nobody starves the
+others.
 
-A call that takes longer than a second leaves its place to others and goes on beside them, as long as there are no more
-such calls than places: so few hard questions don't stop the many that are short. A visitor has one call at a time. Of those that wait comes first whose visitor was served longest ago, so a second
-question waits behind everybody's first. Visitors of one network, who may be one person without cookies, have at most
-half of the places as long as somebody of another network waits, and a share of the line.
-"""
+A call that takes longer than a second leaves its place to others and goes on beside them, as long
+as there are no more such calls than places: so few hard questions don't stop the many that are
+short. A visitor has one call at a time. Of those that wait comes first whose visitor was served
+longest ago, so a second question waits behind everybody's first. Visitors of one network, who may
+be one person without cookies, have at most half of the places as long as somebody of another
+network waits, and a share of the line. """
 from __future__ import annotations
 
 import threading

@@ -1,4 +1,5 @@
-"""The schema as a drawing: tables with their columns, keys underlined, and an arrow for each foreign key.
+"""The schema as a drawing: tables with their columns, keys underlined, and an arrow for each
+foreign key.
 
 graphviz draws it once, at the start. Where it isn't there, there is no drawing.
 """
@@ -40,7 +41,8 @@ def graph(tables: tuple[Table, ...], rules: list[Rules]) -> str:
     """The drawing in graphviz's own language."""
     numbers = {table.name: number for number, table in enumerate(tables)}
     lines = [
-        'digraph { rankdir=LR; bgcolor="transparent"; node [shape=plain fontname="sans-serif" fontsize=11]; edge [color="#77777f"]'
+        'digraph { rankdir=LR; bgcolor="transparent"; node [shape=plain fontname="sans-serif"'
+        ' fontsize=11]; edge [color="#77777f"]'
     ]
     for number, (table, own) in enumerate(zip(tables, rules)):
         cells = "".join(
@@ -48,8 +50,9 @@ def graph(tables: tuple[Table, ...], rules: list[Rules]) -> str:
             for at, column in enumerate(table.columns)
         )
         lines.append(
-            f't{number} [label=<<TABLE BORDER="0" CELLBORDER="1" CELLSPACING="0" COLOR="#77777f" BGCOLOR="#ffffff">'
-            f'<TR><TD BGCOLOR="#e8e9eb"><B>{escaped(table.name)}</B></TD></TR>{cells}</TABLE>>]'
+            f't{number} [label=<<TABLE BORDER="0" CELLBORDER="1" CELLSPACING="0" COLOR="#77777f"'
+            ' BGCOLOR="#ffffff"><TR><TD'
+            f' BGCOLOR="#e8e9eb"><B>{escaped(table.name)}</B></TD></TR>{cells}</TABLE>>]'
         )
     for number, (table, own) in enumerate(zip(tables, rules)):
         for columns, other, to in own.foreigns:

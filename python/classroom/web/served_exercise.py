@@ -1,4 +1,5 @@
-"""What is served of an exercise: it as it was when the server began, copied into a folder of its own.
+"""What is served of an exercise: it as it was when the server began, copied into a folder of its
+own.
 
 So a change of the exercise counts from the next start on, and no call reads in the exercise itself.
 """
@@ -65,8 +66,8 @@ class Material:
 
 
 def copied(given: Exercise, folder: Path, tried: Collection[str] = ()) -> Material:
-    """Copies what is needed of an exercise into an empty folder: of the tasks those that can be graded, or whose labels
-    are among those that a database tries."""
+    """Copies what is needed of an exercise into an empty folder: of the tasks those that can be
+    graded, or whose labels are among those that a database tries."""
     for name, text in given.files.items():
         (folder / name).write_bytes(text)
     settings = given.settings
@@ -109,7 +110,8 @@ def offered(task: Task, name: str, folder: Path, window: Window) -> Offered:
 
 
 def question(path: Path) -> str:
-    """The question as HTML, of Markdown without tags of its own and without pictures; empty where there is none."""
+    """The question as HTML, of Markdown without tags of its own and without pictures; empty where
+    there is none."""
     try:
         text = exercise.read(path).decode("utf-8", "replace")[:MOST_QUESTION].strip()
     except OSError:

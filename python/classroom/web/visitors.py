@@ -1,9 +1,10 @@
-"""Who asks, as far as counting needs it, and how many counterexamples each was shown within the last hour.
+"""Who asks, as far as counting needs it, and how many counterexamples each was shown within the
+last hour.
 
-Nobody is known by name. A visitor is a random cookie that this server has signed; or, behind a web server that asks
-for a login, the digest of the name that it sends. Every digest is made with a secret that is drawn at the start and
-never written. Who drops the cookie is a new visitor, so a network may in all see no more than so many visitors would.
-"""
+Nobody is known by name. A visitor is a random cookie that this server has signed; or, behind a web
+server that asks for a login, the digest of the name that it sends. Every digest is made with a
+secret that is drawn at the start and never written. Who drops the cookie is a new visitor, so a
+network may in all see no more than so many visitors would. """
 from __future__ import annotations
 
 import hashlib
@@ -63,8 +64,8 @@ class Visitors:
         return Visitor(self._digest("visitor", name), self._digest("network", network), new)
 
     def may_see(self, visitor: Visitor, shown: str) -> bool:
-        """Whether a visitor is shown this counterexample, or hint, which then counts; one that was shown within the
-        hour counts no second time."""
+        """Whether a visitor is shown this counterexample, or hint, which then counts; one that was
+        shown within the hour counts no second time."""
         if self.hourly is None:
             return True
         bounds = [

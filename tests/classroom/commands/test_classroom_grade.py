@@ -28,7 +28,8 @@ SLEEP = "sleep\x00100\x00"  # the words of a process, as /proc has them
 
 
 def lines(exercise: Path) -> dict[tuple[str, str], list[str]]:
-    """What grades.csv tells of each answer: grade, rows, and fault. Its points follow from the grade."""
+    """What grades.csv tells of each answer: grade, rows, and fault. Its points follow from the
+    grade."""
     text = (exercise / "results/grades.csv").read_text(encoding="utf-8")
     found = list(csv.reader(io.StringIO(text, newline="")))
     assert found[0] == [
@@ -100,9 +101,10 @@ def test_each_grade(ratest: Path, tmp_path: Path) -> None:
         ran.stdout.splitlines()[0]
         == "4 answers: 1 agrees, 1 differs, 1 is wrong SQL, 1 has no verdict"
     )
-    assert ran.stderr == (
-        "classroom: 1 answer past a limit: `classroom pick` keeps the few rows that tell the mistakes\n"
-        "classroom: 1 of 4 answers are to be graded by hand\n"
+    assert (
+        ran.stderr
+        == "classroom: 1 answer past a limit: `classroom pick` keeps the few rows that tell the"
+        " mistakes\nclassroom: 1 of 4 answers are to be graded by hand\n"
     )
     task = "one task"
     told = lines(exercise)
@@ -128,7 +130,9 @@ def test_each_grade(ratest: Path, tmp_path: Path) -> None:
             "max_score": 1,
             "status": "failed",
             "decided_by": "proved",
-            "output": "witness: 1\nt 2: 2, 20\nonly query 1: 1\n  2, 20\nonly query 2: 0\nboth: 0\n",
+            "output": (
+                "witness: 1\nt 2: 2, 20\nonly query 1: 1\n  2, 20\nonly query 2: 0\nboth: 0\n"
+            ),
         },
     ]
     assert [test["name"] for test in tests[:1]] == ["one task/refused"]
@@ -156,7 +160,8 @@ def test_conflicts(ratest: Path, beers: Path) -> None:
 
 
 def test_no_other_line_is_a_result(tmp_path: Path) -> None:
-    """What else a host prints, as the greeting of its shell, is passed over; results come by their keys."""
+    """What else a host prints, as the greeting of its shell, is passed over; results come by their
+    keys."""
     ran = Ran(3, b'["k", 0, "agree"]\n', b"ratest: query 2: unknown column: x\n[]\n\xff", 0.5, "")
     (tmp_path / "printed").write_text(
         "Welcome\n[motd]\n[1, 2]\n{}\n" + worker.line("k", ran) + '[]\n\n["k", 0, 1, 2, 3, 4]\n'
@@ -253,7 +258,8 @@ def at_work(folder: Path) -> list[str]:
 
 
 def endless(folder: Path) -> Path:
-    """An exercise, beside a program that stands for `ratest` and sleeps where the queries differ."""
+    """An exercise, beside a program that stands for `ratest` and sleeps where the queries
+    differ."""
     program = folder / "ratest"
     program.write_text('#!/bin/sh\ncmp -s "$3" "$4" || exec sleep 100\n')
     program.chmod(0o755)
@@ -335,8 +341,9 @@ def test_progress_is_shown_on_a_terminal_alone(ratest: Path, beers: Path) -> Non
 
 def test_a_second_run_at_once_is_refused(ratest: Path, beers: Path) -> None:
     code = (
-        "import sys, time; from pathlib import Path; from classroom.results import Results\n"
-        f"with Results(Path({str(beers / 'results')!r})).held(): print('held', flush=True); time.sleep(60)"
+        "import sys, time; from pathlib import Path; from classroom.results import Results\nwith"
+        f" Results(Path({str(beers / 'results')!r})).held(): print('held', flush=True);"
+        " time.sleep(60)"
     )
     holder = subprocess.Popen(
         [PYTHON, "-c", code], stdout=subprocess.PIPE, env={"PYTHONPATH": str(TOP / "python")}
@@ -513,8 +520,11 @@ def test_without_parallel(ratest: Path, beers: Path, tmp_path: Path) -> None:
     words = [
         PYTHON,
         "-c",
-        f"import os, sys; os.defpath = {str(tmp_path / 'bin')!r}; sys.path.insert(0, {str(TOP / 'python')!r})\n"
-        "from classroom.main import main; sys.exit(main(sys.argv[1:]))",
+        (
+            f"import os, sys; os.defpath = {str(tmp_path / 'bin')!r}; sys.path.insert(0,"
+            f" {str(TOP / 'python')!r})\nfrom classroom.main import main;"
+            " sys.exit(main(sys.argv[1:]))"
+        ),
     ]
     environment = {"PATH": str(tmp_path / "bin"), "RATEST": str(ratest)}
     ran = run(*words, "grade", "--only-proved", beers, env=environment)
@@ -549,8 +559,10 @@ def test_without_jinja2(ratest: Path, beers: Path, tmp_path: Path) -> None:
     ran = run(PYTHON, "-c", code)
     assert (ran.returncode, ran.stderr) == (
         0,
-        "classroom: page.html is not written: the library jinja2 is not there: "
-        "apt-get install python3-jinja2\n",
+        (
+            "classroom: page.html is not written: the library jinja2 is not there: "
+            "apt-get install python3-jinja2\n"
+        ),
     )
     assert len(lines(beers)) == 15
 

@@ -1,4 +1,5 @@
-"""What a wheel without extras has: no command needs a library to be known, or to say what it does."""
+"""What a wheel without extras has: no command needs a library to be known, or to say what it
+does."""
 from __future__ import annotations
 
 import subprocess

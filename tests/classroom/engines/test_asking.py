@@ -1,4 +1,5 @@
-"""The processes that try answers: one that fails takes no other with it, and none outlives what asked it."""
+"""The processes that try answers: one that fails takes no other with it, and none outlives what
+asked it."""
 from __future__ import annotations
 
 import logging
@@ -135,9 +136,10 @@ def test_no_child_outlives_what_asked_it(child: None, tmp_path: Path) -> None:
     place = tmp_path / "pid"
     wanted = f"wait {place}"
     asks = (
-        f"import sys; sys.path[:0] = {[str(TOP / 'python'), str(TOP / 'tests/classroom')]!r}\nfrom pathlib import Path\n"
-        f"import shop\nfrom classroom.trial import asking\nasking.CHILD = Path({str(tmp_path / 'child.py')!r})\n"
-        f"with asking.trier(shop.material(), asking.Options()) as made:\n    made.ask('-', {wanted!r})\n"
+        f"import sys; sys.path[:0] = {[str(TOP / 'python'), str(TOP / 'tests/classroom')]!r}\nfrom"
+        " pathlib import Path\nimport shop\nfrom classroom.trial import asking\nasking.CHILD ="
+        f" Path({str(tmp_path / 'child.py')!r})\nwith asking.trier(shop.material(),"
+        f" asking.Options()) as made:\n    made.ask('-', {wanted!r})\n"
     )
     process = subprocess.Popen(
         [sys.executable, "-c", asks], env={**os.environ, "TMPDIR": str(tmp_path)}
@@ -152,7 +154,8 @@ def test_no_child_outlives_what_asked_it(child: None, tmp_path: Path) -> None:
 def test_a_child_has_nothing_of_the_others(
     child: None, tmp_path: Path, monkeypatch: pytest.MonkeyPatch
 ) -> None:
-    """Open are the three files of any process and its own question; the environment is a path and a locale."""
+    """Open are the three files of any process and its own question; the environment is a path and a
+    locale."""
     monkeypatch.setenv("SECRET_OF_THE_SERVER", "not for children")
     with asking.trier(shop.material(), Options(seconds=60.0)) as made, asking.threads(
         made, 2

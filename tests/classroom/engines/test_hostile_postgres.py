@@ -1,4 +1,5 @@
-"""Hostile queries over PostgreSQL: each is refused, or ended by the limit that is named, and changes nothing."""
+"""Hostile queries over PostgreSQL: each is refused, or ended by the limit that is named, and
+changes nothing."""
 from __future__ import annotations
 
 import re
@@ -50,7 +51,10 @@ HOSTILE = {
     ),
     "many rows": ("SELECT generate_series(1, 300000)", TooMuch, "rows"),
     "temporary files": (
-        "SELECT count(*) FROM (SELECT DISTINCT g::text || repeat('x', 1000) FROM generate_series(1, 1000000) g) x",
+        (
+            "SELECT count(*) FROM (SELECT DISTINCT g::text || repeat('x', 1000) FROM"
+            " generate_series(1, 1000000) g) x"
+        ),
         TooMuch,
         "size|time",
     ),
@@ -61,7 +65,10 @@ HOSTILE = {
         "time|size",
     ),
     "doubled texts": (
-        "WITH RECURSIVE r(t) AS (SELECT 'x' UNION ALL SELECT t || t FROM r) SELECT max(length(t)) FROM r",
+        (
+            "WITH RECURSIVE r(t) AS (SELECT 'x' UNION ALL SELECT t || t FROM r) SELECT"
+            " max(length(t)) FROM r"
+        ),
         TooMuch,
         "size|memory|time",
     ),
@@ -101,7 +108,8 @@ def schemas(roles: Roles) -> set[tuple[str, ...]]:
 
 @pytest.fixture(autouse=True)
 def nothing_left(roles: Roles) -> Iterator[None]:
-    """No schema of a trial is left behind. Of processes that other tests had killed some may be there."""
+    """No schema of a trial is left behind. Of processes that other tests had killed some may be
+    there."""
     before = schemas(roles)
     yield
     assert schemas(roles) <= before
@@ -141,7 +149,10 @@ def test_ordinary_functions_may_be_called(roles: Roles, material: Material) -> N
     for text in (
         "SELECT round(avg(qty), 2), string_agg(sku, ',' ORDER BY sku) FROM item",
         "SELECT extract(year FROM day::date), to_char(day::date, 'YYYY') FROM orders",
-        "SELECT upper(name), substring(name FROM 1 FOR 3), coalesce(city, ''), name ILIKE 'a%' FROM customer",
+        (
+            "SELECT upper(name), substring(name FROM 1 FOR 3), coalesce(city, ''), name ILIKE 'a%'"
+            " FROM customer"
+        ),
         "SELECT percentile_cont(0.5) WITHIN GROUP (ORDER BY price) FROM product",
         "SELECT g FROM generate_series(1, 3) g",
         "SELECT c.name, count(*) FROM customer c JOIN orders o ON o.customer = c.id GROUP BY c.id",

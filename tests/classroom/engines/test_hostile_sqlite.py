@@ -1,4 +1,5 @@
-"""Hostile queries over SQLite: each is refused, or ended by the limit that is named, and changes nothing."""
+"""Hostile queries over SQLite: each is refused, or ended by the limit that is named, and changes
+nothing."""
 from __future__ import annotations
 
 import json
@@ -41,19 +42,26 @@ HOSTILE = {
     "twelve tables": (f"SELECT count(*) FROM {ITEMS}", TooMuch, "time"),
     "views in views": (TWO_TO, TooMuch, "time|size"),
     "growing texts": (
-        "WITH RECURSIVE r(n, t) AS (SELECT 1, hex(zeroblob(30000)) UNION SELECT n + 1, t || n FROM r) SELECT max(t) FROM r",
+        (
+            "WITH RECURSIVE r(n, t) AS (SELECT 1, hex(zeroblob(30000)) UNION SELECT n + 1, t || n"
+            " FROM r) SELECT max(t) FROM r"
+        ),
         TooMuch,
         "memory|size|time",
     ),
     "DISTINCT over much": (
-        "WITH RECURSIVE r(n) AS (SELECT 1 UNION ALL SELECT n + 1 FROM r LIMIT 100000) "
-        "SELECT count(*) FROM (SELECT DISTINCT hex(zeroblob(30000)) || n FROM r)",
+        (
+            "WITH RECURSIVE r(n) AS (SELECT 1 UNION ALL SELECT n + 1 FROM r LIMIT 100000) "
+            "SELECT count(*) FROM (SELECT DISTINCT hex(zeroblob(30000)) || n FROM r)"
+        ),
         TooMuch,
         "memory|time",
     ),
     "a sorter over much": (
-        "WITH RECURSIVE r(n) AS (SELECT 1 UNION ALL SELECT n + 1 FROM r LIMIT 10000000) "
-        "SELECT hex(zeroblob(30000)) || n FROM r ORDER BY 1 DESC LIMIT 1",
+        (
+            "WITH RECURSIVE r(n) AS (SELECT 1 UNION ALL SELECT n + 1 FROM r LIMIT 10000000) "
+            "SELECT hex(zeroblob(30000)) || n FROM r ORDER BY 1 DESC LIMIT 1"
+        ),
         TooMuch,
         "memory|time",
     ),
@@ -63,13 +71,18 @@ HOSTILE = {
     "printf": ("SELECT printf('%.*c', 1000000000, 'x')", Bars, "printf"),
     "format": ("SELECT format('%.*c', 1000000000, 'x')", Bars, "format"),
     "instr": (
-        "WITH RECURSIVE r(n) AS (SELECT 1 UNION ALL SELECT n + 1 FROM r LIMIT 1000) SELECT sum(instr("
-        f"{LONG}, substr({LONG}, 1, 32000) || n)) FROM r, item a, item b",
+        (
+            "WITH RECURSIVE r(n) AS (SELECT 1 UNION ALL SELECT n + 1 FROM r LIMIT 1000) SELECT"
+            f" sum(instr({LONG}, substr({LONG}, 1, 32000) || n)) FROM r, item a, item b"
+        ),
         TooMuch,
         "time",
     ),
     "LIKE": (
-        f"SELECT sum(({LONG} || a.qty) LIKE '{'%0' * 40}%x') FROM item a, item b, item c, item d, item e",
+        (
+            f"SELECT sum(({LONG} || a.qty) LIKE '{'%0' * 40}%x') FROM item a, item b, item c, item"
+            " d, item e"
+        ),
         TooMuch,
         "time",
     ),
@@ -134,7 +147,8 @@ def test_hostile(name: str) -> None:
 
 
 def test_one_step_that_doesn_t_end_is_ended_with_its_process() -> None:
-    """A single call of instr over texts of 65,536 characters is short; what isn't, the process's time ends."""
+    """A single call of instr over texts of 65,536 characters is short; what isn't, the process's
+    time ends."""
     of = shop.material()
     with trier(of, Options(seconds=0.5)) as made:
         begun = time.monotonic()
@@ -152,7 +166,10 @@ def test_ordinary_functions_are_not_barred() -> None:
     for text in (
         "SELECT strftime('%Y', day) FROM orders",
         "SELECT date(day, '+1 day') FROM orders",
-        "SELECT upper(name), round(avg(id), 2), coalesce(city, '-'), substr(name, 1, 2) FROM customer GROUP BY city",
+        (
+            "SELECT upper(name), round(avg(id), 2), coalesce(city, '-'), substr(name, 1, 2) FROM"
+            " customer GROUP BY city"
+        ),
         "SELECT julianday(day) - julianday('2024-01-01') FROM orders",
         "VALUES (1), (2)",
         "SELECT row_number() OVER (ORDER BY id) FROM customer",
@@ -177,8 +194,9 @@ def test_a_step_without_an_end_takes_no_more_of_the_processor(
 ) -> None:
     """What no limit of SQLite ends ends with the process, whatever the clock says."""
     (tmp_path / "child.py").write_text(
-        f"import sys; sys.path.insert(0, {str(TOP / 'python')!r})\nimport classroom.trial.child as child\n"
-        "child.MORE_SECONDS = 0.5\ndef spin(*_):\n    while True: pass\nchild.tried = spin\nchild.main()\n"
+        f"import sys; sys.path.insert(0, {str(TOP / 'python')!r})\nimport classroom.trial.child as"
+        " child\nchild.MORE_SECONDS = 0.5\ndef spin(*_):\n    while True: pass\nchild.tried ="
+        " spin\nchild.main()\n"
     )
     monkeypatch.setattr(asking, "CHILD", tmp_path / "child.py")
     with asking.trier(shop.material(), Options(seconds=0.4)) as made:

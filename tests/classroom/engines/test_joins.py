@@ -1,4 +1,5 @@
-"""That a query answers on a part as on the union of the tuples in it: random queries over all lawful parts.
+"""That a query answers on a part as on the union of the tuples in it: random queries over all
+lawful parts.
 
 This is what a witness that is called the smallest by joins rests on.
 """
@@ -63,7 +64,8 @@ class Drawn:
         if depth == 0 and self.number(0, 5) == 0:
             name = self.one("w", "customer", "item")
             text = (
-                f"WITH {name} AS (SELECT o.no AS a, o.customer AS id, o.day AS qty, o.no AS ord FROM orders o) {text}"
+                f"WITH {name} AS (SELECT o.no AS a, o.customer AS id, o.day AS qty, o.no AS ord"
+                f" FROM orders o) {text}"
                 if name != "w"
                 else f"WITH w AS ({self.select([], 1)}) SELECT count(*), 1 FROM w UNION ALL {text}"
             )
@@ -107,13 +109,17 @@ class Drawn:
                 tables.append((table, name))
             elif form == 1 and depth < 2:
                 columns = f"SELECT {', '.join(COLUMNS[table])} FROM {table}"
-                text += f" {self.one('JOIN', 'LEFT JOIN')} ({columns}) {name} ON {self.joining(tables, (table, name))}"
+                text += (
+                    f" {self.one('JOIN', 'LEFT JOIN')} ({columns}) {name} ON"
+                    f" {self.joining(tables, (table, name))}"
+                )
                 tables.append((table, name))
             elif form == 2:
                 inner, other = self.one(*COLUMNS), self.alias()
                 text += (
-                    f" {self.one('JOIN', 'LEFT JOIN')} ({table} {name} JOIN {inner} {other} ON "
-                    f"{self.joining([(table, name)], (inner, other))}) ON {self.joining(tables, (table, name))}"
+                    f" {self.one('JOIN', 'LEFT JOIN')} ({table} {name} JOIN {inner} {other} ON"
+                    f" {self.joining([(table, name)], (inner, other))}) ON"
+                    f" {self.joining(tables, (table, name))}"
                 )
                 tables += [(table, name), (inner, other)]
             elif form == 3:
@@ -155,7 +161,10 @@ class Drawn:
         if form == 0:
             return f"{left} IS {self.one('', 'NOT ')}NULL"
         if form == 1:
-            return f"{left} {self.one('', 'NOT ')}LIKE {self.one(chr(39) + 'B%' + chr(39), chr(39) + '%o%' + chr(39))}"
+            return (
+                f"{left} {self.one('', 'NOT ')}LIKE"
+                f" {self.one(chr(39) + 'B%' + chr(39), chr(39) + '%o%' + chr(39))}"
+            )
         if form == 2:
             return (
                 f"{left} {self.one('', 'NOT ')}BETWEEN {self.one(*VALUES)} AND {self.one(*VALUES)}"
@@ -176,14 +185,16 @@ class Drawn:
             table = self.one(*COLUMNS)
             name = self.alias()
             return (
-                f"{self.column(tables)} {self.one('', 'NOT ')}IN (SELECT {name}.{self.one(*COLUMNS[table])} FROM {table} {name} "
-                f"WHERE {self.condition([(table, name), *tables], depth + 1)})"
+                f"{self.column(tables)} {self.one('', 'NOT ')}IN (SELECT"
+                f" {name}.{self.one(*COLUMNS[table])} FROM {table} {name} WHERE"
+                f" {self.condition([(table, name), *tables], depth + 1)})"
             )
         if depth < 2 and form == 2:
             table, name = self.one(*COLUMNS), self.alias()
             return (
-                f"(SELECT count(*) FROM {table} {name} WHERE {self.condition([(table, name), *tables], depth + 1)}) "
-                f"{self.one('=', '>')} {self.one('0', '1')}"
+                f"(SELECT count(*) FROM {table} {name} WHERE"
+                f" {self.condition([(table, name), *tables], depth + 1)})"
+                f" {self.one('=', '>')} {self.one('0', '1')}"
             )
         if form == 3:
             return (
@@ -233,17 +244,26 @@ def test_a_part_answers_as_the_union_of_the_tuples_in_it(
 
 UNDERSTOOD = [
     (
-        "SELECT c.name FROM customer c JOIN orders o ON o.customer = c.id WHERE o.day LIKE '2024-01%'",
+        (
+            "SELECT c.name FROM customer c JOIN orders o ON o.customer = c.id WHERE o.day LIKE"
+            " '2024-01%'"
+        ),
         1,
         (),
     ),
     (
-        "SELECT c.id, count(o.no) FROM customer c LEFT JOIN orders o ON o.customer = c.id GROUP BY c.id",
+        (
+            "SELECT c.id, count(o.no) FROM customer c LEFT JOIN orders o ON o.customer = c.id GROUP"
+            " BY c.id"
+        ),
         2,
         (),
     ),
     (
-        "SELECT c.id, i.sku FROM customer c LEFT JOIN orders o ON o.customer = c.id LEFT JOIN item i ON i.ord = o.no",
+        (
+            "SELECT c.id, i.sku FROM customer c LEFT JOIN orders o ON o.customer = c.id LEFT JOIN"
+            " item i ON i.ord = o.no"
+        ),
         3,
         (),
     ),
@@ -255,7 +275,10 @@ UNDERSTOOD = [
     ("SELECT customer FROM orders GROUP BY customer HAVING count(*) > 1", 1, ()),
     ("SELECT kind FROM product WHERE sku IN (SELECT sku FROM item WHERE qty > 1)", 2, ()),
     (
-        "SELECT * FROM (SELECT kind, avg(price) a FROM product GROUP BY kind) x JOIN product p ON p.kind = x.kind",
+        (
+            "SELECT * FROM (SELECT kind, avg(price) a FROM product GROUP BY kind) x JOIN product p"
+            " ON p.kind = x.kind"
+        ),
         2,
         (),
     ),
@@ -273,7 +296,10 @@ UNDERSTOOD = [
     ),
     ("SELECT count(*) FROM product WHERE sku IN item", 1, ("item",)),
     (
-        "SELECT count(*) FROM customer c JOIN (orders o JOIN item i ON i.ord = o.no) ON o.customer = c.id",
+        (
+            "SELECT count(*) FROM customer c JOIN (orders o JOIN item i ON i.ord = o.no) ON"
+            " o.customer = c.id"
+        ),
         None,
         ("orders", "item"),
     ),
@@ -299,7 +325,10 @@ def test_what_is_understood(text: str, count: int | None, alone: tuple[str, ...]
 def test_fewer_parts_than_all_have_to_be_tried() -> None:
     of = shop.material(customers=20, products=10, orders=30, items=40)
     parts = Parts(of.pool)
-    text = "SELECT c.name FROM customer c JOIN orders o ON o.customer = c.id JOIN item i ON i.ord = o.no WHERE i.qty > 2"
+    text = (
+        "SELECT c.name FROM customer c JOIN orders o ON o.customer = c.id JOIN item i ON i.ord ="
+        " o.no WHERE i.qty > 2"
+    )
     engine = Sqlite(of, parts, text, text)
     units, is_joined = Search(engine, parts, of, (text, text), Wanted()).units()
     assert is_joined and 0 < len(units) <= 40 and all(3 <= unit.bit_count() <= 4 for unit in units)

@@ -32,13 +32,25 @@ from classroom.verdict.verdict import (
 # Pairs as students write them: the reference, the answer, and the kind of their difference.
 PAIRS = [
     (
-        "SELECT c.id, COUNT(o.no) FROM customer c LEFT JOIN orders o ON o.customer = c.id GROUP BY c.id",
-        "SELECT c.id, COUNT(*) FROM customer c LEFT JOIN orders o ON o.customer = c.id GROUP BY c.id",
+        (
+            "SELECT c.id, COUNT(o.no) FROM customer c LEFT JOIN orders o ON o.customer = c.id GROUP"
+            " BY c.id"
+        ),
+        (
+            "SELECT c.id, COUNT(*) FROM customer c LEFT JOIN orders o ON o.customer = c.id GROUP BY"
+            " c.id"
+        ),
         ROWS,
     ),
     (
-        "SELECT c.name, COUNT(o.no) FROM customer c LEFT JOIN orders o ON o.customer = c.id GROUP BY c.id, c.name",
-        "SELECT c.name, COUNT(o.no) FROM customer c JOIN orders o ON o.customer = c.id GROUP BY c.id, c.name",
+        (
+            "SELECT c.name, COUNT(o.no) FROM customer c LEFT JOIN orders o ON o.customer = c.id"
+            " GROUP BY c.id, c.name"
+        ),
+        (
+            "SELECT c.name, COUNT(o.no) FROM customer c JOIN orders o ON o.customer = c.id GROUP BY"
+            " c.id, c.name"
+        ),
         ROWS,
     ),
     (
@@ -52,13 +64,22 @@ PAIRS = [
         ROWS,
     ),
     (
-        "SELECT c.name FROM customer c WHERE c.id NOT IN (SELECT customer FROM orders WHERE customer IS NOT NULL)",
+        (
+            "SELECT c.name FROM customer c WHERE c.id NOT IN (SELECT customer FROM orders WHERE"
+            " customer IS NOT NULL)"
+        ),
         "SELECT c.name FROM customer c WHERE c.id NOT IN (SELECT customer FROM orders)",
         ROWS,
     ),
     (
-        "SELECT o.no, SUM(i.qty * p.price) FROM orders o JOIN item i ON i.ord = o.no JOIN product p ON p.sku = i.sku GROUP BY o.no",
-        "SELECT o.no, SUM(i.qty) * SUM(p.price) FROM orders o JOIN item i ON i.ord = o.no JOIN product p ON p.sku = i.sku GROUP BY o.no",
+        (
+            "SELECT o.no, SUM(i.qty * p.price) FROM orders o JOIN item i ON i.ord = o.no JOIN"
+            " product p ON p.sku = i.sku GROUP BY o.no"
+        ),
+        (
+            "SELECT o.no, SUM(i.qty) * SUM(p.price) FROM orders o JOIN item i ON i.ord = o.no JOIN"
+            " product p ON p.sku = i.sku GROUP BY o.no"
+        ),
         ROWS,
     ),
     ("SELECT name FROM customer", "SELECT name, city FROM customer", COLUMNS),
@@ -216,7 +237,10 @@ def test_order_counts_only_where_the_reference_determines_it() -> None:
             (False, True),
         ),
         (
-            "SELECT ord, group_concat(sku) FROM (SELECT * FROM item ORDER BY ord, sku) GROUP BY ord",
+            (
+                "SELECT ord, group_concat(sku) FROM (SELECT * FROM item ORDER BY ord, sku) GROUP"
+                " BY ord"
+            ),
             "SELECT ord, group_concat(sku) FROM item GROUP BY ord",
             None,
         ),
@@ -271,15 +295,19 @@ def test_names_in_double_quotes_that_are_known() -> None:
 def test_a_query_that_fails_on_some_rows() -> None:
     made = found(
         "SELECT count(*) FROM item",
-        "SELECT CASE WHEN count(*) > 1 THEN abs(-9223372036854775807 - 1) ELSE count(*) END FROM item",
+        (
+            "SELECT CASE WHEN count(*) > 1 THEN abs(-9223372036854775807 - 1) ELSE count(*) END"
+            " FROM item"
+        ),
     )
     assert made.difference == FAILURE and "overflow" in made.answer.failure and len(made.kept) > 2
 
 
 def test_rows_that_break_a_rule_stand_in_no_part(tmp_path: Path) -> None:
     (tmp_path / "schema.sql").write_text(
-        "CREATE TABLE a (x INTEGER PRIMARY KEY, y INTEGER NOT NULL CHECK (y >= 0 OR y IN (-1, -2)));\n"
-        'CREATE TABLE b (x INTEGER REFERENCES a, "the Y" TEXT CHECK ("the Y" <> \'no\'));\n'
+        "CREATE TABLE a (x INTEGER PRIMARY KEY, y INTEGER NOT NULL CHECK (y >= 0 OR y IN (-1,"
+        ' -2)));\nCREATE TABLE b (x INTEGER REFERENCES a, "the Y" TEXT CHECK ("the Y" <>'
+        " 'no'));\n"
     )
     (tmp_path / "a.csv").write_text("x,y\n1,5\n2,\n3,-1\n4,-3\n,5\n")
     (tmp_path / "b.csv").write_text("x,the Y\n1,yes\n2,yes\n3,no\n4,yes\n,yes\n")

@@ -271,7 +271,10 @@ def table_text(
     kinds = {column: kind.replace("{byte}", byte) for column, (kind, _) in COLUMNS.items()}
     kinds.update([domain] if domain[0] else [])
     columns = [f"{quoted(column)} {kind}" for column, kind in kinds.items()]
-    return f"CREATE TABLE {name} ({', '.join(columns + ([f'CHECK ({condition})'] if condition else []))});"
+    return (
+        "CREATE TABLE"
+        f" {name} ({', '.join(columns + ([f'CHECK ({condition})'] if condition else []))});"
+    )
 
 
 Case = tuple[str, tuple[str, str], str, str]
@@ -296,7 +299,8 @@ def fill_text(product: Product, tables: dict[str, Case]) -> str:
     return (
         "DO $$ DECLARE x record; BEGIN FOR x IN SELECT id FROM rows LOOP "
         + "".join(
-            f"BEGIN INSERT INTO {table} SELECT * FROM rows WHERE id = x.id; EXCEPTION WHEN check_violation THEN END; "
+            f"BEGIN INSERT INTO {table} SELECT * FROM rows WHERE id = x.id; EXCEPTION WHEN"
+            " check_violation THEN END; "
             for table in tables
         )
         + "END LOOP; END $$"
@@ -315,7 +319,8 @@ def ends_with(ratest: Path, status: int, folder: Path, query: str) -> None:
 def keeps_lawful(
     ratest: Path, folder: Path, name: str, schema: str, rows: str, let_in: set[int]
 ) -> None:
-    """Of all rows `ratest` keeps those together that the database let in, and none of the others."""
+    """Of all rows `ratest` keeps those together that the database let in, and none of the
+    others."""
     folder.mkdir()
     (folder / "schema.sql").write_text(schema + "CREATE TABLE one (id INTEGER);", encoding="utf-8")
     (folder / f"{name}.csv").write_bytes(rows.encode())
@@ -479,8 +484,11 @@ def test_without_psycopg(tmp_path: Path) -> None:
     ran = run(
         "/usr/bin/python3",
         "-c",
-        f"import sys; sys.path[:0] = [{str(tmp_path)!r}, {str(TOP / 'python')!r}]; "
-        f"from classroom.main import main; sys.exit(main({['import', 'host=/x', str(tmp_path / 'x')]!r}))",
+        (
+            f"import sys; sys.path[:0] = [{str(tmp_path)!r}, {str(TOP / 'python')!r}]; from"
+            " classroom.main import main;"
+            f" sys.exit(main({['import', 'host=/x', str(tmp_path / 'x')]!r}))"
+        ),
     )
     assert (ran.returncode, ran.stderr) == (
         1,
@@ -492,7 +500,10 @@ def test_without_psycopg(tmp_path: Path) -> None:
     ran = run(
         "/usr/bin/python3",
         "-c",
-        f"import sys; sys.path[:0] = [{str(tmp_path)!r}, {str(TOP / 'python')!r}]; "
-        f"from classroom.main import main; sys.exit(main({['import', str(tmp_path / 't.db'), str(tmp_path / 'y')]!r}))",
+        (
+            f"import sys; sys.path[:0] = [{str(tmp_path)!r}, {str(TOP / 'python')!r}]; from"
+            " classroom.main import main;"
+            f" sys.exit(main({['import', str(tmp_path / 't.db'), str(tmp_path / 'y')]!r}))"
+        ),
     )
     assert (ran.returncode, ran.stderr) == (0, "")

@@ -1,4 +1,5 @@
-"""Tables that a teacher opens in a spreadsheet: no cell is a formula, and none says more than is known."""
+"""Tables that a teacher opens in a spreadsheet: no cell is a formula, and none says more than is
+known."""
 from __future__ import annotations
 
 import csv

@@ -16,7 +16,10 @@ import pytest
 from products import TOP, classroom
 from roles import Roles
 
-COUNT = "SELECT d.name, COUNT(l.beer) FROM drinker d LEFT JOIN likes l ON l.drinker = d.name GROUP BY d.name"
+COUNT = (
+    "SELECT d.name, COUNT(l.beer) FROM drinker d LEFT JOIN likes l ON l.drinker = d.name GROUP BY"
+    " d.name"
+)
 ENGINE = f"sqlite {sqlite3.sqlite_version}"
 
 
@@ -56,7 +59,7 @@ def test_what_ratest_does_not_read_is_tried(beers: Path) -> None:
         "6",
         COUNT,
         star=COUNT.replace("COUNT(l.beer)", "COUNT(*)") + ";\n",
-        right=("SELECT name, (SELECT COUNT(*) FROM likes WHERE drinker = name) FROM drinker"),
+        right="SELECT name, (SELECT COUNT(*) FROM likes WHERE drinker = name) FROM drinker",
         wrong="SELECT nam, COUNT(*)\nFROM drinker",
         luck="SELECT name, 2 FROM drinker ORDER BY (SELECT COUNT(*) FROM likes) LIMIT 1",
         clock="SELECT name, date('now') FROM drinker",
@@ -315,7 +318,8 @@ def test_the_real_types_of_a_database(ratest: Path, tmp_path: Path) -> None:
 
 
 def test_types_of_the_database_that_answer_otherwise(ratest: Path, tmp_path: Path) -> None:
-    """A CHAR of a collation without case is a text of bytes in the CSV file: a proof over those is looked at."""
+    """A CHAR of a collation without case is a text of bytes in the CSV file: a proof over those is
+    looked at."""
     os.environ["RATEST"] = str(ratest.absolute())
     database = sqlite3.connect(tmp_path / "names.db")
     database.executescript(
@@ -377,7 +381,10 @@ def test_postgresql_tries(beers: Path, roles: Roles) -> None:
         star=COUNT.replace("l.beer", "*"),
         right=COUNT.replace("l.beer", "l.drinker"),
         wrong="SELECT nosuch FROM beer",
-        own="SELECT name, (SELECT COUNT(*) FROM likes WHERE drinker = name)::integer FROM drinker WHERE name ILIKE '%'",
+        own=(
+            "SELECT name, (SELECT COUNT(*) FROM likes WHERE drinker = name)::integer FROM drinker"
+            " WHERE name ILIKE '%'"
+        ),
     )
     (beers / "exercise.toml").write_text(
         f'engine = "{roles.loader}"\nengine_asker = "{roles.asker}"\n'
@@ -466,7 +473,8 @@ def test_import_names_the_engine(roles: Roles, tmp_path: Path) -> None:
 
 
 def test_wrong_sql_is_told_where_the_reference_can_not_be_tried(beers: Path) -> None:
-    """SQLite knows no parentheses around an operand. What it says of the reference is in no student's file."""
+    """SQLite knows no parentheses around an operand. What it says of the reference is in no
+    student's file."""
     add(
         beers,
         "6",

@@ -1,4 +1,5 @@
-"""The grade of each answer: what has a score, what is to be graded by hand, and what is read of a file."""
+"""The grade of each answer: what has a score, what is to be graded by hand, and what is read of a
+file."""
 from __future__ import annotations
 
 import csv
@@ -162,7 +163,8 @@ def test_a_refused_answer_is_not_a_wrong_one(ratest: Path, empty: Path) -> None:
 
 
 def test_what_spent_its_budget(ratest: Path, empty: Path) -> None:
-    """Rule 2: with best rows it differs, perhaps on fewer; without any, or past a limit, there is no verdict."""
+    """Rule 2: with best rows it differs, perhaps on fewer; without any, or past a limit, there is
+    no verdict."""
     for task in "345":
         wrong = (TOP / "examples/beers" / task / "answers/a.sql").read_text()
         (empty / task / "answers/a.sql").write_text(wrong)
@@ -373,7 +375,8 @@ def test_cells_that_a_spreadsheet_runs(ratest: Path, empty: Path) -> None:
 
 
 def test_no_solution_is_published(ratest: Path, empty: Path) -> None:
-    """Rule 4: texts of agreeing answers, and others that may be as good, are in no page for students."""
+    """Rule 4: texts of agreeing answers, and others that may be as good, are in no page for
+    students."""
     right = {task: (empty / task / "reference.sql").read_text() for task in "12345"}
     for task, text in right.items():
         agreeing = f"{text.rstrip()} -- by Ann\n"
@@ -462,7 +465,8 @@ def test_what_else_stands_in_the_results_stays(ratest: Path, beers: Path) -> Non
     ran = classroom("grade", beers)
     assert (
         ran.stderr
-        == f"classroom: {results}/tasks/stray: no folder, so the texts of its answers are not written\n"
+        == f"classroom: {results}/tasks/stray: no folder, so the texts of its answers are not"
+        " written\n"
     )
     assert rows(beers)["stray", "a"]["grade"] == "agrees"
 
@@ -477,7 +481,8 @@ def test_pick_is_named_where_answers_pass_a_limit(ratest: Path, beers: Path) -> 
     assert (
         over
         and ran.stderr.splitlines()[0]
-        == f"classroom: {over} answers past a limit: `classroom pick` keeps the few rows that tell the mistakes"
+        == f"classroom: {over} answers past a limit: `classroom pick` keeps the few rows that tell"
+        " the mistakes"
     )
     assert "pick" not in classroom("grade", beers).stderr
 

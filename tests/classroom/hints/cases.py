@@ -1,9 +1,9 @@
 """Wrong answers with the place and the kind that a teacher would name.
 
-`wrong.txt` in the folder of a schema has for each task its reference, and then answers, each behind the kinds
-of mistake that it may be said to have, with its place between « and ». `planted.txt` has references, each
-written otherwise, and the mistakes that are made in that text, as `right => wrong`.
-"""
+`wrong.txt` in the folder of a schema has for each task its reference, and then answers, each behind
+the kinds of mistake that it may be said to have, with its place between « and ». `planted.txt` has
+references, each written otherwise, and the mistakes that are made in that text, as `right =>
+wrong`. """
 from __future__ import annotations
 
 from dataclasses import dataclass

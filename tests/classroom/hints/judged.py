@@ -29,7 +29,8 @@ class Judged:
 
     @property
     def place_is_right(self) -> bool:
-        """Whether the shown place is in the marked one, or has it and no more of the text than its clause."""
+        """Whether the shown place is in the marked one, or has it and no more of the text than its
+        clause."""
         if self.best is None:
             return False
         shown, mark = self.best.place, Span(self.wrong.begin, self.wrong.end)

@@ -1,4 +1,5 @@
-"""Mistakes in how often rows come, or in their order alone: over SQLite, and over PostgreSQL where it decides."""
+"""Mistakes in how often rows come, or in their order alone: over SQLite, and over PostgreSQL where
+it decides."""
 from __future__ import annotations
 
 import contextlib
@@ -142,13 +143,25 @@ def test_over_postgresql(
     "reference, answer, mistake",
     [
         (
-            "SELECT bar, COUNT(*) FROM serves WHERE price::text > '2' GROUP BY bar HAVING COUNT(*) > 1",
-            "SELECT bar, COUNT(*) FROM serves WHERE price::text > '2' GROUP BY bar HAVING COUNT(*) >= 1",
+            (
+                "SELECT bar, COUNT(*) FROM serves WHERE price::text > '2' GROUP BY bar HAVING"
+                " COUNT(*) > 1"
+            ),
+            (
+                "SELECT bar, COUNT(*) FROM serves WHERE price::text > '2' GROUP BY bar HAVING"
+                " COUNT(*) >= 1"
+            ),
             "> for >=",
         ),
         (
-            "SELECT d.name, COUNT(f.bar) FROM drinker d LEFT JOIN frequents f ON f.drinker = d.name GROUP BY d.name",
-            "SELECT d.name, COUNT(*) FROM drinker d LEFT JOIN frequents f ON f.drinker = d.name GROUP BY d.name",
+            (
+                "SELECT d.name, COUNT(f.bar) FROM drinker d LEFT JOIN frequents f ON f.drinker ="
+                " d.name GROUP BY d.name"
+            ),
+            (
+                "SELECT d.name, COUNT(*) FROM drinker d LEFT JOIN frequents f ON f.drinker = d.name"
+                " GROUP BY d.name"
+            ),
             "COUNT(f.bar) for COUNT(*)",
         ),
     ],

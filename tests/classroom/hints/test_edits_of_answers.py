@@ -47,9 +47,15 @@ MADE: dict[tuple[str, str], dict[str, Kind]] = {
         "SELECT p.name FROM person p, member m WHERE m.person = p.id AND m.since < 3",
         "SELECT x.name FROM person x, member AS y WHERE x.id = x.id",
     ): {
-        "SELECT x.name FROM person x, member AS y WHERE x.id = x.id AND y.person = x.id": Kind.JOIN_CONDITION_MISSING,
-        "SELECT x.name FROM person x, member AS y WHERE x.id = x.id AND y.since < 3": Kind.CONDITION_MISSING,
-        "SELECT x.name FROM person x, member AS y WHERE y.person = x.id AND y.since < 3": Kind.WHERE,
+        "SELECT x.name FROM person x, member AS y WHERE x.id = x.id AND y.person = x.id": (
+            Kind.JOIN_CONDITION_MISSING
+        ),
+        "SELECT x.name FROM person x, member AS y WHERE x.id = x.id AND y.since < 3": (
+            Kind.CONDITION_MISSING
+        ),
+        "SELECT x.name FROM person x, member AS y WHERE y.person = x.id AND y.since < 3": (
+            Kind.WHERE
+        ),
         "SELECT x.name FROM person x WHERE x.id = x.id": Kind.TABLE_TOO_MANY,
     },
     # A subquery of the reference, whose own name is taken here.
@@ -57,7 +63,9 @@ MADE: dict[tuple[str, str], dict[str, Kind]] = {
         "SELECT name FROM club c WHERE NOT EXISTS (SELECT * FROM fee f WHERE f.club = c.id)",
         "SELECT f.name FROM club f",
     ): {
-        "SELECT f.name FROM club f WHERE NOT EXISTS (SELECT * FROM fee f2 WHERE f2.club = f.id)": Kind.CONDITION_MISSING
+        "SELECT f.name FROM club f WHERE NOT EXISTS (SELECT * FROM fee f2 WHERE f2.club = f.id)": (
+            Kind.CONDITION_MISSING
+        )
     },
     # Groups of AND and OR.
     ("SELECT name FROM person", "SELECT name FROM person WHERE id = 1 OR id = 2 AND city = 'x'"): {
@@ -69,15 +77,21 @@ MADE: dict[tuple[str, str], dict[str, Kind]] = {
         "SELECT name FROM person",
         "SELECT p.name FROM person p, member m WHERE m.person = p.id AND m.since > 3",
     ): {
-        "SELECT p.name FROM person p WHERE NOT EXISTS (SELECT * FROM member m WHERE m.person = p.id AND m.since <= 3)": Kind.QUANTIFIER,
-        "SELECT p.name FROM person p, member m, club WHERE m.person = p.id AND m.since > 3 AND m.club = club.id": Kind.TABLE_MISSING,
+        "SELECT p.name FROM person p WHERE NOT EXISTS (SELECT * FROM member m WHERE m.person = p.id AND m.since <= 3)": (
+            Kind.QUANTIFIER
+        ),
+        "SELECT p.name FROM person p, member m, club WHERE m.person = p.id AND m.since > 3 AND m.club = club.id": (
+            Kind.TABLE_MISSING
+        ),
     },
     (
         "SELECT name FROM person",
         "SELECT name FROM person WHERE id NOT IN (SELECT person FROM member)",
     ): {
         "SELECT name FROM person WHERE id IN (SELECT person FROM member)": Kind.QUANTIFIER,
-        "SELECT name FROM person WHERE NOT EXISTS (SELECT * FROM member WHERE person.id = member.person)": Kind.NULL,
+        "SELECT name FROM person WHERE NOT EXISTS (SELECT * FROM member WHERE person.id = member.person)": (
+            Kind.NULL
+        ),
         "SELECT person.name FROM person, member WHERE NOT person.id = member.person": Kind.JOIN,
     },
     # Sets.
@@ -111,7 +125,10 @@ def test_each_family(reference: str, answer: str) -> None:
 
 
 def test_the_place_is_in_the_answer() -> None:
-    answer = "SELECT p.name FROM person p -- all\nWHERE p.id IN (SELECT m.person FROM member m WHERE m.since <= 3)"
+    answer = (
+        "SELECT p.name FROM person p -- all\nWHERE p.id IN (SELECT m.person FROM member m WHERE"
+        " m.since <= 3)"
+    )
     places = {
         edit.mistake: (
             answer[slice(*edit.place)],
@@ -137,7 +154,10 @@ def test_columns_that_nothing_relates_are_not_compared() -> None:
         text
         for text in texts(answer)
         if re.search(
-            r"p\.city (=|<>) c\.town|p\.name (=|<>) c\.town|f\.euros (=|<) p\.id|c\.id (=|<) f\.year",
+            (
+                r"p\.city (=|<>) c\.town|p\.name (=|<>) c\.town|f\.euros (=|<) p\.id|c\.id (=|<)"
+                r" f\.year"
+            ),
             text,
         )
     ]
@@ -190,10 +210,19 @@ def test_ratest_reads_every_change(ratest_plus: Path, tmp_path: Path) -> None:
     ):
         (tmp_path / f"{name}.csv").write_text(head + "\n")
     more = (
-        "SELECT p.name FROM person p WHERE NOT (p.id = 1 OR p.city IS NULL AND NOT p.id IN (1, 2)) OR p.id BETWEEN 1 AND 3",
-        "SELECT x.n FROM (SELECT name AS n FROM person UNION (SELECT name FROM club EXCEPT SELECT city FROM person)) x, club c "
-        "WHERE x.n = c.name INTERSECT SELECT name FROM person",
-        "SELECT p.name FROM person p JOIN member m ON m.person = p.id CROSS JOIN fee WHERE -p.id < (2 + 3) * euros -- end",
+        (
+            "SELECT p.name FROM person p WHERE NOT (p.id = 1 OR p.city IS NULL AND NOT p.id IN (1,"
+            " 2)) OR p.id BETWEEN 1 AND 3"
+        ),
+        (
+            "SELECT x.n FROM (SELECT name AS n FROM person UNION (SELECT name FROM club EXCEPT"
+            " SELECT city FROM person)) x, club c WHERE x.n = c.name INTERSECT SELECT name FROM"
+            " person"
+        ),
+        (
+            "SELECT p.name FROM person p JOIN member m ON m.person = p.id CROSS JOIN fee WHERE"
+            " -p.id < (2 + 3) * euros -- end"
+        ),
     )
     for number, (reference, answer) in enumerate(
         [*MADE, *((text, text) for text in more), *((more[0], text) for text in more[1:])]

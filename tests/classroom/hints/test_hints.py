@@ -58,9 +58,9 @@ def test_steps_that_are_asked_for(ratest: Path, beers: Path) -> None:
         assert (
             hints(got)
             == [
-                "One change in the inner query's WHERE is enough: with it your query answers rightly, apart "
-                "from duplicates and order, on every part of these rows. There are other places where one "
-                "change would do."
+                "One change in the inner query's WHERE is enough: with it your query answers"
+                " rightly, apart from duplicates and order, on every part of these rows. There are"
+                " other places where one change would do."
             ]
             or len(hints(got)) == 1
         )
@@ -172,8 +172,8 @@ def test_the_mistakes_of_a_class(ratest: Path, beers: Path) -> None:
     assert "t.price < s.price" in fifth[0]["repair"]
     assert ran.stdout.splitlines()[-1] == f"see {beers}/results/mistakes.csv"
     assert (
-        "  2 answers: as the reference with <= for < in the inner query's WHERE (the inner query's WHERE)"
-        in ran.stdout
+        "  2 answers: as the reference with <= for < in the inner query's WHERE (the inner query's"
+        " WHERE)" in ran.stdout
     )
     page = html.unescape((beers / "results/page.html").read_text())
     assert (
@@ -220,7 +220,8 @@ def test_two_changes(ratest: Path, beers: Path) -> None:
     for path in (beers / "5/answers").iterdir():
         path.unlink()
     (beers / "5/answers/two.sql").write_text(
-        "SELECT s.beer, s.bar FROM serves s WHERE s.price IS NOT NULL AND NOT EXISTS (SELECT * FROM serves t WHERE t.bar = s.bar AND t.price > s.price)"
+        "SELECT s.beer, s.bar FROM serves s WHERE s.price IS NOT NULL AND NOT EXISTS (SELECT * FROM"
+        " serves t WHERE t.bar = s.bar AND t.price > s.price)"
     )
     classroom("grade", beers)
     assert "no single change was found" in classroom("mistakes", beers).stdout
@@ -249,8 +250,8 @@ def test_pick_and_import_keep_a_guard(
 
     database = sqlite3.connect(tmp_path / "d.db")
     database.executescript(
-        "CREATE TABLE t (a INTEGER PRIMARY KEY, n TEXT); "
-        "INSERT INTO t WITH RECURSIVE c(x) AS (SELECT 1 UNION ALL SELECT x + 1 FROM c WHERE x < 50) SELECT x, 'n' || x FROM c;"
+        "CREATE TABLE t (a INTEGER PRIMARY KEY, n TEXT); INSERT INTO t WITH RECURSIVE c(x) AS"
+        " (SELECT 1 UNION ALL SELECT x + 1 FROM c WHERE x < 50) SELECT x, 'n' || x FROM c;"
     )
     database.close()
     assert (
@@ -322,8 +323,8 @@ def test_hints_by_keyboard(ratest: Path, beers: Path, browser: Any, has_script: 
                     # The place is selected where one goes on writing.
                     assert (
                         browser.execute_script(
-                            "const of = document.querySelector('.CodeMirror')?.CodeMirror; return of ? "
-                            "of.getSelection() : document.getSelection().toString()"
+                            "const of = document.querySelector('.CodeMirror')?.CodeMirror; return"
+                            " of ? of.getSelection() : document.getSelection().toString()"
                         )
                         == "t.price <= s.price"
                     )
@@ -380,7 +381,10 @@ def test_what_is_stopped_ends_at_once(
 
 # What a database tries: the whole way through serve, mistakes and feedback.
 
-COUNT = "SELECT d.name, COUNT(l.beer) FROM drinker d LEFT JOIN likes l ON l.drinker = d.name GROUP BY d.name"
+COUNT = (
+    "SELECT d.name, COUNT(l.beer) FROM drinker d LEFT JOIN likes l ON l.drinker = d.name GROUP BY"
+    " d.name"
+)
 OF_TRIED = f"{COUNT} HAVING COUNT(l.beer) < 4711"
 COUNTED = COUNT.replace("l.beer", "*")
 
@@ -409,7 +413,8 @@ def test_tried_hints_where_students_ask(ratest: Path, tried: Path) -> None:
         )
         first, here, kind = hints(replies[2])
         assert re.fullmatch(
-            r"One change in .* is enough, as far as was tried: with it your query answered rightly on \d+ parts of "
+            r"One change in .* is enough, as far as was tried: with it your query answered rightly"
+            r" on \d+ parts of "
             r"these rows\.( There are other places where one change would do\.)?",
             first,
         ), first
@@ -440,7 +445,8 @@ def test_tried_hints_in_the_feedback(ratest: Path, tried: Path) -> None:
 
 @pytest.fixture
 def bars(beers: Path) -> Path:
-    """A task whose answer returns a bar more than once, and one whose answer has the order of its rows wrong."""
+    """A task whose answer returns a bar more than once, and one whose answer has the order of its
+    rows wrong."""
     for task, reference, answer in (
         ("7", "SELECT DISTINCT bar FROM serves", "SELECT bar FROM serves"),
         (

@@ -82,8 +82,8 @@ def test_the_steps() -> None:
     steps = hints.hints(found, 3)
     assert [hint.step for hint in steps] == [1, 2, 3]
     assert steps[0].text.startswith(
-        "One change in the inner query's WHERE is enough: with it your query answers rightly, apart "
-        "from duplicates and order, on every part of these rows."
+        "One change in the inner query's WHERE is enough: with it your query answers rightly, apart"
+        " from duplicates and order, on every part of these rows."
     )
     assert steps[1].place and one.answer[slice(*steps[1].place)] == "t.price > s.price"
     assert steps[2].text == "Look at the comparison."

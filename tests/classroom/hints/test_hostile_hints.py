@@ -1,4 +1,5 @@
-"""Texts that would take the machine, asked of the rows: each is refused or ended, and nothing is written."""
+"""Texts that would take the machine, asked of the rows: each is refused or ended, and nothing is
+written."""
 from __future__ import annotations
 
 import time
@@ -27,7 +28,10 @@ HOSTILE = (
     "SELECT 1 FROM t; DROP TABLE t",
     "SELECT '" + "x" * 100_000 + "'",
     "WITH RECURSIVE c(x) AS (SELECT 1 UNION ALL SELECT x + 1 FROM c) SELECT x FROM c",
-    "WITH RECURSIVE c(x) AS (SELECT 'xxxxxxxx' UNION ALL SELECT x || x FROM c) SELECT max(length(x)) FROM c",
+    (
+        "WITH RECURSIVE c(x) AS (SELECT 'xxxxxxxx' UNION ALL SELECT x || x FROM c) SELECT"
+        " max(length(x)) FROM c"
+    ),
     "SELECT count(*) FROM " + ", ".join(f"t AS t{number}" for number in range(30)),
 )
 

@@ -45,19 +45,43 @@ PARTS = (
 )
 # Texts as students write them, also such that `ratest` doesn't read.
 TEXTS = (
-    "select a,b from t where a not in(select b from u where m='it''s') and b is not null -- and so on",
-    "SELECT t.a FROM t JOIN u ON t.a=u.a, v AS w WHERE (t.a, t.b) IN (SELECT 1, 2) OR NOT (t.a BETWEEN 1 AND 2)",
-    "SELECT t.a FROM t INNER JOIN u ON (t.a = u.a) CROSS JOIN v WHERE t.b NOT BETWEEN -1 AND (2 + 3) * -(4)",
+    (
+        "select a,b from t where a not in(select b from u where m='it''s') and b is not null -- and"
+        " so on"
+    ),
+    (
+        "SELECT t.a FROM t JOIN u ON t.a=u.a, v AS w WHERE (t.a, t.b) IN (SELECT 1, 2) OR NOT (t.a"
+        " BETWEEN 1 AND 2)"
+    ),
+    (
+        "SELECT t.a FROM t INNER JOIN u ON (t.a = u.a) CROSS JOIN v WHERE t.b NOT BETWEEN -1 AND (2"
+        " + 3) * -(4)"
+    ),
     "SELECT a FROM t WHERE NOT NOT a IS NOT NULL AND NOT b NOT IN (1, 2) AND NOT (NOT (a = 1))",
     "(SELECT a FROM t) EXCEPT (SELECT b FROM u UNION SELECT c FROM v) INTERSECT SELECT d FROM w;",
     "SELECT a FROM t UNION SELECT a FROM u EXCEPT SELECT a FROM v INTERSECT SELECT a FROM w",
-    'SELECT "Select", t."from" FROM "Odd name" AS t /* where */ WHERE "Select" <> \'where\' AND n = \'\'',
-    "SELECT q.x FROM (SELECT a AS x, b FROM t WHERE a = 1) q, (SELECT * FROM u) AS r WHERE q.x = r.a",
-    "SELECT COUNT(*), COUNT(DISTINCT a), SUM(a + 1) AS s FROM t LEFT JOIN u USING (a) GROUP BY a, b HAVING COUNT(*) > 2",
+    (
+        'SELECT "Select", t."from" FROM "Odd name" AS t /* where */ WHERE "Select" <> \'where\' AND'
+        " n = ''"
+    ),
+    (
+        "SELECT q.x FROM (SELECT a AS x, b FROM t WHERE a = 1) q, (SELECT * FROM u) AS r WHERE q.x"
+        " = r.a"
+    ),
+    (
+        "SELECT COUNT(*), COUNT(DISTINCT a), SUM(a + 1) AS s FROM t LEFT JOIN u USING (a) GROUP BY"
+        " a, b HAVING COUNT(*) > 2"
+    ),
     "SELECT a FROM t WHERE a LIKE 'x%' AND n NOT LIKE '%y' ORDER BY a DESC, b LIMIT 3 OFFSET 1",
-    "WITH q AS (SELECT a FROM t), r AS (SELECT a FROM q WHERE a > 1) SELECT DISTINCT a FROM q WHERE a >= ALL (SELECT b FROM u)",
+    (
+        "WITH q AS (SELECT a FROM t), r AS (SELECT a FROM q WHERE a > 1) SELECT DISTINCT a FROM q"
+        " WHERE a >= ALL (SELECT b FROM u)"
+    ),
     "SELECT CASE WHEN a = 1 THEN 'x' ELSE n END, CAST(a AS INTEGER) FROM t NATURAL JOIN u",
-    "SELECT t.* FROM t WHERE EXISTS(SELECT 1 FROM u WHERE u.a = t.a AND EXISTS (SELECT * FROM v)) AND 1 = (SELECT MAX(b) FROM u)",
+    (
+        "SELECT t.* FROM t WHERE EXISTS(SELECT 1 FROM u WHERE u.a = t.a AND EXISTS (SELECT * FROM"
+        " v)) AND 1 = (SELECT MAX(b) FROM u)"
+    ),
 )
 
 

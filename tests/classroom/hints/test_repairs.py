@@ -1,5 +1,5 @@
-"""What is found for wrong answers: 80 with the place and the kind that a teacher would name, and 60 mistakes that
-are made in references which were first written otherwise."""
+"""What is found for wrong answers: 80 with the place and the kind that a teacher would name, and 60
+mistakes that are made in references which were first written otherwise."""
 from __future__ import annotations
 
 from collections.abc import Sequence
@@ -147,7 +147,8 @@ def test_the_same_is_found_again() -> None:
 
 
 def test_the_guard_of_the_exercise_refutes(tmp_path: Path) -> None:
-    """Over two rows `price < 6` and `price < 5` are the same; other rows of the schema tell them apart."""
+    """Over two rows `price < 6` and `price < 5` are the same; other rows of the schema tell them
+    apart."""
     text = "CREATE TABLE beer (name TEXT PRIMARY KEY, price INTEGER);"
     few, many = tmp_path / "few", tmp_path / "many"
     for folder, rows in ((few, "a,3\nb,7\n"), (many, "a,3\nb,7\nc,5\nd,4\ne,6\n")):
@@ -212,7 +213,8 @@ def test_parts_are_lawful() -> None:
 
 def test_dependencies_and_checks_bound_the_rows(tmp_path: Path) -> None:
     (tmp_path / "schema.sql").write_text(
-        "CREATE TABLE g (k INTEGER, v INTEGER, w TEXT NOT NULL, DEPENDENCY (k) DETERMINES (v), CHECK (v < 9));"
+        "CREATE TABLE g (k INTEGER, v INTEGER, w TEXT NOT NULL, DEPENDENCY (k) DETERMINES (v),"
+        " CHECK (v < 9));"
     )
     (tmp_path / "g.csv").write_text("k,v,w\n1,1,a\n1,2,b\n2,9,c\n3,3,\n,4,d\n,5,e\n")
     pool = sources.of_exercise(tmp_path)
@@ -265,7 +267,8 @@ TRIED = (
     ],
 )
 def test_where_nothing_is_proved_it_is_tried(answer: str, mistake: str, place: str) -> None:
-    """`ratest` reads neither query; SQLite answers both on many parts of the rows, and on the guards."""
+    """`ratest` reads neither query; SQLite answers both on many parts of the rows, and on the
+    guards."""
     ground = judged.ground("beers")
     of = Search(ground, TRIED, is_tried=True)
     assert not ground.prover.agree(TRIED, [TRIED])[0]
@@ -281,7 +284,10 @@ def test_where_nothing_is_proved_it_is_tried(answer: str, mistake: str, place: s
     assert "proved" not in " ".join(step.text for step in record.steps)
 
 
-OUTER = "SELECT d.name, COUNT(f.bar) FROM drinker d LEFT JOIN frequents f ON f.drinker = d.name GROUP BY d.name"
+OUTER = (
+    "SELECT d.name, COUNT(f.bar) FROM drinker d LEFT JOIN frequents f ON f.drinker = d.name GROUP"
+    " BY d.name"
+)
 
 
 @pytest.mark.parametrize(

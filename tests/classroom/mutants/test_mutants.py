@@ -72,7 +72,9 @@ MADE = {
     },
     "SELECT n FROM t JOIN u ON t.a = u.a WHERE c > b": {
         "the condition of JOIN dropped": "SELECT n FROM t CROSS JOIN u WHERE c > b",
-        "EXISTS for the JOIN with u": "SELECT t.n FROM t WHERE EXISTS(SELECT * FROM u WHERE u.c > t.b AND t.a = u.a)",
+        "EXISTS for the JOIN with u": (
+            "SELECT t.n FROM t WHERE EXISTS(SELECT * FROM u WHERE u.c > t.b AND t.a = u.a)"
+        ),
     },
     "SELECT a, b FROM t": {
         "a dropped from SELECT": "SELECT b FROM t",
@@ -81,7 +83,9 @@ MADE = {
     },
     "SELECT a FROM t EXCEPT SELECT a FROM u INTERSECT SELECT c FROM u": {
         "UNION for EXCEPT": "SELECT a FROM t UNION (SELECT a FROM u INTERSECT SELECT c FROM u)",
-        "the operands of EXCEPT exchanged": "(SELECT a FROM u INTERSECT SELECT c FROM u) EXCEPT SELECT a FROM t",
+        "the operands of EXCEPT exchanged": (
+            "(SELECT a FROM u INTERSECT SELECT c FROM u) EXCEPT SELECT a FROM t"
+        ),
         "EXCEPT for INTERSECT": "SELECT a FROM t EXCEPT (SELECT a FROM u EXCEPT SELECT c FROM u)",
     },
     "SELECT q.x FROM (SELECT a AS x, b FROM t) q": {
@@ -109,7 +113,8 @@ def test_a_chain_of_set_operators_is_grouped_from_the_left() -> None:
 
 
 def test_written_back(ratest: Path, ratest_plus: Path, tmp_path: Path) -> None:
-    """Each query is written back with its meaning, and no mutant is refused but for the shape of its answer."""
+    """Each query is written back with its meaning, and no mutant is refused but for the shape of
+    its answer."""
     (tmp_path / "schema.sql").write_text(
         "CREATE TABLE t (a INTEGER, b INTEGER, n TEXT);"
         "CREATE TABLE u (a INTEGER, c INTEGER, m TEXT);"
@@ -151,7 +156,8 @@ def test_beers(ratest: Path, ratest_plus: Path, beers: Path) -> None:
     ran = classroom("mutants", beers)
     assert (ran.returncode, ran.stderr) == (0, "")
     assert ran.stdout.splitlines()[-1] == "135 of 155 mutants told by 16 rows"
-    # No bar of the 16 rows serves one beer at two prices or more: the cheapest is any that has a price.
+    # No bar of the 16 rows serves one beer at two prices or more: the cheapest is any that has a
+    # price.
     assert "  agrees: t.price for s.price\n" in ran.stdout
     found = list(csv.reader(io.StringIO((beers / "mutants/mutants.csv").read_text(), newline="")))
     assert len(found) == 156 and sum(line[3] == "told" for line in found) == 135

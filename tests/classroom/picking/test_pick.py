@@ -50,7 +50,8 @@ def rows(folder: Path) -> dict[str, list[tuple[str, ...]]]:
 
 
 def meets(folder: Path) -> int:
-    """Loads the rows into a database with the schema's rules, every one of them enforced; how many they are."""
+    """Loads the rows into a database with the schema's rules, every one of them enforced; how many
+    they are."""
     database = sqlite3.connect(":memory:")
     database.executescript((folder / "schema.sql").read_text(encoding="utf-8"))
     count = 0
@@ -66,7 +67,8 @@ def meets(folder: Path) -> int:
 
 
 def told(ran: subprocess.CompletedProcess[str]) -> tuple[int, int, int, int]:
-    """From the last line: how many mutants are told, of how many, and by how many rows of how many."""
+    """From the last line: how many mutants are told, of how many, and by how many rows of how
+    many."""
     line = re.fullmatch(
         r"(\d+) of (\d+) mutants told(?:, \d+ of \d+ answers? told,)? by ([\d,]+) of ([\d,]+) rows",
         ran.stdout.splitlines()[-1],
@@ -86,7 +88,8 @@ def verdicts(exercise: Path) -> dict[tuple[str, str], tuple[str, str]]:
 
 
 def compare(whole: Path, picked: Path, *words: str) -> int:
-    """Whatever the whole tells is told by the picked rows, with a witness as small; how many that are."""
+    """Whatever the whole tells is told by the picked rows, with a witness as small; how many that
+    are."""
     for folder in (whole, picked):
         assert classroom("mutants", folder, *words).returncode in (0, 1)
     ours, all_rows = verdicts(picked), verdicts(whole)
@@ -128,7 +131,8 @@ def test_beers(ratest: Path, ratest_plus: Path, tmp_path: Path, count: int) -> N
 
 
 def test_same_again(ratest: Path, ratest_plus: Path, tmp_path: Path) -> None:
-    """One seed picks the same rows, in another folder and with fewer jobs; a row that is left is needed."""
+    """One seed picks the same rows, in another folder and with fewer jobs; a row that is left is
+    needed."""
     whole = grown(tmp_path / "whole", 60, "2")
     more: dict[str, list[str]] = {"one": [], "two": ["--jobs", "1"]}
     made = [classroom("pick", whole, tmp_path / name, *words) for name, words in more.items()]
@@ -137,7 +141,8 @@ def test_same_again(ratest: Path, ratest_plus: Path, tmp_path: Path) -> None:
 
 
 def test_stopped(ratest: Path, ratest_plus: Path, tmp_path: Path) -> None:
-    """Stopped in the middle and taken up again, it picks what one run picks, and leaves nothing behind."""
+    """Stopped in the middle and taken up again, it picks what one run picks, and leaves nothing
+    behind."""
     whole = grown(tmp_path / "whole", 60, "2")
     once = classroom("pick", whole, tmp_path / "once")
     for number, kind in enumerate((signal.SIGINT, signal.SIGKILL)):
@@ -249,9 +254,10 @@ def test_broken_rows(ratest: Path, ratest_plus: Path, tmp_path: Path) -> None:
 
 def test_rules() -> None:
     found = rules_of(
-        'CREATE TABLE IF NOT EXISTS a (k INT PRIMARY KEY, "x,(" VARCHAR(9) UNIQUE NOT NULL, CHECK (k > 0));\n'
-        'CREATE TABLE b (k INT REFERENCES a, l TEXT REFERENCES a ("x,("), m INT, -- unique\n'
-        "CONSTRAINT n PRIMARY KEY (k, l), FOREIGN KEY (m) REFERENCES a (k), DEPENDENCY (k) DETERMINES (m))"
+        'CREATE TABLE IF NOT EXISTS a (k INT PRIMARY KEY, "x,(" VARCHAR(9) UNIQUE NOT NULL, CHECK'
+        ' (k > 0));\nCREATE TABLE b (k INT REFERENCES a, l TEXT REFERENCES a ("x,("), m INT, --'
+        " unique\nCONSTRAINT n PRIMARY KEY (k, l), FOREIGN KEY (m) REFERENCES a (k), DEPENDENCY (k)"
+        " DETERMINES (m))"
     )
     assert found[0].keys == [["k"], ["x,("]] and found[0].foreigns == []
     assert found[1].keys == [["k", "l"]]
@@ -269,13 +275,19 @@ def test_rules() -> None:
         (
             "true",
             ["whole", "whole"],
-            "whole: the rows of this folder would be written over; take another one for the picked rows",
+            (
+                "whole: the rows of this folder would be written over; take another one for the"
+                " picked rows"
+            ),
         ),
         ("true", ["nosuch.db", "picked"], "there is no file nosuch.db"),
         (
             "rm -r 1 2 4 5; echo 'SELECT nmae FROM bar' > 3/reference.sql",
             ["whole", "picked"],
-            "task 3 is left out: reference.sql: no such column: nmae\nclassroom: there is no task whose reference can be asked about",
+            (
+                "task 3 is left out: reference.sql: no such column: nmae\nclassroom: there is no"
+                " task whose reference can be asked about"
+            ),
         ),
         (
             "echo 'name,city' > bar.csv; echo 'a,b,c' >> bar.csv",

@@ -1,5 +1,5 @@
-"""Rows that are picked for references that a database tries: of a shop's sales, in which just one row has no amount and
-just two of one shop have the same."""
+"""Rows that are picked for references that a database tries: of a shop's sales, in which just one
+row has no amount and just two of one shop have the same."""
 from __future__ import annotations
 
 import csv
@@ -29,9 +29,10 @@ def script(kind: str, rows: int = 60) -> str:
             f"({number}, {1 + like % 3}, {'NULL' if number == NO_AMOUNT else f'{like}.25'})"
         )
     return (
-        f"CREATE TABLE shop (no INTEGER PRIMARY KEY, name TEXT NOT NULL);\n"
-        f"CREATE TABLE sale (id INTEGER PRIMARY KEY, shop INTEGER NOT NULL REFERENCES shop, amount {kind});\n"
-        f"INSERT INTO shop VALUES (1, 'north'), (2, 'south'), (3, 'west');\nINSERT INTO sale VALUES {', '.join(lines)};\n"
+        "CREATE TABLE shop (no INTEGER PRIMARY KEY, name TEXT NOT NULL);\nCREATE TABLE sale (id"
+        f" INTEGER PRIMARY KEY, shop INTEGER NOT NULL REFERENCES shop, amount {kind});\nINSERT INTO"
+        " shop VALUES (1, 'north'), (2, 'south'), (3, 'west');\nINSERT INTO sale VALUES"
+        f" {', '.join(lines)};\n"
     )
 
 
@@ -106,11 +107,15 @@ def test_the_rows_that_a_database_needs_are_picked(sales: Path, tmp_path: Path) 
         for line in lines
     )
     last = re.fullmatch(
-        r"\d+ of \d+ mutants told, \d+ of \d+ mutants told \(tried\), 1 of 1 answer told \(tried\), by (\d+) of 63 rows",
+        (
+            r"\d+ of \d+ mutants told, \d+ of \d+ mutants told \(tried\), 1 of 1 answer told"
+            r" \(tried\), by (\d+) of 63 rows"
+        ),
         lines[-1],
     )
     assert last and int(last[1]) == len(ids(folder)) + len(ids(folder, "shop")) <= 24
-    # The same rows, in their own types, are what grade tries; and mutants tells of them what was told before.
+    # The same rows, in their own types, are what grade tries; and mutants tells of them what was
+    # told before.
     assert tried_ids(folder, "sqlite") == ids(folder)
     assert classroom("mutants", folder).returncode == 0
     found = verdicts(folder)
@@ -128,7 +133,10 @@ def test_all_that_is_told_of_the_whole_is_told_of_the_picked_rows(
     exercise(
         whole,
         t2=COUNTED,
-        t3="SELECT name, MAX(amount) FROM shop LEFT JOIN sale ON shop = no GROUP BY no, name HAVING MAX(amount) > 50",
+        t3=(
+            "SELECT name, MAX(amount) FROM shop LEFT JOIN sale ON shop = no GROUP BY no, name"
+            " HAVING MAX(amount) > 50"
+        ),
     )
     first, second = classroom("pick", whole, picked), classroom(
         "pick", whole, tmp_path / "again", "--jobs", "1"

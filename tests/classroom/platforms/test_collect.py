@@ -112,7 +112,8 @@ def test_what_was_typed_at_moodle(listed: Path, tmp_path: Path) -> None:
 
 
 def test_canvas_late_and_handed_in_again(listed: Path, tmp_path: Path) -> None:
-    """Of two submissions the one with the greater number counts, under the name without Canvas's mark."""
+    """Of two submissions the one with the greater number counts, under the name without Canvas's
+    mark."""
     ran = collect(
         made_archives.canvas(tmp_path / "c.zip", ANSWERS, late=["ben"], again=["li", "ben"]), listed
     )
@@ -214,7 +215,8 @@ def test_nothing_is_written_over_without_force(exercise: Path, tmp_path: Path) -
 
 
 def test_a_hostile_archive(exercise: Path, tmp_path: Path) -> None:
-    """Nothing leaves the folder, no link is followed, and what is left out is named; the rest is placed."""
+    """Nothing leaves the folder, no link is followed, and what is left out is named; the rest is
+    placed."""
     before = sorted(path for path in tmp_path.rglob("*"))
     archive = made_archives.hostile(tmp_path / "h.zip")
     ran = collect(archive, exercise)
@@ -332,7 +334,8 @@ def test_what_is_no_archive(exercise: Path, tmp_path: Path) -> None:
 
 
 def test_cells_that_a_spreadsheet_runs(exercise: Path, tmp_path: Path) -> None:
-    """Names are the students' own at some platforms: none begins a formula, and each is read back as it was."""
+    """Names are the students' own at some platforms: none begins a formula, and each is read back
+    as it was."""
     names = ("=HYPERLINK(1)", "'=1", "''+2", "@a", "'quoted", "Ann")
     for name in names:
         (tmp_path / "from" / name).mkdir(parents=True)

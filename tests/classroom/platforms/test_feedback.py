@@ -81,7 +81,10 @@ def course(ratest: Path, tmp_path_factory: pytest.TempPathFactory) -> Path:
     chosen = random.Random(62)
     answers = {
         one.id: {
-            task: f"-- by {one.name}\n{made_class.spelled(made_class.text(task, chosen), number, chosen)}"
+            task: (
+                "-- by"
+                f" {one.name}\n{made_class.spelled(made_class.text(task, chosen), number, chosen)}"
+            )
             for task in TASKS
             if chosen.random() < 0.95
         }
@@ -241,7 +244,8 @@ def small(ratest: Path, tmp_path: Path) -> Path:
     for task in "345":
         shutil.rmtree(exercise / task)
     (exercise / "exercise.toml").write_text(
-        'title = "Beers & bars"\ncloses = 2020-01-01T00:00:00+00:00\n[task.1]\npoints = 2.5\ntitle = "A *first* one"\n'
+        'title = "Beers & bars"\ncloses = 2020-01-01T00:00:00+00:00\n[task.1]\npoints = 2.5\ntitle'
+        ' = "A *first* one"\n'
     )
     for who, task, text in (
         ("anna", "1", (exercise / "1/reference.sql").read_text()),
@@ -286,8 +290,8 @@ def test_who_is_missing_on_a_platform_is_told(small: Path) -> None:
         "hw1",
     )
     assert ran.returncode == 1
-    assert ran.stderr == (
-        "classroom: moodle.csv: without a number there, and left out: ben, cleo\n"
+    assert (
+        ran.stderr == "classroom: moodle.csv: without a number there, and left out: ben, cleo\n"
         "classroom: moodle.zip: without a number there, and left out: ben, cleo\n"
     )
     lines = list(

@@ -1,5 +1,6 @@
-"""What students may hand in to do harm, or by accident: every answer is accounted for, nothing outside of the
-exercise is read, and a grading that is killed at any moment ends with the same bytes."""
+"""What students may hand in to do harm, or by accident: every answer is accounted for, nothing
+outside of the exercise is read, and a grading that is killed at any moment ends with the same
+bytes."""
 from __future__ import annotations
 
 import csv
@@ -193,7 +194,8 @@ def test_every_answer_is_accounted_for(ratest: Path, tmp_path: Path, words: list
 
 
 def test_killed_at_any_of_forty_moments(ratest: Path, tmp_path: Path) -> None:
-    """Over results of an earlier grading, from which some answers are gone since; each time anew."""
+    """Over results of an earlier grading, from which some answers are gone since; each time
+    anew."""
     first, second = tmp_path / "first/class", tmp_path / "second/class"
     shutil.copytree(
         TOP / "examples/beers", first, ignore=shutil.ignore_patterns("results", "*.html", "1", "4")

@@ -52,8 +52,9 @@ def hosts(tmp_path_factory: pytest.TempPathFactory) -> Iterator[list[str]]:
         port = free_port()
         config = place / f"config-{port}"
         config.write_text(
-            f"Port {port}\nListenAddress 127.0.0.1\nHostKey {place}/host\nAuthorizedKeysFile {place}/keys\n"
-            "StrictModes no\nUsePAM no\nPasswordAuthentication no\nPidFile none\nMaxStartups 100\nMaxSessions 100\n"
+            f"Port {port}\nListenAddress 127.0.0.1\nHostKey {place}/host\nAuthorizedKeysFile"
+            f" {place}/keys\nStrictModes no\nUsePAM no\nPasswordAuthentication no\nPidFile"
+            " none\nMaxStartups 100\nMaxSessions 100\n"
         )
         with open(place / f"log-{port}", "wb") as log:
             servers.append(
@@ -79,7 +80,8 @@ def hosts(tmp_path_factory: pytest.TempPathFactory) -> Iterator[list[str]]:
 
 
 def place_of(exercise: Path) -> Path:
-    """What an exercise has on the hosts, where sshd begins in the home of the user's account, whatever HOME says."""
+    """What an exercise has on the hosts, where sshd begins in the home of the user's account,
+    whatever HOME says."""
     return Path(pwd.getpwuid(os.getuid()).pw_dir) / place_on_hosts(exercise / "results/work")
 
 

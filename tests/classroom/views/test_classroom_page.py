@@ -1,5 +1,5 @@
-"""The page of a class: over a class made here with odd names and texts and every kind of grade, over
-examples/beers, in a real browser, and its rows as SQL in real databases."""
+"""The page of a class: over a class made here with odd names and texts and every kind of grade,
+over examples/beers, in a real browser, and its rows as SQL in real databases."""
 from __future__ import annotations
 
 import html.parser
@@ -150,8 +150,8 @@ def test_odd_class(odd: Path) -> None:
     for caption, rows in TABLES.items():
         assert rows in page.tables[caption], caption
     assert len(page.tables) == len(TABLES)
-    # The line end that a query ends with is dropped, a line's end of two characters becomes one, and
-    # characters that a page may not hold are shown as pictures.
+    # The line end that a query ends with is dropped, a line's end of two characters becomes one,
+    # and characters that a page may not hold are shown as pictures.
     assert page.codes[0] == odd_class.REFERENCE[:-1]
     shown = odd_class.QUERY.replace("\r\n", "\n").replace("\r", "\u240d").replace("\x01", "\u2401")
     assert sum(code.startswith(shown) for code in page.codes) == len(KINDS)
@@ -244,7 +244,10 @@ def test_page_is_made_again(graded: Path) -> None:
         ),
         (
             lambda folder: (folder / "bar.csv").write_text("name,city\n"),
-            "{folder}: the schema or a row has changed since it was graded: classroom grade grades it anew",
+            (
+                "{folder}: the schema or a row has changed since it was graded: classroom grade"
+                " grades it anew"
+            ),
         ),
     ],
 )
@@ -263,7 +266,10 @@ def test_refusals(graded: Path, spoil: Any, told: str) -> None:
 
 def visible(browser: Any, selector: str) -> list[str]:
     texts: list[str] = browser.execute_script(
-        "return [...document.querySelectorAll(arguments[0])].filter(e => e.offsetParent !== null).map(e => e.innerText)",
+        (
+            "return [...document.querySelectorAll(arguments[0])].filter(e => e.offsetParent !=="
+            " null).map(e => e.innerText)"
+        ),
         selector,
     )
     return texts
@@ -329,7 +335,8 @@ def test_dark_and_paper(browser: Any, graded: Path) -> None:
     )
     # The texts that are folded on the screen stand on paper.
     heights = browser.execute_script(
-        "return [...document.querySelectorAll('.texts figure')].map(e => e.getBoundingClientRect().height)"
+        "return [...document.querySelectorAll('.texts figure')].map(e =>"
+        " e.getBoundingClientRect().height)"
     )
     assert heights and min(heights) > 20
     browser.execute_cdp_cmd("Emulation.setEmulatedMedia", {"media": "", "features": []})

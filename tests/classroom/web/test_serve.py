@@ -172,7 +172,8 @@ MARKS = ("of_nobody", "sesame 4711", "remark_8151", "FROM frequents of_nobody")
 def marked(beers: Path) -> Path:
     """An exercise whose reference has marks in it that no answer needs."""
     (beers / "1/reference.sql").write_text(
-        "-- remark_8151\nSELECT of_nobody.drinker FROM frequents of_nobody WHERE of_nobody.bar <> 'sesame 4711'\n"
+        "-- remark_8151\nSELECT of_nobody.drinker FROM frequents of_nobody WHERE of_nobody.bar <>"
+        " 'sesame 4711'\n"
     )
     return beers
 
@@ -223,7 +224,8 @@ def test_the_reference_is_never_sent(ratest: Path, marked: Path) -> None:
 
 
 def test_a_reference_that_is_refused_later(marked: Path, stand_in: Path) -> None:
-    """What is told of the reference, as a name in it, is kept from the page, the log and the file."""
+    """What is told of the reference, as a name in it, is kept from the page, the log and the
+    file."""
     with serving(
         marked, ratest=stand_in, errors="classroom: task '1': no verdict: status 6\n"
     ) as server:
@@ -302,7 +304,10 @@ def test_nothing_was_asked(beers: Path) -> None:
 
 
 def test_the_file_is_full(ratest: Path, beers: Path) -> None:
-    told = f"classroom: {beers}/results/asked.db: questions are not kept any more: database or disk is full\n"
+    told = (
+        f"classroom: {beers}/results/asked.db: questions are not kept any more: database or disk is"
+        " full\n"
+    )
     with serving(beers, "--asked-size", "1", errors=told) as server:
         for number in range(24):
             assert server.ask(
@@ -478,7 +483,8 @@ def test_a_text_is_answered_from_what_is_kept(beers: Path, stand_in: Path) -> No
 
 
 def test_so_many_at_once(beers: Path, stand_in: Path) -> None:
-    """Of eight at once one runs, three wait and four are told to ask again, at once and with their query."""
+    """Of eight at once one runs, three wait and four are told to ask again, at once and with their
+    query."""
     with serving(
         beers, "--jobs", "1", "--queue", "3", "--proxy", "127.0.0.1", ratest=stand_in
     ) as server:
@@ -577,7 +583,8 @@ def test_one_takes_no_more_than_a_share_of_the_line() -> None:
 
 
 def test_what_takes_long_leaves_its_place() -> None:
-    """To as many as there are places: what takes long then stays in one, as what comes behind it waits."""
+    """To as many as there are places: what takes long then stays in one, as what comes behind it
+    waits."""
     places, may_go = Places(1, 16, 60, 0.1), threading.Event()
 
     def ask(visitor: str) -> None:
@@ -676,8 +683,9 @@ def test_requests(server: Server, method: str, path: str, body: bytes | None, st
 
 def test_other_forms_and_headers(server: Server) -> None:
     parts = (
-        b'--x\r\nContent-Disposition: form-data; name="task"\r\n\r\n3\r\n--x\r\n'
-        b'Content-Disposition: form-data; name="query"; filename="../../x.sql"\r\n\r\nSELECT\r\n--x--\r\n'
+        b"--x\r\nContent-Disposition: form-data;"
+        b' name="task"\r\n\r\n3\r\n--x\r\nContent-Disposition: form-data; name="query";'
+        b' filename="../../x.sql"\r\n\r\nSELECT\r\n--x--\r\n'
     )
     assert (
         server.send("POST", "/", parts, {"Content-Type": "multipart/form-data; boundary=x"}).status

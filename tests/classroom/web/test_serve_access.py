@@ -14,10 +14,14 @@ pytest.importorskip("flask")
 pytest.importorskip("waitress")
 pytest.importorskip("limits")
 
-WRONG = "SELECT bar FROM serves EXCEPT\nSELECT s.bar FROM serves s, serves t\nWHERE s.bar = t.bar AND s.price <> t.price"
+WRONG = (
+    "SELECT bar FROM serves EXCEPT\nSELECT s.bar FROM serves s, serves t\nWHERE s.bar = t.bar AND"
+    " s.price <> t.price"
+)
 # What one can act on.
 ROLES = ("button", "link", "textbox", "combobox", "checkbox", "DisclosureTriangle", "listbox")
-# The contrast of each text with what is behind it: as WCAG counts it, over the colours that the browser made.
+# The contrast of each text with what is behind it: as WCAG counts it, over the colours that the
+# browser made.
 CONTRASTS = """
 const parse = (text) => { const m = text.match(/[\\d.]+/g).map(Number); return m.length < 4 ? [...m, 1] : m; };
 const over = (top, below) => top.slice(0, 3).map((value, at) => value * top[3] + below[at] * (1 - top[3]));
@@ -168,6 +172,7 @@ def test_on_a_telephone(browser: Any, server: Server) -> None:
     )
     assert browser.execute_script("return document.documentElement.scrollWidth") == 390
     assert browser.execute_script(
-        "return [...document.querySelectorAll('button')].every(one => one.getBoundingClientRect().height >= 24)"
+        "return [...document.querySelectorAll('button')].every(one =>"
+        " one.getBoundingClientRect().height >= 24)"
     )
     assert not [line for line in browser.get_log("browser") if line["level"] == "SEVERE"]

@@ -13,7 +13,10 @@ from served import serving
 pytest.importorskip("flask")
 pytest.importorskip("waitress")
 
-WRONG = "SELECT bar FROM serves EXCEPT\nSELECT s.bar FROM serves s, serves t\nWHERE s.bar = t.bar AND s.price <> t.price"
+WRONG = (
+    "SELECT bar FROM serves EXCEPT\nSELECT s.bar FROM serves s, serves t\nWHERE s.bar = t.bar AND"
+    " s.price <> t.price"
+)
 
 
 def texts(browser: Any, selector: str) -> list[str]:

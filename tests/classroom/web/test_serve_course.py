@@ -1,4 +1,5 @@
-"""The page as a university runs it: logins, a course, handing in, what stays behind, and who waits for whom."""
+"""The page as a university runs it: logins, a course, handing in, what stays behind, and who waits
+for whom."""
 from __future__ import annotations
 
 import csv
@@ -41,7 +42,8 @@ PROXY = ("--proxy", "127.0.0.1", "--user-header", "X-User")
 
 @contextmanager
 def opened(path: Path) -> Iterator[sqlite3.Connection]:
-    """A database, which is closed at the end, so that nothing is left in what is written ahead of it."""
+    """A database, which is closed at the end, so that nothing is left in what is written ahead of
+    it."""
     with closing(sqlite3.connect(path)) as database:
         with database:
             yield database
@@ -58,7 +60,10 @@ def test_a_login_header_needs_somebody_who_sends_it(beers: Path, ratest: Path) -
     ran = classroom("serve", beers, "--user-header", "X-User")
     assert (ran.returncode, ran.stderr) == (
         1,
-        "classroom: --user-header needs --socket or --proxy: from anybody else the header is not believed\n",
+        (
+            "classroom: --user-header needs --socket or --proxy: from anybody else the header is"
+            " not believed\n"
+        ),
     )
 
 
@@ -87,7 +92,8 @@ def test_the_header_of_another_peer_is_dropped(ratest: Path, beers: Path) -> Non
 
 
 def test_an_address_is_believed_of_the_proxy_alone(ratest: Path, beers: Path) -> None:
-    """Without --proxy all come from one address, so who drops the cookie meets the bound of the address."""
+    """Without --proxy all come from one address, so who drops the cookie meets the bound of the
+    address."""
     with serving(beers, "--hourly", "1") as server:
         shown = [
             "<table"
@@ -146,9 +152,9 @@ def test_names_and_networks() -> None:
 
 
 def test_nobody_starves_the_others(ratest: Path, beers: Path) -> None:
-    """One client with 50 connections and queries that take all of their time, and 30 students. On a machine that is not
-    busy each student has the answer within three seconds; a fair line is what makes it possible on any.
-    """
+    """One client with 50 connections and queries that take all of their time, and 30 students. On a
+    machine that is not busy each student has the answer within three seconds; a fair line is what
+    makes it possible on any."""
     hostile = "SELECT t0.drinker FROM " + ", ".join(f"frequents t{number}" for number in range(9))
     ends = threading.Event()
     taken: list[float] = []
@@ -398,7 +404,8 @@ def course(tmp_path: Path) -> Path:
                 f'title = "{title}"\n[task.3]\ntitle = "Bars of <one> beer"\n'
             )
     (place / "1 first/3/question.txt").write_text(
-        "Which bars serve *exactly* one beer?\n\n- <b>no tag</b>\n- ![a picture](https://example.org/x.png)\n"
+        "Which bars serve *exactly* one beer?\n\n- <b>no tag</b>\n- ![a"
+        " picture](https://example.org/x.png)\n"
     )
     (place / "notes").mkdir()
     return place
@@ -448,9 +455,11 @@ def test_a_course(ratest: Path, course: Path) -> None:
                 assert (
                     server.send(
                         "GET",
-                        f"/{name.replace('../', '')}"
-                        if name.startswith("../")
-                        else f"/e/1%20first/{name}",
+                        (
+                            f"/{name.replace('../', '')}"
+                            if name.startswith("../")
+                            else f"/e/1%20first/{name}"
+                        ),
                     ).status
                     == 200
                 ), name
@@ -482,7 +491,8 @@ def test_exercises_that_would_share_a_file(
     assert (ran.returncode, ran.stdout) == (1, "")
     assert (
         ran.stderr
-        == f"classroom: --asked-file: the exercises {one} and {other} would share {file}: rename one of them\n"
+        == f"classroom: --asked-file: the exercises {one} and {other} would share {file}: rename"
+        " one of them\n"
     )
     assert not list((tmp_path / "kept").iterdir())
 
@@ -570,7 +580,8 @@ def test_handing_in(ratest: Path, beers: Path) -> None:
 
 
 def test_another_site_hands_nothing_in(ratest: Path, beers: Path) -> None:
-    """A browser sends the login of whoever opens a hostile page, and says where the form comes from."""
+    """A browser sends the login of whoever opens a hostile page, and says where the form comes
+    from."""
     with serving(beers, *PROXY) as server:
         for site, status in (
             ("cross-site", 403),
@@ -788,8 +799,8 @@ def test_the_editor_comes_from_its_folder_alone(ratest: Path, beers: Path) -> No
 
 
 def test_slow_bodies_end() -> None:
-    """What waitress bounds by itself: a connection on which nothing comes. One that drips is nginx's to end, as the
-    example says."""
+    """What waitress bounds by itself: a connection on which nothing comes. One that drips is
+    nginx's to end, as the example says."""
     text = (TOP / "examples/server/nginx.conf").read_text()
     assert re.search(r"client_header_timeout \d+s;", text) and re.search(
         r"client_body_timeout \d+s;", text

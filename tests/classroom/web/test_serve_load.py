@@ -1,11 +1,11 @@
-"""Many students at once: real clients that ask again and again, half of them wrong, half of them what a database has to
-try, and one in a hundred hostile.
+"""Many students at once: real clients that ask again and again, half of them wrong, half of them
+what a database has to try, and one in a hundred hostile.
 
-SERVE_LOAD=200x300 has 200 clients for 300 seconds, each of whom thinks for two to three seconds between two questions,
-and the strict bounds, for a machine of four processors that does nothing else; without it there are 40 for six seconds,
-who think for one to two, and of the hostile questions none that takes seconds. Who is told that too many ask comes
-again when the server says, until there is an answer, and the time runs from the first time.
-"""
+SERVE_LOAD=200x300 has 200 clients for 300 seconds, each of whom thinks for two to three seconds
+between two questions, and the strict bounds, for a machine of four processors that does nothing
+else; without it there are 40 for six seconds, who think for one to two, and of the hostile
+questions none that takes seconds. Who is told that too many ask comes again when the server says,
+until there is an answer, and the time runs from the first time. """
 from __future__ import annotations
 
 import http.client
@@ -37,10 +37,17 @@ HEAVY = tuple(
 # For the database: it tries them for seconds.
 ENDLESS = (
     "WITH RECURSIVE r(n) AS (SELECT 1 UNION ALL SELECT n + 1 FROM r) SELECT 'x', count(*) FROM r",
-    f"SELECT count(*) FROM {', '.join(f'frequents t{number}' for number in range(12))} GROUP BY t1.bar",
+    (
+        f"SELECT count(*) FROM {', '.join(f'frequents t{number}' for number in range(12))} GROUP BY"
+        " t1.bar"
+    ),
 )
-COUNT = "SELECT d.name, COUNT(l.beer) FROM drinker d LEFT JOIN likes l ON l.drinker = d.name GROUP BY d.name"
-# Of a task, a text and how its verdict begins. `ratest` refuses the reference of task 6, and of the others these texts.
+COUNT = (
+    "SELECT d.name, COUNT(l.beer) FROM drinker d LEFT JOIN likes l ON l.drinker = d.name GROUP BY"
+    " d.name"
+)
+# Of a task, a text and how its verdict begins. `ratest` refuses the reference of task 6, and of the
+# others these texts.
 TRIED = (
     ("6", COUNT, "no difference found (tried)"),
     (
@@ -181,10 +188,12 @@ def test_load(ratest: Path, exercise: Path) -> None:
         tries = sum(server.processor(server.trials()[0]))
     asked = sorted(seen.seconds)
     print(
-        f"{count} clients, {seconds} s: {len(asked)} questions, {dict(seen.statuses)}, median {asked[len(asked) // 2]:.3f} s, "
-        f"99 of 100 within {asked[len(asked) * 99 // 100]:.3f} s, longest {asked[-1]:.3f} s; the server's process has at most "
-        f"{most / 1e6:.0f} MB, and beside it the one that tries {most_of_trials / 1e6:.0f} MB; of the processor a question takes {1000 * own / len(asked):.1f} ms there, "
-        f"{1000 * programs / len(asked):.1f} ms by ratest and {1000 * tries / len(asked):.1f} ms by trying"
+        f"{count} clients, {seconds} s: {len(asked)} questions, {dict(seen.statuses)}, median"
+        f" {asked[len(asked) // 2]:.3f} s, 99 of 100 within {asked[len(asked) * 99 // 100]:.3f} s,"
+        f" longest {asked[-1]:.3f} s; the server's process has at most {most / 1e6:.0f} MB, and"
+        f" beside it the one that tries {most_of_trials / 1e6:.0f} MB; of the processor a question"
+        f" takes {1000 * own / len(asked):.1f} ms there, {1000 * programs / len(asked):.1f} ms by"
+        f" ratest and {1000 * tries / len(asked):.1f} ms by trying"
     )
     assert not seen.faults, seen.faults[:3]
     assert set(seen.statuses) <= {200, 503} and len(asked) >= count

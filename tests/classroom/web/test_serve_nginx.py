@@ -28,7 +28,8 @@ RIGHT = (TOP / "examples/beers/3/reference.sql").read_text()
 def nginx(
     socket_path: Path, folder: Path, users: str = "ann:{PLAIN}one\njoe:{PLAIN}two\n"
 ) -> Iterator[Server]:
-    """An nginx with the example's lines in front of a socket, its names and its certificate those of the test."""
+    """An nginx with the example's lines in front of a socket, its names and its certificate those
+    of the test."""
     path = shutil.which("nginx", path=f"{os.environ['PATH']}:/usr/sbin")
     openssl = shutil.which("openssl")
     if not path or not openssl:

@@ -32,7 +32,10 @@ from classroom.verdict.verdict import Passed, Verdict, WrongSql  # noqa: E402
 from classroom.grading.trials import Trial  # noqa: E402
 
 ENGINE = f"sqlite {sqlite3.sqlite_version}"
-COUNT = "SELECT d.name, COUNT(l.beer) FROM drinker d LEFT JOIN likes l ON l.drinker = d.name GROUP BY d.name"
+COUNT = (
+    "SELECT d.name, COUNT(l.beer) FROM drinker d LEFT JOIN likes l ON l.drinker = d.name GROUP BY"
+    " d.name"
+)
 
 
 @pytest.fixture(scope="module")
@@ -136,7 +139,10 @@ def test_an_endless_query_has_an_answer_in_time(server: Server) -> None:
     begun = time.monotonic()
     got = server.ask(
         "6",
-        "WITH RECURSIVE r(n) AS (SELECT 1 UNION ALL SELECT n + 1 FROM r) SELECT 'x', count(*) FROM r",
+        (
+            "WITH RECURSIVE r(n) AS (SELECT 1 UNION ALL SELECT n + 1 FROM r) SELECT 'x', count(*)"
+            " FROM r"
+        ),
     )
     assert got.status == 200 and got.verdict == "no verdict" and time.monotonic() - begun < 25
 

@@ -1,5 +1,5 @@
-"""What a student reads of a verdict has nothing that a database said of the reference, and no rows beyond what may be
-shown. These need no program: verdicts are written by hand."""
+"""What a student reads of a verdict has nothing that a database said of the reference, and no rows
+beyond what may be shown. These need no program: verdicts are written by hand."""
 from __future__ import annotations
 
 from dataclasses import replace

@@ -1,8 +1,7 @@
 """Families of changes, one module each.
 
-A family says in its head what it changes and why students make it. Its functions give for a node of a query's
-tree the changes there.
-"""
+A family says in its head what it changes and why students make it. Its functions give for a node of
+a query's tree the changes there. """
 from __future__ import annotations
 
 from collections.abc import Callable, Iterator
@@ -61,8 +60,8 @@ REPAIRS: tuple[Family, ...] = (
 )
 # What may make the reference the wrong query.
 CLASSES: tuple[Family, ...] = (*REPAIRS, empty.changes)
-# The usual mistakes beyond the proved language, whose queries a database tries; those of duplicates and of order
-# where these count.
+# The usual mistakes beyond the proved language, whose queries a database tries; those of duplicates
+# and of order where these count.
 TRIED: tuple[Family, ...] = (aggregates.changes, grouping.changes, outer.changes, ordering.limited)
 # What may make a wrong one of these right.
 TRIED_REPAIRS: tuple[Family, ...] = (*TRIED, aggregates.counted)

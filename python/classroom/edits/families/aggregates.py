@@ -1,9 +1,9 @@
-"""COUNT(*) for COUNT of a column, DISTINCT inside of an aggregate added and dropped, and SUM, AVG, MIN and MAX for
-one another.
+"""COUNT(*) for COUNT of a column, DISTINCT inside of an aggregate added and dropped, and SUM, AVG,
+MIN and MAX for one another.
 
-Students count rows where they mean values: so after an outer join nothing is counted once. They forget that a join
-brings a value more than once, take DISTINCT for a remedy where equal values count, and a sum for an average.
-"""
+Students count rows where they mean values: so after an outer join nothing is counted once. They
+forget that a join brings a value more than once, take DISTINCT for a remedy where equal values
+count, and a sum for an average. """
 from __future__ import annotations
 
 from collections.abc import Iterator

@@ -1,7 +1,7 @@
 """Another column of the same kind, and the column of another table that has one of this name.
 
-Students take the wrong side of a foreign key, a name of the wrong alias, or a column that only looks alike.
-"""
+Students take the wrong side of a foreign key, a name of the wrong alias, or a column that only
+looks alike. """
 from __future__ import annotations
 
 from collections.abc import Iterator
@@ -70,7 +70,8 @@ def others(node: Node, query: Query) -> Iterator[tuple[str, Named]]:
 
 
 def is_sensible(node: Node, other: Named, query: Query) -> bool:
-    """Whether a column can stand in the place of a node as far as it is compared with another column."""
+    """Whether a column can stand in the place of a node as far as it is compared with another
+    column."""
     parent = node.parent
     if not isinstance(parent, COMPARISONS):
         return True

@@ -1,8 +1,7 @@
 """Another of the six comparisons.
 
-Students take `<` for `<=` at a bound, write a comparison the wrong way round, or `=` for `<>` between two
-copies of a table.
-"""
+Students take `<` for `<=` at a bound, write a comparison the wrong way round, or `=` for `<>`
+between two copies of a table. """
 from __future__ import annotations
 
 from collections.abc import Iterator

@@ -1,8 +1,8 @@
-"""A condition missing, a condition for another, or a whole WHERE: of the columns at hand, and of the reference.
+"""A condition missing, a condition for another, or a whole WHERE: of the columns at hand, and of
+the reference.
 
-Students forget the condition that joins two tables, that keeps two copies of a row apart or leaves NULL out,
-or the one that the question names last.
-"""
+Students forget the condition that joins two tables, that keeps two copies of a row apart or leaves
+NULL out, or the one that the question names last. """
 from __future__ import annotations
 
 from collections.abc import Iterator, Sequence

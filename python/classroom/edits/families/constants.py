@@ -1,7 +1,7 @@
 """A whole number one higher or lower, and another constant of the two queries.
 
-Students read "more than 3" as "at least 3", count from the wrong end, or take the constant of another task.
-"""
+Students read "more than 3" as "at least 3", count from the wrong end, or take the constant of
+another task. """
 from __future__ import annotations
 
 from collections.abc import Iterator

@@ -1,8 +1,7 @@
 """HAVING dropped, WHERE for HAVING, and a column of GROUP BY dropped or another one.
 
-Students choose rows where they mean groups, forget that only some groups are asked for, and group by what is shown
-instead of what a group is.
-"""
+Students choose rows where they mean groups, forget that only some groups are asked for, and group
+by what is shown instead of what a group is. """
 from __future__ import annotations
 
 from collections.abc import Iterator

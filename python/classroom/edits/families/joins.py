@@ -1,8 +1,9 @@
-"""A join condition dropped, JOIN for a semijoin by EXISTS or IN, a semijoin for a JOIN, EXISTS for IN.
+"""A join condition dropped, JOIN for a semijoin by EXISTS or IN, a semijoin for a JOIN, EXISTS for
+IN.
 
-Students leave out how two tables belong together, and take a pair of rows for "there is none": where a
-semijoin is negated, the JOIN takes the rows for which its condition is false, "some row is not" for "no row is".
-"""
+Students leave out how two tables belong together, and take a pair of rows for "there is none":
+where a semijoin is negated, the JOIN takes the rows for which its condition is false, "some row is
+not" for "no row is". """
 from __future__ import annotations
 
 from collections.abc import Iterator
@@ -74,8 +75,8 @@ def semijoin_of(test: Node, query: Query) -> Block | None:
 
 
 def conditions_of(test: Node, inner: Block) -> list[tuple[str, str]] | None:
-    """What a semijoin asks of a pair of rows, the link of IN last, each with its negation; None where it
-    can't be told."""
+    """What a semijoin asks of a pair of rows, the link of IN last, each with its negation; None
+    where it can't be told."""
     query = inner.query
     found = [
         (inner.qualified(condition), inner.negated(condition)) for condition in inner.conditions
@@ -106,7 +107,8 @@ def semijoined(block: Block) -> Iterator[Change]:
 
 
 def apart(block: Block) -> Iterator[tuple[Node, list[Node], list[Node], str]]:
-    """Each table that SELECT shows no column of, the conditions that name it, the others, the other tables."""
+    """Each table that SELECT shows no column of, the conditions that name it, the others, the other
+    tables."""
     if block.has_star or not block.is_plain:
         return
     shown = block.shown_names()

@@ -1,8 +1,7 @@
 """A condition dropped, AND and OR for one another or grouped otherwise, NOT dropped and added.
 
-Students write AND where the sentence says "and" of two groups of rows, leave out the parentheses, ask for too
-much, or forget a NOT before EXISTS or IN.
-"""
+Students write AND where the sentence says "and" of two groups of rows, leave out the parentheses,
+ask for too much, or forget a NOT before EXISTS or IN. """
 from __future__ import annotations
 
 from collections.abc import Iterator
@@ -68,8 +67,8 @@ def changes(node: Node, query: Query) -> Iterator[Change]:
 
 
 def can_be_negated(node: Node) -> bool:
-    """Whether a NOT before a condition makes a query that no other change makes: before a comparison it is
-    another comparison, and behind a NOT it is the NOT dropped."""
+    """Whether a NOT before a condition makes a query that no other change makes: before a
+    comparison it is another comparison, and behind a NOT it is the NOT dropped."""
     outer = above(node)
     if isinstance(node, exp.Connector):
         return not isinstance(outer, (exp.Not, exp.Connector))
@@ -111,10 +110,12 @@ def grouped(node: Node, query: Query) -> Iterator[Change]:
             if isinstance(inside, exp.Or):
                 ways = (
                     (
-                        f"{query.source(inside.this)} AND {query.source(other)} OR {query.source(inside.expression)}"
+                        f"{query.source(inside.this)} AND {query.source(other)} OR"
+                        f" {query.source(inside.expression)}"
                     ),
                     (
-                        f"{query.source(inside.this)} OR {query.source(inside.expression)} AND {query.source(other)}"
+                        f"{query.source(inside.this)} OR {query.source(inside.expression)} AND"
+                        f" {query.source(other)}"
                     ),
                 )
                 for way in ways:

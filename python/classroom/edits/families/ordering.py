@@ -1,8 +1,8 @@
-"""ASC for DESC and back, an expression of ORDER BY dropped, exchanged or added, ORDER BY itself added, and LIMIT one
-higher or lower.
+"""ASC for DESC and back, an expression of ORDER BY dropped, exchanged or added, ORDER BY itself
+added, and LIMIT one higher or lower.
 
-Students take the wrong end of a list, leave open which of equal ones come first, or forget that a table has no order.
-"""
+Students take the wrong end of a list, leave open which of equal ones come first, or forget that a
+table has no order. """
 from __future__ import annotations
 
 from collections.abc import Iterator
@@ -72,8 +72,8 @@ def of_order(node: Node, query: Query) -> Iterator[Change]:
 
 
 def added(node: Node, query: Query) -> Iterator[Change]:
-    """ORDER BY of one or two of the columns that are shown, where there is none; and one of them for another, before or
-    behind what is there."""
+    """ORDER BY of one or two of the columns that are shown, where there is none; and one of them
+    for another, before or behind what is there."""
     if node is not query.tree or not isinstance(node, (exp.Select, exp.Union)):
         return
     first = node if isinstance(node, exp.Select) else next(node.find_all(exp.Select))

@@ -67,7 +67,8 @@ def stands_in_parentheses(node: Node, query: Query) -> bool:
 
 
 def operand(node: Node, query: Query) -> str:
-    """An operand as it can stand on either side: in parentheses where it is itself by a set operator."""
+    """An operand as it can stand on either side: in parentheses where it is itself by a set
+    operator."""
     whole = bare_query(node)
     return f"({query.source(whole)})" if isinstance(whole, SETS) else query.source(node)
 

@@ -1,8 +1,7 @@
 """A table exchanged for another, a table too many, and a table missing.
 
-Students take a table that has a column of the same name, join one more than the question needs, which drops
-rows without a partner, or leave out the one that links two others.
-"""
+Students take a table that has a column of the same name, join one more than the question needs,
+which drops rows without a partner, or leave out the one that links two others. """
 from __future__ import annotations
 
 import itertools
@@ -32,7 +31,8 @@ def changes(node: Node, query: Query) -> Iterator[Change]:
 
 
 def of_one_kind(node: Node, query: Query) -> Iterator[Change]:
-    """Another table under the same name; where it lacks a column that is used, the query is refused."""
+    """Another table under the same name; where it lacks a column that is used, the query is
+    refused."""
     used = used_columns(node, query)
     for table, columns in query.vocabulary.tables.items():
         if table != name_of(node.this) and used <= set(columns):
@@ -48,7 +48,8 @@ def used_columns(source: Node, query: Query) -> set[str]:
 
 
 def linked(block: Block) -> Iterator[Change]:
-    """A table exchanged for one that a foreign key links, where all of its columns in use have another there."""
+    """A table exchanged for one that a foreign key links, where all of its columns in use have
+    another there."""
     query, words = block.query, block.query.vocabulary
     for member in block.sources:
         table, name = table_in(member), name_in_from(member)

@@ -1,4 +1,5 @@
-"""Makes the folder of an exercise from a database: tables, rules and rows, and what of them is left out.
+"""Makes the folder of an exercise from a database: tables, rules and rows, and what of them is left
+out.
 
 For others: `source` opens a database, `export` writes the folder.
 """

@@ -69,7 +69,8 @@ def shortened(text: str, found: Sequence[Token]) -> str:
 
 
 class Reader:
-    """Reads one condition, with the sides that its names stand for. What differs by product is in subclasses."""
+    """Reads one condition, with the sides that its names stand for. What differs by product is in
+    subclasses."""
 
     form: ClassVar[re.Pattern[str]]  # of its tokens
 
@@ -223,7 +224,8 @@ class Reader:
         return Leaf(form, (pairs[0][0], *(member for _, member in pairs)))
 
     def fit(self, sign: str, left: Side, right: Side) -> tuple[Side, Side]:
-        """Both sides as they are written; refuses them where `ratest` would compare them otherwise."""
+        """Both sides as they are written; refuses them where `ratest` would compare them
+        otherwise."""
         kinds = {left.kind, right.kind} & {"INTEGER", "TEXT"}
         if len(kinds) == 2:
             raise Unread("compares a whole number with a text")

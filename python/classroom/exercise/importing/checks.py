@@ -1,9 +1,9 @@
-"""The condition of a CHECK as `ratest` reads it: comparisons of columns and constants, joined by AND and OR
-without parentheses; and what the condition of a database becomes in it.
+"""The condition of a CHECK as `ratest` reads it: comparisons of columns and constants, joined by
+AND and OR without parentheses; and what the condition of a database becomes in it.
 
-What is written is No for just those rows for which the database's condition is No. Whatever might differ in
-that is left out: texts that are compared otherwise than by their bytes, and sides whose types differ.
-"""
+What is written is No for just those rows for which the database's condition is No. Whatever might
+differ in that is left out: texts that are compared otherwise than by their bytes, and sides whose
+types differ. """
 from __future__ import annotations
 
 from collections.abc import Mapping
@@ -82,7 +82,8 @@ class Check:
 
 
 def spread(node: Node, negated: bool = False) -> Leaf | Joined:
-    """The same without a NOT over what is joined, and without an AND in an AND or an OR in an OR."""
+    """The same without a NOT over what is joined, and without an AND in an AND or an OR in an
+    OR."""
     if isinstance(node, Not):
         return spread(node.of, not negated)
     if isinstance(node, Leaf):
@@ -108,7 +109,8 @@ def parts_of(node: Node) -> Parts:
 
 
 def conditions_of(node: Node) -> list[Parts]:
-    """A row meets an AND where it meets each of its parts: so those that have an OR become CHECKs of their own."""
+    """A row meets an AND where it meets each of its parts: so those that have an OR become CHECKs
+    of their own."""
     spread_out = spread(node)
     if isinstance(spread_out, Leaf) or spread_out.word == "OR":
         return [parts_of(spread_out)]

@@ -15,7 +15,8 @@ MOMENT = re.compile(
 
 
 def form_of(text: str) -> str | None:
-    """The form of a text, as `date time seconds .3 Z`; None where it is no moment, or none that is read."""
+    """The form of a text, as `date time seconds .3 Z`; None where it is no moment, or none that is
+    read."""
     found = MOMENT.fullmatch(text) if text else None
     if not found or (found["date"] and found["time"] and not found["between"]):
         return None
@@ -51,8 +52,8 @@ def one_form(texts: Iterable[str]) -> bool:
 
 
 def padded(text: str, digits: int) -> str | None:
-    """A moment as PostgreSQL prints it, with so many digits of a fraction behind its seconds; None where it
-    is none or has more of them. A date has no seconds."""
+    """A moment as PostgreSQL prints it, with so many digits of a fraction behind its seconds; None
+    where it is none or has more of them. A date has no seconds."""
     found = MOMENT.fullmatch(text)
     if form_of(text) is None or not found:
         return None

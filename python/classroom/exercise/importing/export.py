@@ -1,6 +1,5 @@
-"""From the tables that were found in the catalogue of a database to the files that `ratest` reads. Every
-refusal comes before the first file is written.
-"""
+"""From the tables that were found in the catalogue of a database to the files that `ratest` reads.
+Every refusal comes before the first file is written. """
 from __future__ import annotations
 
 import json
@@ -77,7 +76,8 @@ def note_engine(path: Path, engine: Mapping[str, str]) -> None:
 
 
 def full_of(source: Source, every: Sequence[Table], chosen: Tables) -> tuple[str, bytes | str]:
-    """The tables as the database has them; also those of which no column is carried over, with all rows."""
+    """The tables as the database has them; also those of which no column is carried over, with all
+    rows."""
     if sum(table.count for table in every if table.name not in chosen) > MOST_ROWS:
         every = list(chosen.values())
     name, full = source.full(every, {table.name: sorted(table.rows) for table in chosen.values()})
@@ -87,7 +87,8 @@ def full_of(source: Source, every: Sequence[Table], chosen: Tables) -> tuple[str
 
 
 def choose(source: Source, names: Sequence[str]) -> Tables:
-    """The tables that are exported, all where none is named. They stand in the order in which they were made."""
+    """The tables that are exported, all where none is named. They stand in the order in which they
+    were made."""
     tables = source.tables(names)
     folded = {source.fold(name) for name in tables}
     for name in names:
@@ -106,11 +107,11 @@ def choose(source: Source, names: Sequence[str]) -> Tables:
 
 
 def leave_out(chosen: Tables) -> Iterator[str]:
-    """Takes out the columns that can't be carried over, with their rules, and tells them and what others become.
+    """Takes out the columns that can't be carried over, with their rules, and tells them and what
+    others become.
 
-    A key, a CHECK or a NOT NULL that is left out changes nothing, since the rows meet it and so does every
-    part of them. A foreign key is left out only where a column of it is.
-    """
+    A key, a CHECK or a NOT NULL that is left out changes nothing, since the rows meet it and so
+    does every part of them. A foreign key is left out only where a column of it is."""
     for table in chosen.values():
         where = shown(table.name)
         for column in table.columns:
@@ -157,8 +158,9 @@ def leave_out_keys(chosen: Tables, table: Table, gone: dict[str, set[str]]) -> I
         if lost:
             table.foreigns.remove(foreign)
             yield (
-                f"{shown(table.name)}: left out with its column: FOREIGN KEY ({shown(*foreign.columns)}); "
-                f"a witness may lack the row of {shown(foreign.table)}"
+                f"{shown(table.name)}: left out with its column: FOREIGN KEY"
+                f" ({shown(*foreign.columns)}); a witness may lack the row of"
+                f" {shown(foreign.table)}"
             )
 
 
@@ -168,7 +170,10 @@ def leave_out_checks(table: Table, gone: set[str]) -> Iterator[str]:
         if check.columns & gone:
             note = f"left out with its column: CHECK {check.name}"
         elif check.why or len(check.conditions) > room:
-            note = f"left out: CHECK {check.name}, which {check.why or f'is past the {MOST_RULES} rules of a table'}"
+            note = (
+                f"left out: CHECK {check.name}, which"
+                f" {check.why or f'is past the {MOST_RULES} rules of a table'}"
+            )
         else:
             room -= len(check.conditions)
             continue
@@ -218,13 +223,14 @@ def check_limits(chosen: Tables, rows: int | None) -> None:
     total = sum(table.count for table in chosen.values())
     if rows is None and total > MOST_ROWS:
         raise Fault(
-            f"{total} rows are more than the {MOST_ROWS} that are read; --rows N takes N of each table, "
-            "and `classroom pick` finds those that tell the mistakes"
+            f"{total} rows are more than the {MOST_ROWS} that are read; --rows N takes N of each"
+            " table, and `classroom pick` finds those that tell the mistakes"
         )
 
 
 def close(source: Source, chosen: Tables) -> None:
-    """Adds the rows that rows refer to, until none is missing but those that aren't in the database."""
+    """Adds the rows that rows refer to, until none is missing but those that aren't in the
+    database."""
     grown = True
     while grown:
         grown = any(
@@ -269,14 +275,16 @@ def check_rows(chosen: Tables) -> Iterator[str]:
         for foreign in table.foreigns:
             if foreign.unmet:
                 yield (
-                    f"{where}: FOREIGN KEY ({shown(*foreign.columns)}): values that no row of "
-                    f"{shown(foreign.table)} has: {len(foreign.unmet)}; no witness has rows with them"
+                    f"{where}: FOREIGN KEY ({shown(*foreign.columns)}): values that no row of"
+                    f" {shown(foreign.table)} has: {len(foreign.unmet)}; no witness has rows with"
+                    " them"
                 )
         lines = list(table.rows.values())
         for at, column in enumerate(table.columns):
             if any(line[at] == "" for line in lines):
                 raise Fault(
-                    f"{where}.{shown(column.name)}: an empty text, which a CSV file can't tell from NULL"
+                    f"{where}.{shown(column.name)}: an empty text, which a CSV file can't tell from"
+                    " NULL"
                 )
             if column.not_null and any(line[at] is None for line in lines):
                 raise Fault(f"{where}.{shown(column.name)}: NULL in a column that is NOT NULL")

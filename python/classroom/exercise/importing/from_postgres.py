@@ -1,8 +1,7 @@
 """Reads a PostgreSQL database through psycopg, in a transaction that changes nothing.
 
-The catalogue is read in pg_catalog: information_schema shows the keys of a table only to who may change the
-table, and knows no indexes.
-"""
+The catalogue is read in pg_catalog: information_schema shows the keys of a table only to who may
+change the table, and knows no indexes. """
 from __future__ import annotations
 
 from collections.abc import Callable, Iterator, Mapping, Sequence
@@ -40,8 +39,8 @@ TABLES = """SELECT c.oid, c.relname, c.relkind FROM pg_class c JOIN pg_namespace
     WHERE c.relkind IN ('r', 'p', 'v', 'm', 'f') AND NOT c.relispartition AND pg_table_is_visible(c.oid)
     AND n.nspname NOT IN ('pg_catalog', 'information_schema') ORDER BY c.oid"""
 
-# A database's own collation is that of the server's libc only where it has no other provider, of which older
-# servers know nothing.
+# A database's own collation is that of the server's libc only where it has no other provider, of
+# which older servers know nothing.
 COLLATIONS = """SELECT k.oid, k.collisdeterministic, p.provider = 'c' AND p.name IN ('C', 'POSIX')
     FROM pg_collation k, pg_database d,
     LATERAL (SELECT CASE k.collprovider WHEN 'd' THEN coalesce(to_jsonb(d) ->> 'datlocprovider', 'c')
@@ -68,8 +67,8 @@ FOREIGNS = """SELECT f.oid, f.conrelid, t.relnamespace::regnamespace::text, f.co
     CROSS JOIN unnest(f.conkey, f.confkey) WITH ORDINALITY k (own, other, place)
     WHERE f.contype = 'f' AND f.conparentid = 0 ORDER BY f.conrelid, f.conkey, f.oid, k.place"""
 
-# Those of domains with the column that has the domain, which they name VALUE. PostgreSQL compares VALUE by the
-# collation of the domain's base type, whatever that of the domain is.
+# Those of domains with the column that has the domain, which they name VALUE. PostgreSQL compares
+# VALUE by the collation of the domain's base type, whatever that of the domain is.
 CHECKS = """SELECT * FROM (SELECT conrelid, conname, NULL::name, NULL::oid, NULL::oid, convalidated,
             pg_get_expr(conbin, conrelid)
         FROM pg_constraint WHERE contype = 'c' AND conrelid <> 0
@@ -147,7 +146,8 @@ class Postgres:
             return full.SCRIPT, full.of_postgres(self.connection, tables, numbers)
 
     def engine(self) -> Mapping[str, str]:
-        """The two roles and the database that docs/GUIDE.md makes, on the same server; passwords are in none."""
+        """The two roles and the database that docs/GUIDE.md makes, on the same server; passwords
+        are in none."""
         info = self.connection.info
         place = {"host": info.host, "port": info.port, "dbname": "ratest_scratch"}
         return {
@@ -226,7 +226,8 @@ class Postgres:
         return of
 
     def read_values(self, table: Table, column: Column, declared: str, base: str) -> None:
-        """Carries over a column of moments, booleans or numbers where all of its values are such."""
+        """Carries over a column of moments, booleans or numbers where all of its values are
+        such."""
         name, rows = quoted(column.name), quoted(table.name)
         is_good, lacks = False, ""
         kind, note = "INTEGER", "whole numbers"
@@ -236,8 +237,8 @@ class Postgres:
             lacks = "are not whole numbers of 64 bits"
             # What is no number or without an end stands before or behind all others.
             ((stray,),) = self.ask(
-                f"SELECT count(*) FROM {rows} WHERE {name} NOT BETWEEN -9223372036854775808 AND 9223372036854775807 "
-                f"OR {name} <> trunc({name})"
+                f"SELECT count(*) FROM {rows} WHERE {name} NOT BETWEEN -9223372036854775808 AND"
+                f" 9223372036854775807 OR {name} <> trunc({name})"
             )
             is_good = stray == 0
         elif base in MOMENTS:
@@ -286,7 +287,10 @@ class Postgres:
         indexes: dict[int, Key] = {}
         for number, own, index, is_primary, is_odd, column in self.ask(UNIQUES):
             if own in found and is_odd:
-                note = f"left out: the unique index {shown(index)}, which is partial or on an expression"
+                note = (
+                    f"left out: the unique index {shown(index)}, which is partial or on an"
+                    " expression"
+                )
                 if note not in found[own].notes:
                     found[own].notes.append(note)
             elif own in found:
@@ -338,7 +342,10 @@ class Postgres:
             found.update(
                 self.rows(
                     table,
-                    f"({cells}) IN (SELECT {typed} FROM (VALUES {', '.join(one for _ in part)}) v ({names}))",
+                    (
+                        f"({cells}) IN (SELECT {typed} FROM (VALUES {', '.join(one for _ in part)})"
+                        f" v ({names}))"
+                    ),
                     [cell for row in part for cell in row],
                 )
             )
@@ -353,8 +360,11 @@ class Postgres:
         ).replace("%", "%%")
         try:
             answer = self.ask(
-                f"SELECT n, {', '.join(f'c{at}' for at in range(len(cells)))} FROM (SELECT {inner} "
-                f"FROM {quoted(table.name).replace('%', '%%')}) AS x WHERE {condition} ORDER BY n",
+                (
+                    f"SELECT n, {', '.join(f'c{at}' for at in range(len(cells)))} FROM (SELECT"
+                    f" {inner} FROM {quoted(table.name).replace('%', '%%')}) AS x WHERE"
+                    f" {condition} ORDER BY n"
+                ),
                 values,
             )
         except UnicodeDecodeError:
@@ -362,8 +372,8 @@ class Postgres:
         return {number: tuple(row) for number, *row in answer}
 
     def cell(self, table: Table, column: Column) -> str:
-        """The value as it is exported. Of a CHAR(n) the cast drops the blanks at its end, which comparisons
-        don't see either."""
+        """The value as it is exported. Of a CHAR(n) the cast drops the blanks at its end, which
+        comparisons don't see either."""
         name, base = quoted(column.name), self.bases[table.name, column.name]
         if base == "boolean":
             return f"{name}::integer"

@@ -32,12 +32,14 @@ def text_of(raw: bytes) -> str | NotText:
 
 
 def written(name: str) -> str:
-    """Names of letters, digits and _ in small letters, as `ratest` reads them; others as they are."""
+    """Names of letters, digits and _ in small letters, as `ratest` reads them; others as they
+    are."""
     return fold(name) if PLAIN.fullmatch(fold(name)) and fold(name) not in RESERVED else name
 
 
 def kind_of(declared: str) -> str | None:
-    """SQLite's own rule, by which a column of the word POINT is one of whole numbers; None for the others."""
+    """SQLite's own rule, by which a column of the word POINT is one of whole numbers; None for the
+    others."""
     word = fold(declared)
     if "int" in word:
         return "INTEGER"
@@ -45,7 +47,8 @@ def kind_of(declared: str) -> str | None:
 
 
 def family_of(declared: str) -> str:
-    """What else a declared type may be, if the values are: moment, boolean or numeric; "" for none."""
+    """What else a declared type may be, if the values are: moment, boolean or numeric; "" for
+    none."""
     word = fold(declared).strip()
     for family, pattern in (
         ("moment", "date|time|datetime|timestamp"),
@@ -114,8 +117,9 @@ class Sqlite:
         self.left = [
             f"{shown(name)}: left out: a {kind}"
             for name, kind in self.ask(
-                "SELECT name, type || substr(' table', 1, 6 * (type = 'virtual')) FROM pragma_table_list "
-                "WHERE schema = 'main' AND type IN ('view', 'virtual') ORDER BY name"
+                "SELECT name, type || substr(' table', 1, 6 * (type = 'virtual')) FROM"
+                " pragma_table_list WHERE schema = 'main' AND type IN ('view', 'virtual') ORDER BY"
+                " name"
             )
         ]
         return tables
@@ -123,7 +127,8 @@ class Sqlite:
     def read_columns(self, table: Table, no_rowid: bool, is_wanted: bool) -> None:
         primary = {}
         for name, declared, not_null, place, hidden in self.ask(
-            f'SELECT name, type, "notnull", pk, hidden FROM pragma_table_xinfo({literal(table.name)}) ORDER BY cid'
+            'SELECT name, type, "notnull", pk, hidden FROM'
+            f" pragma_table_xinfo({literal(table.name)}) ORDER BY cid"
         ):
             column = Column(name, written(name), kind_of(declared), bool(not_null))
             if hidden:
@@ -145,7 +150,8 @@ class Sqlite:
         table.order = table.order or [quoted(column.name) for column in table.columns]
 
     def read_values(self, table: Table, column: Column, declared: str) -> None:
-        """Carries over a column of moments, booleans or numbers where all of its values are such."""
+        """Carries over a column of moments, booleans or numbers where all of its values are
+        such."""
         family, name = family_of(declared), quoted(column.name)
         values = [
             value
@@ -189,7 +195,8 @@ class Sqlite:
             known = [name for name in dict.fromkeys(names) if name is not None]
             if None in names:
                 table.notes.append(
-                    f"left out: the unique index {shown(index)}, which is partial or on an expression"
+                    f"left out: the unique index {shown(index)}, which is partial or on an"
+                    " expression"
                 )
             else:
                 table.keys.append(Key(known, False))
@@ -215,7 +222,8 @@ class Sqlite:
     def read_foreigns(self, table: Table, own: str) -> None:
         foreigns: dict[int, tuple[str, list[tuple[str, str | None]]]] = {}
         for number, to_table, name, to_name in self.ask(
-            f'SELECT id, "table", "from", "to" FROM pragma_foreign_key_list({own}) ORDER BY id DESC, seq'
+            f'SELECT id, "table", "from", "to" FROM pragma_foreign_key_list({own}) ORDER BY id'
+            " DESC, seq"
         ):
             foreigns.setdefault(number, (to_table, []))[1].append(
                 (self.named(table, name), to_name)
@@ -238,7 +246,8 @@ class Sqlite:
 
     def look(self, table: Table) -> None:
         strays = [
-            f"coalesce(sum(typeof({quoted(column.name)}) NOT IN ('null', '{(column.kind or '').lower()}')), 0)"
+            f"coalesce(sum(typeof({quoted(column.name)}) NOT IN ('null',"
+            f" '{(column.kind or '').lower()}')), 0)"
             for column in table.columns
         ]
         nulls = [f"coalesce(sum({quoted(column.name)} IS NULL), 0)" for column in table.columns]
@@ -272,7 +281,10 @@ class Sqlite:
             found.update(
                 self.rows(
                     table,
-                    f"({', '.join(f'c{place}' for place in places)}) IN (VALUES {', '.join(one for _ in part)})",
+                    (
+                        f"({', '.join(f'c{place}' for place in places)}) IN (VALUES"
+                        f" {', '.join(one for _ in part)})"
+                    ),
                     [cell for row in part for cell in row],
                 )
             )
@@ -284,9 +296,11 @@ class Sqlite:
         # Without a unary plus the column's collation would take different texts for equal.
         cells = [f"+{quoted(column.name)} AS c{at}" for at, column in enumerate(table.columns)]
         answer = self.ask(
-            f"SELECT n, {', '.join(f'c{at}' for at in range(len(cells)))} FROM (SELECT row_number() OVER "
-            f"(ORDER BY {', '.join(table.order)}) AS n, {', '.join(cells)} FROM {quoted(table.name)}) AS x "
-            f"WHERE {condition} ORDER BY n",
+            (
+                f"SELECT n, {', '.join(f'c{at}' for at in range(len(cells)))} FROM (SELECT"
+                f" row_number() OVER (ORDER BY {', '.join(table.order)}) AS n,"
+                f" {', '.join(cells)} FROM {quoted(table.name)}) AS x WHERE {condition} ORDER BY n"
+            ),
             values,
         )
         for number, *row in answer:

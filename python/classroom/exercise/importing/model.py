@@ -63,8 +63,8 @@ class Source(Protocol):
         """The name as the database compares names."""
 
     def tables(self, names: Sequence[str]) -> dict[str, Table]:
-        """All tables in the order in which they were made; of those of these names, or of all where none
-        is given, the values of columns are looked at."""
+        """All tables in the order in which they were made; of those of these names, or of all where
+        none is given, the values of columns are looked at."""
 
     def look(self, table: Table) -> None:
         """Counts the rows, and finds columns with values that their kind doesn't have."""
@@ -80,12 +80,13 @@ class Source(Protocol):
     def full(
         self, tables: Sequence[Table], numbers: Mapping[str, Sequence[int]]
     ) -> tuple[str, bytes | str]:
-        """The name and the bytes of a file with the tables as the database has them, and their rows of these
-        numbers, all where a table isn't named; a text in place of the bytes tells why there is none.
-        """
+        """The name and the bytes of a file with the tables as the database has them, and their rows
+        of these numbers, all where a table isn't named; a text in place of the bytes tells why
+        there is none."""
 
     def engine(self) -> Mapping[str, str]:
-        """What exercise.toml says of the database that tries queries; nothing where that is SQLite."""
+        """What exercise.toml says of the database that tries queries; nothing where that is
+        SQLite."""
 
     def close(self) -> None:
         ...

@@ -1,4 +1,5 @@
-"""The conditions of CHECKs as PostgreSQL gives them: with all parentheses, and with the casts that it put in."""
+"""The conditions of CHECKs as PostgreSQL gives them: with all parentheses, and with the casts that
+it put in."""
 from __future__ import annotations
 
 import re

@@ -1,9 +1,9 @@
-"""What a database has of the exported tables as it has it: `full.db` of SQLite, `full.sql` of PostgreSQL.
+"""What a database has of the exported tables as it has it: `full.db` of SQLite, `full.sql` of
+PostgreSQL.
 
-In these are the real types, collations and all CHECKs, the same rows in the same order as in the CSV files,
-and the views over these tables. Triggers, functions, sequences and what a column gets where nothing is said
-are left out.
-"""
+In these are the real types, collations and all CHECKs, the same rows in the same order as in the
+CSV files, and the views over these tables. Triggers, functions, sequences and what a column gets
+where nothing is said are left out. """
 from __future__ import annotations
 
 import os
@@ -29,25 +29,32 @@ PG_DUMP_SECONDS = 300
 def of_sqlite(
     source: sqlite3.Connection, tables: Sequence[Table], numbers: Mapping[str, Sequence[int]]
 ) -> bytes:
-    """The bytes of a database with the tables and just the rows of these numbers, all where none are said."""
+    """The bytes of a database with the tables and just the rows of these numbers, all where none
+    are said."""
     made = sqlite3.connect(":memory:", isolation_level=None)
     made.execute("PRAGMA ignore_check_constraints = ON")
     try:
         for table in tables:
             ((statement,),) = source.execute(
-                f"SELECT sql FROM sqlite_schema WHERE type = 'table' AND name = {literal(table.name)}"
+                "SELECT sql FROM sqlite_schema WHERE type = 'table' AND name ="
+                f" {literal(table.name)}"
             ).fetchall()
             made.execute(statement)
             names = [
                 quoted(name)
                 for name, in source.execute(
-                    f"SELECT name FROM pragma_table_xinfo({literal(table.name)}) WHERE hidden = 0 ORDER BY cid"
+                    f"SELECT name FROM pragma_table_xinfo({literal(table.name)}) WHERE hidden = 0"
+                    " ORDER BY cid"
                 )
             ]
             wanted = set(numbers.get(table.name, ()))
-            put = f"INSERT INTO {quoted(table.name)} ({', '.join(names)}) VALUES ({', '.join('?' * len(names))})"
+            put = (
+                f"INSERT INTO {quoted(table.name)} ({', '.join(names)}) VALUES"
+                f" ({', '.join('?' * len(names))})"
+            )
             rows = source.execute(
-                f"SELECT {', '.join(names)} FROM {quoted(table.name)} ORDER BY {', '.join(table.order)}"
+                f"SELECT {', '.join(names)} FROM {quoted(table.name)} ORDER BY"
+                f" {', '.join(table.order)}"
             )
             for number, row in enumerate(rows.fetchall(), 1):
                 if table.name not in numbers or number in wanted:
@@ -86,8 +93,9 @@ def of_postgres(
         return "the program pg_dump is not there: apt-get install postgresql-client"
     schemas = dict(
         connection.execute(
-            "SELECT c.relname, n.nspname FROM pg_class c JOIN pg_namespace n ON n.oid = c.relnamespace "
-            "WHERE c.relkind IN ('r', 'p') AND pg_table_is_visible(c.oid) AND n.nspname <> 'pg_catalog'"
+            "SELECT c.relname, n.nspname FROM pg_class c JOIN pg_namespace n ON n.oid ="
+            " c.relnamespace WHERE c.relkind IN ('r', 'p') AND pg_table_is_visible(c.oid) AND"
+            " n.nspname <> 'pg_catalog'"
         ).fetchall()
     )
     try:
@@ -100,12 +108,17 @@ def of_postgres(
         names = ", ".join(
             quoted(name)
             for name, in connection.execute(
-                "SELECT attname FROM pg_attribute WHERE attrelid = %s::regclass AND attnum > 0 AND NOT attisdropped "
-                "AND attgenerated = '' ORDER BY attnum",
+                (
+                    "SELECT attname FROM pg_attribute WHERE attrelid = %s::regclass AND attnum > 0"
+                    " AND NOT attisdropped AND attgenerated = '' ORDER BY attnum"
+                ),
                 (quoted(table.name),),
             ).fetchall()
         )
-        rows = f"SELECT row_number() OVER (ORDER BY {', '.join(table.order)}) AS {quoted(NUMBER)}, * FROM {quoted(table.name)}"
+        rows = (
+            f"SELECT row_number() OVER (ORDER BY {', '.join(table.order)}) AS {quoted(NUMBER)}, *"
+            f" FROM {quoted(table.name)}"
+        )
         chosen = ""
         if table.name in numbers:
             chosen = (
@@ -161,8 +174,8 @@ def dumped(connection: Any, tables: set[tuple[str, str]]) -> bytes:
 
 
 def is_kept(line: str, tables: set[tuple[str, str]]) -> bool:
-    """Whether a line of the contents of an archive, as `215; 1259 16386 TABLE public student owner`, stands for
-    what is kept."""
+    """Whether a line of the contents of an archive, as `215; 1259 16386 TABLE public student
+    owner`, stands for what is kept."""
     words = line.split(" ")
     if len(words) < 6 or words[3:5] == ["FK", "CONSTRAINT"] or words[4] in ("DATA", "ATTACH"):
         return (

@@ -1,9 +1,8 @@
-"""The CHECKs and the collations of an SQLite table, of which its catalogue tells in the statement alone that
-made it.
+"""The CHECKs and the collations of an SQLite table, of which its catalogue tells in the statement
+alone that made it.
 
-What this reads is a statement that SQLite has accepted. Its words are told from names by their quotes, since
-CHECK, COLLATE and CONSTRAINT can't be names without.
-"""
+What this reads is a statement that SQLite has accepted. Its words are told from names by their
+quotes, since CHECK, COLLATE and CONSTRAINT can't be names without. """
 from __future__ import annotations
 
 import re
@@ -86,7 +85,8 @@ def shared(collation: str, binary: int) -> int:
 
 
 def items_of(found: Sequence[Token]) -> Items:
-    """The items of CREATE TABLE, each a list of pairs: a token, and how many parentheses it stands in."""
+    """The items of CREATE TABLE, each a list of pairs: a token, and how many parentheses it stands
+    in."""
     depth = 0
     items: Items = [[]]
     for token in found:
