@@ -27,8 +27,8 @@ def parser() -> argparse.ArgumentParser:
         allow_abbrev=False,
         description="From a school's database to a graded class.",
         epilog=(
-            "`classroom COMMAND --help` tells more of each. docs/GUIDE.md begins with a class in"
-            " four commands."
+            "`classroom COMMAND --help` tells more of each. docs/TEACHING.md begins with a first"
+            " class."
         ),
     )
     top.add_argument("--version", action="version", version=f"classroom {VERSION}")

@@ -9,10 +9,10 @@ from typing import NamedTuple
 import products
 import pytest
 
-GUIDE = Path(__file__).resolve().parents[2] / "docs/GUIDE.md"
-# The lines of the guide that make them.
+PAGE = Path(__file__).resolve().parents[2] / "docs/SERVER.md"
+# The lines of the page for administrators that make them.
 ROLES = (
-    GUIDE.read_text(encoding="utf-8")
+    PAGE.read_text(encoding="utf-8")
     .split("```\nCREATE ROLE")[1]
     .split("```")[0]
     .join(["CREATE ROLE", ""])

@@ -5,6 +5,7 @@ import hashlib
 import json
 import os
 import re
+import shlex
 import shutil
 import subprocess
 import tarfile
@@ -202,6 +203,37 @@ def test_the_steps_of_the_container(root: Path, top: Path) -> None:
         == "/answers/a.sql: witness 5\n/answers/b.sql: witness 5\n/answers/reference.sql:"
         " agree\ngraded: 3\n"
     )
+
+
+def test_the_container_gets_what_the_package_needs(
+    packages: Path, top: Path, tmp_path: Path
+) -> None:
+    """The image has no Python: what the Dockerfile runs asks apt, which finds it for an empty
+    root."""
+    line = (top / "examples/container/Dockerfile").read_text().splitlines()[2]
+    steps = line.removeprefix("RUN ").split(" && ")
+    assert steps[0] == "apt-get update"
+    words = shlex.split(steps[1])
+    assert words[:2] == ["apt-get", "install"] and words[-1] == "/tmp/ratest_*_amd64.deb"
+    (tmp_path / "status").write_text("")
+    ran = subprocess.run(
+        [
+            "apt-get",
+            "--simulate",
+            "-o",
+            f"Dir::State::status={tmp_path / 'status'}",
+            *words[1:-1],
+            only(packages, "*.deb"),
+        ],
+        text=True,
+        capture_output=True,
+        timeout=SECONDS,
+    )
+    if "python3" in ran.stderr and "not installable" in ran.stderr:
+        pytest.skip("apt has no lists of packages: apt-get update")
+    assert ran.returncode == 0, ran.stderr
+    assert re.search(r"^Inst python3 ", ran.stdout, re.MULTILINE)
+    assert re.search(r"^Inst ratest ", ran.stdout, re.MULTILINE)
 
 
 def test_what_stops_it_is_one_line(copy: Path, tmp_path: Path) -> None:

@@ -12,7 +12,7 @@ from pathlib import Path
 import pytest
 
 HERE = Path(__file__).resolve().parent
-LAUNCHER = ("ratest", "ratest_plus", "README.md", "VERSION", "HANDLES", "tools/launch")
+LAUNCHER = ("ratest", "ratest_plus", "README.md", "TOOLCHAIN", "VERSION", "HANDLES", "tools/launch")
 FOLDERS = ("tools/launcher", "tools/manual")
 CRATES = "other:\nlow:\nhigh: low csv\nratest: low high\nratest_plus: low\n"
 LINE = "rattle-kit-13f logic dac8208d650f15bf"

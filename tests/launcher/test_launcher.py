@@ -387,7 +387,7 @@ def test_missing_toolchain_is_told(repository: Repository) -> None:
 
 def test_other_toolchain_is_told(repository: Repository) -> None:
     ran = repository.run("a", FAKE_LINE="rattle-kit-14a logic 0")
-    told = f"ratest: the toolchain here is 'rattle-kit-14a logic 0', and README.md names '{LINE}'"
+    told = f"ratest: the toolchain here is 'rattle-kit-14a logic 0', and TOOLCHAIN names '{LINE}'"
     assert ran.stderr.startswith(told)
     assert ran.stdout == "unproved: a\n"
 
@@ -423,9 +423,10 @@ def test_no_place_to_keep_it(repository: Repository) -> None:
     ), "it is told before anything is built"
 
 
-def test_readme_names_the_toolchain_and_the_statuses(top: Path) -> None:
-    text = (top / "README.md").read_text()
-    assert f"`{LINE}`" in text
+def test_documents_name_the_toolchain_and_the_statuses(top: Path) -> None:
+    assert (top / "TOOLCHAIN").read_text() == f"{LINE}\n"
+    assert f"`{LINE}`" in (top / "README.md").read_text()
+    text = (top / "docs/REFERENCE.md").read_text()
     for status in ("| 70 |", "| 71 |"):
         assert status in text
 

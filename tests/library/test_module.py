@@ -296,9 +296,9 @@ def test_no_library_is_said_at_the_call(tmp_path: Path) -> None:
     )
 
 
-def test_the_guide(capsys: pytest.CaptureFixture[str]) -> None:
+def test_the_reference(capsys: pytest.CaptureFixture[str]) -> None:
     """Its program prints what it shows, and its table names just the calls that there are."""
-    chapter = (TOP / "docs/GUIDE.md").read_text(encoding="utf-8").split("## In other programs")[1]
+    chapter = (TOP / "docs/REFERENCE.md").read_text(encoding="utf-8").split("\n## Library")[1]
     code, shown = re.findall(r"```(?:python)?\n(.*?)```", chapter, re.DOTALL)[:2]
     exec(code, {})
     assert capsys.readouterr().out == shown

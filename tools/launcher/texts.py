@@ -40,7 +40,7 @@ def launcher_help(top: str, name: str) -> str:
         [
             help_text(top, name),
             read(top, "tools", "manual", "launcher.txt").replace("NAME", name),
-            f"Documents:\n  {top}: README.md and docs, above all docs/GUIDE.md\n",
+            f"Documents:\n  {top}: README.md and docs, above all docs/TEACHING.md\n",
         ]
     )
 

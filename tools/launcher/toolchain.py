@@ -1,8 +1,7 @@
-"""The toolchain: the line that README.md names, and the one that is here."""
+"""The toolchain: the line that the file TOOLCHAIN has, and the one that is here."""
 from __future__ import annotations
 
 import os
-import re
 import shutil
 import subprocess
 
@@ -10,10 +9,12 @@ SECONDS = 20
 
 
 def wanted(top: str) -> str:
-    """The line of `rt version` that the repository is written for, from README.md."""
-    with open(os.path.join(top, "README.md"), encoding="utf-8") as file:
-        found = re.search(r"`(rattle-kit-\S+ logic \S+)`", file.read())
-    return found[1] if found else "not named in README.md"
+    """The line of `rt version` that the repository is written for."""
+    try:
+        with open(os.path.join(top, "TOOLCHAIN"), encoding="utf-8") as file:
+            return file.read().strip() or "not named in TOOLCHAIN"
+    except OSError:
+        return "not named: the file TOOLCHAIN is missing"
 
 
 def found() -> str | None:
@@ -45,11 +46,11 @@ def missing(top: str) -> str:
 
 
 def other(top: str) -> str | None:
-    """What to tell where the toolchain here is another than the one that README.md names."""
+    """What to tell where the toolchain here is another than the one that TOOLCHAIN names."""
     here, named = found(), wanted(top)
     if here is None or here == named:
         return None
     return (
-        f"the toolchain here is '{here}', and README.md names '{named}': a build with another may"
+        f"the toolchain here is '{here}', and TOOLCHAIN names '{named}': a build with another may"
         " fail"
     )

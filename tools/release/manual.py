@@ -17,7 +17,7 @@ WHAT = {
 ALSO = """[SEE ALSO]
 .BR {other} (1)
 .PP
-The documents in share/doc/ratest, below the prefix of the installation, above all docs/GUIDE.md.
+The documents in share/doc/ratest, below the prefix of the installation, above all docs/TEACHING.md.
 """
 
 

@@ -101,7 +101,7 @@ class Server:
         if self.one(self.loader, LOADER_RIGHT):
             self.close()
             raise Fault(
-                "engine: its user is a superuser; docs/GUIDE.md tells how to make one that is none"
+                "engine: its user is a superuser; docs/SERVER.md tells how to make one that is none"
             )
         self.schema = f"{SCHEMA}{int(time.time())}_{secrets.token_hex(6)}"
         self.label = f"postgresql {str(self.one(self.loader, 'SHOW server_version')).split()[0]}"
@@ -136,7 +136,7 @@ class Server:
             for query, told in RIGHTS:
                 if self.one(session, query):
                     raise Fault(
-                        f"{key}: its user {told}; docs/GUIDE.md tells how to make one that only"
+                        f"{key}: its user {told}; docs/SERVER.md tells how to make one that only"
                         " reads"
                     )
             # The catalogue was asked without, since on a busy machine it takes its time.

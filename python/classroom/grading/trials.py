@@ -123,7 +123,7 @@ def trial_over(
     if product == POSTGRESQL and (word == POSTGRESQL or not said.engine_asker):
         raise Fault(
             "exercise.toml: engine and engine_asker: the connections of two roles of PostgreSQL are"
-            " wanted, as docs/GUIDE.md tells"
+            " wanted, as docs/SERVER.md tells"
         )
     wants = [said.duplicates == "wrong", said.order == "wrong"]
     loader, asker = (word, said.engine_asker) if product == POSTGRESQL else ("", "")

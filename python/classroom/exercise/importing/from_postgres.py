@@ -146,7 +146,7 @@ class Postgres:
             return full.SCRIPT, full.of_postgres(self.connection, tables, numbers)
 
     def engine(self) -> Mapping[str, str]:
-        """The two roles and the database that docs/GUIDE.md makes, on the same server; passwords
+        """The two roles and the database that docs/SERVER.md makes, on the same server; passwords
         are in none."""
         info = self.connection.info
         place = {"host": info.host, "port": info.port, "dbname": "ratest_scratch"}

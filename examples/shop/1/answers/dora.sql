@@ -1,0 +1,1 @@
+SELECT nmae FROM customer WHERE id NOT IN (SELECT customer FROM orders)

@@ -1,0 +1,1 @@
+SELECT name FROM product WHERE price = (SELECT MAX(price) FROM product)

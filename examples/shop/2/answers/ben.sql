@@ -1,0 +1,1 @@
+SELECT p.name FROM product p, product q WHERE p.price > q.price
