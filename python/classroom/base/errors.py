@@ -4,6 +4,7 @@ from __future__ import annotations
 import importlib
 import os
 import shutil
+import sys
 from types import ModuleType
 
 
@@ -31,12 +32,30 @@ def told(fault: OSError) -> str:
     return f"{shown(os.fsdecode(fault.filename))}: {reason}" if fault.filename else reason
 
 
+# The extra of the wheel that has a library.
+EXTRAS = {
+    "jinja2": "page",
+    "flask": "serve",
+    "waitress": "serve",
+    "limits": "serve",
+    "markdown_it": "serve",
+    "sqlglot": "mutants",
+    "psycopg": "postgresql",
+}
+
+
 def library(name: str, package: str) -> ModuleType:
-    """A library that one subcommand needs; where it is missing, the line that installs it."""
+    """A library that one subcommand needs; where it is missing, the line that installs it.
+
+    A virtual environment sees none of Debian's packages, so there pip gets it.
+    """
     try:
         return importlib.import_module(name)
     except ImportError:
-        raise Missing(f"the library {name} is not there: apt-get install {package}") from None
+        line = f"apt-get install {package}"
+        if sys.prefix != sys.base_prefix and name in EXTRAS:
+            line = f"pip install 'ratest[{EXTRAS[name]}]'"
+        raise Missing(f"the library {name} is not there: {line}") from None
 
 
 def tool(name: str, package: str) -> str:

@@ -260,6 +260,10 @@ def served(
                 log.error("%s is not offered: no task can be graded", shown(name))
                 continue
             raise Fault(f"{shown(str(folder))}: no task can be graded")
+        if trial is None and not arguments.only_proved:
+            for task in found.given.tasks:
+                if task.fault:
+                    log.warning("task %s is not offered: %s", shown(task.label), shown(task.fault))
         place = work / str(number)
         place.mkdir()
         limits = found.limits._replace(output=MOST_BYTES / 1_000_000)

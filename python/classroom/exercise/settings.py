@@ -15,8 +15,6 @@ from classroom.base.errors import Fault, shown
 
 FILE = "exercise.toml"
 MOST_BYTES = 1_000_000
-# Keys that are read and checked, and whose effect is still to come.
-WITHOUT_EFFECT: tuple[str, ...] = ()
 
 
 @dataclass(frozen=True)
@@ -52,11 +50,6 @@ class Settings:
 
     def of_task(self, name: str) -> TaskSettings:
         return self.task.get(name, TaskSettings())
-
-    @property
-    def without_effect(self) -> list[str]:
-        """The keys in the file that nothing heeds yet."""
-        return [key for key in WITHOUT_EFFECT if key in self.said]
 
 
 def read(folder: Path, tasks: Iterable[str]) -> Settings:

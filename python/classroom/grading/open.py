@@ -18,7 +18,6 @@ from classroom.verdict import witness
 from classroom.exercise.exercise import Exercise, Task
 from classroom.base.errors import Fault, shown
 from classroom.process.limits import Limits, Ran
-from classroom.exercise.settings import FILE
 from classroom.grading.trials import has_full
 from ratest import printed
 
@@ -59,8 +58,6 @@ def opened(arguments: argparse.Namespace, seconds: float, conflicts: int | None 
     """
     given = exercise.load(arguments.exercise)
     said = given.settings
-    if said.without_effect:
-        log.warning("%s: without effect so far: %s", FILE, ", ".join(said.without_effect))
     work, conflicts = (
         arguments.work or said.work,
         arguments.conflicts or said.conflicts or conflicts,

@@ -5,12 +5,11 @@ import logging
 from collections.abc import Sequence
 from dataclasses import dataclass, replace
 from datetime import datetime
-from importlib.util import find_spec
 from pathlib import Path
 
 from classroom.engines import ratest as program
 from classroom.exercise.exercise import Exercise
-from classroom.base.errors import Fault
+from classroom.base.errors import Fault, library
 from classroom.hints import ask_children as asking
 from classroom.exercise import guards as guard
 from classroom.hints import steps_shown as steps_of
@@ -139,15 +138,10 @@ def hinter(
     if not given.settings.hints:
         return None
     try:
-        if find_spec("sqlglot") is None:
-            raise Fault("there is no sqlglot: apt-get install python3-sqlglot")
+        library("sqlglot", "python3-sqlglot")
         program.there("ratest_plus")
     except Fault as fault:
-        log.log(
-            logging.WARNING if "hints" in given.settings.said else logging.INFO,
-            "no hints are told: %s",
-            fault,
-        )
+        log.warning("hints are not offered: %s", fault)
         return None
     pool = guard.kept(given.folder)
     if pool:

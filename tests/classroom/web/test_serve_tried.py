@@ -226,6 +226,19 @@ def test_a_task_whose_reference_nothing_answers_is_not_offered(
         assert server.ask("8", "SELECT name FROM bar").status == 404
 
 
+def test_a_task_that_nothing_can_try_is_named(
+    ratest: Path, exercise: Path, tmp_path: Path
+) -> None:
+    folder = tmp_path / "beers"
+    shutil.copytree(exercise, folder)
+    (folder / "exercise.toml").write_text('hints = 0\nengine = "host=/nowhere dbname=none"\n')
+    with serving(folder, ratest=ratest, tries=True, errors=None) as server:
+        assert '<option value="6">' not in server.send("GET", "/").body
+        told = server.errors.read_text()
+    assert "nothing is tried" in told
+    assert "classroom: task 6 is not offered: " in told
+
+
 class Refuses:
     """In place of what tries: it ends as it is told."""
 
