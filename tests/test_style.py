@@ -90,7 +90,7 @@ LAYERS = {
     "base": 0,
     "sql": 1,
     "process": 1,
-    "people": 2,
+    "people": 1,
     "exercise": 2,
     "verdict": 3,
     "engines": 4,

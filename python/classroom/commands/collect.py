@@ -31,6 +31,7 @@ from pathlib import Path
 
 from classroom.exercise import exercise
 from classroom.people import roster as students
+from classroom.people.identity import fault_of_id
 from classroom.views.draw import counted
 from classroom.base.errors import Fault, shown
 from classroom.platforms import archive
@@ -130,6 +131,7 @@ def run(arguments: argparse.Namespace) -> int:
         given.folder,
         {name: task.folder for name, task in tasks.items()},
         answers,
+        rest,
         source,
         arguments.force,
         not arguments.dry_run,
@@ -168,7 +170,7 @@ def of_page(
         label = f"{one.login}, task {one.task}, {one.time.isoformat(' ')}"
         student = listed.known("id", one.login)
         name = student.id if student else one.login
-        why = students.fault_of_id(name) if one.task in tasks else "there is no such task"
+        why = fault_of_id(name) if one.task in tasks else "there is no such task"
         if why:
             rest.append(placing.NotPlaced(label, why))
         else:
@@ -188,7 +190,7 @@ def of_page(
 def tell(
     answers: list[placing.Placed],
     rest: list[placing.NotPlaced],
-    done: collecting.Collected,
+    done: collecting.Done,
     listed: students.ClassList,
 ) -> int:
     """Prints what was done; gives the exit status."""

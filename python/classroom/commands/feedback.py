@@ -33,14 +33,15 @@ from classroom.views import draw
 from classroom.exercise import exercise
 from classroom.commands import options
 from classroom.marks import gradebook as standing
+from classroom.exercise.collected import read_collected
 from classroom.people import roster as students
+from classroom.people.identity import MOST_ID, key
 from classroom.exercise.exercise import Exercise
 from classroom.base.errors import Fault, shown
 from classroom.views import markdown
 from classroom.platforms import grade_tables as platforms
 from classroom.views import for_student as sheet
 from classroom.platforms.grade_tables import Back
-from classroom.platforms import collect as collecting
 from classroom.hints.find_mistakes import Mistakes
 from classroom.grading.store import Results
 from classroom.base.files import Written
@@ -108,7 +109,7 @@ def run(arguments: argparse.Namespace) -> int:
                 of,
                 made,
                 template.render(page=made).encode("utf-8", "replace"),
-                members.get(of.student.id, ()),
+                members.get(key(of.student.id), ()),
             )
         )
     files = {f"{stem(back.sheet.id)}.html": back.page for back in backs}
@@ -124,11 +125,7 @@ def run(arguments: argparse.Namespace) -> int:
 
 def stem(name: str) -> str:
     """The name of a student's files, a digest where the own one is too long for a file."""
-    return (
-        name
-        if len(name.encode()) <= students.MOST_ID
-        else hashlib.sha256(name.encode()).hexdigest()
-    )
+    return name if len(name.encode()) <= MOST_ID else hashlib.sha256(name.encode()).hexdigest()
 
 
 def check_closed(given: Exercise) -> None:
@@ -140,10 +137,12 @@ def check_closed(given: Exercise) -> None:
 
 
 def members_of(folder: Path) -> dict[str, tuple[str, ...]]:
-    """For each answer's name the files of the archive that its answers came from."""
+    """The files of the archive that a student handed in, by the keys of their ids."""
     found: dict[str, tuple[str, ...]] = {}
-    for line in collecting.read_list(folder).values():
-        found[line[1]] = (*found.get(line[1], ()), line[3])
+    for line in read_collected(folder).values():
+        if line.answer:
+            name = key(line.answer)
+            found[name] = (*found.get(name, ()), line.member)
     return found
 
 

@@ -11,6 +11,8 @@ from dataclasses import dataclass
 
 from classroom.exercise.exercise import Exercise
 from classroom.grading.grades import Graded, number, safe
+from classroom.exercise.collected import unplaced_files
+from classroom.people.identity import key
 from classroom.people.roster import ClassList, Student
 
 BY_HAND = "by hand"
@@ -22,6 +24,7 @@ class Standing:
 
     student: Student
     answers: tuple[Graded | None, ...]
+    unplaced: tuple[str, ...] = ()  # files of the student that are no task's answer
 
     @property
     def points(self) -> float:
@@ -30,17 +33,28 @@ class Standing:
 
     @property
     def open(self) -> int:
-        """How many answers are to be graded by hand."""
-        return sum(of is not None and of.points is None for of in self.answers)
+        """How many answers are to be graded by hand. One that is missing is open too as long as a
+        file of the student could not be placed."""
+        missing = bool(self.unplaced)
+        return sum(missing if of is None else of.points is None for of in self.answers)
 
 
 def standings(given: Exercise, graded: Sequence[Graded], listed: ClassList) -> list[Standing]:
-    by_name: dict[str, dict[str, Graded]] = {}
+    by_key: dict[str, dict[str, Graded]] = {}
+    names: dict[str, str] = {}
     for of in graded:
-        by_name.setdefault(of.answer.label, {})[of.task.name] = of
-    others = [Student(name, name) for name in by_name if name not in listed.by_id]
+        names.setdefault(key(of.answer.label), of.answer.label)
+        by_key.setdefault(key(of.answer.label), {})[of.task.name] = of
+    unplaced = unplaced_files(given.folder)
+    for name, one in unplaced.items():
+        names.setdefault(name, one.student)
+    others = [Student(name, name) for name in names.values() if not listed.with_id(name)]
     return [
-        Standing(student, tuple(by_name.get(student.id, {}).get(task.name) for task in given.tasks))
+        Standing(
+            student,
+            tuple(by_key.get(key(student.id), {}).get(task.name) for task in given.tasks),
+            unplaced[key(student.id)].files if key(student.id) in unplaced else (),
+        )
         for student in (*listed.students, *others)
     ]
 
@@ -49,10 +63,11 @@ def most_points(given: Exercise) -> float:
     return sum(task.settings.points for task in given.tasks)
 
 
-def cell(of: Graded | None) -> str:
-    """The points of an answer; BY_HAND where it has no score, nothing where there is none."""
+def cell(of: Graded | None, unplaced: Sequence[str] = ()) -> str:
+    """The points of an answer; BY_HAND where it has no score, or may be among files that could not
+    be placed, nothing where there is none."""
     if of is None:
-        return ""
+        return BY_HAND if unplaced else ""
     return BY_HAND if of.points is None else number(of.points)
 
 
@@ -67,7 +82,7 @@ def class_csv(given: Exercise, found: Sequence[Standing]) -> bytes:
             [
                 safe(of.student.id),
                 safe(of.student.name),
-                *map(cell, of.answers),
+                *(cell(answer, of.unplaced) for answer in of.answers),
                 number(of.points),
                 of.open,
             ]

@@ -8,7 +8,6 @@ from __future__ import annotations
 import csv
 import io
 import os
-import unicodedata
 from collections.abc import Mapping, Sequence
 from dataclasses import dataclass, fields
 from functools import cached_property
@@ -16,11 +15,9 @@ from pathlib import Path
 
 from classroom.base import files as reading
 from classroom.base.errors import Fault, shown
+from classroom.people.identity import composed, fault_of_id, key
 
 MOST_BYTES = 4_000_000
-# A name of a file has at most 255 bytes, of which four are `.sql` and some those of a name
-# meanwhile.
-MOST_ID = 200
 NEEDED = ("id", "name")
 # The columns by which a platform's archive names a student, each of whose numbers is one student's.
 NUMBERS = ("moodle", "canvas")
@@ -43,20 +40,24 @@ class ClassList:
 
     students: tuple[Student, ...] = ()
 
-    @cached_property
-    def by_id(self) -> Mapping[str, Student]:
-        return {student.id: student for student in self.students}
+    def with_id(self, name: str) -> Student | None:
+        """The student whose id this is, however it is written."""
+        return self._by.get(("id", key(name)))
 
     def known(self, column: str, number: str) -> Student | None:
-        """The student that has this number in a column, the id being one too."""
-        return self._by.get((column, number)) if number else None
+        """The student that has this number in a column, the id being one too, and the e-mail
+        address another name of the id."""
+        if not key(number):
+            return None
+        found = self._by.get((column, key(number)))
+        return found or (self._by.get(("email", key(number))) if column == "id" else None)
 
     @cached_property
     def _by(self) -> Mapping[tuple[str, str], Student]:
         return {
-            (column, getattr(student, column)): student
+            (column, key(getattr(student, column))): student
             for student in self.students
-            for column in ("id", *NUMBERS)
+            for column in ("id", "email", *NUMBERS)
             if getattr(student, column)
         }
 
@@ -102,7 +103,7 @@ def student_of(header: Sequence[str], cells: Sequence[str], line: int) -> Studen
     if len(cells) > len(header):
         raise Fault(f"line {line}: more cells than columns")
     # An archive may write ö as o and a mark.
-    values = dict(zip(header, (unicodedata.normalize("NFC", cell).strip() for cell in cells)))
+    values = dict(zip(header, map(composed, cells)))
     known = {field.name: values.get(field.name, "") for field in fields(Student)}
     why = fault_of_id(known["id"])
     if why:
@@ -113,22 +114,10 @@ def student_of(header: Sequence[str], cells: Sequence[str], line: int) -> Studen
 
 
 def check_new(student: Student, seen: dict[tuple[str, str], int], line: int) -> None:
-    """A Fault where an earlier line has the id, or one of the numbers. Names of files that differ
-    in capitals alone are one on some systems."""
-    for column in ("id", *NUMBERS):
-        value = getattr(student, column).casefold()
+    """A Fault where an earlier line has the id, or one of the numbers."""
+    for column in ("id", "email", *NUMBERS):
+        value = key(getattr(student, column))
         if value and seen.setdefault((column, value), line) != line:
             raise Fault(
                 f"line {line}: {column} {shown(value)} stands in line {seen[column, value]} too"
             )
-
-
-def fault_of_id(name: str) -> str:
-    """Why no file of an answer can have this name; empty where one can."""
-    if not name:
-        return "it is empty"
-    if name.startswith("."):
-        return "it begins with a dot"
-    if "/" in name or "\\" in name or not name.isprintable():
-        return "it has a sign that no name of a file may have"
-    return f"it has more than {MOST_ID} bytes" if len(name.encode()) > MOST_ID else ""

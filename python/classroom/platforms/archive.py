@@ -14,6 +14,7 @@ from dataclasses import dataclass
 from pathlib import Path
 
 from classroom.base.errors import Fault, shown
+from classroom.people.identity import has_bad_sign
 
 MOST_MEMBERS = 50_000
 MOST_BYTES = 1_000_000_000  # of all members, unpacked
@@ -32,11 +33,12 @@ class Member:
     path: tuple[str, ...]
     content: bytes = b""
     fault: str = ""
+    whole: str = ""  # the path in the archive, where `path` is only the end of it
 
     @property
     def label(self) -> str:
         """The path as it is told."""
-        return "/".join(self.path)
+        return self.whole or "/".join(self.path)
 
 
 def members(source: Path) -> Iterator[Member]:
@@ -89,13 +91,16 @@ def _fault_of(path: tuple[str, ...], info: zipfile.ZipInfo) -> str:
     """Why a member is not read; empty where it is."""
     if not path[0] or ":" in path[0] or any(part in ("", ".", "..") for part in path):
         return "its name leads out of the archive"
-    if not all(part.isprintable() for part in path):
+    if any(has_bad_sign(part) for part in path):
         return "its name has signs that no name has"
     kind = stat.S_IFMT(info.external_attr >> 16)
     if kind not in (0, stat.S_IFREG):
         return "a link, which is not followed" if kind == stat.S_IFLNK else "no plain file"
     if info.flag_bits & ENCRYPTED:
         return "it is encrypted"
+    # Python bounds what it unpacks of no others, whatever is asked for.
+    if info.compress_type not in (zipfile.ZIP_STORED, zipfile.ZIP_DEFLATED):
+        return "it is packed neither as stored nor as deflated"
     return f"more than {MOST_OF_ONE:,} bytes" if info.file_size > MOST_OF_ONE else ""
 
 
@@ -150,16 +155,20 @@ def _walk(folder: int, path: tuple[str, ...]) -> Iterator[tuple[tuple[str, ...],
             inner = (*path, os.fsencode(name).decode("utf-8", "backslashreplace"))
             if is_junk(inner):
                 continue
-            kind = stat.S_IFMT(os.stat(name, dir_fd=folder, follow_symlinks=False).st_mode)
-            if kind == stat.S_IFDIR and len(path) < MOST_DEPTH:
-                yield from _walk(
-                    os.open(name, os.O_RDONLY | os.O_DIRECTORY | os.O_NOFOLLOW, dir_fd=folder),
-                    inner,
-                )
+            try:
+                kind = stat.S_IFMT(os.stat(name, dir_fd=folder, follow_symlinks=False).st_mode)
+                is_folder = kind == stat.S_IFDIR and len(path) < MOST_DEPTH
+                descriptor = -1
+                if is_folder or kind == stat.S_IFREG:
+                    flags = os.O_DIRECTORY if is_folder else os.O_NONBLOCK
+                    descriptor = os.open(name, os.O_RDONLY | os.O_NOFOLLOW | flags, dir_fd=folder)
+            except OSError as fault:
+                yield inner, fault.strerror or str(fault), -1
+                continue
+            if is_folder:
+                yield from _walk(descriptor, inner)
             elif kind == stat.S_IFREG:
-                yield inner, "", os.open(
-                    name, os.O_RDONLY | os.O_NOFOLLOW | os.O_NONBLOCK, dir_fd=folder
-                )
+                yield inner, "", descriptor
             else:
                 yield inner, (
                     "a link, which is not followed" if kind == stat.S_IFLNK else "no plain file"

@@ -1,35 +1,30 @@
 """Writes answers to their places in an exercise, TASK/answers/ID.sql, and where each came from.
 
-    class/collected.csv    a line an answer: task, answer, source, member, late, sha256
-
-A name there that a spreadsheet would take for a formula has a quote in front, which is not read
-back.
-
 An answer that is there with other bytes is only written over where that is wanted.
 """
 from __future__ import annotations
 
-import csv
 import hashlib
-import io
 import os
-from collections.abc import Iterable, Mapping, Sequence
+from collections.abc import Mapping, Sequence
 from dataclasses import dataclass, field
 from pathlib import Path
 
 from classroom.base.errors import Fault, shown
-from classroom.grading.grades import FORMULA
-from classroom.platforms.place import Placed
 from classroom.base.files import write
-
-LIST = Path("class/collected.csv")
-COLUMNS = ("task", "answer", "source", "member", "late", "sha256")
-# More than any list has.
-MOST_BYTES = 100_000_000
+from classroom.exercise.collected import (
+    EMPTY,
+    PLACED,
+    UNPLACED,
+    Collected,
+    read_collected,
+    write_collected,
+)
+from classroom.platforms.place import NotPlaced, Placed
 
 
 @dataclass
-class Collected:
+class Done:
     """What was done with the answers."""
 
     new: int = 0
@@ -42,14 +37,20 @@ def collect(
     folder: Path,
     places: Mapping[str, Path],
     answers: Sequence[Placed],
+    rest: Sequence[NotPlaced],
     source: str,
     overwrites: bool,
     writes: bool = True,
-) -> Collected:
-    """Writes the answers into the folders of the tasks, `places`, and notes their sources. Where it
-    doesn't write it tells what it would do."""
-    done = Collected()
-    listed = read_list(folder)
+) -> Done:
+    """Writes the answers into the folders of the tasks, `places`, and notes where they came from,
+    and what could not be placed. Where it doesn't write it tells what it would do."""
+    done = Done()
+    # What the same archive left open before is asked anew.
+    listed = {
+        name: line
+        for name, line in read_collected(folder).items()
+        if line.state == PLACED or line.source != source
+    }
     for answer in answers:
         path = _place(places[answer.task], answer)
         try:
@@ -66,9 +67,14 @@ def collect(
             if there != answer.content:
                 path.parent.mkdir(exist_ok=True)
                 write(path, answer.content)
-            listed[answer.task, answer.student] = line_of(answer, source)
+            line = line_of(answer, source)
+            listed[line.of] = line
+    for one in rest:
+        state = EMPTY if one.is_empty else UNPLACED
+        line = Collected("", one.student, source, one.label, state=state, why=one.why)
+        listed[line.of] = line
     if writes:
-        write_list(folder, listed.values())
+        write_collected(folder, listed.values())
     return done
 
 
@@ -81,8 +87,8 @@ def _place(task: Path, answer: Placed) -> Path:
     return path
 
 
-def line_of(answer: Placed, source: str) -> tuple[str, ...]:
-    return (
+def line_of(answer: Placed, source: str) -> Collected:
+    return Collected(
         answer.task,
         answer.student,
         source,
@@ -90,36 +96,3 @@ def line_of(answer: Placed, source: str) -> tuple[str, ...]:
         "late" if answer.handed.is_late else "",
         hashlib.sha256(answer.content).hexdigest(),
     )
-
-
-def read_list(folder: Path) -> dict[tuple[str, str], tuple[str, ...]]:
-    """The lines of the list by task and answer; none where there is no list."""
-    path = folder / LIST
-    try:
-        with open(path, encoding="utf-8", newline="") as file:
-            lines = list(csv.reader(io.StringIO(file.read(MOST_BYTES), newline=""), strict=True))
-    except FileNotFoundError:
-        return {}
-    except (OSError, UnicodeDecodeError, csv.Error) as fault:
-        raise Fault(f"{shown(os.fspath(path))} can't be read: {fault}") from None
-    if not lines or tuple(lines[0]) != COLUMNS or any(len(line) != len(COLUMNS) for line in lines):
-        raise Fault(f"{shown(os.fspath(path))} is no list of what was collected")
-    read = [tuple(map(unquoted, line)) for line in lines[1:]]
-    return {(line[0], line[1]): line for line in read}
-
-
-def quoted(cell: str) -> str:
-    return f"'{cell}" if cell.lstrip("'").startswith(FORMULA) else cell
-
-
-def unquoted(cell: str) -> str:
-    return cell[1:] if cell.startswith("'") and quoted(cell) != cell else cell
-
-
-def write_list(folder: Path, lines: Iterable[Sequence[str]]) -> None:
-    text = io.StringIO(newline="")
-    writer = csv.writer(text, lineterminator="\n")
-    writer.writerow(COLUMNS)
-    writer.writerows(sorted(tuple(map(quoted, line)) for line in lines))
-    (folder / LIST).parent.mkdir(exist_ok=True)
-    write(folder / LIST, text.getvalue().encode())

@@ -106,7 +106,8 @@ def gradescope_json(backs: Sequence[Back], assignment: str, visibility: str = "v
         }
         if of:
             test["decided_by"] = of.decided_by
-        if of is None or of.points is not None:
+        is_open = bool(backs[0].of.unplaced) if of is None else of.points is None
+        if not is_open:
             score = of.points if of else 0
             test |= {
                 "score": score,

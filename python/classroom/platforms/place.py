@@ -1,23 +1,26 @@
 """Which file is whose answer to which task.
 
-The task of a file is the one that is told for all of them; else that of its name; else the file is
-split at comments `-- task T`, each of which begins the answer to the task that it names. """
+The task of a file is the one that is told for all of them; else, where its comments `-- task T` name
+two tasks or more, it is split at them; else that of its name, or the only task there is; else it is
+split at the comment that names one.
+"""
 from __future__ import annotations
 
 import re
-import unicodedata
 from collections.abc import Iterable, Mapping, Sequence
 from dataclasses import dataclass
 
 from classroom.base.errors import shown
 from classroom.platforms.forms import Handed
 from classroom.platforms.html import text_of
-from classroom.people.roster import ClassList, fault_of_id
+from classroom.people.identity import composed, fault_of_id, key
+from classroom.people.roster import ClassList
+from classroom.platforms.task_names import ENDINGS, task_named
 
+EMPTY, NO_QUERY = "it is empty", "no query is in it"
 SPLIT = r"^[ \t]*--[ \t]*task[ \t]+(\S+).*$"
-# Files with other endings hold no query.
-ENDINGS = (".sql", ".txt", ".html")
-COMMENT = re.compile(r"(?:\s|--[^\n]*|/\*.*?\*/)*", re.DOTALL)
+# Possessive: a run of dashes can be cut in one way.
+COMMENT = re.compile(r"(?:\s++|--[^\n]*+|/\*.*?\*/)*+", re.DOTALL)
 
 
 @dataclass(frozen=True)
@@ -33,10 +36,17 @@ class Placed:
 
 @dataclass(frozen=True)
 class NotPlaced:
-    """What is nobody's answer to anything, and why."""
+    """A file, or a part of one, that is nobody's answer to anything, and why."""
 
     label: str
     why: str
+    student: str = ""  # the id of who handed it in; empty where that is not known
+    file: str = ""  # its name, as it was handed in
+
+    @property
+    def is_empty(self) -> bool:
+        """Whether nothing was handed in with it."""
+        return self.why in (EMPTY, NO_QUERY)
 
 
 @dataclass(frozen=True)
@@ -61,14 +71,12 @@ def placed(found: Iterable[Handed], rules: Rules) -> tuple[list[Placed], list[No
     for handed in names:
         who = ids[handed.column, handed.number, handed.name]
         if isinstance(who, str):
-            rest.append(NotPlaced(handed.member.label, who))
+            rest.append(NotPlaced(handed.member.label, who, "", handed.file))
             continue
-        parts = _parts(handed, rules)
-        if isinstance(parts, str):
-            rest.append(NotPlaced(handed.member.label, parts))
-            continue
+        parts, faults = _parts(handed, rules)
+        rest += [NotPlaced(handed.member.label, why, who[0], handed.file) for why in faults]
         for task, content in parts:
-            answers.setdefault((task, who[0].casefold()), []).append(
+            answers.setdefault((task, key(who[0])), []).append(
                 Placed(task, who[0], content, handed, who[1])
             )
     chosen = []
@@ -88,20 +96,18 @@ def _ids(
     none."""
     numbers: dict[str, set[tuple[str, str]]] = {}
     for handed in found:
-        numbers.setdefault(composed(handed.name).casefold(), set()).add(
-            (handed.column, composed(handed.number))
-        )
+        numbers.setdefault(key(handed.name), set()).add((handed.column, key(handed.number)))
     ids: dict[tuple[str, str, str], tuple[str, bool] | str] = {}
     for handed in found:
-        known = students.known(handed.column, composed(handed.number))
-        name = composed(handed.name).strip()
+        known = students.known(handed.column, handed.number)
+        name = composed(handed.name)
         if known:
             made: tuple[str, bool] | str = (known.id, True)
         elif fault := fault_of_id(name):
             made = f"no name for a file: {fault}"
-        elif name in students.by_id:
+        elif students.with_id(name):
             made = f"the class list has the id {shown(name)} for somebody else"
-        elif len(numbers[composed(handed.name).casefold()]) > 1:
+        elif len(numbers[key(handed.name)]) > 1:
             made = (
                 f"several have the name {shown(name)}: a class list with the column"
                 f" {handed.column} tells them apart"
@@ -112,76 +118,113 @@ def _ids(
     return ids
 
 
-def composed(name: str) -> str:
-    """The name with each letter and its marks as one sign; some systems write ö as o and a mark."""
-    return unicodedata.normalize("NFC", name)
-
-
-def _parts(handed: Handed, rules: Rules) -> list[tuple[str, bytes]] | str:
-    """The tasks that a file answers, each with its answer; or why it answers none."""
-    if not handed.file.casefold().endswith(ENDINGS):
-        return "no text of a query: its name ends neither in .sql nor in .txt"
+def _parts(handed: Handed, rules: Rules) -> tuple[list[tuple[str, bytes]], list[str]]:
+    """The tasks that a file answers, each with its answer; and what of it answers none, and why."""
+    fault = _fault_of(handed)
+    if fault:
+        return [], [fault]
     content = handed.member.content
     if handed.is_online_text:
         content = text_of(content.decode("utf-8", "replace")).encode()
     if not content.strip():
-        return "it is empty"
+        return [], [EMPTY]
     if rules.task is not None:
-        return [(rules.task, content)]
-    named = _task_named([] if handed.is_online_text else [handed.file, *handed.others], rules.tasks)
-    if named:
-        return [(named, content)]
-    return _split(content, rules)
+        return [(rules.task, content)], []
+    text = _decoded(content)
+    begins = list(rules.pattern.finditer(text))
+    tasks = {key(task): task for task in rules.tasks}
+    if len({key(_name_in(begin)) for begin in begins} & set(tasks)) < 2:
+        names = [] if handed.is_online_text else [handed.file, *handed.others]
+        named = next(filter(None, (task_named(name, rules.tasks) for name in names)), None)
+        if named is None and len(rules.tasks) == 1:
+            named = rules.tasks[0]
+        if named is not None:
+            is_empty = COMMENT.fullmatch(text) is not None
+            return ([], [NO_QUERY]) if is_empty else ([(named, content)], [])
+    return _split(text, begins, tasks)
 
 
-def _task_named(files: Iterable[str], tasks: Sequence[str]) -> str | None:
-    for file in files:
-        stem = file.rpartition(".")[0].casefold()
-        for task in tasks:
-            if task.casefold() == stem:
-                return task
-    return None
+# The first bytes of files that hold no text of a query.
+KINDS = {
+    b"%PDF": "a PDF file",
+    b"PK\x03\x04": "a Word, a zip or another packed file",
+    b"\xd0\xcf\x11\xe0": "a Word file",
+    b"{\\rtf": "an RTF file",
+    b"\x89PNG": "a picture",
+    b"\xff\xd8\xff": "a picture",
+    b"GIF8": "a picture",
+}
 
 
-def _split(content: bytes, rules: Rules) -> list[tuple[str, bytes]] | str:
-    """The parts of a text between the comments that begin answers."""
+def _fault_of(handed: Handed) -> str:
+    """Why a file is no text of a query; empty where it may be one."""
+    for begin, kind in KINDS.items():
+        if handed.member.content.startswith(begin):
+            return f"it is {kind}, and no text of a query"
+    if not handed.file.strip().casefold().endswith(ENDINGS):
+        return "no text of a query: its name ends neither in .sql nor in .txt"
+    return ""
+
+
+def _decoded(content: bytes) -> str:
     try:
         text = content.decode("utf-8-sig")
     except UnicodeDecodeError:
         text = content.decode(
             "utf-16" if content[:2] in (b"\xff\xfe", b"\xfe\xff") else "latin-1", "replace"
         )
-    text = text.replace("\r\n", "\n")
-    begins = list(rules.pattern.finditer(text))
+    return text.replace("\r\n", "\n")
+
+
+def _name_in(begin: re.Match[str]) -> str:
+    return begin[1].rstrip(":.,;)")
+
+
+def _split(
+    text: str, begins: Sequence[re.Match[str]], tasks: Mapping[str, str]
+) -> tuple[list[tuple[str, bytes]], list[str]]:
+    """The parts of a text between the comments that begin answers: those that are clear, and of the
+    others why they are not."""
     if not begins:
-        return (
+        return [], [
             "no task has its name, and no comment `-- task T` is in it; the tasks are"
-            f" {shown(*rules.tasks)}"
-        )
-    if COMMENT.fullmatch(text[: begins[0].start()]) is None:
-        return (
-            "a query stands before the comment of the first task, in line"
-            f" {text[:begins[0].start()].count(chr(10)) + 1}"
-        )
-    by_fold = {task.casefold(): task for task in rules.tasks}
-    parts: dict[str, bytes] = {}
-    for begin, end in zip(begins, [*begins[1:], None]):
-        task = by_fold.get(begin[1].rstrip(":.,;)").casefold())
-        if task is None:
-            return f"a comment names the task {shown(begin[1])}, which is none"
-        if task in parts:
-            return f"two comments name the task {shown(task)}"
+            f" {shown(*tasks.values())}"
+        ]
+    faults = []
+    before = text[: begins[0].start()]
+    if COMMENT.fullmatch(before) is None:
+        line = before.count(chr(10)) + 1
+        faults.append(f"a query stands before the comment of the first task, in line {line}")
+    names = [tasks.get(key(_name_in(begin))) for begin in begins]
+    parts: list[tuple[str, bytes]] = []
+    for begin, end, task in zip(begins, [*begins[1:], None], names):
         part = text[begin.end() : end.start() if end else len(text)].strip("\n")
-        if COMMENT.fullmatch(part) is None:
-            parts[task] = f"{part}\n".encode()
-    return list(parts.items()) or "no query is in it"
+        if COMMENT.fullmatch(part) is not None:
+            continue
+        if task is None:
+            faults.append(f"a comment names the task {shown(begin[1])}, which is none")
+        elif names.count(task) > 1:
+            faults.append(f"two comments name the task {shown(task)}")
+        else:
+            parts.append((task, f"{part}\n".encode()))
+    return parts, [*dict.fromkeys(faults)] or ([] if parts else [NO_QUERY])
+
+
+def _rank(one: Placed) -> int:
+    """Of two files for one task: a file of SQL, then one of text, then what was typed online."""
+    if one.handed.is_online_text:
+        return 0
+    return 2 if one.handed.file.strip().casefold().endswith(".sql") else 1
 
 
 def _last(same: Sequence[Placed]) -> Placed | NotPlaced:
-    """The last of the answers of one student to one task; where two have the same order, none
-    is."""
+    """The last of the answers of one student to one task, in the platform's own order; of those,
+    the one of the best kind. Where two are left, none is it."""
     most = max(one.handed.order for one in same)
     last = [one for one in same if one.handed.order == most]
+    if len({one.content for one in last}) > 1:
+        best = max(map(_rank, last))
+        last = [one for one in last if _rank(one) == best]
     if len({one.content for one in last}) > 1:
         labels = shown(*(one.handed.member.label for one in last))
         return NotPlaced(
@@ -190,5 +233,7 @@ def _last(same: Sequence[Placed]) -> Placed | NotPlaced:
                 f"task {shown(last[0].task)} has {len(last)} different answers of"
                 f" {shown(last[0].student)}, and nothing says which came last"
             ),
+            last[0].student,
+            shown(*(one.handed.file for one in last)),
         )
     return last[-1]

@@ -12,6 +12,7 @@ from classroom.views import for_teacher as classpage
 from classroom.grading import grades
 from classroom.marks import gradebook as standing
 from classroom.views.draw import Drawing, counted
+from classroom.base.errors import shown
 from classroom.exercise.exercise import Exercise, Task
 from classroom.grading.grades import Grade, Graded
 from classroom.hints import steps_shown as steps
@@ -20,6 +21,7 @@ from classroom.marks.gradebook import Standing
 from ratest.places import Place
 
 NOTHING = "nothing was handed in"
+UNPLACED = "a file of yours could not be put to a task: {}"
 TOLD = {
     Grade.AGREES: (
         "Your query and the reference answer alike on every part of the exercise’s rows that meets"
@@ -91,7 +93,7 @@ def sheet(
 ) -> Sheet:
     """`mistakes` are those of answers, by the keys of their records."""
     parts = tuple(
-        part(given, task, answer, shows_references, mistakes)
+        part(given, task, answer, shows_references, mistakes, of.unplaced)
         for task, answer in zip(given.tasks, of.answers)
     )
     return Sheet(of.student.id, given.title, of.student.name, points_of(given, of), parts)
@@ -109,6 +111,7 @@ def part(
     of: Graded | None,
     shows_references: bool,
     mistakes: Mapping[str, Mistake] = {},
+    unplaced: Sequence[str] = (),
 ) -> Part:
     reference = classpage.text_of(task.reference) if shows_references else None
     most = grades.number(task.settings.points)
@@ -116,9 +119,9 @@ def part(
         return Part(
             task.title,
             "none",
-            NOTHING,
+            UNPLACED.format(shown(*unplaced)) if unplaced else NOTHING,
             "",
-            f"0 of {most}",
+            standing.BY_HAND if unplaced else f"0 of {most}",
             task.settings.points,
             None,
             None,

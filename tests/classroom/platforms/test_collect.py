@@ -12,7 +12,7 @@ import pytest
 
 import made_archives
 from made_archives import PEOPLE, class_list
-from classroom.platforms import collect as collecting
+from classroom.exercise.collected import read_collected
 from products import classroom
 
 TASKS = ("1", "2", "aggregates")
@@ -165,25 +165,26 @@ def test_task_and_pattern(exercise: Path, tmp_path: Path) -> None:
 
 
 @pytest.mark.parametrize(
-    ("text", "why"),
+    ("text", "why", "placed"),
     [
-        ("SELECT 1\n", "no comment"),
-        ("-- task 9\nSELECT 1\n", "the task 9, which is none"),
-        ("-- task 1\nSELECT 1\n-- task 1\nSELECT 2\n", "two comments name the task 1"),
-        ("SELECT 0;\n-- task 1\nSELECT 1\n", "stands before"),
-        ("-- task 1\n-- nothing\n", "no query is in it"),
-        (" \n", "it is empty"),
+        ("SELECT 1\n", "no comment", {}),
+        ("-- task 9\nSELECT 1\n", "the task 9, which is none", {}),
+        ("-- task 1\nSELECT 1\n-- task 1\nSELECT 2\n", "two comments name the task 1", {}),
+        # What is clear is placed.
+        ("SELECT 0;\n-- task 1\nSELECT 1\n", "stands before", {"anna": {"1": "SELECT 1\n"}}),
+        ("-- task 1\n-- nothing\n", "no query is in it", {}),
+        (" \n", "it is empty", {}),
     ],
 )
 def test_what_can_not_be_placed_is_named(
-    exercise: Path, tmp_path: Path, text: str, why: str
+    exercise: Path, tmp_path: Path, text: str, why: str, placed: dict[str, dict[str, str]]
 ) -> None:
     archive = made_archives.written(
         tmp_path / "x.zip", [("anna/all.sql", text), ("ben/1.sql", "SELECT 2\n")]
     )
     ran = collect(archive, exercise)
     assert ran.returncode == 1 and "anna/all.sql" in ran.stderr and why in ran.stderr
-    assert found(exercise) == {"ben": {"1": "SELECT 2\n"}}
+    assert found(exercise) == {"ben": {"1": "SELECT 2\n"}, **placed}
 
 
 def test_nothing_is_written_over_without_force(exercise: Path, tmp_path: Path) -> None:
@@ -347,7 +348,7 @@ def test_cells_that_a_spreadsheet_runs(exercise: Path, tmp_path: Path) -> None:
         not [cell for cell in cells if cell.startswith(("=", "+", "-", "@"))]
         and "'=HYPERLINK(1)/1.sql" in cells
     )
-    assert {(answer, line[3]) for (_, answer), line in collecting.read_list(exercise).items()} == {
+    assert {(line.answer, line.member) for line in read_collected(exercise).values()} == {
         (name, f"{name}/1.sql") for name in names
     }
     before = (exercise / "class/collected.csv").read_bytes()

@@ -1,0 +1,101 @@
+"""What was handed in, file by file, and what became of it: EXERCISE/class/collected.csv.
+
+    task,answer,source,member,late,sha256,state,why
+
+A line has the state `placed`, with the task and the answer that the file became, or `unplaced`, with
+the student's id in the column `answer` where it is known, and why; a file without a query is `empty`. A list of an earlier version has
+the first six columns, and only files that were placed. A name that a spreadsheet would take for a
+formula has a quote in front, which is not read back.
+"""
+from __future__ import annotations
+
+import csv
+import io
+import os
+from collections.abc import Iterable, Mapping
+from dataclasses import astuple, dataclass
+from pathlib import Path
+from typing import NamedTuple
+
+from classroom.base.errors import Fault, shown
+from classroom.base.files import write
+from classroom.people.identity import key
+
+LIST = Path("class/collected.csv")
+COLUMNS = ("task", "answer", "source", "member", "late", "sha256", "state", "why")
+OLD = COLUMNS[:6]
+PLACED, UNPLACED, EMPTY = "placed", "unplaced", "empty"
+FORMULA = ("=", "+", "-", "@", "\t", "\r", "\n")
+# More than any list has.
+MOST_BYTES = 100_000_000
+
+
+@dataclass(frozen=True)
+class Collected:
+    """A file that was handed in, as the columns have it."""
+
+    task: str
+    answer: str
+    source: str
+    member: str
+    late: str = ""
+    sha256: str = ""
+    state: str = PLACED
+    why: str = ""
+
+    @property
+    def of(self) -> tuple[str, str]:
+        """What there is one line of: an answer, or a file that is none."""
+        return (self.task, key(self.answer)) if self.state == PLACED else ("", self.member)
+
+
+def read_collected(folder: Path) -> dict[tuple[str, str], Collected]:
+    """The lines of an exercise's list; none where there is no list, a Fault where it is none."""
+    path = folder / LIST
+    try:
+        with open(path, encoding="utf-8", newline="") as file:
+            lines = list(csv.reader(io.StringIO(file.read(MOST_BYTES), newline=""), strict=True))
+    except FileNotFoundError:
+        return {}
+    except (OSError, UnicodeDecodeError, csv.Error) as fault:
+        raise Fault(f"{shown(os.fspath(path))} can't be read: {fault}") from None
+    head = tuple(lines[0]) if lines else ()
+    if head not in (COLUMNS, OLD) or any(len(line) != len(head) for line in lines):
+        raise Fault(f"{shown(os.fspath(path))} is no list of what was collected")
+    read = [Collected(*map(unquoted, line)) for line in lines[1:]]
+    return {one.of: one for one in read}
+
+
+def write_collected(folder: Path, lines: Iterable[Collected]) -> None:
+    text = io.StringIO(newline="")
+    writer = csv.writer(text, lineterminator="\n")
+    writer.writerow(COLUMNS)
+    writer.writerows(sorted(tuple(map(quoted, astuple(line))) for line in lines))
+    (folder / LIST).parent.mkdir(exist_ok=True)
+    write(folder / LIST, text.getvalue().encode("utf-8", "replace"))
+
+
+class Unplaced(NamedTuple):
+    """The files of one student that are no task's answer."""
+
+    student: str  # the id
+    files: tuple[str, ...]
+
+
+def unplaced_files(folder: Path) -> Mapping[str, Unplaced]:
+    """The files that are nobody's answer to anything, by the keys of those who handed them in."""
+    found: dict[str, Unplaced] = {}
+    for line in read_collected(folder).values():
+        if line.state == UNPLACED and line.answer:
+            before = found.get(key(line.answer), Unplaced(line.answer, ()))
+            name = line.member.rpartition("/")[2]
+            found[key(line.answer)] = Unplaced(before.student, (*before.files, name))
+    return found
+
+
+def quoted(cell: str) -> str:
+    return f"'{cell}" if cell.lstrip("'").startswith(FORMULA) else cell
+
+
+def unquoted(cell: str) -> str:
+    return cell[1:] if cell.startswith("'") and quoted(cell) != cell else cell
