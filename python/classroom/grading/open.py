@@ -111,6 +111,10 @@ def found(given: Exercise, task: Task, ran: Ran, options: Sequence[str], goes_on
     if ran.status == printed.USAGE:
         raise Fault(f"`ratest` doesn't take {' '.join(options)}")
     outcome = witness.read(ran, given.tables)
+    if isinstance(outcome, witness.Died) and ran.status != printed.FILE_FAULT:
+        raise Fault(
+            f"nothing is graded: {outcome.how}, at the reference of task {shown(task.name)}"
+        )
     line = ran.stderr.decode("utf-8", "replace").strip().removeprefix("ratest: ")
     if isinstance(outcome, witness.Refused) and (
         outcome.part == "schema" or outcome.part.startswith("table ")

@@ -18,7 +18,7 @@ from dataclasses import dataclass, field
 from pathlib import Path
 
 from classroom.base.errors import Fault, shown
-from classroom.grading.grades import FORMULA
+from classroom.base.csvcells import restored, safe
 from classroom.platforms.place import Placed
 from classroom.base.files import write
 
@@ -104,22 +104,14 @@ def read_list(folder: Path) -> dict[tuple[str, str], tuple[str, ...]]:
         raise Fault(f"{shown(os.fspath(path))} can't be read: {fault}") from None
     if not lines or tuple(lines[0]) != COLUMNS or any(len(line) != len(COLUMNS) for line in lines):
         raise Fault(f"{shown(os.fspath(path))} is no list of what was collected")
-    read = [tuple(map(unquoted, line)) for line in lines[1:]]
+    read = [tuple(map(restored, line)) for line in lines[1:]]
     return {(line[0], line[1]): line for line in read}
-
-
-def quoted(cell: str) -> str:
-    return f"'{cell}" if cell.lstrip("'").startswith(FORMULA) else cell
-
-
-def unquoted(cell: str) -> str:
-    return cell[1:] if cell.startswith("'") and quoted(cell) != cell else cell
 
 
 def write_list(folder: Path, lines: Iterable[Sequence[str]]) -> None:
     text = io.StringIO(newline="")
     writer = csv.writer(text, lineterminator="\n")
     writer.writerow(COLUMNS)
-    writer.writerows(sorted(tuple(map(quoted, line)) for line in lines))
+    writer.writerows(sorted(tuple(map(safe, line)) for line in lines))
     (folder / LIST).parent.mkdir(exist_ok=True)
     write(folder / LIST, text.getvalue().encode())
