@@ -140,7 +140,7 @@ def run_all(
         **{f"{key}.answer": of.answer.text.query for key, of in pending.items()},
     }
     for key, ran in parallel.run(jobs, {"ratest": opened.ratest}, given.files, texts, means, work):
-        results.keep(key, ran, opened.limits)
+        results.keep(key, ran, opened.limits, opened.is_proved)
 
 
 def try_all(
