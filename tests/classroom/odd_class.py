@@ -89,7 +89,7 @@ PRINTED = {
     "killed": ("", "", -9),
     "right": ("agree\n", "", 0),
 }
-SUMMARY = "15 answers: 2 agree, 4 differ, 1 is wrong SQL, 8 have no verdict"
+SUMMARY = "15 answers: 2 agree, 4 differ, 1 is not read, 8 have no verdict"
 KINDS = {
     ANSWER: "differs on 4 rows",
     "9 spent": "differs on 1 row, perhaps on fewer rows",
@@ -100,7 +100,7 @@ KINDS = {
     "longer": "no verdict",
     "memory": "no verdict: passes the limit of memory",
     "none": "no verdict: 7 conflicts were not enough",
-    "refused": "wrong SQL: unknown column: a\nb<i>",
+    "refused": "not read: unknown column: a\nb<i>",
     "right": "agrees",
     "shapes": "differs: other columns",
     "wide": "no verdict",

@@ -24,7 +24,8 @@ from dataclasses import dataclass
 from pathlib import Path
 
 from classroom.views import for_teacher as classpage
-from classroom.grading import grades
+from classroom.grading import graded as graded_answers
+from classroom.grading import grades_files
 from classroom.grading import open as opening
 from classroom.commands import options
 from classroom.process import pool as parallel
@@ -32,11 +33,9 @@ from classroom.marks import gradebook as standing
 from classroom.people import roster as students
 from classroom.base import log as telling
 from classroom.grading import trials as tried
-from classroom.verdict import witness
-from classroom.grading import wrong
 from classroom.exercise.exercise import Answer, Exercise, Task, digest
 from classroom.base.errors import Fault, Missing, shown
-from classroom.grading.grades import Graded
+from classroom.grading.graded import Graded
 from classroom.grading.open import Opened
 from classroom.base.files import write
 from classroom.grading.store import Results, trial_name
@@ -86,12 +85,6 @@ def run(arguments: argparse.Namespace) -> int:
         means = parallel.Means(opened.limits, arguments.jobs, arguments.hosts, sys.stderr.isatty())
         run_all(opened, entries, results, means, work)
         trials = try_all(trial, given, entries, results, means.jobs) if trial else {}
-        untried = {
-            of.key: of
-            for of in entries
-            if of.key and not tried.says_of_answer(results.trial(trials.get(id(of), "")))
-        }
-        ask_database(opened, untried, results, means, work)
         graded = [
             results.graded_one(of.task, of.answer, given, of.key, trials.get(id(of), ""))
             for of in entries
@@ -147,7 +140,7 @@ def run_all(
         **{f"{key}.answer": of.answer.text.query for key, of in pending.items()},
     }
     for key, ran in parallel.run(jobs, {"ratest": opened.ratest}, given.files, texts, means, work):
-        results.keep(key, ran, opened.limits)
+        results.keep(key, ran, opened.limits, opened.is_proved)
 
 
 def try_all(
@@ -176,23 +169,6 @@ def try_all(
     return {entry: of.key for entry, of in questions.items() if of}
 
 
-def ask_database(
-    opened: Opened, keys: dict[str, Entry], results: Results, means: parallel.Means, work: Path
-) -> None:
-    """Asks SQLite about each text that may be wrong SQL, unless its record says it."""
-    asked = {}
-    for key, of in keys.items():
-        ran = results.run(key)
-        if (
-            ran
-            and grades.may_be_wrong(witness.read(ran, opened.given.tables))
-            and results.refusal(key, wrong.ENGINE) is None
-        ):
-            asked[key] = of.answer.text.query
-    for key, fault in wrong.refused(asked, opened.given.tables, means.jobs, work):
-        results.note_refusal(key, wrong.ENGINE, fault)
-
-
 def publish_page(
     given: Exercise, results: Results, graded: Sequence[Graded], listed: students.ClassList
 ) -> None:
@@ -205,17 +181,24 @@ def publish_page(
 
 def tell(given: Exercise, graded: Sequence[Graded]) -> int:
     """Prints what came out, and gives the exit status."""
-    print(grades.summary(graded))
+    print(grades_files.summary(graded))
     print(f"see {shown(str(given.results / 'grades.csv'))}")
     left = sum(of.points is None for of in graded)
-    for line in grades.by_hand(graded):
+    for line in grades_files.by_hand(graded):
         print(line)
     sys.stdout.flush()
-    over = sum(grades.passes_limit(of) for of in graded)
+    over = sum(graded_answers.passes_limit(of) for of in graded)
     if over:
         log.warning(
             "%s past a limit: `classroom pick` keeps the few rows that tell the mistakes",
             counted(over, "answer"),
+        )
+    died = sum(of.decision.has_died for of in graded)
+    if died:
+        log.warning(
+            "%s without a verdict, since ratest ended without one: grade once more; what is left"
+            " then is a fault of the program, and is to be graded by hand",
+            counted(died, "answer"),
         )
     if left:
         log.warning("%d of %d answers are to be graded by hand", left, len(graded))

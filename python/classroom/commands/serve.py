@@ -61,7 +61,7 @@ from classroom.engines import run_child as asking
 from classroom.verdict import sentences as words
 from classroom.engines.run_child import Trier
 from classroom.exercise.typed_rows import POSTGRESQL, SQLITE
-from classroom.verdict.verdict import Barred, Passed, WrongSql
+from classroom.verdict.verdict import Refusal
 from classroom.grading.trials import Trial
 
 SUMMARY = "serve a page at which students ask"
@@ -346,7 +346,7 @@ def is_answered(task: Task, trier: Trier) -> bool:
     except Fault as fault:
         why = str(fault)
     else:
-        if not isinstance(found.outcome, (WrongSql, Barred, Passed)):
+        if not isinstance(found.outcome, Refusal):
             return True
         why = words.refusal(found.outcome, found.engine)
     log.error("task %s is not offered: reference.sql: %s", shown(task.name), why)

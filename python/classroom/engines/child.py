@@ -1,9 +1,9 @@
-"""Questions in processes of their own, which `classroom.forking` makes: each about a material, a
+"""Questions in processes of their own, which `classroom.process.forkserver` makes: each about a material, a
 file of JSON.
 
-The material is what `classroom.trial.material` writes. A question, JSON too, has `reference`,
+The material is what `classroom.exercise.typed_rows` writes. A question, JSON too, has `reference`,
 `answer`, `seconds`, `looks`, `duplicates`, `order`, `agrees`, and for PostgreSQL `engine` and
-`asker`, the two connections. What comes back is a verdict, as `classroom.trial.verdict` writes it,
+`asker`, the two connections. What comes back is a verdict, as `classroom.verdict.verdict` writes it,
 or `{"fault": TEXT}` where the engine can't be had. """
 from __future__ import annotations
 
@@ -20,18 +20,22 @@ if __name__ == "__main__" and not __package__:
     sys.path[0] = str(Path(__file__).resolve().parents[2])
 
 from classroom.process import forkserver as forking
-from classroom.base.errors import Fault
+from classroom.base.errors import Fault, Missing
 from classroom.exercise import typed_rows as materials
 from classroom.verdict import verdict
-from classroom.engines.engine import REFERENCE, Bars, Engine, Refused, Stopped, TooMuch
+from classroom.engines import other_dialects
+from classroom.engines.engine import REFERENCE, Engine, Refused, Stopped, TooMuch
 from classroom.exercise.typed_rows import POSTGRESQL, SQLITE, Material
 from classroom.exercise.part_masks import Parts
 from classroom.engines.counterexample import RANDOM_PARTS, SHRINKINGS, Search, Wanted
-from classroom.verdict.verdict import Barred, Passed, Verdict, WrongSql
+from classroom.verdict.verdict import Cause, Refusal, Verdict
 
 # Of the processor beyond the time in which is tried: to begin, and to end a step.
 MORE_SECONDS = 10.0
-ENGINES = {SQLITE: ("classroom.trial.sqlite",), POSTGRESQL: ("classroom.trial.postgres", "psycopg")}
+ENGINES = {
+    SQLITE: ("classroom.engines.sqlite",),
+    POSTGRESQL: ("classroom.engines.postgres", "psycopg"),
+}
 DEPTH = 20_000  # of calls, for trees of queries that are nested deep
 
 
@@ -85,20 +89,36 @@ def tried(material: Material, question: dict[str, Any], parts: Parts | None = No
             outcome = search.outcome()
             return Verdict(label, outcome, search.remarks())
         except Stopped as stopped:
-            return Verdict(stopped.engine or label, stopped_outcome(stopped))
+            return Verdict(stopped.engine or label, refusal_of(stopped, question, material))
     finally:
         if engine:
             engine.close()
 
 
-def stopped_outcome(stopped: Stopped) -> verdict.Outcome:
+def refusal_of(stopped: Stopped, question: dict[str, Any], material: Material) -> Refusal:
+    """What ended a trial, as a value; what another dialect reads is no fault of the query."""
     is_reference = stopped.which == REFERENCE
-    if isinstance(stopped, Refused):
-        return WrongSql(is_reference, stopped.message, stopped.place)
     if isinstance(stopped, TooMuch):
-        return Passed(is_reference, stopped.message)
-    assert isinstance(stopped, Bars)
-    return Barred(is_reference, stopped.message)
+        return Refusal(is_reference, Cause.LIMIT, stopped.message)
+    if not isinstance(stopped, Refused):
+        return Refusal(is_reference, Cause.BARRED, stopped.message)
+    cause, dialect = stopped.cause, ""
+    function = other_dialects.function_in(stopped.message)
+    if cause == Cause.NAME and function:
+        dialect = other_dialects.has_function(function)
+    elif cause == Cause.SYNTAX and other_dialects.is_of_syntax(stopped.message):
+        text = question["reference" if is_reference else "answer"]
+        try:
+            dialect = other_dialects.reader_of(text, material.product)
+        except (Missing, RecursionError):
+            cause = Cause.UNSUPPORTED  # nobody can tell
+    return Refusal(
+        is_reference,
+        Cause.DIALECT if dialect else cause,
+        stopped.message,
+        stopped.place,
+        dialect,
+    )
 
 
 def label_of(material: Material) -> str:

@@ -6,6 +6,7 @@ from typing import Protocol
 
 from classroom.verdict.compare import Answer
 from classroom.exercise.part_masks import Mask
+from classroom.verdict.verdict import Cause
 
 # What one query may take.
 QUERY_SECONDS = 2.0
@@ -25,7 +26,13 @@ class Stopped(Exception):
 
 
 class Refused(Stopped):
-    """The engine takes the query for wrong: its syntax or a name in it."""
+    """The engine refuses the query over any rows."""
+
+    def __init__(
+        self, which: int, message: str, place: int | None = None, cause: Cause = Cause.SYNTAX
+    ) -> None:
+        super().__init__(which, message, place)
+        self.cause = cause
 
 
 class Bars(Stopped):

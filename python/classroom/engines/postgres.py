@@ -15,6 +15,7 @@ from classroom.base.errors import Fault, library, shown
 from classroom.sql.schema import quoted
 from classroom.engines.only_reads import MOST_TEXT
 from classroom.verdict.compare import Answer
+from classroom.verdict.verdict import Cause
 from classroom.engines.engine import (
     ANSWER,
     MOST_LINES,
@@ -255,13 +256,16 @@ class Postgres(Server):
             place = int(at) - 1 - len(PREPARE) if at and at.isdigit() else None
             told = self.stopped(which, fault)
             raise told or Refused(
-                which, shown(fault.diag.message_primary or str(fault)), place
+                which,
+                shown(fault.diag.message_primary or str(fault)),
+                place,
+                cause_of(fault.sqlstate or ""),
             ) from None
         answer = self.ask(
             which
         )  # over no rows; of the reference first, so that its text stands nowhere any more
         if answer.failure:
-            raise Refused(which, answer.failure)
+            raise Refused(which, answer.failure, cause=Cause.UNSUPPORTED)
 
     def stopped(self, which: int, fault: Any) -> Stopped | None:
         """What ends the trial; None where it is the query's own fault."""
@@ -364,6 +368,17 @@ class Postgres(Server):
             raise ValueError("too many tuples")
         for line in lines:
             yield tuple(known[table, place] for (table, _), place in zip(tables, line))
+
+
+# Tables, columns, functions and aliases that are nowhere or are ambiguous.
+UNKNOWN = frozenset({"42P01", "42703", "42883", "42702", "42P09", "42725", "3F000"})
+
+
+def cause_of(state: str) -> Cause:
+    """Why PostgreSQL doesn't prepare a text, by the SQLSTATE."""
+    if state in UNKNOWN:
+        return Cause.NAME
+    return Cause.SYNTAX if state[:2] in ("22", "42") else Cause.UNSUPPORTED
 
 
 def look(which: int, text: str) -> None:

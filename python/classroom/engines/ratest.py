@@ -8,6 +8,7 @@ import sys
 from collections.abc import Sequence
 from pathlib import Path
 
+from classroom.process import lifeline
 from classroom.process import limits as limited
 from classroom.base.errors import Fault
 from classroom.process.limits import Limits, Ran
@@ -16,8 +17,9 @@ from ratest import installed
 
 def find(name: str = "ratest") -> Path:
     """The program of a name: the one that the variable of this name in capitals tells; else that of
-    the wheel that this package came in; else that of the repository, which is built where it isn't;
-    else the one that was installed with this package below a prefix; else the one on the PATH."""
+    the wheel that this package came in; else that of the repository, the proved one or else the one without proofs, which is made where
+    it isn't there; else the one that was installed with this package below a prefix; else the one on the PATH.
+    """
     told = os.environ.get(name.upper())
     if told:
         path = Path(told).absolute()
@@ -27,16 +29,9 @@ def find(name: str = "ratest") -> Path:
     packed = installed.packed(name)
     if packed:
         return packed
-    launcher = installed.REPOSITORY / name
-    built = installed.REPOSITORY / "crates" / name / "out" / name
-    if launcher.is_file():
-        if not built.is_file():
-            subprocess.run(
-                [launcher, "--build"], stdin=subprocess.DEVNULL, stdout=sys.stderr, check=False
-            )
-        if not built.is_file():
-            raise Fault(f"the program {name} is not built: {launcher} --build")
-        return built
+    if (installed.REPOSITORY / name).is_file():
+        built = proved_path(name)
+        return built if built.is_file() else made_without_proofs(name)
     beside = installed.below_prefix(name)
     if beside:
         return beside
@@ -49,12 +44,55 @@ def find(name: str = "ratest") -> Path:
     return Path(on_path).absolute()
 
 
+def proved_path(name: str) -> Path:
+    return installed.REPOSITORY / "crates" / name / "out" / name
+
+
+def unproved_path(name: str) -> Path:
+    return installed.REPOSITORY / "out" / f"{name}.unproved"
+
+
+# The launcher makes the build without proofs, unless it is there and no source is newer.
+WITHOUT_PROOFS = """
+import sys
+sys.path.insert(0, sys.argv[1] + "/tools")
+from launcher import answer, stopping
+from launcher.sources import Program
+program = Program(sys.argv[1], sys.argv[2], "./" + sys.argv[2])
+try:
+    with stopping.stoppable():
+        answer.build_unproved(program)
+except stopping.Stopped as stopped:
+    stopping.end_by(stopped.number)
+except answer.Failed as failed:
+    program.say(str(failed))
+    sys.exit(1)
+"""
+
+
+def made_without_proofs(name: str) -> Path:
+    """The repository's build without proofs, which is made in a minute or two where it isn't there;
+    it ends with this process. A Fault where it can't be made."""
+    path = unproved_path(name)
+    words = [sys.executable, "-ESc", WITHOUT_PROOFS, os.fspath(installed.REPOSITORY), name]
+    guarded = [sys.executable, "-I", os.fspath(lifeline.__file__), str(os.getpid()), *words]
+    done = subprocess.run(guarded, stdin=subprocess.DEVNULL, stdout=sys.stderr, check=False)
+    if done.returncode != 0 or not path.is_file():
+        raise Fault(f"the program {name} is not built: {installed.REPOSITORY / name} --build")
+    return path
+
+
+def is_proved(program: Path) -> bool:
+    """Whether a program has no sign of a build without proofs."""
+    return not limited.is_checked(os.fspath(program))
+
+
 def there(name: str) -> Path:
     """The program as `find` gives it; a Fault, and no build of the repository's, where it isn't
     built."""
     launcher = installed.REPOSITORY / name
     if not os.environ.get(name.upper()) and not installed.packed(name) and launcher.is_file():
-        if not (installed.REPOSITORY / "crates" / name / "out" / name).is_file():
+        if not proved_path(name).is_file() and not unproved_path(name).is_file():
             raise Fault(f"the program {name} is not built: {launcher} --build")
     return find(name)
 

@@ -19,7 +19,7 @@ from classroom.process.limits import Limits
 from classroom.exercise import typed_rows as materials
 from classroom.verdict import verdict
 from classroom.exercise.typed_rows import Material
-from classroom.verdict.verdict import Passed, Verdict
+from classroom.verdict.verdict import Cause, Refusal, Verdict
 
 CHILD = Path(__file__).with_name("child.py")
 # What a process may take by the clock, so that a busy machine changes no verdict: that of its
@@ -94,7 +94,7 @@ class Trier:
         except (Ended, OSError) as fault:
             raise Failed("its process could not be begun", str(fault)) from None
         if ran.passed or ran.status == -signal.SIGXCPU:
-            return Verdict(self.product, Passed(False, ran.passed or "time"))
+            return Verdict(self.product, Refusal(False, Cause.LIMIT, ran.passed or "time"))
         try:
             read = json.loads(ran.stdout)
             if "fault" in read:

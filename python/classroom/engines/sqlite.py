@@ -14,6 +14,7 @@ from contextlib import contextmanager
 from classroom.engines.only_reads import MOST_TEXT, OTHERWISE, READ, barred, bound, in_memory
 from classroom.sql.schema import quoted
 from classroom.verdict.compare import Answer
+from classroom.verdict.verdict import Cause
 from classroom.engines.engine import (
     ANSWER,
     MOST_LINES,
@@ -21,6 +22,7 @@ from classroom.engines.engine import (
     REFERENCE,
     Bars,
     Refused,
+    Stopped,
     TooMuch,
 )
 from classroom.engines.join_tuples import named
@@ -147,7 +149,7 @@ class Stored:
         try:
             cursor = self.db.execute(text)
             if cursor.description is None:
-                raise Refused(which, "it is no query")
+                raise Refused(which, "it is no query", cause=Cause.BARRED)
             lines = cursor.fetchmany(MOST_LINES + 1)
             columns = len(cursor.description)
         except MemoryError:
@@ -199,8 +201,24 @@ class Sqlite:
         self.material, self.parts = material, parts
         self.queries = (reference, answer)
         self.stored = [Stored(material, parts, backwards, seconds) for backwards in (False, True)]
-        for which in (REFERENCE, ANSWER):
-            self.check(which)
+        self.check_both()
+
+    def check_both(self) -> None:
+        """Refuses a query over any rows; an answer that is wrong SQL is told so where the reference
+        is refused for another reason, too."""
+        try:
+            self.check(REFERENCE)
+        except Stopped as first:
+            try:
+                self.check(ANSWER)
+            except Refused as second:
+                is_wrong = second.cause in (Cause.SYNTAX, Cause.NAME)
+                if is_wrong and second.message != first.message:
+                    raise second from None
+            except Stopped:
+                pass
+            raise first from None
+        self.check(ANSWER)
 
     def check(self, which: int) -> None:
         """Refuses a query that is wrong over any rows, or does something else than to read them."""
@@ -217,7 +235,7 @@ class Sqlite:
         first = self.stored[0]
         answer = first.ask(which, text)
         if answer.failure:
-            raise Refused(which, *told(answer.failure, text))
+            raise stopped_by(which, answer.failure, text)
         names = {
             name
             for held in self.material.pool.held
@@ -239,7 +257,7 @@ class Sqlite:
         } | {view.name for view in self.material.views}
         unknown = unknown_name(text, names)
         if unknown:
-            raise Refused(which, f"no such column: {unknown[0]}", unknown[1])
+            raise Refused(which, f"no such column: {unknown[0]}", unknown[1], Cause.NAME)
 
     @property
     def tables(self) -> frozenset[int]:
@@ -279,6 +297,46 @@ class Sqlite:
     def close(self) -> None:
         for stored in self.stored:
             stored.close()
+
+
+# Of what SQLite says where it refuses a text: a name that is nowhere; its grammar.
+UNKNOWN = ("no such table", "no such column", "no such function", "ambiguous column name")
+WRONG = (
+    "syntax error",
+    "unrecognized token",
+    "incomplete input",
+    "the same number of result columns",
+    "misuse of",
+    "wrong number of arguments",
+    "columns assigned",
+    "row value misused",
+    "no tables specified",
+    "HAVING clause",
+    "GROUP BY clause",
+    "ORDER BY term",
+    "sub-select returns",
+    "values for",
+    "circular reference",
+    "RIGHT and FULL OUTER JOIN",
+    "cannot join using column",
+    "NATURAL join",
+    "join clause is required",
+    "all VALUES must have the same number of terms",
+    "duplicate WITH table name",
+)
+# Its own limits, and those that `only_reads` sets.
+LIMITS = ("too large", "too many", "too complex", "too long", "stack overflow", "out of memory")
+
+
+def stopped_by(which: int, failure: str, text: str) -> Stopped:
+    """Why a query that SQLite refuses over any rows is refused."""
+    if any(word in failure for word in UNKNOWN):
+        return Refused(which, *told(failure, text), Cause.NAME)
+    if any(word in failure for word in WRONG):
+        return Refused(which, *told(failure, text), Cause.SYNTAX)
+    if any(word in failure for word in LIMITS):
+        return TooMuch(which, f"its own: {failure}")
+    return Refused(which, *told(failure, text), Cause.UNSUPPORTED)
 
 
 def told(failure: str, text: str) -> tuple[str, int | None]:

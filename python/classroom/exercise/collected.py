@@ -17,6 +17,7 @@ from dataclasses import astuple, dataclass
 from pathlib import Path
 from typing import NamedTuple
 
+from classroom.base.csvcells import restored, safe
 from classroom.base.errors import Fault, shown
 from classroom.base.files import write
 from classroom.people.identity import key
@@ -25,7 +26,6 @@ LIST = Path("class/collected.csv")
 COLUMNS = ("task", "answer", "source", "member", "late", "sha256", "state", "why")
 OLD = COLUMNS[:6]
 PLACED, UNPLACED, EMPTY = "placed", "unplaced", "empty"
-FORMULA = ("=", "+", "-", "@", "\t", "\r", "\n")
 # More than any list has.
 MOST_BYTES = 100_000_000
 
@@ -62,7 +62,7 @@ def read_collected(folder: Path) -> dict[tuple[str, str], Collected]:
     head = tuple(lines[0]) if lines else ()
     if head not in (COLUMNS, OLD) or any(len(line) != len(head) for line in lines):
         raise Fault(f"{shown(os.fspath(path))} is no list of what was collected")
-    read = [Collected(*map(unquoted, line)) for line in lines[1:]]
+    read = [Collected(*map(restored, line)) for line in lines[1:]]
     return {one.of: one for one in read}
 
 
@@ -70,7 +70,7 @@ def write_collected(folder: Path, lines: Iterable[Collected]) -> None:
     text = io.StringIO(newline="")
     writer = csv.writer(text, lineterminator="\n")
     writer.writerow(COLUMNS)
-    writer.writerows(sorted(tuple(map(quoted, astuple(line))) for line in lines))
+    writer.writerows(sorted(tuple(map(safe, astuple(line))) for line in lines))
     (folder / LIST).parent.mkdir(exist_ok=True)
     write(folder / LIST, text.getvalue().encode("utf-8", "replace"))
 
@@ -91,11 +91,3 @@ def unplaced_files(folder: Path) -> Mapping[str, Unplaced]:
             name = line.member.rpartition("/")[2]
             found[key(line.answer)] = Unplaced(before.student, (*before.files, name))
     return found
-
-
-def quoted(cell: str) -> str:
-    return f"'{cell}" if cell.lstrip("'").startswith(FORMULA) else cell
-
-
-def unquoted(cell: str) -> str:
-    return cell[1:] if cell.startswith("'") and quoted(cell) != cell else cell

@@ -35,6 +35,7 @@ class Opened:
     limits: Limits
     work: int | None
     conflicts: int | None
+    is_proved: bool = True
 
     @property
     def options(self) -> tuple[str, ...]:
@@ -65,12 +66,18 @@ def opened(arguments: argparse.Namespace, seconds: float, conflicts: int | None 
     limits = Limits(arguments.time or said.time or seconds, arguments.memory)
     ratest = program.find()
     tries = not getattr(arguments, "only_proved", True)
+    is_proved = program.is_proved(ratest)
+    if not is_proved and getattr(arguments, "only_proved", False):
+        raise Fault(f"--only-proved: {shown(str(ratest))} is a build without proofs")
+    if not is_proved:
+        log.warning("not proved: %s is a build with run-time checks in place of proofs", ratest)
     made = Opened(
         asked(given, ratest, limits, options_of(work, conflicts), tries and has_full(given.folder)),
         ratest,
         limits,
         work,
         conflicts,
+        is_proved,
     )
     for task in made.given.tasks:
         if task.fault:
@@ -111,6 +118,10 @@ def found(given: Exercise, task: Task, ran: Ran, options: Sequence[str], goes_on
     if ran.status == printed.USAGE:
         raise Fault(f"`ratest` doesn't take {' '.join(options)}")
     outcome = witness.read(ran, given.tables)
+    if isinstance(outcome, witness.Died) and ran.status != printed.FILE_FAULT:
+        raise Fault(
+            f"nothing is graded: {outcome.how}, at the reference of task {shown(task.name)}"
+        )
     line = ran.stderr.decode("utf-8", "replace").strip().removeprefix("ratest: ")
     if isinstance(outcome, witness.Refused) and (
         outcome.part == "schema" or outcome.part.startswith("table ")

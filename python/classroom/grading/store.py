@@ -24,13 +24,13 @@ from dataclasses import replace
 from pathlib import Path
 from typing import Any
 
-from classroom.grading import grades
+from classroom.grading import graded as graded_answers
+from classroom.grading import grades_files
 from classroom.process import remote as worker
-from classroom.grading import wrong
 from classroom.exercise.exercise import Answer, Exercise, Task, digest
 from classroom.base.errors import Fault, shown
 from classroom.base.files import UNFINISHED, write
-from classroom.grading.grades import Graded
+from classroom.grading.graded import Graded
 from classroom.process.limits import Limits, Ran
 from classroom.verdict import verdict
 from classroom.verdict.verdict import Verdict
@@ -82,8 +82,8 @@ class Results:
     def path(self, key: str) -> Path:
         return self.runs / f"{key}.json"
 
-    def keep(self, key: str, ran: Ran, limits: Limits) -> None:
-        """Writes the record of a run."""
+    def keep(self, key: str, ran: Ran, limits: Limits, is_proved: bool = True) -> None:
+        """Writes the record of a run, by a program that is proved or is not."""
         record = json.loads(worker.line(key, ran))
         write(
             self.path(key),
@@ -95,6 +95,7 @@ class Results:
                     "limits": {"seconds": limits.seconds, "megabytes": limits.megabytes},
                     "stdout": record[2],
                     "stderr": record[3],
+                    **({} if is_proved else {"proved": False}),
                 }
             ),
         )
@@ -126,17 +127,6 @@ class Results:
         except (OSError, ValueError, KeyError, TypeError, AttributeError):
             return None
 
-    def note_refusal(self, key: str, engine: str, fault: str) -> None:
-        """Writes into the record of a run what a database says of the query; empty where it takes
-        it."""
-        record = self._record(key)
-        if record:
-            write(self.path(key), _json({**record, "database": {"engine": engine, "fault": fault}}))
-
-    def refusal(self, key: str, engine: str) -> str | None:
-        """What this database says of the query; None where it was not asked."""
-        return _refusal(self._record(key), engine)
-
     def keep_trial(self, key: str, found: Verdict) -> None:
         """Writes what a database said of a pair."""
         write(self.folder / trial_name(key), _json(verdict.to_json(found)))
@@ -159,8 +149,8 @@ class Results:
         }
         written = self._written()
         self.will_write(wanted)
-        write(self.folder / "grades.csv", grades.grades_csv(graded))
-        write(self.folder / "results.json", grades.results_json(graded))
+        write(self.folder / "grades.csv", grades_files.grades_csv(graded))
+        write(self.folder / "results.json", grades_files.results_json(graded))
         write(
             self.folder / "answers.json",
             _json(
@@ -197,7 +187,7 @@ class Results:
                     f"{shown(str(path.parent))}: no folder, so the texts of its answers are not"
                     " written"
                 ) from None
-            write(path, grades.answer_text(of))
+            write(path, grades_files.answer_text(of))
         for name in written - wanted:
             self._remove(name)
         write(self.folder / WRITTEN, _json(sorted(wanted)))
@@ -286,16 +276,18 @@ class Results:
         """The grade of an answer by the records of its run and of its trial."""
         record = self._record(key) if key else None
         ran = _ran(record) if record else None
-        made = grades.graded(
+        found = self.trial(trial_key) if trial_key else None
+        return graded_answers.grade(
             task,
             answer,
             given.tables,
+            given.settings,
             ran,
             key if ran else "",
-            bool(_refusal(record, wrong.ENGINE)),
+            found,
+            trial_key,
+            bool(record is None or record.get("proved", True)),
         )
-        found = self.trial(trial_key) if trial_key else None
-        return grades.with_trial(made, found, given.settings, trial_key) if found else made
 
     def prune(self, keys: Collection[str]) -> None:
         """Removes the records of runs but those of these keys."""
@@ -319,15 +311,6 @@ def _is_ours(name: str) -> bool:
 
 def _json(value: object) -> bytes:
     return (json.dumps(value, indent=1) + "\n").encode("ascii")
-
-
-def _refusal(record: dict[str, Any] | None, engine: str) -> str | None:
-    said = record.get("database") if record else None
-    return (
-        str(said.get("fault", ""))
-        if isinstance(said, dict) and said.get("engine") == engine
-        else None
-    )
 
 
 def _ran(record: dict[str, Any]) -> Ran:

@@ -26,16 +26,16 @@ from classroom.base.errors import Fault, library, shown
 from classroom.process.limits import Ran
 from classroom.exercise.rows import Pool
 from classroom.exercise.sources import of_exercise
+from classroom.grading.decide import is_open
 from classroom.exercise.settings import Settings
 from classroom.engines import run_child as asking
 from classroom.exercise import material as full
 from classroom.exercise import typed_rows as material
 from classroom.engines.run_child import Failed, Options
 from classroom.exercise.typed_rows import POSTGRESQL, SQLITE, Material
-from classroom.verdict.verdict import Barred, Passed, Verdict, WrongSql
-from classroom.verdict.witness import Outcome
+from classroom.verdict.verdict import Cause, Refusal, Verdict
 
-FORMAT = b"trial 1"
+FORMAT = b"trial 2"
 # For one answer, if `--time` isn't less; `ratest` was asked before.
 SECONDS = 10.0
 LEAST_SECONDS = 0.5
@@ -176,15 +176,6 @@ def product_of(word: str) -> str:
     )
 
 
-def is_open(outcome: Outcome) -> bool:
-    """Whether `ratest` doesn't decide it, and a database may."""
-    if isinstance(outcome, witness.Refused):
-        return not (outcome.part == "queries" and outcome.fault == "numbers of columns differ")
-    if isinstance(outcome, witness.Undecided):
-        return outcome.best is None
-    return isinstance(outcome, (witness.Limit, witness.NoVerdict))
-
-
 @dataclass(frozen=True)
 class Question:
     """A pair that is tried; of one that agrees, as proved, only duplicates and order are looked
@@ -220,19 +211,11 @@ def question(
     """What is tried of an answer by its run; None where nothing is."""
     if not trial.asked(task, answer):
         return None
-    outcome = witness.read(ran, given.tables) if ran else witness.NoVerdict("")
+    outcome = witness.read(ran, given.tables) if ran else None
     agrees = isinstance(outcome, witness.Agree)
-    if not (trial.reports if agrees else task.fault or is_open(outcome)):
+    if not (trial.reports if agrees else task.fault or outcome and is_open(outcome)):
         return None
     return Question(task, answer, trial.key(task, answer, agrees), agrees)
-
-
-def says_of_answer(found: Verdict | None) -> bool:
-    """Whether a trial says something of the answer, and not only why the reference can't be
-    tried."""
-    return found is not None and not (
-        isinstance(found.outcome, (WrongSql, Barred, Passed)) and found.outcome.is_reference
-    )
 
 
 def verdicts(

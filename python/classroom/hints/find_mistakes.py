@@ -16,7 +16,7 @@ from classroom.base import log as tell
 from classroom.grading import trials as tried
 from classroom.exercise.exercise import Exercise, digest
 from classroom.base.errors import Fault
-from classroom.grading.grades import Graded
+from classroom.grading.graded import Graded
 from classroom.hints import ask_children as asking
 from classroom.exercise import guards as guard
 from classroom.hints import target as looked

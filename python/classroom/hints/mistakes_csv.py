@@ -9,7 +9,8 @@ from collections.abc import Iterator, Mapping, Sequence
 from dataclasses import dataclass
 
 from classroom.base.errors import shown
-from classroom.grading.grades import Graded, safe
+from classroom.base.csvcells import safe
+from classroom.grading.graded import Graded
 from classroom.hints.mistake import PROVED, Mistake
 from ratest.draw import counted
 

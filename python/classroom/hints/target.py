@@ -4,7 +4,8 @@ from __future__ import annotations
 
 from dataclasses import dataclass
 
-from classroom.grading.grades import Grade, Graded
+from classroom.grading.graded import Graded
+from classroom.verdict.decision import Grade
 from classroom.exercise.settings import Settings
 from classroom.verdict.compare import DUPLICATES, ORDER, ROWS
 from classroom.verdict.verdict import Differs, Verdict

@@ -10,7 +10,9 @@ from collections.abc import Sequence
 from dataclasses import dataclass
 
 from classroom.exercise.exercise import Exercise
-from classroom.grading.grades import Graded, number, safe
+from classroom.base.csvcells import safe
+from classroom.grading.graded import Graded
+from classroom.grading.grades_files import number
 from classroom.exercise.collected import unplaced_files
 from classroom.people.identity import key
 from classroom.people.roster import ClassList, Student

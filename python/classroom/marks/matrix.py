@@ -6,7 +6,8 @@ from dataclasses import dataclass
 
 from classroom.marks import gradebook as standing
 from classroom.exercise.exercise import Exercise
-from classroom.grading.grades import Graded, number
+from classroom.grading.graded import Graded
+from classroom.grading.grades_files import number
 from classroom.marks.gradebook import Standing
 
 

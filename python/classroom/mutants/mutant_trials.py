@@ -16,7 +16,7 @@ from classroom.sql.schema import Table
 from classroom.exercise.settings import Settings
 from classroom.verdict import verdict
 from classroom.verdict import sentences as words
-from classroom.verdict.verdict import Differs, NoDifference, Passed
+from classroom.verdict.verdict import Cause, Differs, NoDifference
 from classroom.grading.trials import Pair, Trial, verdicts
 
 
@@ -92,4 +92,6 @@ def told_of(found: verdict.Verdict | None) -> Verdict:
         return Verdict(NOT_FOUND, engine=found.engine)
     if isinstance(of, verdict.NotDetermined):
         return Verdict(NOT_DETERMINED, engine=found.engine)
-    return Verdict(OPEN if isinstance(of, Passed) else REFUSED, why=words.refusal(of, found.engine))
+    return Verdict(
+        OPEN if of.cause == Cause.LIMIT else REFUSED, why=words.refusal(of, found.engine)
+    )

@@ -7,7 +7,7 @@ from collections.abc import Iterator, Mapping, Sequence
 from dataclasses import dataclass
 
 from classroom.base.errors import Fault, shown
-from classroom.grading.grades import safe
+from classroom.base.csvcells import safe
 from ratest.draw import counted
 from classroom.mutants.proofs import OPEN, REFUSED, TOLD, Verdict
 from classroom.mutants.question import Question

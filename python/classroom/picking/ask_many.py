@@ -86,7 +86,7 @@ class Proving:
         return (
             witness.read(ran, [held.table for held in self.pool.held])
             if ran
-            else witness.NoVerdict("it was not run")
+            else witness.NoVerdict("time")
         )
 
 

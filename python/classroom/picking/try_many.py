@@ -17,12 +17,11 @@ from classroom.sql.schema import Table
 from classroom.exercise.settings import Settings
 from classroom.exercise import typed_rows as material
 from classroom.verdict.verdict import (
-    Barred,
     Differs,
     NoDifference,
     NotDetermined,
+    is_of_limit,
     Verdict,
-    WrongSql,
 )
 from classroom.grading.trials import Trial
 
@@ -87,7 +86,7 @@ class Trying:
             )
         if isinstance(outcome, (NoDifference, NotDetermined)):
             return Finding(Kind.SAME)
-        return Finding(Kind.REFUSED if isinstance(outcome, (WrongSql, Barred)) else Kind.PASSED)
+        return Finding(Kind.PASSED if outcome is None or is_of_limit(outcome) else Kind.REFUSED)
 
     def checked(
         self, rows: Collection[Row], asked: Sequence[Question], results: Results

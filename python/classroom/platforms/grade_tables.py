@@ -20,7 +20,8 @@ from dataclasses import dataclass
 from classroom.base.errors import Fault
 from classroom.views import markdown
 from classroom.views.for_student import Sheet
-from classroom.grading.grades import number, safe
+from classroom.base.csvcells import safe
+from classroom.grading.grades_files import number
 from classroom.platforms.forms import MOODLE, SUBMITTED
 from classroom.marks.gradebook import Standing
 from classroom.people.roster import Student

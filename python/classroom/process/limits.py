@@ -9,6 +9,7 @@ import signal
 import subprocess
 import tempfile
 import time
+from functools import lru_cache
 from typing import Callable, List, NamedTuple, Optional, Sequence
 
 OUT_OF_MEMORY = 7  # the exit status, as `ratest.printed` has it, which is not sent to hosts
@@ -20,7 +21,7 @@ class Limits(NamedTuple):
     """What one run may take."""
 
     seconds: float = 60.0
-    megabytes: int = 2000  # of address space
+    megabytes: int = 2000  # of address space; of a build without proofs what is resident
     output: float = 64  # megabytes in each of the two outputs
 
 
@@ -39,12 +40,57 @@ class Ran(NamedTuple):
 GUARD = '[ "$PPID" = "$1" ] || exit 1; shift; exec "$@"'
 
 
-def bounded(limits: Limits) -> List[str]:
+# In the file of a build without proofs, whose checks map terabytes of addresses.
+CHECKED = b"__sanitizer_"
+TICK = 0.05  # seconds between two looks at what is resident
+
+
+@lru_cache(maxsize=8)
+def _is_checked(path: str, changed: int, size: int) -> bool:
+    with open(path, "rb") as file:
+        return CHECKED in file.read()
+
+
+def is_checked(path: str) -> bool:
+    """Whether a program is a build with run-time checks in place of proofs."""
+    known = os.stat(path)
+    return _is_checked(path, known.st_mtime_ns, known.st_size)
+
+
+def resident(pid: int) -> int:
+    """The bytes that a process and its children hold in memory; 0 where it has ended."""
+    try:
+        with open(f"/proc/{pid}/statm", encoding="ascii") as file:
+            held = int(file.read().split()[1]) * os.sysconf("SC_PAGE_SIZE")
+        with open(f"/proc/{pid}/task/{pid}/children", encoding="ascii") as file:
+            children = file.read().split()
+    except (OSError, IndexError):
+        return 0
+    return held + sum(resident(int(child)) for child in children)
+
+
+def wait(process: "subprocess.Popen[bytes]", limits: Limits, watches: bool) -> str:
+    """Waits for the end of a process; gives the limit that it passed, "" where it ended. Where it
+    is watched, so is what is resident."""
+    end = time.monotonic() + limits.seconds
+    while True:
+        left = end - time.monotonic()
+        try:
+            process.wait(min(left, TICK) if watches else left)
+            return ""
+        except subprocess.TimeoutExpired:
+            if left <= TICK or not watches:
+                return "time"
+            if resident(process.pid) > limits.megabytes * MEGABYTE:
+                return "memory"
+
+
+def bounded(limits: Limits, is_checked: bool = False) -> List[str]:
     """The words of a call before those of a program that gets these limits of memory and of
-    files."""
+    files; where it is checked, none of memory."""
     return [
         "prlimit",
-        f"--as={limits.megabytes * MEGABYTE}",
+        *([] if is_checked else [f"--as={limits.megabytes * MEGABYTE}"]),
         f"--fsize={round(limits.output * MEGABYTE) + 1}",
         "--core=0",
         "--",
@@ -65,6 +111,7 @@ def run(
     if not os.access(words[0], os.X_OK):
         raise FileNotFoundError(2, "no program", words[0])
     most = round(limits.output * MEGABYTE)
+    watches = is_checked(words[0])
     wrapped = [
         "setpriv",
         "--pdeathsig",
@@ -74,7 +121,7 @@ def run(
         GUARD,
         "sh",
         str(os.getpid()),
-        *bounded(limits),
+        *bounded(limits, watches),
         *words,
     ]
     with tempfile.TemporaryFile() as out, tempfile.TemporaryFile() as err:
@@ -91,13 +138,11 @@ def run(
         passed = ""
         try:
             started(process)
-            status = process.wait(limits.seconds)
-        except subprocess.TimeoutExpired:
-            passed = "time"
+            passed = wait(process, limits, watches)
         finally:
             if process.returncode is None:
                 os.killpg(process.pid, signal.SIGKILL)
-                status = process.wait()
+            status = process.wait()
         seconds = time.monotonic() - begun
         texts = []
         for file in (out, err):

@@ -4,19 +4,19 @@ from __future__ import annotations
 from classroom.sql.schema import literal
 from classroom.verdict.compare import COLUMNS, DUPLICATES, FAILURE, ORDER, ROWS
 from classroom.exercise.cells import Cells
+from classroom.verdict.decision import Note, NoteKind
 from classroom.verdict.verdict import (
     ALL,
     EACH,
     JOINS,
-    Barred,
+    Cause,
     Differs,
     NoDifference,
     NotDetermined,
-    Passed,
+    Refusal,
     Remark,
     Side,
     Verdict,
-    WrongSql,
 )
 
 DIFFERS, NO_DIFFERENCE, NOT_DETERMINED = "differs", "no difference found", "not determined"
@@ -146,13 +146,41 @@ def text(of: Verdict, tells_all: bool = True) -> str:
     return "\n".join([*lines, *map(remark, of.remarks)]) + "\n"
 
 
-def refusal(of: WrongSql | Barred | Passed, engine: str) -> str:
+def note(of: Note, tells_rows: bool = True) -> str:
+    """What is remarked on an answer, for the teacher; `tells_rows` as in `remark`."""
+    value = of.value
+    if isinstance(value, Remark):
+        return BEGINS[of.kind] + remark(value, tells_rows)
+    if of.kind == NoteKind.DIFFERENCE:
+        return KINDS[str(value)]
+    return NOTES[of.kind].format(value=value)
+
+
+BEGINS = {
+    NoteKind.SLIGHT_AGREES: "agrees as a set; ",
+    NoteKind.SLIGHT_SAME: "the same as a set; ",
+    NoteKind.OTHERWISE: "agrees ",
+}
+NOTES = {
+    NoteKind.PERHAPS_FEWER: "perhaps on fewer rows",
+    NoteKind.OTHER_COLUMNS: "other columns",
+    NoteKind.TEXT: "{value}",
+    NoteKind.NOT_LOOKED: "agrees as a set; no database looked at {value}, which counts as wrong",
+}
+REFUSALS = {
+    Cause.SYNTAX: "{message}",
+    Cause.NAME: "{message}",
+    Cause.DIALECT: "{dialect} reads it, and {engine} doesn't: {message}",
+    Cause.HELD: "{engine} tried rows without a name that the database has: {message}",
+    Cause.UNSUPPORTED: "{engine} doesn't answer it: {message}",
+    Cause.BARRED: "{engine} doesn't try it: {message}",
+    Cause.LIMIT: "{engine}: passes the limit of {message}",
+}
+
+
+def refusal(of: Refusal, engine: str) -> str:
     """Why a query has no verdict of an engine."""
-    if isinstance(of, WrongSql):
-        return of.message
-    if isinstance(of, Barred):
-        return f"{engine} doesn't try it: {of.message}"
-    return f"{engine}: passes the limit of {of.limit}"
+    return REFUSALS[of.cause].format(engine=engine, message=of.message, dialect=of.dialect)
 
 
 def side(name: str, of: Side, shows: bool = True) -> list[str]:

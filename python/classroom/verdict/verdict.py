@@ -2,7 +2,8 @@
 from __future__ import annotations
 
 from collections.abc import Sequence
-from dataclasses import dataclass, field
+from dataclasses import dataclass, field, replace
+from enum import StrEnum
 from typing import Any, NamedTuple, Union
 
 from classroom.exercise.cells import Cells, cells, encoded
@@ -77,32 +78,40 @@ class NotDetermined:
     answer: bool
 
 
+class Cause(StrEnum):
+    """Why an engine refuses a query."""
+
+    SYNTAX = "syntax"  # no dialect that is known reads it
+    NAME = "name"  # of a table, a column or a function that is nowhere
+    DIALECT = "dialect"  # another dialect reads it, or has the function
+    HELD = "held"  # a name that the database has, and the rows that are tried have not
+    UNSUPPORTED = "unsupported"
+    BARRED = "barred"  # it does something else than to read the rows
+    LIMIT = "limit"  # time, memory, output, rows or size of a value
+
+
 @dataclass(frozen=True)
-class WrongSql:
-    """The engine refuses a query over the schema."""
+class Refusal:
+    """Why an engine doesn't answer a query, over any rows."""
 
     is_reference: bool
-    message: str
+    cause: Cause
+    message: str  # of Cause.LIMIT the limit's name
     place: int | None = None  # the character of the text, from 0
+    dialect: str = ""  # that reads it, by its name, where the cause is Cause.DIALECT
+
+    @property
+    def is_wrong(self) -> bool:
+        """Whether the query is wrong SQL."""
+        return self.cause in (Cause.SYNTAX, Cause.NAME)
 
 
-@dataclass(frozen=True)
-class Barred:
-    """A query is not run, since it does something else than to read the rows."""
-
-    is_reference: bool
-    message: str
+def is_of_limit(outcome: Outcome) -> bool:
+    """Whether it passed a limit."""
+    return isinstance(outcome, Refusal) and outcome.cause == Cause.LIMIT
 
 
-@dataclass(frozen=True)
-class Passed:
-    """A limit that a query passed."""
-
-    is_reference: bool
-    limit: str  # time, memory, rows or size of a value
-
-
-Outcome = Union[Differs, NoDifference, NotDetermined, WrongSql, Barred, Passed]
+Outcome = Union[Differs, NoDifference, NotDetermined, Refusal]
 
 
 @dataclass(frozen=True)
@@ -162,14 +171,10 @@ def from_json(text: dict[str, Any]) -> Verdict:
             ),
         )
     else:
-        plain = {
-            "NoDifference": NoDifference,
-            "NotDetermined": NotDetermined,
-            "WrongSql": WrongSql,
-            "Barred": Barred,
-            "Passed": Passed,
-        }
+        plain = {"NoDifference": NoDifference, "NotDetermined": NotDetermined, "Refusal": Refusal}
         outcome = plain[kind](**of)
+        if isinstance(outcome, Refusal):
+            outcome = replace(outcome, cause=Cause(outcome.cause))
     return Verdict(
         str(text["engine"]),
         outcome,

@@ -7,19 +7,13 @@ from dataclasses import dataclass
 from classroom.views import draw
 from classroom.verdict import witness
 from classroom.views.draw import Drawing, counted
-from classroom.grading.grades import slight
+from classroom.grading.decide import slight
 from classroom.sql.schema import Table
 from classroom.exercise.settings import Settings
 from classroom.views import draw_tried as drawing
 from classroom.verdict import sentences as words
-from classroom.verdict.verdict import (
-    Differs,
-    NoDifference,
-    NotDetermined,
-    Passed,
-    Verdict,
-    WrongSql,
-)
+from classroom.verdict.decision import NoteKind
+from classroom.verdict.verdict import Cause, Differs, NoDifference, NotDetermined, Verdict
 from ratest.places import Place, place_of
 from classroom.verdict.witness import Outcome
 
@@ -84,7 +78,11 @@ def answer_of(
         # The numbers are those of both queries together, so they would say what the reference
         # costs.
         return Answer("passes-a-limit", "passes a limit", LIMIT)
-    told = PASSED.get(outcome.passed, "The program failed on it.")
+    told = (
+        PASSED[outcome.passed]
+        if isinstance(outcome, witness.NoVerdict)
+        else "The program failed on it."
+    )
     return Answer("no-verdict", "no verdict", told.format(seconds=seconds))
 
 
@@ -105,11 +103,10 @@ def tried(
             ),
             drawing=drawing.drawing(of),
         )
+    kind = NoteKind.SLIGHT_AGREES if agrees else NoteKind.SLIGHT_SAME
     remarks = [
         f"{remark[:1].upper()}{remark[1:]}."
-        for remark in slight(
-            trial, said, "agrees as a set" if agrees else "the same as a set", hides is None
-        )
+        for remark in (words.note(note, hides is None) for note in slight(trial, said, kind))
     ]
     if agrees:
         told = (
@@ -127,19 +124,22 @@ def tried(
         return Answer(
             "not-determined tried", "not determined (tried)", f"{words.not_determined(of)} {engine}"
         )
-    if isinstance(of, WrongSql):
+    if of.is_wrong:
         place = place_of(text, byte_of(text, of.place)) if of.place is not None else None
         where = f" (line {place.line}, column {place.column})" if place else ""
         return Answer(
             "wrong-sql", f"wrong SQL: {of.message}{where}", "The database refuses it.", place=place
         )
-    if isinstance(of, Passed):
+    if of.cause == Cause.LIMIT:
         return Answer(
-            "no-verdict", "no verdict", f"{trial.engine} passes its limit of {of.limit} with it."
+            "no-verdict", "no verdict", f"{trial.engine} passes its limit of {of.message} with it."
         )
-    return Answer(
-        "refused", f"refused: {of.message}", "A query reads the tables, and does nothing else."
+    why = (
+        "A query reads the tables, and does nothing else."
+        if of.cause == Cause.BARRED
+        else f"{words.refusal(of, trial.engine)}."
     )
+    return Answer("refused", f"refused: {of.message}", why)
 
 
 def byte_of(text: str, place: int) -> int:

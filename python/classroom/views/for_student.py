@@ -9,14 +9,17 @@ from collections.abc import Mapping, Sequence
 from dataclasses import dataclass
 
 from classroom.views import for_teacher as classpage
-from classroom.grading import grades
 from classroom.marks import gradebook as standing
 from classroom.views.draw import Drawing, counted
 from classroom.base.errors import shown
 from classroom.exercise.exercise import Exercise, Task
-from classroom.grading.grades import Grade, Graded
+from classroom.grading.graded import Graded
+from classroom.grading.grades_files import number
+from classroom.verdict.decision import Grade, NoteKind
 from classroom.hints import steps_shown as steps
 from classroom.hints.mistake import Mistake
+from classroom.verdict import sentences as trial_words
+from classroom.verdict.verdict import Remark
 from classroom.marks.gradebook import Standing
 from ratest.places import Place
 
@@ -38,13 +41,17 @@ TOLD = {
         "On these of the exercise’s rows your query and the reference answer differently. On fewer"
         " of them they don’t."
     ),
-    Grade.WRONG_SQL: "A database refuses it, too.",
+    Grade.WRONG_SQL: "The database refuses it.",
     Grade.NOT_READ: "It is graded by hand.",
     Grade.NO_VERDICT: "No verdict was found within the limits, so it is graded by hand.",
     Grade.NOT_GRADED: "The answers to this task are graded by hand.",
 }
 FEWER = (
     "On these of the exercise’s rows your query and the reference answer differently. Fewer may do."
+)
+NOT_LOOKED = (
+    "Your query and the reference return the same rows. How often each comes, or in which order,"
+    " counts too, and is looked at by hand."
 )
 COLUMNS = "The two queries have other numbers of columns."
 
@@ -101,7 +108,7 @@ def sheet(
 
 def points_of(given: Exercise, of: Standing) -> str:
     """As `3 of 5 points, 1 answer still to be graded by hand`."""
-    said = f"{grades.number(of.points)} of {grades.number(standing.most_points(given))} points"
+    said = f"{number(of.points)} of {number(standing.most_points(given))} points"
     return f"{said}, {counted(of.open, 'answer')} still to be graded by hand" if of.open else said
 
 
@@ -114,7 +121,7 @@ def part(
     unplaced: Sequence[str] = (),
 ) -> Part:
     reference = classpage.text_of(task.reference) if shows_references else None
-    most = grades.number(task.settings.points)
+    most = number(task.settings.points)
     if of is None:
         return Part(
             task.title,
@@ -127,7 +134,7 @@ def part(
             None,
             reference,
         )
-    points = standing.BY_HAND if of.points is None else f"{grades.number(of.points)} of {most}"
+    points = standing.BY_HAND if of.points is None else f"{number(of.points)} of {most}"
     return Part(
         task.title,
         classpage.css(of),
@@ -153,15 +160,20 @@ def hints(given: Exercise, of: Graded, mistakes: Mapping[str, Mistake]) -> tuple
 def told(of: Graded) -> str:
     """What the verdict means, in words to the student."""
     slight = "".join(
-        f" It {remark.split('; ', 1)[1]}." for remark in of.remarks if "as a set; " in remark
+        f" It {trial_words.remark(note.value)}."
+        for note in of.decision.notes
+        if note.is_slight and isinstance(note.value, Remark)
     )
     if of.trial and of.is_tried:
         return f"{classpage.told_of_trial(of.trial)}{slight}"
     if of.grade == Grade.AGREES and slight:
         return f"{TOLD[Grade.AGREES]}{slight}"
-    if grades.OTHER_COLUMNS in of.remarks:
+    kinds = {note.kind for note in of.decision.notes}
+    if NoteKind.OTHER_COLUMNS in kinds:
         return COLUMNS
-    return FEWER if grades.PERHAPS_FEWER in of.remarks else TOLD[of.grade]
+    if NoteKind.NOT_LOOKED in kinds:
+        return NOT_LOOKED
+    return FEWER if NoteKind.PERHAPS_FEWER in kinds else TOLD[of.grade]
 
 
 def sheets(given: Exercise, found: Sequence[Standing], shows_references: bool) -> list[Sheet]:

@@ -5,11 +5,12 @@ from collections.abc import Mapping, Sequence
 from dataclasses import dataclass
 
 from classroom.views import draw
-from classroom.grading import grades
 from classroom.verdict import witness
 from classroom.views.draw import Drawing, counted
 from classroom.exercise.exercise import Exercise
-from classroom.grading.grades import Grade, Graded
+from classroom.grading import grades_files
+from classroom.grading.graded import Graded
+from classroom.verdict.decision import Grade, NoteKind
 from classroom.hints.mistake import Mistake
 from classroom.marks.matrix import Mark, Matrix, matrix, shown_points
 from classroom.sql.schema import Table
@@ -124,7 +125,9 @@ def page(
         )
         marks |= {id(of): mark(of, anchors[id(of)]) for of in own}
     whole = matrix(given, standings(given, graded, listed), marks) if showing.names else None
-    return Page(given.title, grades.summary(graded), tuple(map(str, present)), tuple(parts), whole)
+    return Page(
+        given.title, grades_files.summary(graded), tuple(map(str, present)), tuple(parts), whole
+    )
 
 
 def mark(of: Graded, group: Group) -> Mark:
@@ -210,9 +213,9 @@ def remarks(members: Sequence[Graded], showing: Showing) -> tuple[str, ...]:
     """What differs in duplicates or order alone, with the answers of which it is so."""
     found: dict[str, list[str]] = {}
     for of in members:
-        for remark in of.remarks:
-            if "as a set; " in remark:
-                found.setdefault(remark, []).append(of.answer.label)
+        for note in of.decision.notes:
+            if note.is_slight or note.kind == NoteKind.NOT_LOOKED:
+                found.setdefault(trial_words.note(note), []).append(of.answer.label)
     return tuple(
         f"{', '.join(names) if showing.names else counted(len(names), 'answer')}: {remark}."
         for remark, names in found.items()
@@ -233,12 +236,7 @@ def drawing_of(of: Graded, tables: Sequence[Table]) -> Drawing | None:
 
 def is_unreadable(of: Graded) -> bool:
     """Whether its fault is what was printed, which is no answer of the program."""
-    return (
-        of.grade == Grade.NO_VERDICT
-        and of.ran is not None
-        and isinstance(of.outcome, witness.NoVerdict)
-        and not of.outcome.passed
-    )
+    return of.decision.has_died
 
 
 def words(of: Graded, tells_all: bool = True) -> str:
@@ -258,9 +256,12 @@ def words(of: Graded, tells_all: bool = True) -> str:
         )
     if of.grade == Grade.DIFFERS:
         found = "differs" if of.rows is None else f"differs on {counted(of.rows, 'row')}"
-        if grades.OTHER_COLUMNS in of.remarks:
-            return f"{found}: {grades.OTHER_COLUMNS}"
-        return f"{found}, {grades.PERHAPS_FEWER}" if grades.PERHAPS_FEWER in of.remarks else found
+        for note in of.decision.notes:
+            if note.kind == NoteKind.OTHER_COLUMNS:
+                return f"{found}: {trial_words.note(note)}"
+            if note.kind == NoteKind.PERHAPS_FEWER:
+                return f"{found}, {trial_words.note(note)}"
+        return found
     fault = of.whole_fault if tells_all else of.fault
     if (
         not fault
@@ -280,7 +281,7 @@ def told(of: Graded) -> str:
             "The reference and these answers answer alike on every part of the exercise’s rows that"
             " meets the schema."
         ),
-        Grade.WRONG_SQL: "The database refuses it, too.",
+        Grade.WRONG_SQL: "The database refuses it.",
         Grade.NOT_READ: "No verdict and no score: it is to be graded by hand.",
         Grade.NO_VERDICT: "There is no verdict and no score: it is to be graded by hand.",
         Grade.NOT_GRADED: "The reference of this task can’t be compared with.",

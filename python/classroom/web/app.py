@@ -16,7 +16,7 @@ from werkzeug.exceptions import Forbidden, HTTPException, NotFound, Unauthorized
 from classroom.views import draw
 from classroom.exercise.exercise import Answer as SubmittedAnswer
 from classroom.exercise.exercise import Task
-from classroom.grading.grades import graded, with_trial
+from classroom.grading.graded import grade
 from classroom.hints.target import looked
 from classroom.web import codemirror as editor
 from classroom.web.about import About
@@ -304,7 +304,7 @@ class Pages:
 
     def keep(self, served: Served, task: Offered, text: str, answered: Answered) -> None:
         query = text.encode("utf-8", "replace")
-        told = graded(
+        told = grade(
             Task(
                 task.name,
                 Path(),
@@ -313,10 +313,10 @@ class Pages:
             ),
             SubmittedAnswer("", Submitted(query, query)),
             served.material.tables,
+            served.material.settings,
             answered.ran,
+            trial=answered.trial,
         )
-        if answered.trial:
-            told = with_trial(told, answered.trial, served.material.settings)
         served.log.keep(
             Question(
                 answered.key,

@@ -18,9 +18,10 @@ from classroom.web.served_exercise import Material, Offered
 from classroom.web.cache import Recent
 from classroom.web.queue import Places
 from classroom.engines.run_child import Failed, Trier
-from classroom.verdict.verdict import Barred, Differs, Passed, Verdict, WrongSql, to_json
-from classroom.grading.trials import Trial, is_open, text_of
-from classroom.verdict.witness import NoVerdict, Outcome, Refused, Undecided
+from classroom.verdict.verdict import Differs, Refusal, Verdict, is_of_limit, to_json
+from classroom.grading.decide import is_open
+from classroom.grading.trials import Trial, text_of
+from classroom.verdict.witness import Died, Outcome, Refused, Undecided
 from ratest import printed
 
 if TYPE_CHECKING:
@@ -113,7 +114,7 @@ class Asker:
         else:
             ran, is_final = self._run(task, text.encode("utf-8", "replace"))
         told = Decided(ran, self._tried(task, text, witness.read(ran, self.material.tables)))
-        if is_final or told.trial and not isinstance(told.trial.outcome, Passed):
+        if is_final or told.trial and not is_of_limit(told.trial.outcome):
             # What a busy machine had no time for may be answered the next time.
             size = (
                 len(ran.stdout)
@@ -140,7 +141,7 @@ class Asker:
             log.error("task %a is not tried: %s", task.name, fault)
             return None
         # What is told of a refused reference may name what stands in it.
-        if isinstance(found.outcome, (WrongSql, Barred, Passed)) and found.outcome.is_reference:
+        if isinstance(found.outcome, Refusal) and found.outcome.is_reference:
             log.error(
                 "task %a is not tried: %s does not answer its reference", task.name, found.engine
             )
@@ -163,8 +164,10 @@ class Asker:
         outcome = witness.read(ran, self.material.tables)
         if isinstance(outcome, Refused) and outcome.part not in ("query 2", "queries"):
             # It may name what stands in the reference.
-            ran, outcome = Ran(printed.FILE_FAULT, b"", b"", ran.seconds, ""), NoVerdict("")
-        if isinstance(outcome, NoVerdict) and not outcome.passed:
+            ran, outcome = Ran(printed.FILE_FAULT, b"", b"", ran.seconds, ""), Died(
+                printed.FILE_FAULT, ""
+            )
+        if isinstance(outcome, Died):
             log.error("task %a: no verdict: status %d", task.name, ran.status)
             return ran, False
         return ran, has_time

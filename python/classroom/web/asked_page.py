@@ -11,7 +11,8 @@ from classroom.views import draw
 from classroom.views.for_teacher import Showing
 from classroom.views.draw import Drawing, counted
 from classroom.exercise.exercise import Answer, Exercise, Task, digest
-from classroom.grading.grades import Grade, Graded, graded, with_trial
+from classroom.grading.graded import Graded, grade
+from classroom.verdict.decision import Grade
 from classroom.sql.schema import Table
 from classroom.web import questions as asked
 from classroom.web.questions import Text
@@ -96,9 +97,8 @@ def mistakes(
     groups: dict[object, list[tuple[Text, Graded]]] = {}
     for text in texts:
         query = text.text.encode("utf-8", "replace")
-        one = graded(task, Answer("", Submitted(query, query)), given.tables, text.ran)
-        if text.trial:
-            one = with_trial(one, text.trial, given.settings)
+        answer = Answer("", Submitted(query, query))
+        one = grade(task, answer, given.tables, given.settings, text.ran, trial=text.trial)
         same = (
             one.grade,
             (

@@ -19,7 +19,7 @@ from classroom.exercise.exercise import Answer, Task
 from classroom.sql.clean import Text
 from classroom.engines import run_child as asking
 from classroom.engines.run_child import Options
-from classroom.verdict.verdict import NotDetermined, Passed, Verdict
+from classroom.verdict.verdict import Cause, NotDetermined, Refusal, Verdict
 
 # In place of the process: it does what the answer says.
 CHILD = f"""
@@ -117,8 +117,8 @@ def test_one_that_ends_takes_no_other_with_it(child: None, what: str, told: str)
 
 def test_what_is_too_much_is_a_limit(child: None) -> None:
     with asking.trier(shop.material(), Options(seconds=60.0)) as made:
-        assert made.ask("-", "much -").outcome == Passed(False, "output")
-        assert made.ask("-", "memory -").outcome == Passed(False, "memory")
+        assert made.ask("-", "much -").outcome == Refusal(False, Cause.LIMIT, "output")
+        assert made.ask("-", "memory -").outcome == Refusal(False, Cause.LIMIT, "memory")
 
 
 def test_a_child_ends_where_the_time_is_over(
@@ -126,7 +126,9 @@ def test_a_child_ends_where_the_time_is_over(
 ) -> None:
     monkeypatch.setattr(asking, "MORE_SECONDS", 1.0)
     with asking.trier(shop.material(), Options(seconds=0.1)) as made:
-        assert made.ask("-", f"wait {tmp_path / 'pid'}").outcome == Passed(False, "time")
+        assert made.ask("-", f"wait {tmp_path / 'pid'}").outcome == Refusal(
+            False, Cause.LIMIT, "time"
+        )
         assert is_gone(int((tmp_path / "pid").read_text()))
         assert made.ask("-", "quick -").outcome == NotDetermined(True, True)
 

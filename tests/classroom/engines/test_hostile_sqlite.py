@@ -17,7 +17,7 @@ from classroom.engines.run_child import Options, trier
 from classroom.engines.engine import Bars, Refused, Stopped, TooMuch
 from classroom.exercise.part_masks import Parts
 from classroom.engines.sqlite import Sqlite, Stored
-from classroom.verdict.verdict import Barred, Passed
+from classroom.verdict.verdict import Cause, Refusal
 
 ITEMS = ", ".join(f"item i{at}" for at in range(12))
 LONG = "hex(zeroblob(32000))"
@@ -153,13 +153,13 @@ def test_one_step_that_doesn_t_end_is_ended_with_its_process() -> None:
     with trier(of, Options(seconds=0.5)) as made:
         begun = time.monotonic()
         found = made.ask("SELECT ord FROM item", HOSTILE["twelve tables"][0])
-    assert found.outcome == Passed(False, "time")
+    assert found.outcome == Refusal(False, Cause.LIMIT, "time")
     assert time.monotonic() - begun < 30
 
 
 def test_the_reference_has_the_same_limits() -> None:
     found = shop.tried("SELECT printf('%d', 1)", "SELECT '1'").outcome
-    assert isinstance(found, Barred) and found.is_reference
+    assert isinstance(found, Refusal) and found.cause == Cause.BARRED and found.is_reference
 
 
 def test_ordinary_functions_are_not_barred() -> None:

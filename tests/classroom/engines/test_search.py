@@ -26,7 +26,6 @@ from classroom.verdict.verdict import (
     NoDifference,
     NotDetermined,
     Verdict,
-    WrongSql,
 )
 
 # Pairs as students write them: the reference, the answer, and the kind of their difference.
@@ -273,11 +272,12 @@ def test_not_determined(reference: str, answer: str, which: tuple[bool, bool] | 
 def test_wrong_sql(text: str, message: str | None, place: int | None) -> None:
     made = shop.tried("SELECT name FROM customer", text).outcome
     if message is None:
-        assert isinstance(made, verdict.Barred)
+        assert isinstance(made, verdict.Refusal) and made.cause == verdict.Cause.BARRED
     else:
-        assert made == WrongSql(False, message, place)
-        assert shop.tried(text, "SELECT name FROM customer").outcome == WrongSql(
-            True, message, place
+        cause = verdict.Cause.NAME if message.startswith("no such") else verdict.Cause.SYNTAX
+        assert made == verdict.Refusal(False, cause, message, place)
+        assert shop.tried(text, "SELECT name FROM customer").outcome == verdict.Refusal(
+            True, cause, message, place
         )
 
 
@@ -330,7 +330,7 @@ def test_the_process_answers_the_same() -> None:
             told = made.ask(reference, answer)
             assert told == shop.tried(reference, answer, of=of)
             assert told.engine == f"sqlite {sqlite3.sqlite_version}"
-        assert isinstance(made.ask("SELECT 1", "SELECT nosuch").outcome, WrongSql)
+        assert isinstance(made.ask("SELECT 1", "SELECT nosuch").outcome, verdict.Refusal)
 
 
 def test_options_reach_the_process() -> None:
@@ -355,9 +355,9 @@ def test_every_verdict_is_read_back() -> None:
         blob,
         NoDifference(0, 1, 2, True),
         NotDetermined(True, False),
-        WrongSql(False, "m", 3),
-        verdict.Barred(True, "m"),
-        verdict.Passed(False, "time"),
+        verdict.Refusal(False, verdict.Cause.DIALECT, "m", 3, "PostgreSQL"),
+        verdict.Refusal(True, verdict.Cause.BARRED, "m"),
+        verdict.Refusal(False, verdict.Cause.LIMIT, "time"),
     ]
     for outcome in outcomes:
         made = Verdict(

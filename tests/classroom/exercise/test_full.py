@@ -16,7 +16,7 @@ from classroom.exercise import material as full
 from classroom.engines.child import tried
 from classroom.verdict.compare import ROWS
 from classroom.exercise.typed_rows import from_json, to_json
-from classroom.verdict.verdict import Differs, NoDifference, WrongSql
+from classroom.verdict.verdict import Cause, Differs, NoDifference, Refusal
 
 SQLITE = """CREATE TABLE Author (id INTEGER PRIMARY KEY AUTOINCREMENT, "Full Name" TEXT NOT NULL COLLATE NOCASE UNIQUE, born DATE,
   CHECK (length("Full Name") > 1));
@@ -114,7 +114,8 @@ def test_queries_over_the_real_types_of_sqlite(imported: Path) -> None:
     assert isinstance(
         ask("SELECT image FROM photo", "SELECT image FROM photo WHERE taken > 2"), Differs
     )
-    assert isinstance(ask("SELECT price FROM cheap", "SELECT nosuch FROM cheap"), WrongSql)
+    made = ask("SELECT price FROM cheap", "SELECT nosuch FROM cheap")
+    assert isinstance(made, Refusal) and made.cause == Cause.NAME
 
 
 def test_comments_of_the_teacher_stand_in_no_witness(tmp_path: Path) -> None:
@@ -239,7 +240,7 @@ def test_postgresql_is_kept_as_it_is(script: Path, roles: Roles) -> None:
         NoDifference,
     )
     wrong = ask("SELECT id FROM author", "SELECT id, FROM author")
-    assert isinstance(wrong, WrongSql) and wrong.place == len("SELECT id, ")
+    assert isinstance(wrong, Refusal) and wrong.place == len("SELECT id, ")
 
 
 def test_all_pairs_in_both_engines_alike(roles: Roles) -> None:

@@ -8,9 +8,9 @@ from dataclasses import replace
 from pathlib import Path
 
 from classroom.views import for_teacher as classpage
-from classroom.verdict import witness
 from classroom.exercise.exercise import Answer, Task
-from classroom.grading.grades import FORMULA, Grade, Graded
+from classroom.verdict.decision import Decision, Grade
+from classroom.grading.graded import Graded
 from classroom.mutants import mutants_csv as told
 from classroom.mutants import mutant_trials as trying
 from classroom.mutants.proofs import NOT_FOUND, OPEN, REFUSED, TOLD, Verdict
@@ -19,7 +19,7 @@ from classroom.hints import mistakes_csv as table
 from classroom.hints.mistake import Mistake
 from classroom.hints.mistake import Told as Change
 from classroom.verdict.compare import ROWS
-from classroom.verdict.verdict import ALL, Barred, Differs, NoDifference, Outcome, Passed, Side
+from classroom.verdict.verdict import ALL, Cause, Differs, NoDifference, Outcome, Refusal, Side
 from classroom.verdict.verdict import Verdict as Tried
 
 
@@ -55,8 +55,8 @@ def test_what_a_database_tried_of_mutants_is_not_called_proved() -> None:
     outcomes: tuple[Outcome, ...] = (
         Differs(ROWS, (), Side(1, ()), Side(1, ()), (), ALL, 1),
         NoDifference(1, 0, 0, False),
-        Passed(False, "time"),
-        Barred(False, "x"),
+        Refusal(False, Cause.LIMIT, "time"),
+        Refusal(False, Cause.BARRED, "x"),
     )
     made = [
         told.Judged(
@@ -76,7 +76,7 @@ def test_mistakes() -> None:
     found = cells(
         table.csv_of([table.Line("=1", "-x", "@p", "+k", "proved", ("=a b", "c d"), "=r")])
     )
-    assert not [cell for cell in found[1] if cell.startswith(FORMULA)]
+    assert not [cell for cell in found[1] if cell.startswith(("=", "+", "-", "@"))]
     assert found[1][6] == "'=a b; c d"  # names may have blanks
 
 
@@ -84,7 +84,7 @@ def test_nothing_is_proved_where_no_change_was_found() -> None:
     change = Change("< for <=", "comparison", "the WHERE", "SELECT 1", "<", 7, 8)
     answers = {"ann": Mistake(), "ben": Mistake(repairs=(change,))}
     graded = [
-        Graded(Task("1", Path("1")), Answer(name), Grade.DIFFERS, witness.NoVerdict(""), key=name)
+        Graded(Task("1", Path("1")), Answer(name), Decision(Grade.DIFFERS, "proved"), key=name)
         for name in answers
     ]
     assert {one.names[0]: one.decided_by for one in table.lines(graded, answers)} == {
@@ -101,7 +101,7 @@ def test_one_mistake_that_is_proved_and_tried_is_two_lines() -> None:
         "zoe": Mistake(repairs=(change,)),
     }
     graded = [
-        Graded(Task("1", Path("1")), Answer(name), Grade.DIFFERS, witness.NoVerdict(""), key=name)
+        Graded(Task("1", Path("1")), Answer(name), Decision(Grade.DIFFERS, "proved"), key=name)
         for name in answers
     ]
     assert [(one.names, one.decided_by) for one in table.lines(graded, answers)] == [
@@ -109,7 +109,9 @@ def test_one_mistake_that_is_proved_and_tried_is_two_lines() -> None:
         (("ben",), "sqlite 3"),
     ]
     tried = Tried("sqlite 3", Differs(ROWS, (), Side(1, ()), Side(1, ()), (), ALL, 1))
-    graded[1] = replace(graded[1], trial=tried)
+    graded[1] = replace(
+        graded[1], trial=tried, decision=Decision(Grade.DIFFERS, "sqlite 3", is_tried=True)
+    )
     assert [
         [of.answer.name for of in members] for members in classpage.grouped(graded, answers)
     ] == [["ann", "zoe"], ["ben"]]

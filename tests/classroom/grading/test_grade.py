@@ -492,8 +492,9 @@ def test_wrong_sql_is_told_where_the_reference_can_not_be_tried(beers: Path) -> 
         )
         for name in ("wrong", "count")
     ] == [("wrong SQL", "0", ENGINE), ("not read", "", "")]
-    assert (
-        found["6/count"]["fault"] == 'not supported: count; reference.sql: near "(": syntax error'
+    assert found["6/count"]["fault"] == (
+        f"not supported: count; reference.sql: PostgreSQL reads it, and {ENGINE} doesn't: near"
+        ' "(": syntax error'
     )
     assert classroom("feedback", beers).returncode == 0
     told = {path.name: path.read_text() for path in (beers / "results/feedback").glob("*.md")}

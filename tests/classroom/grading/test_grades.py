@@ -25,13 +25,15 @@ def rows(exercise: Path) -> dict[tuple[str, str], dict[str, str]]:
     return {(line["task"], line["answer"]): line for line in found}
 
 
-def grade(exercise: Path, task: str, **answers: str | bytes) -> dict[str, tuple[str, str, str]]:
-    """Grade, points and fault of these answers to a task."""
+def grade(
+    exercise: Path, task: str, *, tries: bool = False, **answers: str | bytes
+) -> dict[str, tuple[str, str, str]]:
+    """Grade, points and fault of these answers to a task; by proofs alone or with SQLite."""
     for name, text in answers.items():
         (exercise / task / f"answers/{name}.sql").write_bytes(
             text if isinstance(text, bytes) else text.encode()
         )
-    classroom("grade", "--only-proved", exercise)
+    classroom("grade", *([] if tries else ["--only-proved"]), exercise)
     return {
         name: (line["grade"], line["points"], line["fault"])
         for (of, name), line in rows(exercise).items()
@@ -140,26 +142,18 @@ def test_a_refused_answer_is_not_a_wrong_one(ratest: Path, empty: Path) -> None:
     assert found == {
         "right": ("agrees", "1", ""),
         "wrong": ("differs", "0", ""),
-        "unknown": ("wrong SQL", "0", "unknown column: nmae"),
-        "syntax": ("wrong SQL", "0", "syntax fault near byte 16"),
-        "quoted": ("wrong SQL", "0", "unknown column: Dixie"),
+        "unknown": ("not read", "", "unknown column: nmae"),
+        "syntax": ("not read", "", "syntax fault near byte 16"),
+        "quoted": ("not read", "", "unknown column: Dixie"),
         "columns": ("differs", "0", "other columns"),
         "order": ("not read", "", "not supported: order"),
         "types": ("not read", "", "types do not match"),
         "alias": ("not read", "", "syntax fault near byte 40"),
-        "empty": ("wrong SQL", "0", "syntax fault near byte 0"),
+        "empty": ("not read", "", "syntax fault near byte 0"),
     }
     tests = json.loads((empty / "results/results.json").read_text())["tests"]
-    assert [test["name"] for test in tests] == [
-        "1/columns",
-        "1/empty",
-        "1/quoted",
-        "1/right",
-        "1/syntax",
-        "1/unknown",
-        "1/wrong",
-    ]
-    assert [test["score"] for test in tests] == [0, 0, 0, 1, 0, 0, 0]
+    assert [test["name"] for test in tests] == ["1/columns", "1/right", "1/wrong"]
+    assert [test["score"] for test in tests] == [0, 1, 0]
 
 
 def test_what_spent_its_budget(ratest: Path, empty: Path) -> None:
@@ -206,15 +200,16 @@ def test_names_that_sqlite_takes_for_texts(ratest: Path, empty: Path) -> None:
     found = grade(
         empty,
         "1",
+        tries=True,
         nosuch='SELECT "nosuch" FROM bar',
         alias='SELECT "x" FROM (SELECT name AS "x" FROM bar) b WHERE "x" LIKE \'a\'',
         table='SELECT name FROM "nosuch"',
         cast="SELECT name::text FROM bar",
     )
-    assert found["nosuch"] == ("wrong SQL", "0", "unknown column: nosuch")
-    assert found["alias"] == ("not read", "", "not supported: like")
-    assert found["table"] == ("wrong SQL", "0", "unknown table: nosuch")
-    assert found["cast"] == ("not read", "", "unexpected byte at 11")
+    assert found["nosuch"] == ("wrong SQL", "0", "no such column: nosuch (line 1, column 8)")
+    assert found["alias"][:2] == ("differs", "0")
+    assert found["table"] == ("wrong SQL", "0", "no such table: nosuch (line 1, column 18)")
+    assert found["cast"][:2] == ("not read", "")
 
 
 def test_hostile_text_that_compiles_for_ever(ratest: Path, empty: Path) -> None:
@@ -339,11 +334,11 @@ def test_texts_of_a_class(ratest: Path, empty: Path) -> None:
         "marked": ("agrees", "1", ""),
         "latin": ("differs", "0", "read as Latin-1"),
         "typographic": (
-            "wrong SQL",
-            "0",
+            "not read",
+            "",
             "unexpected byte at 36: a typographic quote at line 2, column 14",
         ),
-        "blank": ("wrong SQL", "0", "unexpected byte at 6: a no-break space at line 1, column 7"),
+        "blank": ("not read", "", "unexpected byte at 6: a no-break space at line 1, column 7"),
         "tab": ("differs", "0", ""),
         "two": ("not read", "", "more than one statement"),
         "large": ("not read", "", "more than 64 KiB"),

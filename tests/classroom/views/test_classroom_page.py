@@ -20,7 +20,7 @@ from products import TOP, classroom
 from classroom.views import draw
 from classroom.exercise import exercise
 from classroom.process.limits import Ran
-from classroom.verdict.witness import Agree, Kept, NoVerdict, Refused, Undecided, Witness, read
+from classroom.verdict.witness import Agree, Died, Kept, Refused, Undecided, Witness, read
 
 VOID = ("meta", "link", "input")
 ATTRIBUTES = (
@@ -413,8 +413,8 @@ def test_printed_texts(odd: Path) -> None:
         return read(Ran(status, out.encode(), err.encode(), 0, ""), tables)
 
     assert of(0, "agree\n") == Agree()
-    assert of(0, "agree\nagree\n") == NoVerdict("agree\nagree\n")
-    assert of(1, "agree\n") == NoVerdict("agree\n")
+    assert of(0, "agree\nagree\n") == Died(0, "agree\nagree\n")
+    assert of(1, "agree\n") == Died(1, "agree\n")
     assert of(4, "undecided: 7 conflicts\n") == Undecided(7, None)
     assert of(4, "undecided: 7 conflicts\nbest so far: 1\nt 9: 'a', NULL, -1\n") == Undecided(
         7, (Kept("t", 9, ("a", None, -1)),)

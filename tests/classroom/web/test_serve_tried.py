@@ -28,7 +28,7 @@ from classroom.web.cache import Recent  # noqa: E402
 from classroom.web.queue import Places  # noqa: E402
 from classroom.exercise.window import Window  # noqa: E402
 from classroom.engines.run_child import Failed, Options  # noqa: E402
-from classroom.verdict.verdict import Passed, Verdict, WrongSql  # noqa: E402
+from classroom.verdict.verdict import Cause, Refusal, Verdict  # noqa: E402
 from classroom.grading.trials import Trial  # noqa: E402
 
 ENGINE = f"sqlite {sqlite3.sqlite_version}"
@@ -226,9 +226,7 @@ def test_a_task_whose_reference_nothing_answers_is_not_offered(
         assert server.ask("8", "SELECT name FROM bar").status == 404
 
 
-def test_a_task_that_nothing_can_try_is_named(
-    ratest: Path, exercise: Path, tmp_path: Path
-) -> None:
+def test_a_task_that_nothing_can_try_is_named(ratest: Path, exercise: Path, tmp_path: Path) -> None:
     folder = tmp_path / "beers"
     shutil.copytree(exercise, folder)
     (folder / "exercise.toml").write_text('hints = 0\nengine = "host=/nowhere dbname=none"\n')
@@ -255,10 +253,13 @@ class Refuses:
     ("ends", "told"),
     [
         (
-            Verdict(ENGINE, WrongSql(True, "no such column: secret")),
+            Verdict(ENGINE, Refusal(True, Cause.NAME, "no such column: secret")),
             f"{ENGINE} does not answer its reference",
         ),
-        (Verdict(ENGINE, Passed(True, "time")), f"{ENGINE} does not answer its reference"),
+        (
+            Verdict(ENGINE, Refusal(True, Cause.LIMIT, "time")),
+            f"{ENGINE} does not answer its reference",
+        ),
         (
             Failed("its process ended with status 1", "KeyError: 'secret'"),
             "its process ended with status 1",

@@ -8,10 +8,12 @@ from pathlib import Path
 import pytest
 
 from classroom.views import for_teacher as classpage
-from classroom.grading import grades
+from classroom.grading import grades_files
 from classroom.verdict import witness
 from classroom.exercise.exercise import Answer, Task
-from classroom.grading.grades import Grade, Graded
+from classroom.grading.graded import Graded
+from classroom.grading.decide import decide
+from classroom.verdict.decision import Grade
 from classroom.views.answer import answer_of
 from classroom.web.ask import shows_rows
 from classroom.exercise.settings import Settings
@@ -19,16 +21,15 @@ from classroom.sql.clean import Text
 from classroom.verdict.compare import DUPLICATES, FAILURE, ORDER, ROWS
 from classroom.verdict.verdict import (
     ALL,
-    Barred,
+    Cause,
     Differs,
     Line,
     NoDifference,
     Outcome,
-    Passed,
+    Refusal,
     Remark,
     Side,
     Verdict,
-    WrongSql,
 )
 
 ENGINE = "sqlite 3.40.1"
@@ -40,15 +41,11 @@ def answer(query: bytes = b"SELECT count(*) FROM t") -> Answer:
     return Answer("ann", Text(query, query))
 
 
-def refused() -> Graded:
-    """An answer that `ratest` doesn't read."""
-    return Graded(
-        Task("1", Path("1"), reference=b"SELECT a FROM t"),
-        answer(),
-        Grade.NOT_READ,
-        REFUSED,
-        REFUSED.fault,
-    )
+def tried(found: Verdict, said: Settings = Settings(), proof: witness.Outcome = REFUSED) -> Graded:
+    """An answer that `ratest` leaves open, with what a database says."""
+    task = Task("1", Path("1"), reference=b"SELECT a FROM t")
+    made = decide(task, answer(), proof, found, said)
+    return Graded(task, answer(), made, proof, trial=found)
 
 
 def differs(difference: str, failure: str = "") -> Differs:
@@ -66,43 +63,49 @@ def differs(difference: str, failure: str = "") -> Differs:
 
 @pytest.mark.parametrize(
     "outcome",
-    [WrongSql(True, f'near "{SECRET}": syntax error'), Barred(True, f"it calls {SECRET}")],
+    [
+        Refusal(True, Cause.SYNTAX, f'near "{SECRET}": syntax error'),
+        Refusal(True, Cause.BARRED, f"it calls {SECRET}"),
+    ],
 )
-@pytest.mark.parametrize("grade", [Grade.NOT_READ, Grade.NO_VERDICT])
+@pytest.mark.parametrize(
+    ("proof", "grade"),
+    [(REFUSED, Grade.NOT_READ), (witness.Limit("rows"), Grade.NO_VERDICT)],
+)
 def test_why_a_database_refuses_the_reference_is_for_the_teacher(
-    outcome: Outcome, grade: Grade
+    outcome: Outcome, proof: witness.Outcome, grade: Grade
 ) -> None:
-    of = grades.with_trial(replace(refused(), grade=grade), Verdict(ENGINE, outcome), Settings())
+    of = tried(Verdict(ENGINE, outcome), proof=proof)
     assert (of.grade, of.points) == (grade, None)
     assert SECRET not in classpage.words(of, False)
     assert all(
         SECRET in text
-        for text in (classpage.words(of), of.why, of.reason, grades.answer_text(of).decode())
+        for text in (classpage.words(of), of.why, of.reason, grades_files.answer_text(of).decode())
     )
 
 
 @pytest.mark.parametrize(
     "outcome",
     [
-        WrongSql(True, "no such table: t"),
-        Barred(True, "it calls printf"),
-        Passed(True, "time"),
-        Passed(False, "time"),
-        Barred(False, "it calls printf"),
+        Refusal(True, Cause.NAME, "no such table: t"),
+        Refusal(True, Cause.BARRED, "it calls printf"),
+        Refusal(True, Cause.LIMIT, "time"),
+        Refusal(False, Cause.LIMIT, "time"),
+        Refusal(False, Cause.BARRED, "it calls printf"),
     ],
 )
 def test_what_no_database_decided_names_none(outcome: Outcome) -> None:
-    of = grades.with_trial(
-        replace(refused(), grade=Grade.NO_VERDICT), Verdict(ENGINE, outcome), Settings()
-    )
+    of = tried(Verdict(ENGINE, outcome), proof=witness.Limit("rows"))
     assert (of.decided_by, of.is_tried) == ("", False)
 
 
 def test_how_the_reference_fails_is_for_the_teacher() -> None:
     found = Verdict(ENGINE, differs(FAILURE, f"invalid input: {SECRET}"))
-    of = grades.with_trial(refused(), found, Settings())
+    of = tried(found)
     assert (
-        of.grade == Grade.DIFFERS and SECRET in of.why and SECRET in grades.answer_text(of).decode()
+        of.grade == Grade.DIFFERS
+        and SECRET in of.why
+        and SECRET in grades_files.answer_text(of).decode()
     )
     shown = answer_of(REFUSED, "SELECT count(*) FROM t", (), 10, None, found)
     assert "The reference fails." in shown.told
@@ -113,7 +116,7 @@ def test_how_the_reference_fails_is_for_the_teacher() -> None:
             shown.told,
             classpage.words(of, False),
             classpage.told(of),
-            grades.results_json([of]).decode(),
+            grades_files.results_json([of]).decode(),
         )
     )
 
@@ -142,9 +145,7 @@ def test_a_row_of_a_remark_counts_as_one_that_is_shown(
 def test_a_text_that_is_right_as_a_set_is_in_no_page_for_students(
     difference: str, is_shown: bool
 ) -> None:
-    of = grades.with_trial(
-        refused(), Verdict(ENGINE, differs(difference)), Settings(duplicates="wrong", order="wrong")
-    )
+    of = tried(Verdict(ENGINE, differs(difference)), Settings(duplicates="wrong", order="wrong"))
     assert of.grade == Grade.DIFFERS
     assert classpage.shows_text(of, classpage.Showing(solutions=False)) == is_shown
     assert classpage.shows_text(of, classpage.Showing())
