@@ -138,9 +138,14 @@ def test_statuses_of_the_reference_are_those_of_the_manual_pages() -> None:
     assert told and statuses(section) == told
 
 
-def crates() -> list[str]:
+def lines_of_crates() -> list[str]:
+    """The lines of crates.txt that name a crate."""
     lines = (TOP / "crates.txt").read_text(encoding="utf-8").splitlines()
-    return [line.partition(":")[0].split()[0] for line in lines if line.strip()]
+    return [line for line in lines if line.strip() and not line.startswith("#")]
+
+
+def crates() -> list[str]:
+    return [line.partition(":")[0].split()[0] for line in lines_of_crates()]
 
 
 @pytest.mark.parametrize("document", ["docs/GUARANTEES.md", "docs/ARCHITECTURE.md"])
@@ -236,6 +241,13 @@ def test_definitions_are_where_the_page_says() -> None:
         and not any(defines(it, name) for it in row.files)
     ]
     assert not lost
+    # Each file of specs/ that a row names is in one of the crates that the row or its section names.
+    assert not [
+        (row.names, name)
+        for row in rows
+        for name in {it.name for it in row.files if "src" not in it.parts}
+        if not any(it.is_file() for it in row.files if it.name == name)
+    ]
 
 
 def clauses_of_public_functions(crate: str) -> list[tuple[dict[str, str], str]]:
@@ -438,11 +450,7 @@ def test_crates_that_the_documents_name_are_there() -> None:
 
 def needed(crate: str) -> set[str]:
     """A crate and those below it."""
-    below = dict(
-        line.split(":")
-        for line in (TOP / "crates.txt").read_text(encoding="utf-8").splitlines()
-        if line.strip()
-    )
+    below = dict(line.split(":") for line in lines_of_crates())
     found: set[str] = set()
     left = [crate]
     while left:

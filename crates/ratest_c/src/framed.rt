@@ -5,7 +5,7 @@ ghost use Rattle.std.specs.Option.{option_map, option_map_or, ForSome};
 ghost use Rattle.ratest_c.specs.Files.{held_in, has_in, counts_in};
 
 use crate::file::{File, find};
-use rt_io::{BeginFail, Failed, Files};
+use rt_io::{BeginFail, Failed, Files, Gave, Note, is_end};
 use rt_value::{Bytes, List, Txt};
 use std::alloc::Global;
 
@@ -23,6 +23,7 @@ pub(crate) struct Framed {
     files: List<File>,
     current: Option<Current>,
     begun: Vec<Txt>,
+    gave: Gave,
     ghost in_range: { ForSome current (λ c. c.at ≤ length c.bytes) },
 }
 
@@ -35,6 +36,7 @@ impl Framed {
             files,
             current: None,
             begun: Vec::new(alloc),
+            gave: Gave::new(),
         }
     }
 }
@@ -68,6 +70,8 @@ impl Files for Framed {
 
     ghost begun = { λ f. f.begun.items };
 
+    ghost gave = { λ f. f.gave.readings };
+
     fn begin(&mut self, name: &str) -> Result<(), BeginFail> {
         self.current = None;
         let Ok(text) = Txt::of(self.alloc, name) else {
@@ -85,6 +89,7 @@ impl Files for Framed {
         let Ok(bytes) = List::from_slice(self.alloc, found.bytes.as_slice()) else {
             return Err(BeginFail::NoMemory);
         };
+        self.gave = self.gave.with(&Note::Begun(name));
         self.current = Some(Current {
             name: text,
             bytes,
@@ -99,6 +104,8 @@ impl Files for Framed {
             Some(current) => {
                 let n = give(&current.bytes.as_slice()[current.at..], buf);
                 current.at += n;
+                let ended = is_end(n, buf.len());
+                self.gave = self.gave.with(&Note::Read(&buf[..n], ended));
                 Ok(n)
             }
         }

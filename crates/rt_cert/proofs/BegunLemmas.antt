@@ -12,9 +12,9 @@ use Rattle.rt_input.specs.Begun.{BeganFor, BeginsFor, input_files, input_reached
 use Rattle.rt_input.specs.Held.{Holding}
 use Rattle.rt_input.specs.Judged.{command_judged, input_judged}
 use Rattle.rt_input.specs.Source.{IsKnown, Text, source_of}
-use Rattle.rt_input.proofs.BegunLemmas.{none_begun, none_for, some_first, some_then, when_reached}
-use Rattle.rt_cert.specs.Begun.{AskedBegins, ChecksFor, check_files, check_reached}
-use Rattle.rt_cert.specs.Words.{Asked, asked_by, check, neither, prove}
+use Rattle.rt_input.proofs.BegunLemmas.{some_first, some_then, when_reached}
+use Rattle.rt_cert.specs.Begun.{AskedBegins, ChecksFor}
+use Rattle.rt_cert.specs.Words.{Asked, asked_by, check, prove}
 use Rattle.rt_cert.proofs.SayLemmas.{check_words, prove_words}
 
 module _ (tells : Bool) (held : Holding) (name : Text) (old mid new : List Text) where
@@ -37,15 +37,6 @@ module _ (tells : Bool) (held : Holding) (name : Text) (old mid new : List Text)
     where
       some_known : (k : Command) → IsKnown tells (source_of k) → ForSome (Some k) (λ k. IsKnown tells (source_of k))
       some_known k t = λ other is. let same : k ≡ other = cc in subst (λ (x : Command). IsKnown tells (source_of x)) same t
-
-none_checked : (tells : Bool) (held : Holding) (name : Text) (o : Option Command) (old new : List Text) → new ≡ old → ChecksFor tells held name o old new
-none_checked tells held name None old new same = same
-none_checked tells held name (Some k) old new same = none_begun (IsKnown tells (source_of k)) (check_files k name) (check_reached k name held) old new same
-
-pub none_asked : (tells : Bool) (held : Holding) (a : Asked) (old new : List Text) → new ≡ old → AskedBegins tells held a old new
-none_asked tells held (prove args) old new same = none_for tells held (command args) old new same
-none_asked tells held (check name args) old new same = none_checked tells held name (command args) old new same
-none_asked tells held neither old new same = same
 
 -- ---- from the arguments after the name of the command
 

@@ -4,14 +4,12 @@ use Rattle.std.specs.Prelude.{Option, IfOk}
 use Rattle.std.specs.List.{AllByRecursion as Each}
 use Rattle.std.proofs.lemmas.List.{append-nil}
 use Rattle.rt_clause.specs.Literal.{Literal}
-use Rattle.rt_clause.specs.Models.{IsModel}
 use Rattle.rt_clause.specs.Refuting.{IsRefuted}
-use Rattle.rt_clause.proofs.Extending.{model-older}
 use Rattle.rt_recorder.specs.Certificate.{IsStep}
 use Rattle.rt_recorder.specs.declared.cert.Step.{Step}
-use Rattle.rt_recorder.specs.Checking.{AreAccepted, HasNoModel, clauses}
+use Rattle.rt_recorder.specs.Checking.{AreAccepted, clauses}
 use Rattle.rt_recorder.specs.Recording.{AreSteps, AreStepsBehind}
-use Rattle.rt_solver.specs.Answers.{IsFound, IsModelled}
+use Rattle.rt_solver.specs.Answers.{IsFound}
 use Rattle.rt_solver.specs.declared.solver.Found.{Found}
 use Rattle.rt_solver.specs.declared.solver.Found.TheVariants as found
 
@@ -65,11 +63,6 @@ steps-refute given new more old_flags flags assume steps begun lines derived are
       refuted = subst (λ (ls : Lines). IsRefuted ls assume) (lines ∙ ap (λ (ls : Lines). given ++ ls) (sym of.clauses_are)) refuted;
       spelled = of.spelled;
     }
-
--- a model that is found is one of the given lines
-pub not-modelled : (given new more : Lines) (assume : Option Literal) (m : ℕ) (bools : List Bool) → HasNoModel given assume → new ≡ given ++ more → IsModelled new assume m bools → ⊥
-not-modelled given new more assume m bools none lines found =
-    none bools (model-older given more bools (subst (λ (ls : Lines). IsModel ls bools) lines found.model)) found.assumed
 
 pub if_ok : {X E : Type 0} (P Q : X → Type 0) (r : Result X E) → ((x : X) → P x → Q x) → IfOk r P → IfOk r Q
 if_ok P Q (Ok x) f p = f x p

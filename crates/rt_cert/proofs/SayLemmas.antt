@@ -2,9 +2,11 @@
 use Rattle.std.proofs.Common.{◌≡◌, ◌∙◌, ◌≤◌, ◌-◌, ℕ, Bool, true, List, [], ◌∷◌, None, Result, Ok, Err, length, take, drop, get_or, refl, sym, ap, subst, inl, inr, arith, IsTrue}
 use Rattle.std.proofs.lemmas.List.{take_all}
 use Rattle.std.proofs.lemmas.Slice.Eq.{bytes_eq-Decides}
-use Rattle.std.specs.Prelude.{Option, IfOk, codes}
+use Rattle.std.specs.Prelude.{Option, Some, IfOk, codes}
 use Rattle.std.specs.Str.{bytes_eq}
 use Rattle.rt_io.specs.Edge.{NoneFell, Rose}
+use Rattle.rt_io.specs.Gave.{Adds, Reading}
+use Rattle.rt_io.proofs.GaveLemmas.{fits_first}
 use Rattle.rt_value.specs.declared.no_memory.NoMemory.{NoMemory}
 use Rattle.rt_io.specs.Command.{command}
 use Rattle.rt_recorder.specs.declared.cert.Cert.{Cert}
@@ -126,38 +128,38 @@ module _ (c : Call) (name : Text) (args : List Text) (is : asked_by c.words ≡ 
 
 -- ---- from the arguments after the name of the command
 
-pub prove_prepared : (words : List Text) (s : Seen) (name word : Text) (b : Bool) (r : Result Told NoMemory) → 1 ≤ length words → name ≡ get_or words 0 name
+pub prove_prepared : (words : List Text) (c : Call) (name word : Text) (b : Bool) (r : Result Told NoMemory) → 1 ≤ length words → name ≡ get_or words 0 name
     → b ≡ true → b ≡ bytes_eq word (codes "prove") → word ≡ name
-    → IfOk r (λ t. SaysProve (record { words = take (length words - 1) (drop 1 words); files = s }) t.outcome t.text) → IfOk r (λ t. Ends (record { words = words; files = s }) t.outcome t.text)
-prove_prepared [] s name word b r long first equal eq same says = absurd (omega (arith, long))
-prove_prepared (x ∷ rest) s name word b r long first equal eq same says =
+    → IfOk r (λ t. SaysProve (with_words c (take (length words - 1) (drop 1 words))) t.outcome t.text) → IfOk r (λ t. Ends (with_words c words) t.outcome t.text)
+prove_prepared [] c name word b r long first equal eq same says = absurd (omega (arith, long))
+prove_prepared (x ∷ rest) c name word b r long first equal eq same says =
     let whole : take (length (x ∷ rest) - 1) rest ≡ rest = take_all (length (x ∷ rest) - 1) rest (omega arith) in
     let named : bytes_eq x (codes "prove") ≡ true = ap (λ (t : Text). bytes_eq t (codes "prove")) (sym (same ∙ first)) ∙ sym eq ∙ equal in
-    let said : IfOk r (λ t. SaysProve (record { words = rest; files = s }) t.outcome t.text) =
-    subst (λ (ws : List Text). IfOk r (λ t. SaysProve (record { words = ws; files = s }) t.outcome t.text)) whole says in
+    let said : IfOk r (λ t. SaysProve (with_words c rest) t.outcome t.text) =
+    subst (λ (ws : List Text). IfOk r (λ t. SaysProve (with_words c ws) t.outcome t.text)) whole says in
     by_case r said (prove_words x rest named)
   where
-    by_case : (r : Result Told NoMemory) → IfOk r (λ t. SaysProve (record { words = rest; files = s }) t.outcome t.text)
-        → asked_by (x ∷ rest) ≡ prove rest → IfOk r (λ t. Ends (record { words = x ∷ rest; files = s }) t.outcome t.text)
-    by_case (Ok t) says is = prove_ends (record { words = x ∷ rest; files = s }) rest is t.outcome t.text says
+    by_case : (r : Result Told NoMemory) → IfOk r (λ t. SaysProve (with_words c rest) t.outcome t.text)
+        → asked_by (x ∷ rest) ≡ prove rest → IfOk r (λ t. Ends (with_words c (x ∷ rest)) t.outcome t.text)
+    by_case (Ok t) says is = prove_ends (with_words c (x ∷ rest)) rest is t.outcome t.text says
     by_case (Err e) says is = tt
 
-pub check_prepared : (words : List Text) (s : Seen) (name cert word : Text) (b : Bool) (r : Result Told NoMemory) → 2 ≤ length words → name ≡ get_or words 0 name → cert ≡ get_or words 1 cert
+pub check_prepared : (words : List Text) (c : Call) (name cert word : Text) (b : Bool) (r : Result Told NoMemory) → 2 ≤ length words → name ≡ get_or words 0 name → cert ≡ get_or words 1 cert
     → b ≡ true → b ≡ bytes_eq word (codes "check") → word ≡ name
-    → IfOk r (λ t. SaysCheck (record { words = take (length words - 2) (drop 2 words); files = s }) cert t.outcome t.text) → IfOk r (λ t. Ends (record { words = words; files = s }) t.outcome t.text)
-check_prepared [] s name cert word b r long first second equal eq same says = absurd (omega (arith, long))
-check_prepared (x ∷ []) s name cert word b r long first second equal eq same says = absurd (omega (arith, long))
-check_prepared (x ∷ y ∷ rest) s name cert word b r long first second equal eq same says =
+    → IfOk r (λ t. SaysCheck (with_words c (take (length words - 2) (drop 2 words))) cert t.outcome t.text) → IfOk r (λ t. Ends (with_words c words) t.outcome t.text)
+check_prepared [] c name cert word b r long first second equal eq same says = absurd (omega (arith, long))
+check_prepared (x ∷ []) c name cert word b r long first second equal eq same says = absurd (omega (arith, long))
+check_prepared (x ∷ y ∷ rest) c name cert word b r long first second equal eq same says =
     let whole : take (length (x ∷ y ∷ rest) - 2) rest ≡ rest = take_all (length (x ∷ y ∷ rest) - 2) rest (omega arith) in
     let named : bytes_eq x (codes "check") ≡ true = ap (λ (t : Text). bytes_eq t (codes "check")) (sym (same ∙ first)) ∙ sym eq ∙ equal in
-    let said : IfOk r (λ t. SaysCheck (record { words = rest; files = s }) y t.outcome t.text) =
-    subst (λ (ws : List Text). IfOk r (λ t. SaysCheck (record { words = ws; files = s }) y t.outcome t.text)) whole
-    (subst (λ (q : Text). IfOk r (λ t. SaysCheck (record { words = take (length (x ∷ y ∷ rest) - 2) rest; files = s }) q t.outcome t.text)) second says) in
+    let said : IfOk r (λ t. SaysCheck (with_words c rest) y t.outcome t.text) =
+    subst (λ (ws : List Text). IfOk r (λ t. SaysCheck (with_words c ws) y t.outcome t.text)) whole
+    (subst (λ (q : Text). IfOk r (λ t. SaysCheck (with_words c (take (length (x ∷ y ∷ rest) - 2) rest)) q t.outcome t.text)) second says) in
     by_case r said (check_words x y rest named)
   where
-    by_case : (r : Result Told NoMemory) → IfOk r (λ t. SaysCheck (record { words = rest; files = s }) y t.outcome t.text)
-        → asked_by (x ∷ y ∷ rest) ≡ check y rest → IfOk r (λ t. Ends (record { words = x ∷ y ∷ rest; files = s }) t.outcome t.text)
-    by_case (Ok t) says is = check_ends (record { words = x ∷ y ∷ rest; files = s }) y rest is t.outcome t.text says
+    by_case : (r : Result Told NoMemory) → IfOk r (λ t. SaysCheck (with_words c rest) y t.outcome t.text)
+        → asked_by (x ∷ y ∷ rest) ≡ check y rest → IfOk r (λ t. Ends (with_words c (x ∷ y ∷ rest)) t.outcome t.text)
+    by_case (Ok t) says is = check_ends (with_words c (x ∷ y ∷ rest)) y rest is t.outcome t.text says
     by_case (Err e) says is = tt
 
 -- ---- over an input that was read
@@ -167,12 +169,20 @@ prove_says c input (Ok t) read says = inl (input, read, says)
 prove_says c input (Err e) read says = tt
 
 -- what was read does not hang on what the call does later
-read-later : (words : List Text) (s : Seen) (after : Text → ℕ) (current : Option Text) (taken : ℕ) (input : Accepted)
-    → IsRead (record { words = words; files = seen s.tells s.held s.before after current taken }) input → IsRead (record { words = words; files = s }) input
-read-later words s after current taken input read = record { sound = read.sound; options = read.options; told = read.told }
+read-later : (words : List Text) (s : Seen) (after : Text → ℕ) (current : Option Text) (taken : ℕ) (old mid new : List Reading) → Adds mid new → (input : Accepted)
+    → IsRead (record { words = words; files = seen s.tells s.held s.before after current taken; readings = Some (record { before = old; after = mid }) }) input
+    → IsRead (record { words = words; files = s; readings = Some (record { before = old; after = new }) }) input
+read-later words s after current taken old mid new more input read = record {
+  sound = read.sound;
+  options = read.options;
+  told = read.told;
+  given = λ held fits. read.given held (fits_first held old mid new more fits);
+}
 
 module _ (words : List Text) (s : Seen) (held : Holding) (mid : Text → ℕ) (same : held ≡ s.held) (grew : NoneFell s.before mid) (current : Option Text) (taken : ℕ)
-    (name : Text) (input : Accepted) (read : IsRead (record { words = words; files = seen s.tells s.held s.before mid current taken }) input) where
-  pub check_says : (r : Result Told NoMemory) → IfOk r (λ t. ChecksIn (later s held mid) name input t.outcome t.text) → IfOk r (λ t. SaysCheck (record { words = words; files = s }) name t.outcome t.text)
-  check_says (Ok t) says = inl (input, read-later words s mid current taken input read, checks-later s held mid same grew name input t.outcome t.text says)
+    (first between last : List Reading) (more : Adds between last) (name : Text) (input : Accepted)
+    (read : IsRead (record { words = words; files = seen s.tells s.held s.before mid current taken; readings = Some (record { before = first; after = between }) }) input) where
+  pub check_says : (r : Result Told NoMemory) → IfOk r (λ t. ChecksIn (later s held mid) name input t.outcome t.text)
+      → IfOk r (λ t. SaysCheck (record { words = words; files = s; readings = Some (record { before = first; after = last }) }) name t.outcome t.text)
+  check_says (Ok t) says = inl (input, read-later words s mid current taken first between last more input read, checks-later s held mid same grew name input t.outcome t.text says)
   check_says (Err e) says = tt

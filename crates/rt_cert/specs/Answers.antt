@@ -29,7 +29,7 @@ use Rattle.rt_cert.specs.Words.{IfCheck, IfProve, IsCheckAnd, IsEitherAnd, IsPro
 
 -- the call of the command of `ratest` with these arguments, over the same files
 abbrev pub with_words : Call → List Text → Call
-with_words c words = record { words = words; files = c.files }
+with_words c words = record { words = words; files = c.files; readings = c.readings }
 
 -- ---- when an outcome comes
 

@@ -3,6 +3,7 @@
 ghost use Rattle.std.specs.Prelude.{◌≡◌, [], ◌∷◌, IfOk};
 ghost use Rattle.rt_io.specs.Command.{command};
 ghost use Rattle.rt_io.specs.Edge.{AddsPrefix, NoneFell, OnlyRises};
+ghost use Rattle.rt_io.specs.Gave.{Adds};
 ghost use Rattle.rt_input.specs.Reading.{call};
 ghost use Rattle.rt_input.specs.Steps.{over};
 ghost use Rattle.rt_cert.specs.Begun.{ChecksFor};
@@ -51,6 +52,7 @@ fn checked<F: Files>(
     files: &mut F,
 ) -> Result<Told, NoMemory>
     ensures says { IfOk result (λ t. ChecksIn (over F.Files files.old files.new) name.now input.now t.outcome t.text) }
+    ensures adds { Adds (F.gave files.old) (F.gave files.new) }
     ensures begun { AddsPrefix (F.begun files.old) (F.begun files.new) (name.now ∷ []) }
     ensures has { F.has files.new ≡ F.has files.old }
     ensures held { F.held files.new ≡ F.held files.old }

@@ -53,9 +53,10 @@ fn judge(
     }
 }
 
-/// Checks a certificate of an input without any search. A step takes at most the time of its hints
-/// times its own length, and of all different lines once: n·√n for n bytes. Its choice of rows is tried, the input is encoded anew, and the steps are checked over
-/// these lines. The answer is the first cause of rejection in the order of `Why`.
+/// Checks a certificate of an input without any search. A step takes at most the time of its
+/// clause, of 64 literals for each hint, and of each long line that it names once. The choice of
+/// rows is tried, the input is encoded anew, and the steps are checked over these lines. The answer
+/// is the first cause of rejection in the order of `Why`.
 pub fn check(alloc: Global, input: &Input, cert: &Cert) -> Result<Judgement, NoMemory>
     ensures judged { IfOk result (IsJudged input.now cert.now) }
     // A claim that is wrong is rejected as that, whatever the steps are.

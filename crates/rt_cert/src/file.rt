@@ -2,6 +2,7 @@
 
 ghost use Rattle.std.specs.Prelude.{◌≡◌, [], ◌∷◌, IsTrue, IfOk, IfErr};
 ghost use Rattle.rt_io.specs.Edge.{AddsPrefix, OnlyRises};
+ghost use Rattle.rt_io.specs.Gave.{Adds};
 ghost use Rattle.rt_recorder.specs.Certificate.{IsCert, cert_text};
 ghost use Rattle.rt_input.specs.Steps.{over};
 ghost use Rattle.rt_cert.specs.CertFile.{FileStops, IsFileOf, IsTextOf, TextStops};
@@ -42,6 +43,7 @@ impl From<NoMemory> for FileFault {
 fn read_text<F: Files>(alloc: Global, name: &Txt, files: &mut F) -> Result<Bytes, FileFault>
     ensures ok { IfOk result (λ text. IsTrue F.tells → IsTextOf (F.held files.old name.now) text) }
     ensures err { IfErr result (FileStops (over F.Files files.old files.new) name.now) }
+    ensures adds { Adds (F.gave files.old) (F.gave files.new) }
     ensures begun { AddsPrefix (F.begun files.old) (F.begun files.new) (name.now ∷ []) }
     ensures has { F.has files.new ≡ F.has files.old }
     ensures held { F.held files.new ≡ F.held files.old }
@@ -71,6 +73,7 @@ fn cert_of(alloc: Global, text: &[u8]) -> Result<Cert, FileFault>
 pub(crate) fn cert_in<F: Files>(alloc: Global, name: &Txt, files: &mut F) -> Result<Cert, FileFault>
     ensures ok { IfOk result (λ cert. IsTrue F.tells → IsFileOf (F.held files.old name.now) cert) }
     ensures err { IfErr result (FileStops (over F.Files files.old files.new) name.now) }
+    ensures adds { Adds (F.gave files.old) (F.gave files.new) }
     ensures begun { AddsPrefix (F.begun files.old) (F.begun files.new) (name.now ∷ []) }
     ensures has { F.has files.new ≡ F.has files.old }
     ensures held { F.held files.new ≡ F.held files.old }

@@ -11,13 +11,13 @@ use Rattle.rt_clause.proofs.Literals.{has-cases}
 use Rattle.rt_clause.proofs.Following.{lit_true-negated}
 use Rattle.rt_clause.proofs.EachLine.{each-none, each-cons, each-head, each-append, each-back, closed-front}
 use Rattle.rt_clause.proofs.GateLaws.{IsTrueAt}
-use Rattle.rt_clause.proofs.Extending.{index-front, extends-none, extends-on, extends-gate, gate-means, model-older}
+use Rattle.rt_clause.proofs.Extending.{index-front, extends-on, extends-gate, gate-means, model-older}
 use Rattle.rt_formula.specs.Shared.{Shared, IsSound, Fits, val, values, bool_at, children, entry_value}
 use Rattle.rt_formula.proofs.Meaning.{val-entry}
 use Rattle.rt_formula.specs.declared.entry.Entry.{Entry}
 use Rattle.rt_formula.specs.declared.entry.Entry.TheVariants.{Yes, No, Row, Not, All, Any}
 use Rattle.rt_formula.specs.Under.{is_marked, AreUnder}
-use Rattle.rt_clausify.specs.Written.{Written, written, name_at, named_by, with_name, with_gate, with_entry, with_node}
+use Rattle.rt_clausify.specs.Written.{Written, name_at, named_by, with_name, with_gate, with_entry, with_node}
 
 -- of the first n nodes those that are marked have literals that mean what the nodes do
 pub record IsNaming (d : Shared) (marks : List Bool) (n : ℕ) (w : Written) : Type 0 where
@@ -25,9 +25,6 @@ pub record IsNaming (d : Shared) (marks : List Bool) (n : ℕ) (w : Written) : T
   pub low : (k : ℕ) → k < n → is_marked marks k ≡ true → (name_at w.names k).var < w.next
   pub over : Extends [] d.rows w.lines w.next
   pub means : (keep bools : List Bool) → AgreeBelow d.rows keep bools → IsModel w.lines bools → (k : ℕ) → k < n → is_marked marks k ≡ true → lit_true bools (name_at w.names k) ≡ val d keep k
-
-pub naming-none : (d : Shared) (marks : List Bool) → IsNaming d marks 0 (written [] d.rows [])
-naming-none d marks = record { count = refl; low = λ k h u. absurd (omega arith); over = extends-none [] d.rows; means = λ keep bools a m k h u. absurd (omega arith) }
 
 name-front : (names : List Literal) (l : Literal) (k : ℕ) → k < length names → name_at (names ++ l ∷ []) k ≡ name_at names k
 name-front [] l k h = absurd (omega arith)
@@ -146,10 +143,6 @@ pub naming-step : (d : Shared) (goal : ℕ) (marks : List Bool) (n : ℕ) (w : W
     → IsNaming d marks n w → IsNaming d marks (n + 1) (with_node marked w e)
 naming-step d goal marks n w e true s g u b q h = naming-entry d marks n w e s g (u.closed n e (omega arith) b g (sym q)) h
 naming-step d goal marks n w e false s g u b q h = naming-name d marks n w (record { var = 0; on = false }) h (λ t. absurd (cc)) (λ keep bools a m t. absurd (cc))
-
--- entries fit more variables
-pub fits-wider : (rows next n m : ℕ) (e : Entry) → rows ≤ next → m ≡ n → Fits rows n e → Fits next m e
-fits-wider rows next n m e r q f = record { below = λ i d b. (let p = f.below i d b in omega (arith, p, q)); row = λ i d b. (let p = f.row i d b in omega (arith, p, r)) }
 
 -- the lines with the goal
 abbrev pub goal_line : List (List Literal) → Literal → List (List Literal)

@@ -2,10 +2,6 @@
 use Rattle.std.proofs.Common.{◌≡◌, ◌∙◌, sym, subst, ℕ, List, [], ◌∷◌, Bool, true, false, refl, Option, Some, None, Ok, Err}
 use Rattle.rt_schema.specs.declared.table.Table.{Table}
 use Rattle.rt_token.specs.Lexed.{Text, lexed}
-use Rattle.rt_token.specs.Layout.{is_memory as lex_memory}
-use Rattle.rt_token.specs.declared.fault.LexFault.{LexFault}
-use Rattle.rt_token.specs.declared.fault.LexFault.TheVariants as lex
-use Rattle.rt_ddl.specs.LexFaults.{of_lex}
 use Rattle.rt_token.specs.declared.token.Token.{Token}
 use Rattle.rt_value.specs.Gives.{Gives}
 use Rattle.rt_ddl.specs.Meaning.{excess_of, fault_of, given, is_memory, is_ruled, is_wide, mismatched, named, or_else, schema_of, table_excess, tables_excess, tables_of, tables_twice, tables_unknown, unless, untyped}
@@ -82,26 +78,3 @@ pub tree-answer : (text : Text) (tokens : List Token) (tree : SchemaText) (r : A
 tree-answer text tokens tree r l t g others other m u =
     let same : IsTreeOf tokens other = subst (λ (ts : List Token). IsTreeOf ts other) (same-tokens text tokens others l m) u in
     subst (λ (x : SchemaText). Gives is_memory r (schema_of (table_texts x))) (one_tree tokens tree other t same) g
-
-lex-tree : (text : Text) (f : LexFault) (P : Answer → Type 0) → lexed text ≡ Err f → TreeAnswer text P
-lex-tree text f P l tokens tree m t = let h : Err f ≡ Ok tokens = sym l ∙ m in cc h
-
--- the errors of the tokens
-pub lex-answer : (text : Text) (f : LexFault) → Gives lex_memory (Err f) (lexed text) → IsAnswer text (Err (of_lex f))
-lex-answer text (lex.NotUtf8 at) g = g
-lex-answer text (lex.BadByte at) g = g
-lex-answer text (lex.OpenText at) g = g
-lex-answer text (lex.OpenComment at) g = g
-lex-answer text (lex.BigNumber at) g = g
-lex-answer text lex.NoMemory g = tt
-
-pub lex-tree-answer : (text : Text) (f : LexFault) → Gives lex_memory (Err f) (lexed text) → TreeAnswer text (Gives is_memory (Err (of_lex f)))
-lex-tree-answer text (lex.NotUtf8 at) g = lex-tree text (lex.NotUtf8 at) (Gives is_memory (Err (of_lex (lex.NotUtf8 at)))) g
-lex-tree-answer text (lex.BadByte at) g = lex-tree text (lex.BadByte at) (Gives is_memory (Err (of_lex (lex.BadByte at)))) g
-lex-tree-answer text (lex.OpenText at) g = lex-tree text (lex.OpenText at) (Gives is_memory (Err (of_lex (lex.OpenText at)))) g
-lex-tree-answer text (lex.OpenComment at) g = lex-tree text (lex.OpenComment at) (Gives is_memory (Err (of_lex (lex.OpenComment at)))) g
-lex-tree-answer text (lex.BigNumber at) g = lex-tree text (lex.BigNumber at) (Gives is_memory (Err (of_lex (lex.BigNumber at)))) g
-lex-tree-answer text lex.NoMemory g = λ tokens tree m t. tt
-
-pub syntax-tree-answer : (text : Text) (tokens : List Token) (P : Answer → Type 0) → lexed text ≡ Ok tokens → ((t : SchemaText) → ¬ IsTreeOf tokens t) → TreeAnswer text P
-syntax-tree-answer text tokens P l n others tree m t = absurd (n tree (subst (λ (ts : List Token). IsTreeOf ts tree) (same-tokens text tokens others l m) t))

@@ -28,9 +28,6 @@ use Rattle.rt_ddl_tree.proofs.TestLaws.{condition-law}
 
 -- ---- names
 
-comma-name : Name → Kinds
-comma-name n = terminal.Fixed fixed.Comma ∷ spelled_name n
-
 pub name-shorter : (ks more : Kinds) (x : Name) → read_name ks ≡ Some (x, more) → length more ≤ length ks
 name-shorter ks more x e = shorter read_name spelled_name 0 0 (a-name 0 0) ks x more e
 

@@ -1,12 +1,10 @@
 -- Of lines with the same literals the same is left.
-use Rattle.std.proofs.Common.{◌≡◌, ℕ, ◌+◌, ◌<◌, Bool, true, false, not, ◌&&◌, ◌||◌, List, [], ◌∷◌, ◌++◌, length, refl, sym, ap, ap₂, ◌∙◌, subst, inl, inr, take, get_or, arith, Option, Some, None}
-use Rattle.std.proofs.lemmas.List.{take_more}
+use Rattle.std.proofs.Common.{◌≡◌, Bool, true, false, not, ◌&&◌, List, [], ◌∷◌, refl, sym, ap, ap₂, ◌∙◌, subst, inl, inr, arith, Option, Some, None}
 use Rattle.std.specs.List.{list_all}
 use Rattle.rt_clause.specs.Literal.{Literal, lit_eq}
 use Rattle.rt_clause.specs.Lists.{has, is_false, left, line_at}
 use Rattle.rt_clause.proofs.Bools.{bool-cases}
 use Rattle.rt_clause.proofs.Literals.{has-head, has-tail, lit_eq-same, lit_eq-refl}
-use Rattle.rt_derive.proofs.Marks.{has-snoc}
 use Rattle.rt_derive.proofs.Spending.{all-same}
 use Rattle.rt_derive.specs.Alike.{Alike}
 use Rattle.rt_derive.specs.Remaining.{IsRest}
@@ -55,18 +53,3 @@ rest-moves xs (y ∷ ys) h Several m = (y, ys, refl, elim (bool-cases (list_all 
 
 pub rest-alike : (set a b : List Literal) → Alike a b → (r : Rest) → IsRest (left set a) r → IsRest (left set b) r
 rest-alike set a b h r m = rest-moves (left set a) (left set b) (left-alike set a b h) r m
-
--- one literal more
-pub alike-more : (held new lits : List Literal) (i : ℕ) (l : Literal) → i < length lits → l ≡ get_or lits i l → Alike held (take i lits)
-    → ((k : Literal) → has new k ≡ (lit_eq k l || has held k)) → Alike new (take (i + 1) lits)
-alike-more held new lits i l h e a n k = n k ∙ ap (λ b. lit_eq k l || b) (a k) ∙ sym (has-snoc (take i lits) l k)
-    ∙ ap (λ (xs : List Literal). has xs k) (ap (λ v. take i lits ++ v ∷ []) e ∙ sym (take_more lits i l h))
-
--- one that is there
-pub alike-there : (held lits : List Literal) (i : ℕ) (l : Literal) → i < length lits → l ≡ get_or lits i l → Alike held (take i lits) → has held l ≡ true → Alike held (take (i + 1) lits)
-alike-there held lits i l h e a t = alike-more held held lits i l h e a known where
-  known : (k : Literal) → has held k ≡ (lit_eq k l || has held k)
-  known k = elim (bool-cases (lit_eq k l)) [
-    | inl s ↦ ap (has held) (lit_eq-same k l s) ∙ t ∙ ap (λ b. b || has held k) (sym s)
-    | inr f ↦ ap (λ b. b || has held k) (sym f)
-  ]

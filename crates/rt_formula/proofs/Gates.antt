@@ -75,25 +75,6 @@ pub keeps-put : (g : Gate) (p : ℕ → Bool) (ks xs : List ℕ) (i a : ℕ) →
     → gate_value g p (with_node ks a) ≡ gate_value g p (take (i + 1) xs)
 keeps-put g p ks xs i a h e s = joined-with g p ks a (has_node ks a) refl ∙ ap (λ b. joined g b (p a)) s ∙ sym (more g p xs i a h e)
 
--- a child that decides
-decides-all : (p : ℕ → Bool) (xs : List ℕ) (i a : ℕ) → i < length xs → a ≡ get_or xs i a → p a ≡ false → list_all p xs ≡ false
-decides-all p [] i a h e f = absurd (omega arith)
-decides-all p (x ∷ xs) zero a h e f = (let q : p x ≡ false = ap p (sym e) ∙ f in rw q refl)
-decides-all p (x ∷ xs) (suc i) a h e f = (let r = decides-all p xs i a (omega arith) e f in rw r (none (p x))) where
-  none : (b : Bool) → (b && false) ≡ false
-  none = elim [ true ↦ refl | false ↦ refl ]
-
-decides-any : (p : ℕ → Bool) (xs : List ℕ) (i a : ℕ) → i < length xs → a ≡ get_or xs i a → p a ≡ true → list_any p xs ≡ true
-decides-any p [] i a h e f = absurd (omega arith)
-decides-any p (x ∷ xs) zero a h e f = (let q : p x ≡ true = ap p (sym e) ∙ f in rw q refl)
-decides-any p (x ∷ xs) (suc i) a h e f = (let r = decides-any p xs i a (omega arith) e f in rw r (whole (p x))) where
-  whole : (b : Bool) → (b || true) ≡ true
-  whole = elim [ true ↦ refl | false ↦ refl ]
-
-pub decides : (g : Gate) (p : ℕ → Bool) (xs : List ℕ) (i a : ℕ) → i < length xs → a ≡ get_or xs i a → p a ≡ deciding g → gate_value g p xs ≡ deciding g
-decides gate.All = decides-all
-decides gate.Any = decides-any
-
 -- and one that is there by its number
 member-all : (p : ℕ → Bool) (xs : List ℕ) (a : ℕ) → has_node xs a ≡ true → p a ≡ false → list_all p xs ≡ false
 member-all p [] a h f = absurd (cc)

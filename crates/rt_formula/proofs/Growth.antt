@@ -1,6 +1,6 @@
 -- Soundness and values as entries are added at the end.
-use Rattle.std.proofs.Common.{◌≡◌, ℕ, ◌+◌, ◌<◌, ◌≤◌, ◌^◌, zero, suc, Bool, true, false, List, [], ◌∷◌, ◌++◌, length, length-append, slice_get, take, Some, refl, sym, subst, ap, arith, rules, ◌∙◌, ◌⊎◌, inl, inr}
-use Rattle.std.proofs.lemmas.List.{append-nil, length-take}
+use Rattle.std.proofs.Common.{◌≡◌, ℕ, ◌+◌, ◌<◌, ◌^◌, zero, suc, Bool, true, false, List, [], ◌∷◌, ◌++◌, length, length-append, slice_get, take, Some, refl, sym, subst, ap, arith, rules, ◌∙◌, ◌⊎◌, inl, inr}
+use Rattle.std.proofs.lemmas.List.{append-nil}
 use Rattle.std.proofs.Math.Seq.{take-append_seam}
 use Rattle.std.specs.List.{list_any}
 use Rattle.std.specs.Bool.{if◌then◌else◌}
@@ -14,11 +14,6 @@ eq_same x y h = search rules
 
 pub eq_refl : (x : Entry) → eq-value.it x x ≡ true
 eq_refl x = search rules
-
-pub slice_get_append_left : {X : Type 0} (xs ys : List X) (i : ℕ) → i < length xs → slice_get (xs ++ ys) i ≡ slice_get xs i
-slice_get_append_left [] ys i h = absurd (omega arith)
-slice_get_append_left (x ∷ xs) ys zero h = refl
-slice_get_append_left (x ∷ xs) ys (suc i) h = slice_get_append_left xs ys i (omega arith)
 
 pub slice_get_snoc_cases : {X : Type 0} (xs : List X) (e d : X) (i : ℕ) → slice_get (xs ++ e ∷ []) i ≡ Some d
     → (slice_get xs i ≡ Some d) ⊎ ((i ≡ length xs) × (d ≡ e))
@@ -77,29 +72,6 @@ insert_grown rows ks new e h =
     let both : (b : Bool) → P (if b then ks else ks ++ e ∷ []) =
     elim [ true ↦ record { rows = refl; more = []; entries = sym (append-nil ks) } | false ↦ record { rows = refl; more = e ∷ []; entries = refl } ] in
     subst P (sym h) (both (list_any (eq-value.it e) ks))
-
-slice_get_taken : {X : Type 0} (xs : List X) (n i : ℕ) (x : X) → slice_get (take n xs) i ≡ Some x → slice_get xs i ≡ Some x
-slice_get_taken [] zero i x h = h
-slice_get_taken [] (suc n) i x h = h
-slice_get_taken (y ∷ xs) zero i x h = cc
-slice_get_taken (y ∷ xs) (suc n) zero x h = h
-slice_get_taken (y ∷ xs) (suc n) (suc i) x h = slice_get_taken xs n i x h
-
-slice_get_take : {X : Type 0} (xs : List X) (n i : ℕ) → i < n → slice_get (take n xs) i ≡ slice_get xs i
-slice_get_take [] zero i h = refl
-slice_get_take [] (suc n) i h = refl
-slice_get_take (y ∷ xs) zero i h = absurd (omega (arith, h))
-slice_get_take (y ∷ xs) (suc n) zero h = refl
-slice_get_take (y ∷ xs) (suc n) (suc i) h = slice_get_take xs n i (omega (arith, h))
-
-pub truncated_sound : (shared : Shared) (len : ℕ) → 2 ≤ len → IsSound shared → IsSound (truncated len shared)
-truncated_sound shared len long s = record {
-  yes = slice_get_take shared.entries len 0 (omega (arith, long)) ∙ s.yes;
-  no = slice_get_take shared.entries len 1 (omega (arith, long)) ∙ s.no;
-  fits = λ i e h. s.fits i e (slice_get_taken shared.entries len i e h);
-  few = (let l = length-take len shared.entries in let f = s.few in omega (arith, l, f));
-  distinct = λ i j e h k. s.distinct i j e (slice_get_taken shared.entries len i e h) (slice_get_taken shared.entries len j e k);
-}
 
 -- what is grown is taken back
 pub taken_back : (old new : Shared) → IsGrown old new → truncated (length old.entries) new ≡ old

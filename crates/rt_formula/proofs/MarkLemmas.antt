@@ -52,14 +52,6 @@ child-stands d goal n e f s i x b marks g c = c n e f (s marks g c) i x b
 pub each-stays : (old new : List Bool) → MarksStay old new → (of : List ℕ) → Each (λ k. is_marked old k ≡ true) of → Each (λ k. is_marked new k ≡ true) of
 each-stays old new s of h i d b = s _ (h i d b)
 
-pub set-same : (marks : List Bool) (n low : ℕ) → n < low → SameFrom low marks (slice_set marks n true)
-set-same [] n low h k b = refl
-set-same (m ∷ marks) zero low h zero b = absurd (omega (arith, h, b))
-set-same (m ∷ marks) zero low h (suc k) b = refl
-set-same (m ∷ marks) (suc n) low h zero b = refl
-set-same (m ∷ marks) (suc n) zero h (suc k) b = absurd (omega (arith, h))
-set-same (m ∷ marks) (suc n) (suc low) h (suc k) b = set-same marks n low (omega (arith, h)) k (omega (arith, b))
-
 -- one more of a list
 pub each-more : (P : ℕ → Type 0) (xs : List ℕ) (i a : ℕ) → i < length xs → a ≡ get_or xs i a → Each P (take i xs) → P a → Each P (take (i + 1) xs)
 each-more P xs i a h e old new =

@@ -10,7 +10,7 @@ use Rattle.rt_input.specs.First.{first_judged}
 use Rattle.rt_input.specs.Held.{Holding}
 use Rattle.rt_input.specs.Source.{IsKnown, Text, source_of}
 use Rattle.rt_input.specs.declared.first.First.{First}
-use Rattle.rt_input.proofs.EndLemmas.{ends_on, ends_with}
+use Rattle.rt_input.proofs.EndLemmas.{ends_on}
 use Rattle.rt_input.proofs.BegunLemmas.{none_begun, some_first, some_then, when_reached}
 use Rattle.rt_grade.specs.Begun.{FailsLast, GradesFor, ListAdds, grade_reached, list_reached}
 use Rattle.rt_grade.specs.Listing.{list_judged}
@@ -38,9 +38,6 @@ module _ (paths : List Text) (at : ℕ) (path : Text) (within : at < length path
       all_then old mid new (take at paths) (path ∷ []) before one ∙ ap (λ fs. old ++ fs) (sym (take_more paths at path within ∙ ap (λ p. take at paths ++ p ∷ []) (sym is)))
 
 -- ---- the file that can't be read
-
-pub fails_at : (name other : Text) (old new : List Text) → other ≡ name → new ≡ old ++ name ∷ [] → FailsLast (FileRead other) old new
-fails_at name other old new same begun = ends_with (Some other) old new (begun ∙ ap (λ (n : Text). old ++ n ∷ []) (sym same))
 
 -- in a later step
 pub fails_later : (fault : GradeFault) (old mid new more : List Text) → mid ≡ old ++ more → FailsLast fault mid new → FailsLast fault old new
@@ -103,9 +100,6 @@ module _ (tells : Bool) (w : GradeWords) (held : Holding) (old mid new : List Te
   )
 
 -- ---- the arguments
-
-pub graded_begun : (tells : Bool) (held : Holding) (o : Option GradeWords) (w : GradeWords) (old new : List Text) → o ≡ Some w → GradesFor tells held (Some w) old new → GradesFor tells held o old new
-graded_begun tells held o w old new is begins = subst (λ (p : Option GradeWords). GradesFor tells held p old new) (sym is) begins
 
 pub none_graded : (tells : Bool) (held : Holding) (o : Option GradeWords) (old new : List Text) → new ≡ old → GradesFor tells held o old new
 none_graded tells held None old new same = same

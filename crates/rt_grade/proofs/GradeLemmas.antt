@@ -2,7 +2,7 @@
 use Rattle.std.proofs.lemmas.List.{take_more}
 use Rattle.std.proofs.lemmas.Slice.Zip.{all_zipped_more}
 use Rattle.std.proofs.Common.{◌≡◌, ◌∙◌, ◌+◌, ◌<◌, length, take, get_or, ℕ, Bool, true, false, List, [], ◌∷◌, ◌++◌, Result, Ok, Err, refl, sym, ap, subst, IsTrue}
-use Rattle.std.specs.Prelude.{Option, Some, IsSome, IsSomeAnd, nat_le, if◌then◌else◌}
+use Rattle.std.specs.Prelude.{Option, None, Some, IsSome, IsSomeAnd, nat_le, if◌then◌else◌}
 use Rattle.std.specs.List.{AllZip}
 use Rattle.rt_algebra.specs.declared.typed.Typed.{Typed}
 use Rattle.rt_io.specs.Command.{command}
@@ -66,7 +66,7 @@ options_of k first (Ok right) input e = by_case (nat_le (total_work (beside k fi
 module _ (s : Seen) (w : GradeWords) (h : HasWords w) (first : First) (read : IsTrue s.tells → first_judged (source_of w.command) s.held ≡ Ok first)
     (path : Text) (words : List Text) (spells : command words ≡ Some (alone w.command path)) where
   abbrev run : Call
-  run = record { words = words; files = s }
+  run = record { words = words; files = s; readings = None }
 
   told : IsTold run → IsTrue s.tells
   told t = subst (IsKnown s.tells) (alone_is w h path) (t (alone w.command path) spells)
@@ -82,6 +82,7 @@ module _ (s : Seen) (w : GradeWords) (h : HasWords w) (first : First) (read : Is
     sound = d.2;
     options = some_and (λ k. HasOptions k d.0) (command words) (alone w.command path) spells (options_of (alone w.command path) first (right_of first text) d.0 d.1);
     told = λ t. judged_is text has t ∙ d.1;
+    given = λ held none. absurd none;
   }
 
   placed_row : (text : Text) (o : Outcome) → (IsTrue s.tells → text_read Query2 (s.held path) ≡ Ok text) → IsPlacedIn text o → PlacedRow run o

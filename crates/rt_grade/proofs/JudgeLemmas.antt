@@ -1,5 +1,5 @@
 -- From the query of a candidate, or why it has none, to its grade.
-use Rattle.std.proofs.Common.{◌≡◌, ◌∙◌, ◌<◌, ◌≤◌, ℕ, Bool, true, false, Result, Ok, Err, refl, sym, ap, subst, arith}
+use Rattle.std.proofs.Common.{◌≡◌, ◌≤◌, ℕ, Bool, true, false, Result, Ok, Err, refl, sym, subst, arith}
 use Rattle.std.specs.Prelude.{Option, None, Some, IfErr, IfOk, IsSomeAnd, nat_le, if◌then◌else◌}
 use Rattle.std.proofs.lemmas.Bool.Decides.{nat_tests}
 use Rattle.rt_value.specs.declared.no_memory.NoMemory.{NoMemory}
@@ -17,50 +17,19 @@ use Rattle.rt_input.specs.declared.part.Part.TheVariants.{Query2}
 use Rattle.rt_input.specs.Accepted.{Accepted, IsAccepted}
 use Rattle.rt_input.specs.First.{IsFirst}
 use Rattle.rt_input.specs.Judged.{like_left, query_of, then_read, total_work, within_limit}
-use Rattle.rt_input.specs.Placed.{IsPlaceless, PlacedIn, Stands}
 use Rattle.rt_top.specs.GivenUp.{IsGivenUp, IsVerdict}
 use Rattle.rt_input.specs.Source.{Text}
 use Rattle.rt_input.specs.Steps.{Refuses}
 use Rattle.rt_grade.specs.declared.grade.Grade.{Grade}
 use Rattle.rt_grade.specs.declared.grade.Grade.TheVariants.{Agree, Witness, Undecided, Refused, Work, TooLong}
-use Rattle.rt_grade.specs.Grades.{Decides, IsGrade, IsPlacedIn, beside, candidate_judged, right_of}
+use Rattle.rt_grade.specs.Grades.{Decides, IsGrade, beside, candidate_judged, right_of}
 
 pub then_ok : {T U E : Type 0} (r : Result T E) (x : T) (f : T → Result U E) (y : Result U E) → r ≡ Ok x → f x ≡ y → then_read r f ≡ y
 then_ok r x f y p q = rw p q
 
-pub then_err : {T U E : Type 0} (r : Result T E) (f : T → Result U E) (e : E) → r ≡ Err e → then_read r f ≡ Err e
-then_err r f e p = rw p refl
-
--- what refuses a step refuses what goes on from it
-pub refuses_then : {S T : Type 0} (j : Result S Outcome) (f : S → Result T Outcome) (o : Outcome) → Refuses j o → Refuses (then_read j f) o
-refuses_then j f outcome.Agree r = r
-refuses_then j f (outcome.Witness keep) r = r
-refuses_then j f outcome.Usage r = r
-refuses_then j f (outcome.Refused p fault) r = (r.0, then_err j f _ r.1)
-refuses_then j f (outcome.Limit l) r = (r.0, then_err j f _ r.1)
-refuses_then j f (outcome.Spent s) r = r
-refuses_then j f (outcome.ReadFault p) r = r
-refuses_then j f outcome.WriteFault r = r
-refuses_then j f outcome.NoMemory r = tt
-
 -- what refuses the next step
 pub refuses_next : {S T : Type 0} (j : Result S Outcome) (x : S) (f : S → Result T Outcome) (o : Outcome) → j ≡ Ok x → Refuses (f x) o → Refuses (then_read j f) o
 refuses_next {S = S} {T = T} j x f o e r = subst (λ (k : Result S Outcome). Refuses (then_read k f) o) (sym e) r
-
--- a syntax error of the second query names a place in its text, whatever the other texts
-pub placed_in : (text : Text) (o : Outcome) → PlacedIn Query2 text o → IsPlacedIn text o
-placed_in text (outcome.Refused part fault) p texts has = placed (texts part) (ap texts p.0 ∙ has)
-  where
-    placed : (r : Result Text Outcome) → r ≡ Ok text → IfOk r (λ text. Stands text fault)
-    placed r e = rw e p.1
-placed_in text outcome.Agree p texts has = tt
-placed_in text (outcome.Witness keep) p texts has = tt
-placed_in text outcome.Usage p texts has = tt
-placed_in text (outcome.Limit l) p texts has = tt
-placed_in text (outcome.Spent s) p texts has = tt
-placed_in text (outcome.ReadFault q) p texts has = tt
-placed_in text outcome.WriteFault p texts has = tt
-placed_in text outcome.NoMemory p texts has = tt
 
 -- ---- the query of a candidate
 
@@ -78,15 +47,6 @@ module _ (first : First) (text : Text) (query : Typed) (r : Result Typed Outcome
       by_case : (r : Result Typed Outcome) → IfErr r (Refuses (like_left first.left query)) → IfErr r (Refuses (right_of first text))
       by_case (Ok right) h = tt
       by_case (Err o) h = refuses_next (query_of Query2 first.schema text) query (like_left first.left) o is h
-
-pub right_typed : (first : First) (query : Typed) (r : Result Typed Outcome) → IsTypedOf first.schema query
-    → IfOk r (λ typed. (typed ≡ query) × (like_left first.left query ≡ Ok typed)) → IfOk r (IsTypedOf first.schema)
-right_typed first query (Ok right) typed h = subst (IsTypedOf first.schema) (sym h.0) typed
-right_typed first query (Err o) typed h = tt
-
-pub right_place : (text : Text) (r : Result Typed Outcome) → IfErr r IsPlaceless → IfErr r (IsPlacedIn text)
-right_place text (Ok right) h = tt
-right_place text (Err o) h = λ texts has. h texts
 
 -- ---- grades
 
@@ -116,13 +76,6 @@ is_within input work most w m le = by_case (nat_le (total_work input) input.work
     by_case : (b : Bool) → nat_le (total_work input) input.work_limit ≡ b → (if b then Ok input else Err (outcome.Limit (limit.Work (total_work input)))) ≡ Ok input
     by_case true is = refl
     by_case false is = absurd (let h : total_work input ≤ input.work_limit = omega (arith, w, m, le) in grind (arith, nat_tests, h, is))
-
-pub is_above : (input : Accepted) (work most : ℕ) → work ≡ total_work input → most ≡ input.work_limit → most < work → within_limit input ≡ Err (outcome.Limit (limit.Work work))
-is_above input work most w m lt = by_case (nat_le (total_work input) input.work_limit) refl
-  where
-    by_case : (b : Bool) → nat_le (total_work input) input.work_limit ≡ b → (if b then Ok input else Err (outcome.Limit (limit.Work (total_work input)))) ≡ Err (outcome.Limit (limit.Work work))
-    by_case false is = ap (λ n. Err (outcome.Limit (limit.Work n))) (sym w)
-    by_case true is = absurd (let h : input.work_limit < total_work input = omega (arith, w, m, lt) in grind (arith, nat_tests, h, is))
 
 -- the verdict on the parts of the input is that on the input
 module _ (k : Command) (first : First) (right : Typed) where

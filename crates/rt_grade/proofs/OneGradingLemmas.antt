@@ -100,8 +100,8 @@ module _ (words : List Text) (w : GradeWords) (spells : grade_words words ≡ So
   candidate-one : (path : Text) (x y : Grade) → IsAnswerAlone s w.command path x → IsAnswerAlone t w.command path y → AreOne x y
   candidate-one path x y f g =
       let own = alone_spelled words w spells path in
-      let here = judged_as (record { words = own.0; files = s }) x (λ k is. known s.tells k told) (f own.0 own.1) in
-      let there = judged_as (record { words = own.0; files = t }) y (λ k is. known t.tells k told_too) (g own.0 own.1) in
+      let here = judged_as (record { words = own.0; files = s; readings = None }) x (λ k is. known s.tells k told) (f own.0 own.1) in
+      let there = judged_as (record { words = own.0; files = t; readings = None }) y (λ k is. known t.tells k told_too) (g own.0 own.1) in
       let J : Result Accepted Outcome → Type 0 = λ j. IsJudgedAs j x in
       grade-one (judged own.0 t.held) x y (subst J (ap (judged own.0) held) here) there
 

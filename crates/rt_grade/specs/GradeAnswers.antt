@@ -40,9 +40,9 @@ IsAnswer c (Work work) = IsTold c → judged c.words c.files.held ≡ Err (outco
 IsAnswer c TooLong = IsTold c → judged c.words c.files.held ≡ Err (outcome.Limit (limit.TooLong Query2))
 
 -- the grade of a candidate is the answer over the same files on whatever arguments spell SCHEMA,
--- DATADIR, REFERENCE and the candidate with the same numbers
+-- DATADIR, REFERENCE and the candidate with the same numbers; what reads gave is not told of it
 abbrev pub IsAnswerAlone : Seen → Command → Text → Grade → Type 0
-IsAnswerAlone s k path grade = (words : List Text) → command words ≡ Some (alone k path) → IsAnswer (record { words = words; files = s }) grade
+IsAnswerAlone s k path grade = (words : List Text) → command words ≡ Some (alone k path) → IsAnswer (record { words = words; files = s; readings = None }) grade
 
 -- the reference is accepted
 abbrev pub IsReferenceRead : Seen → GradeWords → Type 0

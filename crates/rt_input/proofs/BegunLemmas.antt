@@ -9,13 +9,12 @@ use Rattle.rt_schema.specs.Given.{Tables, places}
 use Rattle.rt_input.specs.declared.first.First.{First}
 use Rattle.rt_input.specs.declared.part.Part.TheVariants.{Schema, Table, Query1, Query2}
 use Rattle.rt_input.specs.declared.source.Source.{Source}
-use Rattle.std.specs.Prelude.{OnErr, OnOk, Option, None, Some}
-use Rattle.rt_io.specs.Ranges.{Command}
-use Rattle.rt_input.specs.Begun.{AddsAll, AddsSome, BeganFor, BeginsFor, data_files, data_reached, first_files, first_reached, input_files, input_reached, part_files, table_files, tables_reached, then_files}
+use Rattle.std.specs.Prelude.{OnErr, OnOk}
+use Rattle.rt_input.specs.Begun.{AddsAll, AddsSome, data_files, data_reached, first_files, first_reached, input_files, input_reached, part_files, table_files, tables_reached, then_files}
 use Rattle.rt_input.specs.First.{first_judged}
 use Rattle.rt_input.specs.Held.{Holding}
 use Rattle.rt_input.specs.Judged.{Data, data_judged, no_rows, schema_judged, table_judged, tables_judged, then_read}
-use Rattle.rt_input.specs.Source.{IsKnown, Text, source_of}
+use Rattle.rt_input.specs.Source.{IsKnown, Text}
 
 -- ---- tables
 
@@ -210,16 +209,3 @@ when_err (Err e) p = p
 -- a reading that begins no file
 pub none_begun : (known : Type 0) (files : List TableOf → List Text) (reached old new : List Text) → new ≡ old → AddsSome known files reached old new
 none_begun known files reached old new same = record { named = ([], adds_none old new (files []) same); told = λ t. adds_none old new reached same }
-
-pub none_for : (tells : Bool) (held : Holding) (o : Option Command) (old new : List Text) → new ≡ old → BeginsFor tells held o old new
-none_for tells held None old new same = same
-none_for tells held (Some k) old new same = none_begun (IsKnown tells (source_of k)) (input_files (source_of k)) (input_reached (source_of k) held) old new same
-
--- a call on arguments that are read
-pub begins_for : (tells : Bool) (held : Holding) (o : Option Command) (k : Command) (old new : List Text) → o ≡ Some k
-    → AddsSome (IsKnown tells (source_of k)) (input_files (source_of k)) (input_reached (source_of k) held) old new → BeginsFor tells held o old new
-begins_for tells held o k old new is some = subst (λ (p : Option Command). BeginsFor tells held p old new) (sym is) some
-
-pub began_for : (tells : Bool) (held : Holding) (o : Option Command) (k : Command) (old new : List Text) → o ≡ Some k
-    → AddsAll (IsKnown tells (source_of k)) (input_files (source_of k)) (input_reached (source_of k) held) old new → BeganFor tells held o old new
-began_for tells held o k old new is all = subst (λ (p : Option Command). BeganFor tells held p old new) (sym is) all

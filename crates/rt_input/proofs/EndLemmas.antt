@@ -1,15 +1,13 @@
 -- Which file is the last one that a reading begins.
-use Rattle.std.proofs.Common.{◌≡◌, ◌≢◌, ◌∙◌, Bool, true, false, List, [], ◌∷◌, ◌++◌, Result, Ok, Err, ℕ, append_assoc, append-nil, refl, sym, ap, subst, nat_le, if◌then◌else◌}
+use Rattle.std.proofs.Common.{◌≡◌, ◌∙◌, Bool, true, false, List, [], ◌∷◌, ◌++◌, Result, Ok, Err, ℕ, append_assoc, append-nil, refl, sym, ap, subst, nat_le, if◌then◌else◌}
 use Rattle.std.specs.Prelude.{Option, None, Some, IfErr}
-use Rattle.rt_io.specs.Ranges.{Command}
 use Rattle.rt_schema.specs.declared.table.Table.{Table as TableOf}
 use Rattle.rt_input.specs.Accepted.{Accepted}
-use Rattle.rt_input.specs.Begun.{AddsAll, EndsAt, EndsAtLimit, EndsFor, EndsWith, names_in, part_files}
+use Rattle.rt_input.specs.Begun.{AddsAll, EndsAt, EndsAtLimit, EndsWith, names_in, part_files}
 use Rattle.rt_input.specs.Faults.{placeless}
 use Rattle.rt_input.specs.Judged.{total_work, within_limit}
-use Rattle.rt_input.specs.Reading.{WordsStop}
-use Rattle.rt_input.specs.Source.{Text, file_name, file_of, source_of}
-use Rattle.rt_input.specs.Steps.{IsLimitOf, Refuses, Seen, SpeaksOf, TextStops}
+use Rattle.rt_input.specs.Source.{Text, file_of}
+use Rattle.rt_input.specs.Steps.{IsLimitOf, Refuses, SpeaksOf}
 use Rattle.rt_input.specs.declared.outcome.Fault.{Fault}
 use Rattle.rt_input.specs.declared.outcome.Limit.{Limit}
 use Rattle.rt_input.specs.declared.outcome.Limit.TheVariants as limit
@@ -17,7 +15,6 @@ use Rattle.rt_input.specs.declared.outcome.Outcome.{Outcome}
 use Rattle.rt_input.specs.declared.outcome.Outcome.TheVariants as outcome
 use Rattle.rt_input.specs.declared.part.Part.{Part}
 use Rattle.rt_input.specs.declared.part.Part.TheVariants.{Queries}
-use Rattle.rt_input.specs.declared.source.Paths.{Paths}
 use Rattle.rt_input.specs.declared.source.Source.{Source}
 use Rattle.rt_input.specs.declared.source.Source.TheVariants.{Files, Made}
 
@@ -46,23 +43,6 @@ no_file source p old new same =
     subst (λ (file : Option Text). EndsWith file old new) (sym (ap (file_of source) same ∙ no_queries source)) tt
 
 -- ---- of an outcome
-
--- it is what stopped the reading of a file
-pub ends_text : (s : Seen) (paths : Paths) (part : Part) (name : List ℕ) (o : Outcome) (old new : List Text) → file_name paths part ≡ Some name → TextStops s name part o
-    → (o ≢ outcome.NoMemory → new ≡ old ++ name ∷ []) → EndsAt (Files paths) o old new
-ends_text s paths part name outcome.Agree old new is stop begun = tt
-ends_text s paths part name (outcome.Witness keep) old new is stop begun = tt
-ends_text s paths part name outcome.Usage old new is stop begun = tt
-ends_text s paths part name (outcome.Refused p fault) old new is stop begun = absurd stop
-ends_text s paths part name (outcome.Spent spent) old new is stop begun = tt
-ends_text s paths part name (outcome.Limit l) old new is stop begun =
-    subst (λ (x : Limit). EndsAtLimit (Files paths) x old new) (sym stop.0)
-    (subst (λ (file : Option Text). EndsWith file old new) (sym is) (ends_with (Some name) old new (begun (λ e. cc e))))
-ends_text s paths part name (outcome.ReadFault p) old new is stop begun =
-    subst (λ (q : Part). EndsWith (file_name paths q) old new) (sym stop.0)
-    (subst (λ (file : Option Text). EndsWith file old new) (sym is) (ends_with (Some name) old new (begun (λ e. cc e))))
-ends_text s paths part name outcome.WriteFault old new is stop begun = tt
-ends_text s paths part name outcome.NoMemory old new is stop begun = tt
 
 module _ (source : Source) where
   -- it speaks of the part whose file was begun just now
@@ -169,20 +149,3 @@ module _ (source : Source) where
   if_work (Err o) input old new refuses = ends_work input o old new refuses
 
 -- ---- of a command
-
-pub ends_for : (o : Option Command) (k : Command) (x : Outcome) (old new : List Text) → o ≡ Some k → EndsAt (source_of k) x old new → EndsFor o x old new
-ends_for o k x old new e ends other is =
-    let same : k ≡ other = let p : Some k ≡ Some other = sym e ∙ is in cc in
-    subst (λ (q : Command). EndsAt (source_of q) x old new) same ends
-
--- it is what stopped the reading of the arguments
-pub words_end : (o : Option Command) (x : Outcome) (old new : List Text) → WordsStop o x → EndsFor o x old new
-words_end o outcome.Agree old new stop = absurd stop
-words_end o (outcome.Witness keep) old new stop = absurd stop
-words_end o outcome.Usage old new stop = λ k is. tt
-words_end o (outcome.Refused p fault) old new stop = absurd stop
-words_end o (outcome.Spent s) old new stop = absurd stop
-words_end o (outcome.Limit l) old new stop = absurd stop
-words_end o (outcome.ReadFault p) old new stop = absurd stop
-words_end o outcome.WriteFault old new stop = absurd stop
-words_end o outcome.NoMemory old new stop = λ k is. tt

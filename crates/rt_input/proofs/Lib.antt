@@ -1,5 +1,6 @@
 pub mod BegunLemmas
 pub mod EndLemmas
+mod GivenLemmas
 mod PlaceLemmas
 pub mod RowLemmas
 mod ShapeLemmas

@@ -1,34 +1,16 @@
 -- What stops one step of the reading stops the reading.
-use Rattle.std.proofs.Common.{◌≡◌, ◌∙◌, ℕ, Bool, false, IsTrue, List, Result, Ok, Err, refl, sym, ap, subst, arith, MatchBool}
-use Rattle.std.specs.Prelude.{Option, None, Some, IfErr, IsOk, IsOkAnd, ◌+◌}
-use Rattle.rt_io.specs.Edge.{NoneFell, Rose}
+use Rattle.std.proofs.Common.{◌≡◌, ◌∙◌, ℕ, Bool, IsTrue, List, Result, Ok, Err, refl, sym, ap, subst, arith}
+use Rattle.std.specs.Prelude.{Option, None, Some, IfErr, IsOk, IsOkAnd}
+use Rattle.rt_io.specs.Edge.{NoneFell}
 use Rattle.rt_value.specs.Gives.{Gives}
 use Rattle.rt_schema.specs.Given.{Rows}
 use Rattle.rt_schema.specs.declared.table.Table.{Table as TableOf}
 use Rattle.rt_algebra.specs.declared.typed.Typed.{Typed}
-use Rattle.rt_ddl.specs.Meaning.{is_memory as schema_memory}
-use Rattle.rt_ddl.specs.Whole.{schema_read, placeless as placeless_answer}
-use Rattle.rt_ddl.specs.declared.fault.Excess.{Excess}
-use Rattle.rt_ddl.specs.declared.fault.Excess.TheVariants as excess
-use Rattle.rt_ddl.specs.declared.fault.SchemaFault.{SchemaFault}
 use Rattle.rt_ddl.specs.declared.fault.SchemaFault.TheVariants as schema
 use Rattle.rt_load.specs.declared.fault.LoadFault.{LoadFault}
 use Rattle.rt_load.specs.declared.fault.LoadFault.TheVariants as load
 use Rattle.rt_load.specs.Loaded.{is_memory}
-use Rattle.rt_resolve.specs.Chains.{lowered}
-use Rattle.rt_scope.specs.Fault.{is_memory as name_memory}
-use Rattle.rt_scope.specs.declared.fault.NameFault.{NameFault}
 use Rattle.rt_scope.specs.declared.fault.NameFault.TheVariants as name
-use Rattle.rt_sql.specs.Refusals.{is_memory as sql_memory}
-use Rattle.rt_sql.specs.Whole.{sql_read, placeless as placeless_tree}
-use Rattle.rt_sql.specs.declared.fault.SqlFault.{SqlFault}
-use Rattle.rt_sql.specs.declared.fault.SqlFault.TheVariants as sql
-use Rattle.rt_token.specs.Layout.{is_memory as lex_memory}
-use Rattle.rt_token.specs.Lexed.{lexed}
-use Rattle.rt_token.specs.declared.fault.LexFault.{LexFault}
-use Rattle.rt_token.specs.declared.fault.LexFault.TheVariants as lex
-use Rattle.rt_token.specs.declared.token.Token.{Token}
-use Rattle.rt_tree.specs.declared.tree.Sql.{Sql}
 use Rattle.rt_input.specs.declared.part.Part.{Part}
 use Rattle.rt_input.specs.declared.part.Part.TheVariants as part
 use Rattle.rt_input.specs.declared.part.Part.TheVariants.{Query1, Query2}
@@ -37,16 +19,14 @@ use Rattle.rt_input.specs.declared.outcome.Limit.{Limit}
 use Rattle.rt_input.specs.declared.outcome.Limit.TheVariants as limit
 use Rattle.rt_input.specs.declared.outcome.Outcome.{Outcome}
 use Rattle.rt_input.specs.declared.outcome.Outcome.TheVariants as outcome
-use Rattle.rt_input.specs.declared.source.Paths.{Paths}
 use Rattle.rt_input.specs.declared.source.Source.{Source}
-use Rattle.rt_input.specs.declared.source.Source.TheVariants.{Files}
-use Rattle.rt_input.specs.Faults.{excess_limit, lex_outcome, load_outcome, name_outcome, or_outcome, schema_outcome, sql_outcome}
+use Rattle.rt_input.specs.Faults.{load_outcome}
 use Rattle.rt_input.specs.declared.first.First.{First}
 use Rattle.rt_input.specs.First.{data_in, first_judged, first_of}
-use Rattle.rt_input.specs.Judged.{Data, Reaches, ReachesFirst, accepted, data_judged, input_judged, query_judged, right_judged, then_read, within_limit, query_of, query_of_tokens, query_of_tree, schema_of}
-use Rattle.rt_input.specs.Held.{Holding, most_bytes, file_text, text_of}
-use Rattle.rt_input.specs.Source.{IsKnown, file_name, file_of, source_of}
-use Rattle.rt_input.specs.Steps.{Failed, IsLong, IsLongFor, Refuses, Seen, seen, Stops, TextStops, of_contents}
+use Rattle.rt_input.specs.Judged.{Data, Reaches, ReachesFirst, accepted, data_judged, input_judged, query_judged, right_judged, then_read, within_limit, query_of}
+use Rattle.rt_input.specs.Held.{Holding, text_of}
+use Rattle.rt_input.specs.Source.{IsKnown, file_of, source_of}
+use Rattle.rt_input.specs.Steps.{Failed, IsLong, IsLongFor, Refuses, Seen, seen, Stops, of_contents}
 
 pub then_ok : {T U E : Type 0} (r : Result T E) (x : T) (f : T → Result U E) (y : Result U E) → r ≡ Ok x → f x ≡ y → then_read r f ≡ y
 then_ok r x f y p q = rw p q
@@ -55,83 +35,6 @@ pub then_err : {T U E : Type 0} (r : Result T E) (f : T → Result U E) (e : E) 
 then_err r f e p = rw p refl
 
 -- ---- a step that reads no file
-
-pub refuses_as : {T : Type 0} (j k : Result T Outcome) (o : Outcome) → j ≡ k → Refuses j o → Refuses k o
-refuses_as {T = T} j k o same r = subst (λ (x : Result T Outcome). Refuses x o) same r
-
-pub refuses_then : {S T : Type 0} (j : Result S Outcome) (f : S → Result T Outcome) (o : Outcome) → Refuses j o → Refuses (then_read j f) o
-refuses_then j f outcome.Agree r = r
-refuses_then j f (outcome.Witness keep) r = r
-refuses_then j f outcome.Usage r = r
-refuses_then j f (outcome.Refused p fault) r = (r.0, then_err j f _ r.1)
-refuses_then j f (outcome.Limit l) r = (r.0, then_err j f _ r.1)
-refuses_then j f (outcome.Spent s) r = r
-refuses_then j f (outcome.ReadFault p) r = r
-refuses_then j f outcome.WriteFault r = r
-refuses_then j f outcome.NoMemory r = tt
-
-refuses_lex : {T : Type 0} (p : Part) (j : Result T Outcome) (fault : LexFault) → j ≡ Err (lex_outcome p fault) → Refuses j (lex_outcome p fault)
-refuses_lex p j (lex.NotUtf8 at) e = (refl, e)
-refuses_lex p j (lex.BadByte at) e = (refl, e)
-refuses_lex p j (lex.OpenText at) e = (refl, e)
-refuses_lex p j (lex.OpenComment at) e = (refl, e)
-refuses_lex p j (lex.BigNumber at) e = (refl, e)
-refuses_lex p j lex.NoMemory e = tt
-
-refuses_excess : {T : Type 0} (j : Result T Outcome) (e : Excess) → j ≡ Err (outcome.Limit (excess_limit e)) → Refuses j (outcome.Limit (excess_limit e))
-refuses_excess j excess.Tables e = (refl, e)
-refuses_excess j (excess.Columns table) e = (refl, e)
-refuses_excess j (excess.Rules table) e = (refl, e)
-
--- a schema that is refused
-pub refuses_schema : (text : List ℕ) (fault : SchemaFault) → Gives schema_memory (placeless_answer (Err fault)) (schema_read text) → Refuses (schema_of text) (schema_outcome fault)
-refuses_schema text (schema.Lex f) g = refuses_lex part.Schema (schema_of text) f (ap (or_outcome schema_outcome) g)
-refuses_schema text (schema.Syntax at) g = (refl, ap (or_outcome schema_outcome) g)
-refuses_schema text (schema.DuplicateName name) g = (refl, ap (or_outcome schema_outcome) g)
-refuses_schema text (schema.UnknownName name) g = (refl, ap (or_outcome schema_outcome) g)
-refuses_schema text (schema.KeyTypes table) g = (refl, ap (or_outcome schema_outcome) g)
-refuses_schema text (schema.CheckTypes table) g = (refl, ap (or_outcome schema_outcome) g)
-refuses_schema text (schema.TooMany e) g = refuses_excess (schema_of text) e (ap (or_outcome schema_outcome) g)
-refuses_schema text schema.NoMemory g = tt
-
-pub schema_read_ok : (text : List ℕ) (tables : List TableOf) → Gives schema_memory (placeless_answer (Ok tables)) (schema_read text) → schema_of text ≡ Ok tables
-schema_read_ok text tables g = ap (or_outcome schema_outcome) g
-
--- tokens that are no query
-pub refuses_sql : (p : Part) (tables : List TableOf) (tokens : List Token) (fault : SqlFault) → Gives sql_memory (placeless_tree (Err fault)) (sql_read tokens)
-    → Refuses (query_of_tokens p tables tokens) (sql_outcome p fault)
-refuses_sql p tables tokens (sql.Unsupported word at) g = (refl, then_err _ _ _ (ap (or_outcome (sql_outcome p)) g))
-refuses_sql p tables tokens sql.TooDeep g = (refl, then_err _ _ _ (ap (or_outcome (sql_outcome p)) g))
-refuses_sql p tables tokens (sql.Syntax at) g = (refl, then_err _ _ _ (ap (or_outcome (sql_outcome p)) g))
-refuses_sql p tables tokens sql.NoMemory g = tt
-
--- a query without a meaning
-pub refuses_name : {T : Type 0} (p : Part) (j : Result T Outcome) (fault : NameFault) → (name_memory fault ≡ false → j ≡ Err (name_outcome p fault)) → Refuses j (name_outcome p fault)
-refuses_name p j (name.UnknownTable n) e = (refl, e refl)
-refuses_name p j (name.UnknownColumn n) e = (refl, e refl)
-refuses_name p j (name.Ambiguous n) e = (refl, e refl)
-refuses_name p j (name.DuplicateAlias n) e = (refl, e refl)
-refuses_name p j name.TypeMismatch e = (refl, e refl)
-refuses_name p j name.Columns e = (refl, e refl)
-refuses_name p j name.ArithWidth e = (refl, e refl)
-refuses_name p j name.NoMemory e = tt
-
-gives_err : {T : Type 0} (fault : NameFault) (d : Result T NameFault) → Gives name_memory (Err fault) d → name_memory fault ≡ false → d ≡ Err fault
-gives_err {T = T} fault d g m = subst (λ (b : Bool). MatchBool b (Unit {0}) (d ≡ Err fault)) m g
-
-pub refuses_tree : (p : Part) (tables : List TableOf) (tree : Sql) (fault : NameFault) → Gives {T = Typed} name_memory (Err fault) (lowered tree tables)
-    → Refuses (query_of_tree p tables tree) (name_outcome p fault)
-refuses_tree p tables tree fault g = refuses_name p (query_of_tree p tables tree) fault (λ m. ap (or_outcome (name_outcome p)) (gives_err fault (lowered tree tables) g m))
-
--- a text without tokens
-pub refuses_text : (p : Part) (tables : List TableOf) (text : List ℕ) (fault : LexFault) → Gives {T = List Token} lex_memory (Err fault) (lexed text)
-    → Refuses (query_of p tables text) (lex_outcome p fault)
-refuses_text p tables text (lex.NotUtf8 at) g = (refl, then_err _ _ _ (ap (or_outcome (lex_outcome p)) g))
-refuses_text p tables text (lex.BadByte at) g = (refl, then_err _ _ _ (ap (or_outcome (lex_outcome p)) g))
-refuses_text p tables text (lex.OpenText at) g = (refl, then_err _ _ _ (ap (or_outcome (lex_outcome p)) g))
-refuses_text p tables text (lex.OpenComment at) g = (refl, then_err _ _ _ (ap (or_outcome (lex_outcome p)) g))
-refuses_text p tables text (lex.BigNumber at) g = (refl, then_err _ _ _ (ap (or_outcome (lex_outcome p)) g))
-refuses_text p tables text lex.NoMemory g = tt
 
 -- ---- steps of the reading
 
@@ -154,30 +57,6 @@ stops_refused s source j k R (outcome.Limit l) same r = (short s source l r.0, �
 stops_refused s source j k R (outcome.ReadFault p) same r = absurd r
 stops_refused s source j k R outcome.WriteFault same r = r
 stops_refused s source j k R outcome.NoMemory same r = tt
-
--- what holds of a file's name holds of the part's file
-pub failed_at : (s : Seen) (paths : Paths) (p : Part) (name : List ℕ) → file_name paths p ≡ Some name → Rose (s.before name) (s.after name) → Failed s (file_of (Files paths) p)
-failed_at s paths p name is rose = subst (Failed s) (sym is) rose
-
-pub long_at : (s : Seen) (paths : Paths) (p : Part) (name : List ℕ) → file_name paths p ≡ Some name → s.current ≡ Some name → s.taken ≡ most_bytes + 1 → IsLong s (file_of (Files paths) p)
-long_at s paths p name is current taken = subst (IsLong s) (sym is) (current, taken)
-
--- what stops the reading of a file stops that of its part
-pub text_stops : (s : Seen) (paths : Paths) (p : Part) (name : List ℕ) (o : Outcome) → file_name paths p ≡ Some name → TextStops s name p o
-    → Stops s (Files paths) (file_text p s.held (file_name paths p)) (λ q. q ≡ p) o
-text_stops s paths p name outcome.Agree is stop = stop
-text_stops s paths p name (outcome.Witness keep) is stop = stop
-text_stops s paths p name outcome.Usage is stop = stop
-text_stops s paths p name (outcome.Refused q fault) is stop = absurd stop
-text_stops s paths p name (outcome.Spent spent) is stop = stop
-text_stops s paths p name (outcome.Limit l) is stop = (
-  subst (λ (x : Limit). IsLongFor s (Files paths) x) (sym stop.0) (subst (IsLong s) (sym is) stop.1),
-  λ t. ap (file_text p s.held) is ∙ stop.2 t ∙ ap (λ (x : Limit). Err (outcome.Limit x)) (sym stop.0),
-)
-text_stops s paths p name (outcome.ReadFault q) is stop =
-    (subst (λ (x : Part). Failed s (file_name paths x)) (sym stop.0) (subst (Failed s) (sym is) stop.1), λ t. stop.0)
-text_stops s paths p name outcome.WriteFault is stop = stop
-text_stops s paths p name outcome.NoMemory is stop = tt
 
 long_on : (tells : Bool) (held held' : Holding) (before mid after : List ℕ → ℕ) (current : Option (List ℕ)) (taken : ℕ) (o : Option (List ℕ))
     → IsLong (seen tells held' mid after current taken) o → IsLong (seen tells held before after current taken) o

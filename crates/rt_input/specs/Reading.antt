@@ -3,6 +3,7 @@ use Rattle.std.specs.Option.{ForSome}
 use Rattle.std.specs.Prelude.{◌≡◌, ℕ, IsTrue, List, Option, None, Some, Ok, Err, IsSome, IsSomeAnd, ⊤}
 use Rattle.rt_io.specs.declared.files.Files.{Ghosts as Files}
 use Rattle.rt_io.specs.Command.{command}
+use Rattle.rt_io.specs.Gave.{Fits, Reading}
 use Rattle.rt_io.specs.Ranges.{Command}
 use Rattle.rt_input.specs.declared.part.Part.{Part}
 use Rattle.rt_input.specs.declared.outcome.Fault.{Fault}
@@ -12,19 +13,25 @@ use Rattle.rt_input.specs.declared.outcome.Outcome.TheVariants as outcome
 use Rattle.rt_input.specs.Accepted.{Accepted, HasOptions, IsAccepted}
 use Rattle.rt_input.specs.Faults.{is_refusal, placeless}
 use Rattle.rt_input.specs.Judged.{judged, Reaches}
-use Rattle.rt_input.specs.Held.{text_of}
+use Rattle.rt_input.specs.Held.{Holding, text_of}
 use Rattle.rt_input.specs.Placed.{Placed}
 use Rattle.rt_input.specs.Source.{IsKnown, IsMade, file_of, source_of}
 use Rattle.rt_input.specs.Steps.{Seen, over, Failed, IsLongFor}
 
--- a call: its arguments, and what is known of the files over it
+-- the readings of files before a call, and those until its end
+pub record Readings : Type 0 where
+  pub before : List Reading
+  pub after : List Reading
+
+-- a call: its arguments, what is known of the files over it, and the readings, where they are told
 pub record Call : Type 0 where
   pub words : List (List ℕ)
   pub files : Seen
+  pub readings : Option Readings
 
 -- the call on these arguments that found the files as `old` and left them as `new`
 abbrev pub call : {F : Type 0} → Files F → List (List ℕ) → F → F → Call
-call files words old new = record { words = words; files = over files old new }
+call files words old new = record { words = words; files = over files old new; readings = Some (record { before = files.gave old; after = files.gave new }) }
 
 -- the contents of the command's source are known
 abbrev pub IsTold : Call → Type 0
@@ -34,12 +41,18 @@ IsTold c = ForSome (command c.words) (λ k. IsKnown c.files.tells (source_of k))
 abbrev pub IsMadeCall : Option Command → Type 0
 IsMadeCall o = IsSomeAnd o (λ k. IsMade (source_of k))
 
--- An input that was read in the call: an accepted one with the numbers of the command. If the
--- contents of its source are known, it is the one that is judged.
+-- contents of names that fit all that the reads of the call gave
+abbrev pub IsGiven : Holding → Call → Type 0
+IsGiven held c = IsSomeAnd c.readings (λ r. Fits held r.before r.after)
+
+-- An input that was read in the call: an accepted one with the numbers of the command. It is the
+-- one that is judged of what the reads gave. If the contents of its source are known, it is the
+-- one that is judged of them.
 pub record IsRead (c : Call) (input : Accepted) : Type 0 where
   pub sound : IsAccepted input
   pub options : IsSomeAnd (command c.words) (λ k. HasOptions k input)
   pub told : IsTold c → judged c.words c.files.held ≡ Ok input
+  pub given : (held : Holding) → IsGiven held c → judged c.words held ≡ Ok input
 
 -- the work limit of the command
 abbrev pub limit_of : Option Command → ℕ

@@ -3,11 +3,12 @@
 
 ghost use Rattle.std.specs.Prelude.{◌≡◌, IfOk, IfErr, OnOk, Ok};
 ghost use Rattle.rt_io.specs.Edge.{NoneFell};
+ghost use Rattle.rt_io.specs.Gave.{Adds, Fits};
 ghost use Rattle.rt_algebra.specs.Typed.{IsTypedOf};
 ghost use Rattle.rt_input.specs.Accepted.{IsAccepted};
 ghost use Rattle.rt_input.specs.First.{IsFirst, data_in, first_judged};
 ghost use Rattle.rt_input.specs.Judged.{accepted, ReachesFirst};
-ghost use Rattle.rt_input.specs.Held.{text_of};
+ghost use Rattle.rt_input.specs.Held.{Holding, text_of};
 ghost use Rattle.rt_input.specs.Placed.{Placed};
 ghost use Rattle.rt_input.specs.Source.{IsKnown, IsMade, source_of};
 ghost use Rattle.rt_input.specs.Begun.{AddsAll, AddsSome, EndsAt, first_files, first_reached};
@@ -79,6 +80,8 @@ pub(crate) fn first_of<F: Files>(
     ensures err { IfErr result (Stops (over F.Files files.old files.new) source.now (first_judged source.now (F.held files.old)) (ReachesFirst source.now (F.held files.old))) }
     ensures place { IfErr result (λ o. IsKnown F.tells source.now → Placed (text_of source.now (F.held files.old)) o) }
     ensures speaks { IfErr result (SpeaksOf IsFirstPart) }
+    ensures given { IfOk result (λ first. (h : Holding) → Fits h (F.gave files.old) (F.gave files.new) → first_judged source.now h ≡ Ok first) }
+    ensures adds { Adds (F.gave files.old) (F.gave files.new) }
     ensures begun { AddsSome (IsKnown F.tells source.now) (first_files source.now) (first_reached source.now (F.held files.old)) (F.begun files.old) (F.begun files.new) }
     ensures begun_ok { OnOk result (AddsAll (IsKnown F.tells source.now) (first_files source.now) (first_reached source.now (F.held files.old)) (F.begun files.old) (F.begun files.new)) }
     ensures last { IfErr result (λ o. EndsAt source.now o (F.begun files.old) (F.begun files.new)) }
@@ -104,6 +107,8 @@ pub fn read_first<F: Files>(alloc: Global, words: &Words, files: &mut F) -> Resu
     ensures err { IfErr result (Stops (over F.Files files.old files.new) (source_of words.now) (first_judged (source_of words.now) (F.held files.old)) (ReachesFirst (source_of words.now) (F.held files.old))) }
     ensures place { IfErr result (λ o. IsKnown F.tells (source_of words.now) → Placed (text_of (source_of words.now) (F.held files.old)) o) }
     ensures speaks { IfErr result (SpeaksOf IsFirstPart) }
+    ensures given { IfOk result (λ first. (h : Holding) → Fits h (F.gave files.old) (F.gave files.new) → first_judged (source_of words.now) h ≡ Ok first) }
+    ensures adds { Adds (F.gave files.old) (F.gave files.new) }
     ensures begun { AddsSome (IsKnown F.tells (source_of words.now)) (first_files (source_of words.now)) (first_reached (source_of words.now) (F.held files.old)) (F.begun files.old) (F.begun files.new) }
     ensures begun_ok { OnOk result (AddsAll (IsKnown F.tells (source_of words.now)) (first_files (source_of words.now)) (first_reached (source_of words.now) (F.held files.old)) (F.begun files.old) (F.begun files.new)) }
     ensures last { IfErr result (λ o. EndsAt (source_of words.now) o (F.begun files.old) (F.begun files.new)) }

@@ -3,12 +3,13 @@
 
 ghost use Rattle.std.specs.Prelude.{◌≡◌, ◌++◌, IfOk, IfErr, OnOk, Ok, Some};
 ghost use Rattle.rt_io.specs.Edge.{AddsPrefix, NoneFell};
+ghost use Rattle.rt_io.specs.Gave.{Adds, Fits};
 ghost use Rattle.rt_schema.specs.Given.{IsOf};
 ghost use Rattle.rt_algebra.specs.Typed.{IsTypedOf};
 ghost use Rattle.rt_io.specs.Command.{command};
 ghost use Rattle.rt_input.specs.Source.{IsKnown, IsMade, query_part, source_of};
 ghost use Rattle.rt_input.specs.Judged.{query_judged, right_judged, input_judged, total_work, within_limit, work_between, Reaches};
-ghost use Rattle.rt_input.specs.Held.{text_of};
+ghost use Rattle.rt_input.specs.Held.{Holding, text_of};
 ghost use Rattle.rt_input.specs.Placed.{IsPlaceless, Placed};
 ghost use Rattle.rt_input.specs.Begun.{AddsAll, AddsSome, BeganFor, Begins, EndsAt, EndsFor, input_files, input_reached, part_files};
 ghost use Rattle.rt_input.specs.Steps.{over, Refuses, SpeaksOf, Stops};
@@ -54,6 +55,8 @@ pub(crate) fn read_query<F: Files>(
     ensures err { IfErr result (Stops (over F.Files files.old files.new) source.now (query_judged source.now (F.held files.old) (query_part part) schema.now) (λ p. p ≡ query_part part)) }
     ensures place { IfErr result (λ o. IsKnown F.tells source.now → Placed (text_of source.now (F.held files.old)) o) }
     ensures speaks { IfErr result (SpeaksOf (λ p. p ≡ query_part part)) }
+    ensures given { IfOk result (λ typed. (h : Holding) → Fits h (F.gave files.old) (F.gave files.new) → query_judged source.now h (query_part part) schema.now ≡ Ok typed) }
+    ensures adds { Adds (F.gave files.old) (F.gave files.new) }
     ensures begun { AddsPrefix (F.begun files.old) (F.begun files.new) (part_files source.now (query_part part)) }
     ensures begun_ok { OnOk result (F.begun files.new ≡ F.begun files.old ++ part_files source.now (query_part part)) }
     ensures last { IfErr result (λ o. EndsAt source.now o (F.begun files.old) (F.begun files.new)) }
@@ -79,6 +82,8 @@ fn read_right<F: Files>(
     ensures ok { IfOk result (λ right. IsKnown F.tells source.now → right_judged source.now (F.held files.old) schema.now left.now ≡ Ok right) }
     ensures err { IfErr result (Stops (over F.Files files.old files.new) source.now (right_judged source.now (F.held files.old) schema.now left.now) (λ p. p ≡ parts.Query2)) }
     ensures place { IfErr result (λ o. IsKnown F.tells source.now → Placed (text_of source.now (F.held files.old)) o) }
+    ensures given { IfOk result (λ right. (h : Holding) → Fits h (F.gave files.old) (F.gave files.new) → right_judged source.now h schema.now left.now ≡ Ok right) }
+    ensures adds { Adds (F.gave files.old) (F.gave files.new) }
     ensures begun { AddsPrefix (F.begun files.old) (F.begun files.new) (part_files source.now parts.Query2) }
     ensures begun_ok { OnOk result (F.begun files.new ≡ F.begun files.old ++ part_files source.now parts.Query2) }
     ensures last { IfErr result (λ o. EndsAt source.now o (F.begun files.old) (F.begun files.new)) }
@@ -137,6 +142,8 @@ fn read_source<F: Files>(
     ensures ok { IfOk result (λ input. IsKnown F.tells source.now → input_judged (F.held files.old) words.now ≡ Ok input) }
     ensures err { IfErr result (Stops (over F.Files files.old files.new) source.now (input_judged (F.held files.old) words.now) (Reaches source.now (F.held files.old))) }
     ensures place { IfErr result (λ o. IsKnown F.tells source.now → Placed (text_of source.now (F.held files.old)) o) }
+    ensures given { IfOk result (λ input. (h : Holding) → Fits h (F.gave files.old) (F.gave files.new) → input_judged h words.now ≡ Ok input) }
+    ensures adds { Adds (F.gave files.old) (F.gave files.new) }
     ensures begun { AddsSome (IsKnown F.tells source.now) (input_files source.now) (input_reached source.now (F.held files.old)) (F.begun files.old) (F.begun files.new) }
     ensures begun_ok { OnOk result (AddsAll (IsKnown F.tells source.now) (input_files source.now) (input_reached source.now (F.held files.old)) (F.begun files.old) (F.begun files.new)) }
     ensures last { IfErr result (λ o. EndsAt source.now o (F.begun files.old) (F.begun files.new)) }
@@ -162,6 +169,8 @@ fn read_command<F: Files>(alloc: Global, words: &Words, files: &mut F) -> Result
     ensures ok { IfOk result (λ input. IsKnown F.tells (source_of words.now) → input_judged (F.held files.old) words.now ≡ Ok input) }
     ensures err { IfErr result (Stops (over F.Files files.old files.new) (source_of words.now) (input_judged (F.held files.old) words.now) (Reaches (source_of words.now) (F.held files.old))) }
     ensures place { IfErr result (λ o. IsKnown F.tells (source_of words.now) → Placed (text_of (source_of words.now) (F.held files.old)) o) }
+    ensures given { IfOk result (λ input. (h : Holding) → Fits h (F.gave files.old) (F.gave files.new) → input_judged h words.now ≡ Ok input) }
+    ensures adds { Adds (F.gave files.old) (F.gave files.new) }
     ensures begun { AddsSome (IsKnown F.tells (source_of words.now)) (input_files (source_of words.now)) (input_reached (source_of words.now) (F.held files.old)) (F.begun files.old) (F.begun files.new) }
     ensures begun_ok { OnOk result (AddsAll (IsKnown F.tells (source_of words.now)) (input_files (source_of words.now)) (input_reached (source_of words.now) (F.held files.old)) (F.begun files.old) (F.begun files.new)) }
     ensures last { IfErr result (λ o. EndsAt (source_of words.now) o (F.begun files.old) (F.begun files.new)) }
@@ -186,6 +195,7 @@ pub fn read_input<F: Files>(alloc: Global, words: &[Txt], files: &mut F) -> Resu
     ensures begun_ok { OnOk result (BeganFor F.tells (F.held files.old) (command words.now) (F.begun files.old) (F.begun files.new)) }
     // None is begun behind the part that a refusal or an error of reading names.
     ensures last { IfErr result (λ o. EndsFor (command words.now) o (F.begun files.old) (F.begun files.new)) }
+    ensures adds { Adds (F.gave files.old) (F.gave files.new) }
     // A generated input begins no file.
     ensures made { IsMadeCall (command words.now) → files.new ≡ files.old }
     ensures has { F.has files.new ≡ F.has files.old }

@@ -2,11 +2,12 @@
 
 ghost use Rattle.std.specs.Prelude.{◌≡◌, ◌≤◌, ◌++◌, IsTrue, IfOk, IfErr, OnErr, OnOk, Ok, Some, length, slice_get, slice_set};
 ghost use Rattle.rt_io.specs.Edge.{AddsPrefix, NoneFell};
+ghost use Rattle.rt_io.specs.Gave.{Adds, Fits};
 ghost use Rattle.rt_input.specs.Begun.{AddsAll, AddsSome, EndsAt, data_files, data_reached, part_files, table_files, tables_reached};
 ghost use Rattle.rt_schema.specs.Given.{IsOf, places, rows_at, row_limit};
 ghost use Rattle.rt_input.specs.Source.{IsKnown, IsMade, tables_in};
 ghost use Rattle.rt_input.specs.Judged.{schema_of, schema_judged, table_judged, tables_judged, data_judged, no_rows, IsTableReached, ReachesFirst};
-ghost use Rattle.rt_input.specs.Held.{text_of};
+ghost use Rattle.rt_input.specs.Held.{Holding, text_of};
 ghost use Rattle.rt_input.specs.Placed.{Placed, PlacedIn};
 ghost use Rattle.rt_input.specs.Steps.{over, IsDataPart, Refuses, SpeaksOf, Stops};
 ghost use Rattle.rt_input.specs.declared.part.Part.TheVariants as parts;
@@ -71,6 +72,8 @@ fn schema_file<F: Files>(alloc: Global, files: &mut F, source: &Source) -> Resul
     ensures err { IfErr result (Stops (over F.Files files.old files.new) source.now (schema_judged source.now (F.held files.old)) (λ p. p ≡ parts.Schema)) }
     ensures place { IfErr result (λ o. IsKnown F.tells source.now → Placed (text_of source.now (F.held files.old)) o) }
     ensures speaks { IfErr result (SpeaksOf IsDataPart) }
+    ensures given { IfOk result (λ schema. (h : Holding) → Fits h (F.gave files.old) (F.gave files.new) → schema_judged source.now h ≡ Ok schema) }
+    ensures adds { Adds (F.gave files.old) (F.gave files.new) }
     ensures begun { AddsPrefix (F.begun files.old) (F.begun files.new) (part_files source.now parts.Schema) }
     ensures begun_ok { OnOk result (F.begun files.new ≡ F.begun files.old ++ part_files source.now parts.Schema) }
     ensures last { IfErr result (λ o. EndsAt source.now o (F.begun files.old) (F.begun files.new)) }
@@ -104,6 +107,8 @@ fn read_table<F: Files>(
     ensures err { IfErr result (Stops (over F.Files files.old files.new) source.now (table_judged source.now (F.held files.old) at table.now (places given.old.tables)) (λ p. p ≡ parts.Table at table.now.name)) }
     ensures place { IfErr result (λ o. IsKnown F.tells source.now → Placed (text_of source.now (F.held files.old)) o) }
     ensures speaks { IfErr result (SpeaksOf IsDataPart) }
+    ensures given { OnOk result ((h : Holding) → Fits h (F.gave files.old) (F.gave files.new) → table_judged source.now h at table.now (places given.old.tables) ≡ Ok (rows_at given.new.tables at)) }
+    ensures adds { Adds (F.gave files.old) (F.gave files.new) }
     ensures begun { AddsPrefix (F.begun files.old) (F.begun files.new) (part_files source.now (parts.Table at table.now.name)) }
     ensures begun_ok { OnOk result (F.begun files.new ≡ F.begun files.old ++ part_files source.now (parts.Table at table.now.name)) }
     ensures last { IfErr result (λ o. EndsAt source.now o (F.begun files.old) (F.begun files.new)) }
@@ -136,6 +141,8 @@ fn read_given<F: Files>(
     ensures err { IfErr result (Stops (over F.Files files.old files.new) source.now (tables_judged source.now (F.held files.old) 0 (no_rows schema.now) schema.now) (IsTableReached source.now (F.held files.old) schema.now)) }
     ensures place { IfErr result (λ o. IsKnown F.tells source.now → Placed (text_of source.now (F.held files.old)) o) }
     ensures speaks { IfErr result (SpeaksOf IsDataPart) }
+    ensures given { IfOk result (λ given. (h : Holding) → Fits h (F.gave files.old) (F.gave files.new) → tables_judged source.now h 0 (no_rows schema.now) schema.now ≡ Ok given.tables) }
+    ensures adds { Adds (F.gave files.old) (F.gave files.new) }
     ensures begun { OnErr result (AddsPrefix (F.begun files.old) (F.begun files.new) (table_files source.now 0 schema.now)) }
     ensures begun_ok { OnOk result (F.begun files.new ≡ F.begun files.old ++ table_files source.now 0 schema.now) }
     ensures last { IfErr result (λ o. EndsAt source.now o (F.begun files.old) (F.begun files.new)) }
@@ -164,6 +171,8 @@ pub(crate) fn tables_of<F: Files>(
     ensures err { IfErr result (Stops (over F.Files files.old files.new) source.now (data_judged source.now (F.held files.old)) (ReachesFirst source.now (F.held files.old))) }
     ensures place { IfErr result (λ o. IsKnown F.tells source.now → Placed (text_of source.now (F.held files.old)) o) }
     ensures speaks { IfErr result (SpeaksOf IsDataPart) }
+    ensures given { IfOk result (λ t. (h : Holding) → Fits h (F.gave files.old) (F.gave files.new) → data_judged source.now h ≡ Ok (record { schema = t.schema; given = t.given })) }
+    ensures adds { Adds (F.gave files.old) (F.gave files.new) }
     ensures begun { AddsSome (IsKnown F.tells source.now) (data_files source.now) (data_reached source.now (F.held files.old)) (F.begun files.old) (F.begun files.new) }
     ensures begun_ok { OnOk result (AddsAll (IsKnown F.tells source.now) (data_files source.now) (data_reached source.now (F.held files.old)) (F.begun files.old) (F.begun files.new)) }
     ensures last { IfErr result (λ o. EndsAt source.now o (F.begun files.old) (F.begun files.new)) }
@@ -191,6 +200,8 @@ pub fn read_tables<F: Files>(
     ensures err { IfErr result (Stops (over F.Files files.old files.new) (tables_in schema.now dir.now) (data_judged (tables_in schema.now dir.now) (F.held files.old)) (ReachesFirst (tables_in schema.now dir.now) (F.held files.old))) }
     ensures place { IfErr result (λ o. IsTrue F.tells → Placed (text_of (tables_in schema.now dir.now) (F.held files.old)) o) }
     ensures speaks { IfErr result (SpeaksOf IsDataPart) }
+    ensures given { IfOk result (λ t. (h : Holding) → Fits h (F.gave files.old) (F.gave files.new) → data_judged (tables_in schema.now dir.now) h ≡ Ok (record { schema = t.schema; given = t.given })) }
+    ensures adds { Adds (F.gave files.old) (F.gave files.new) }
     ensures begun { AddsSome (IsKnown F.tells (tables_in schema.now dir.now)) (data_files (tables_in schema.now dir.now)) (data_reached (tables_in schema.now dir.now) (F.held files.old)) (F.begun files.old) (F.begun files.new) }
     ensures begun_ok { OnOk result (AddsAll (IsKnown F.tells (tables_in schema.now dir.now)) (data_files (tables_in schema.now dir.now)) (data_reached (tables_in schema.now dir.now) (F.held files.old)) (F.begun files.old) (F.begun files.new)) }
     ensures last { IfErr result (λ o. EndsAt (tables_in schema.now dir.now) o (F.begun files.old) (F.begun files.new)) }

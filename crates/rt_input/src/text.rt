@@ -2,9 +2,10 @@
 
 ghost use Rattle.std.specs.Prelude.{◌≡◌, ◌≢◌, ◌≤◌, [], ◌∷◌, ◌++◌, IsTrue, IfOk, IfErr, OnOk, Ok};
 ghost use Rattle.rt_io.specs.Edge.{AddsPrefix, NoneFell, OnlyRises};
+ghost use Rattle.rt_io.specs.Gave.{Adds, Fits};
 ghost use Rattle.rt_input.specs.Begun.{EndsAt, part_files};
 ghost use Rattle.rt_input.specs.Source.{IsKnown, IsMade, file_name};
-ghost use Rattle.rt_input.specs.Held.{most_bytes, text_read, file_text, text_of, without_mark};
+ghost use Rattle.rt_input.specs.Held.{Holding, most_bytes, text_read, file_text, text_of, without_mark};
 ghost use Rattle.rt_input.specs.Placed.{IsPlaceless};
 ghost use Rattle.rt_input.specs.Steps.{over, SpeaksOf, Stops, TextStops};
 ghost use Rattle.rt_input.specs.declared.outcome.Outcome.TheVariants as outcomes;
@@ -32,6 +33,8 @@ pub fn read_text<F: Files>(
     ensures err { IfErr result (TextStops (over F.Files files.old files.new) name.now part) }
     // A file is too long exactly if more bytes of it were taken than it may have.
     ensures within { OnOk result (F.taken files.new ≤ most_bytes) }
+    ensures given { IfOk result (λ text. (h : Holding) → Fits h (F.gave files.old) (F.gave files.new) → text_read part (h name.now) ≡ Ok text) }
+    ensures adds { Adds (F.gave files.old) (F.gave files.new) }
     ensures begun { AddsPrefix (F.begun files.old) (F.begun files.new) (name.now ∷ []) }
     ensures begun_ok { OnOk result (F.begun files.new ≡ F.begun files.old ++ name.now ∷ []) }
     ensures begun_err { IfErr result (λ o. o ≢ outcomes.NoMemory → F.begun files.new ≡ F.begun files.old ++ name.now ∷ []) }
@@ -67,6 +70,8 @@ fn file_text<F: Files>(
     ensures err { IfErr result (Stops (over F.Files files.old files.new) (sources.Files paths.now) (file_text part (F.held files.old) (file_name paths.now part)) (λ p. p ≡ part)) }
     ensures place { IfErr result IsPlaceless }
     ensures speaks { IfErr result (SpeaksOf (λ p. p ≡ part)) }
+    ensures given { IfOk result (λ text. (h : Holding) → Fits h (F.gave files.old) (F.gave files.new) → file_text part h (file_name paths.now part) ≡ Ok text) }
+    ensures adds { Adds (F.gave files.old) (F.gave files.new) }
     ensures begun { AddsPrefix (F.begun files.old) (F.begun files.new) (part_files (sources.Files paths.now) part) }
     ensures begun_ok { OnOk result (F.begun files.new ≡ F.begun files.old ++ part_files (sources.Files paths.now) part) }
     ensures last { IfErr result (λ o. EndsAt (sources.Files paths.now) o (F.begun files.old) (F.begun files.new)) }
@@ -91,6 +96,8 @@ pub(crate) fn source_text<F: Files>(
     ensures err { IfErr result (Stops (over F.Files files.old files.new) source.now (text_of source.now (F.held files.old) part) (λ p. p ≡ part)) }
     ensures place { IfErr result IsPlaceless }
     ensures speaks { IfErr result (SpeaksOf (λ p. p ≡ part)) }
+    ensures given { IfOk result (λ text. (h : Holding) → Fits h (F.gave files.old) (F.gave files.new) → text_of source.now h part ≡ Ok text) }
+    ensures adds { Adds (F.gave files.old) (F.gave files.new) }
     ensures begun { AddsPrefix (F.begun files.old) (F.begun files.new) (part_files source.now part) }
     ensures begun_ok { OnOk result (F.begun files.new ≡ F.begun files.old ++ part_files source.now part) }
     ensures last { IfErr result (λ o. EndsAt source.now o (F.begun files.old) (F.begun files.new)) }

@@ -1,6 +1,8 @@
 pub mod Counts
 pub mod Edge
 pub mod Failing
+pub mod Gave
+pub mod Noted
 pub mod Held
 pub mod Logs
 pub mod MemFiles

@@ -3,6 +3,7 @@
 use Rattle.std.specs.Prelude.{◌≡◌, ℕ, List, [], Bool, Option, drop}
 use Rattle.std.specs.Option.{option_map, option_map_or}
 use Rattle.rt_io.specs.Counts.{count_in, name_at, names_in}
+use Rattle.rt_io.specs.Gave.{Reading}
 use Rattle.rt_io.specs.Held.{held_in, has_in}
 use Rattle.rt_io.specs.declared.mem_files.FailingRead.{FailingRead}
 use Rattle.rt_io.specs.declared.mem_files.MemFiles.{MemFiles}
@@ -28,6 +29,10 @@ faults_of f = count_in f.entries.items
 -- the names that were begun, in order
 abbrev pub begun_of : MemFiles → List (List ℕ)
 begun_of f = names_in f.entries.items
+
+-- what the reads gave
+abbrev pub gave_of : MemFiles → List Reading
+gave_of f = f.gave.readings
 
 -- a read gives at most so many bytes
 abbrev pub piece_of : MemFiles → ℕ

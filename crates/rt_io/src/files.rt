@@ -1,8 +1,9 @@
 //! Files as the programs see them: begun by name, read piece by piece, able to fail at any call.
 //! `read_file` is proved against the trait alone, so it holds for each kind of files.
 
-ghost use Rattle.std.specs.Prelude.{◌≡◌, ◌≢◌, ◌+◌, ◌-◌, ◌^◌, min, ◌<◌, ◌≤◌, ◌++◌, ◌∷◌, ℕ, List, [], Bool, IsTrue, Option, Some, None, length, take, IfOk, OnOk, OnErr, IsErrOf, IfSome, IsOkAnd};
+ghost use Rattle.std.specs.Prelude.{◌≡◌, ◌≢◌, ◌+◌, ◌-◌, ◌^◌, min, ◌<◌, ◌≤◌, ◌++◌, ◌∷◌, ℕ, List, [], Bool, IsTrue, false, true, Option, Some, None, length, take, IfOk, OnOk, OnErr, IsErrOf, IfSome, IsOkAnd};
 ghost use Rattle.rt_io.specs.Edge.{AddsPrefix, Rose, OnlyRises, NoneFell};
+ghost use Rattle.rt_io.specs.Gave.{Adds, Fits, Reading, given_by, is_end, reading_of};
 
 use rt_value::{Bytes, List, NoMemory};
 use std::alloc::Global;
@@ -61,6 +62,9 @@ pub trait Files {
     /// The names that were begun, in order, with those whose begin failed.
     ghost begun: { Self → List (List ℕ) };
 
+    /// What the reads gave, for each name that was begun, the newest first.
+    ghost gave: { Self → List Reading };
+
     /// Makes the named file the current one, at its start. After an error no file is current. When
     /// out of memory, the name may be among those that were begun or not.
     fn begin(&mut self, name: &str) -> Result<(), BeginFail>
@@ -75,6 +79,8 @@ pub trait Files {
         ensures begun_failed { IsErrOf result BeginFail.Failed → begun self.new ≡ begun self.old ++ name.now ∷ [] }
         ensures has { has self.new ≡ has self.old }
         ensures held { held self.new ≡ held self.old }
+        ensures gave { OnOk result (gave self.new ≡ reading_of name.now [] false ∷ gave self.old) }
+        ensures gave_err { OnErr result (gave self.new ≡ gave self.old) }
         ensures calm { OnOk result ((other : List ℕ) → faults self.new other ≡ faults self.old other) }
         ensures rises { OnlyRises name.now (faults self.old) (faults self.new) };
 
@@ -93,6 +99,8 @@ pub trait Files {
         ensures begun { begun self.new ≡ begun self.old }
         ensures has { has self.new ≡ has self.old }
         ensures held { held self.new ≡ held self.old }
+        ensures gave { IfOk result (λ n. gave self.new ≡ given_by (current self.old) (take n buf.new) (is_end n (length buf.new)) (gave self.old)) }
+        ensures gave_err { OnErr result (gave self.new ≡ gave self.old) }
         ensures calm { OnOk result ((name : List ℕ) → faults self.new name ≡ faults self.old name) }
         ensures same { (name : List ℕ) → current self.old ≢ Some name → faults self.new name ≡ faults self.old name }
         ensures rises { NoneFell (faults self.old) (faults self.new) };
@@ -122,6 +130,11 @@ pub fn read_file<F: Files>(
     ensures begun_failed { IsErrOf result ReadFail.Failed → F.begun files.new ≡ F.begun files.old ++ name.now ∷ [] }
     ensures begun_long { IsErrOf result ReadFail.TooLong → F.begun files.new ≡ F.begun files.old ++ name.now ∷ [] }
     ensures longer { IsErrOf result ReadFail.TooLong → IsTrue F.tells → max < length (F.held files.old name.now) }
+    // The bytes are just those that the reads gave, up to one that gave nothing.
+    ensures gave { IfOk result (λ bytes. F.gave files.new ≡ reading_of name.now bytes true ∷ F.gave files.old) }
+    ensures gave_long { IsErrOf result ReadFail.TooLong → (bytes : List ℕ) × (F.gave files.new ≡ reading_of name.now bytes false ∷ F.gave files.old) × (max < length bytes) }
+    ensures adds { Adds (F.gave files.old) (F.gave files.new) }
+    ensures told { IsTrue F.tells → Fits (F.held files.old) (F.gave files.old) (F.gave files.new) }
     ensures has { F.has files.new ≡ F.has files.old }
     ensures held { F.held files.new ≡ F.held files.old }
     ensures calm { OnOk result ((other : List ℕ) → F.faults files.new other ≡ F.faults files.old other) }

@@ -13,7 +13,9 @@
 mod commands;
 mod counts;
 mod files;
+mod gave;
 mod held;
+mod laws;
 mod limits;
 mod matches;
 mod mem_files;
@@ -32,6 +34,8 @@ mod words_read;
 
 pub use commands::{PlusCommand, plus_command};
 pub use files::{BeginFail, Failed, Files, ReadFail, read_file};
+pub use gave::{Gave, Note, is_end};
+pub use laws::given_fits;
 pub use mem_files::MemFiles;
 pub use mem_sink::MemSink;
 pub use place::Place;

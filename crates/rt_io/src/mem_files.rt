@@ -5,9 +5,11 @@ ghost use Rattle.std.specs.Prelude.{◌≡◌, ◌≢◌, ◌+◌, ◌-◌, ◌^
 ghost use Rattle.std.specs.Option.{ForSome};
 ghost use Rattle.rt_io.specs.Edge.{AddsPrefix, Rose, OnlyRises, NoneFell};
 ghost use Rattle.rt_io.specs.Failing.{is_named, is_failing};
+ghost use Rattle.rt_io.specs.Gave.{given_by, is_end, reading_of};
 
 use crate::counts::{Entry, enter, name_at, raise};
 use crate::files::{BeginFail, Failed, Files};
+use crate::gave::{Gave, Note, is_end};
 use crate::held::{Held, find, give, put};
 use rt_value::{Bytes, List, NoMemory, Txt};
 use std::alloc::Global;
@@ -39,13 +41,14 @@ pub struct MemFiles {
     piece: usize,
     failing_begins: Vec<Txt>,
     failing_reads: Vec<FailingRead>,
+    gave: Gave,
     ghost is_counted: { ForSome current (λ c. c.entry < vec_len entries) },
     ghost in_range: { ForSome current (λ c. c.at ≤ length c.bytes) },
     ghost some_piece: { 0 < piece },
 }
 
 impl MemFiles {
-    ghost use Rattle.rt_io.specs.MemFiles.{has_of, held_of, current_of, left_of, taken_of, faults_of, begun_of, piece_of, failing_begins, failing_reads, SameFiles, SameSettings};
+    ghost use Rattle.rt_io.specs.MemFiles.{has_of, held_of, current_of, left_of, taken_of, faults_of, begun_of, gave_of, piece_of, failing_begins, failing_reads, SameFiles, SameSettings};
 
     /// No files. Reads give as much as fits, and no call is set to fail.
     pub fn new(alloc: Global) -> MemFiles
@@ -65,6 +68,7 @@ impl MemFiles {
             piece: usize::MAX,
             failing_begins: Vec::new(alloc),
             failing_reads: Vec::new(alloc),
+            gave: Gave::new(),
         }
     }
 
@@ -139,7 +143,7 @@ fn is_failing(fails: &[FailingRead], name: &str, read: u64) -> bool
 }
 
 impl Files for MemFiles {
-    ghost use Rattle.rt_io.specs.MemFiles.{has_of, held_of, current_of, left_of, taken_of, faults_of, begun_of, piece_of, failing_begins, failing_reads, reads_of, SameSettings};
+    ghost use Rattle.rt_io.specs.MemFiles.{has_of, held_of, current_of, left_of, taken_of, faults_of, begun_of, gave_of, piece_of, failing_begins, failing_reads, reads_of, SameSettings};
 
     ghost tells = { true };
 
@@ -156,6 +160,8 @@ impl Files for MemFiles {
     ghost faults = { faults_of };
 
     ghost begun = { begun_of };
+
+    ghost gave = { gave_of };
 
     fn begin(&mut self, name: &str) -> Result<(), BeginFail>
         ensures reads { OnOk result (reads_of self.new ≡ 0) }
@@ -174,6 +180,8 @@ impl Files for MemFiles {
         ensures begun_failed { IsErrOf result BeginFail.Failed → begun_of self.new ≡ begun_of self.old ++ name.now ∷ [] }
         ensures has { has_of self.new ≡ has_of self.old }
         ensures held { held_of self.new ≡ held_of self.old }
+        ensures gave { OnOk result (gave_of self.new ≡ reading_of name.now [] false ∷ gave_of self.old) }
+        ensures gave_err { OnErr result (gave_of self.new ≡ gave_of self.old) }
         ensures calm { OnOk result ((other : List ℕ) → faults_of self.new other ≡ faults_of self.old other) }
         ensures rises { OnlyRises name.now (faults_of self.old) (faults_of self.new) }
     {
@@ -193,6 +201,7 @@ impl Files for MemFiles {
         let Ok(bytes) = List::from_slice(self.alloc, found.as_slice()) else {
             return Err(BeginFail::NoMemory);
         };
+        self.gave = self.gave.with(&Note::Begun(name));
         self.current = Some(Current {
             entry,
             bytes,
@@ -220,6 +229,8 @@ impl Files for MemFiles {
         ensures begun { begun_of self.new ≡ begun_of self.old }
         ensures has { has_of self.new ≡ has_of self.old }
         ensures held { held_of self.new ≡ held_of self.old }
+        ensures gave { IfOk result (λ n. gave_of self.new ≡ given_by (current_of self.old) (take n buf.new) (is_end n (length buf.new)) (gave_of self.old)) }
+        ensures gave_err { OnErr result (gave_of self.new ≡ gave_of self.old) }
         ensures calm { OnOk result ((name : List ℕ) → faults_of self.new name ≡ faults_of self.old name) }
         ensures same { (name : List ℕ) → current_of self.old ≢ Some name → faults_of self.new name ≡ faults_of self.old name }
         ensures rises { NoneFell (faults_of self.old) (faults_of self.new) }
@@ -235,6 +246,8 @@ impl Files for MemFiles {
                 }
                 let n = give(&current.bytes.as_slice()[current.at..], buf, self.piece);
                 current.at += n;
+                let ended = is_end(n, buf.len());
+                self.gave = self.gave.with(&Note::Read(&buf[..n], ended));
                 Ok(n)
             }
         }

@@ -1,5 +1,5 @@
-//! The files of the system. Which bytes they give is outside of every contract; proved is which
-//! were begun, how much was read and which calls failed.
+//! The files of the system. What a file holds is outside of every contract; proved is which were
+//! begun, that what each read gave is noted, how much was read and which calls failed.
 
 ghost use Rattle.std.specs.Prelude.{◌≡◌, ◌<◌, ◌≤◌, ℕ, List, [], false, vec_len, Some, None};
 ghost use Rattle.std.specs.Option.{option_map, option_map_or, ForSome};
@@ -7,6 +7,7 @@ ghost use Rattle.rt_io.specs.Counts.{count_in, name_at, names_in};
 
 use crate::counts::{Entry, enter, raise};
 use crate::files::{BeginFail, Failed, Files};
+use crate::gave::{Gave, Note, is_end};
 use std::alloc::Global;
 use std::fs::{self, File};
 use std::io::Read;
@@ -25,13 +26,15 @@ pub struct RealFiles {
     alloc: Global,
     entries: Vec<Entry>,
     current: Option<Current>,
+    gave: Gave,
     ghost in_range: { ForSome current (λ c. c.entry < vec_len entries) },
 }
 
 impl RealFiles {
     /// The files that the process may open. No file is current.
     pub fn new(rt: HostRuntime) -> RealFiles
-        ensures { (name : List ℕ) → ⟦<RealFiles as Files>⟧.faults result name ≡ 0 }
+        ensures faults { (name : List ℕ) → ⟦<RealFiles as Files>⟧.faults result name ≡ 0 }
+        ensures gave { ⟦<RealFiles as Files>⟧.gave result ≡ [] }
     {
         let alloc = rt.alloc();
         RealFiles {
@@ -39,6 +42,7 @@ impl RealFiles {
             alloc,
             entries: Vec::new(alloc),
             current: None,
+            gave: Gave::new(),
         }
     }
 }
@@ -60,6 +64,8 @@ impl Files for RealFiles {
 
     ghost begun = { λ f. names_in f.entries.items };
 
+    ghost gave = { λ f. f.gave.readings };
+
     fn begin(&mut self, name: &str) -> Result<(), BeginFail> {
         self.current = None;
         let entry = self.entries.len();
@@ -70,6 +76,7 @@ impl Files for RealFiles {
             raise(&mut self.entries, entry);
             return Err(BeginFail::Failed);
         };
+        self.gave = self.gave.with(&Note::Begun(name));
         self.current = Some(Current {
             entry,
             file,
@@ -84,6 +91,8 @@ impl Files for RealFiles {
             Some(current) => {
                 if let Ok(n) = current.file.read(buf) {
                     current.taken = current.taken.saturating_add(n as u64);
+                    let ended = is_end(n, buf.len());
+                    self.gave = self.gave.with(&Note::Read(&buf[..n], ended));
                     return Ok(n);
                 }
                 raise(&mut self.entries, current.entry);

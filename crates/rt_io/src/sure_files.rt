@@ -5,6 +5,7 @@ ghost use Rattle.std.specs.Option.{option_map, option_map_or, ForSome};
 ghost use Rattle.rt_io.specs.Held.{held_in};
 
 use crate::files::{BeginFail, Failed, Files};
+use crate::gave::{Gave, Note, is_end};
 use crate::held::{Held, find, give, put};
 use rt_value::{Bytes, List, NoMemory, Txt};
 use std::alloc::Global;
@@ -23,6 +24,7 @@ pub struct SureFiles {
     files: Vec<Held>,
     current: Option<Current>,
     begun: Vec<Txt>,
+    gave: Gave,
     ghost in_range: { ForSome current (λ c. c.at ≤ length c.bytes) },
 }
 
@@ -36,6 +38,7 @@ impl SureFiles {
             files: Vec::new(alloc),
             current: None,
             begun: Vec::new(alloc),
+            gave: Gave::new(),
         }
     }
 
@@ -76,6 +79,8 @@ impl Files for SureFiles {
 
     ghost begun = { λ f. f.begun.items };
 
+    ghost gave = { λ f. f.gave.readings };
+
     fn begin(&mut self, name: &str) -> Result<(), BeginFail> {
         self.current = None;
         let Ok(text) = Txt::of(self.alloc, name) else {
@@ -90,6 +95,7 @@ impl Files for SureFiles {
         let Ok(bytes) = self.contents(name) else {
             return Err(BeginFail::NoMemory);
         };
+        self.gave = self.gave.with(&Note::Begun(name));
         self.current = Some(Current {
             name: text,
             bytes,
@@ -104,6 +110,8 @@ impl Files for SureFiles {
             Some(current) => {
                 let n = give(&current.bytes.as_slice()[current.at..], buf, usize::MAX);
                 current.at += n;
+                let ended = is_end(n, buf.len());
+                self.gave = self.gave.with(&Note::Read(&buf[..n], ended));
                 Ok(n)
             }
         }

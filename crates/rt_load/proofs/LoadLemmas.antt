@@ -32,10 +32,6 @@ front-more : {X : Type 0} (front : List X) (x : X) (r : Result (List X) LoadFaul
 front-more {X = X} front x (Ok xs) = ap (λ (l : List X). Ok l) (sym (append_assoc front (x ∷ []) xs))
 front-more front x (Err e) = refl
 
-pub front-none : {X : Type 0} (r : Result (List X) LoadFault) → with_front [] r ≡ r
-front-none (Ok xs) = refl
-front-none (Err e) = refl
-
 pub rows-step : (cols : List Column) (n count : ℕ) (fields : List Field) (rest : List (List Field)) (rows : Rows) (row : List Value) → row_at cols n count fields ≡ Ok row
     → with_front rows (rows_from cols n count (fields ∷ rest)) ≡ with_front (rows ++ row ∷ []) (rows_from cols (n + 1) (count + 1) rest)
 unfolding rows_from

@@ -4,7 +4,7 @@ use Rattle.std.specs.List.{filter}
 use Rattle.rt_value.specs.declared.value.Value.{Value}
 use Rattle.rt_value.specs.declared.truth.Truth.{Truth}
 use Rattle.rt_value.specs.declared.truth.Truth.TheVariants.{Yes, No, Unknown}
-use Rattle.rt_value.specs.Truth.{truth_and, truth_or, truth_not}
+use Rattle.rt_value.specs.Truth.{truth_and, truth_or}
 use Rattle.rt_value.specs.Row.{row_eq}
 use Rattle.rt_schema.specs.Given.{Rows, Tables}
 use Rattle.rt_algebra.specs.Answer.{is_yes, some_truth, has_row, cell_truth, member_truth, join_each, pairs}
@@ -38,16 +38,6 @@ no_or Yes b = refl
 no_or Unknown No = refl
 no_or Unknown Yes = refl
 no_or Unknown Unknown = refl
-
-pub yes_not : (a : Truth) → is_no a ≡ is_yes (truth_not a)
-yes_not No = refl
-yes_not Yes = refl
-yes_not Unknown = refl
-
-pub no_not : (a : Truth) → is_yes a ≡ is_no (truth_not a)
-no_not No = refl
-no_not Yes = refl
-no_not Unknown = refl
 
 none_kept : (rs : Rows) → kept_rows rs [] ≡ []
 none_kept [] = refl

@@ -2,7 +2,7 @@
 use Rattle.std.proofs.Common.{◌≡◌, ℕ, zero, suc, ◌+◌, ◌<◌, Bool, ◌&&◌, List, [], ◌∷◌, ◌++◌, length, drop, get_or, Bor, slice_set, map, refl, sym, subst, ap, ap₂, arith, ◌∙◌, add_assoc, add-one, add-zero, zero-add, ◌≤◌}
 use mathlib.Core.Path.{fun_ext}
 use Rattle.std.proofs.Math.Seq.{drop-cons}
-use Rattle.std.proofs.lemmas.List.{append_assoc, append-nil, map-append}
+use Rattle.std.proofs.lemmas.List.{append_assoc, map-append}
 use Rattle.std.proofs.lemmas.List.Elements.{All-append}
 use Rattle.rt_value.specs.declared.value.Value.{Value}
 use Rattle.rt_schema.specs.Given.{Rows, Tables}
@@ -13,8 +13,8 @@ use Rattle.rt_formula.specs.Shared.{Shared, IsGrown, val, bool_at}
 use Rattle.rt_formula.proofs.Meaning.{val-grown}
 use Rattle.rt_noted.specs.Entries.{Formula, Test, Entry, selected, join_entry, paired, projected, head, tail, of_rows, of_table}
 use Rattle.rt_formula.specs.declared.noted.Noted.{Noted}
-use Rattle.rt_noted.specs.Annotated.{formula, entry_of, entries_of, AreNoted, IsNode, Reads, Along, placed, projected_rows}
-use Rattle.rt_noted.proofs.Growing.{grown_trans, grown_refl, noted_stay, entries_stay}
+use Rattle.rt_noted.specs.Annotated.{formula, entry_of, entries_of, AreNoted, IsNode, Along, placed, projected_rows}
+use Rattle.rt_noted.proofs.Growing.{grown_trans, noted_stay, entries_stay}
 
 pub entry_is : (d : Shared) (n : Noted) (r : List Value) (f : Formula) → n.row ≡ r → IsNode d n.node f → entry_of d n ≡ (r, f)
 entry_is d n r f e i = let p : formula d n.node ≡ f = fun_ext i.same in ap₂ (λ (x : List Value) (h : Formula). (x, h)) e p
@@ -38,24 +38,6 @@ along_push {old} {now} {next} {out} {new} {rest} {more} {whole} n r f a c g e i 
           ∙ ap₂ (λ (es : List Entry) (x : Entry). es ++ (x ∷ more)) (entries_stay g out a.below) (entry_is next n r f e i)
           ∙ ap (λ es. entries_of now out ++ es) (sym c) ∙ a.same;
     })
-
--- the next entries are noted
-pub along_more : {old now next : Shared} {out new : List Noted} {rest more whole these those : List Entry}
-    → Along old now out rest whole → rest ≡ these ++ more → IsGrown now next → Reads next new (entries_of now out ++ those) → those ≡ these → Along old next new more whole
-along_more {old} {now} {next} {out} {new} {rest} {more} {whole} {these} {those} a c g i e = record {
-  grown = grown_trans a.grown g;
-  below = i.below;
-  same = ap (λ es. es ++ more) (i.same ∙ ap (λ es. entries_of now out ++ es) e) ∙ append_assoc (entries_of now out) these more
-      ∙ ap (λ es. entries_of now out ++ es) (sym c) ∙ a.same;
-}
-
-pub along_start : (d : Shared) (out : List Noted) (rest whole : List Entry) → out ≡ [] → rest ≡ whole → Along d d out rest whole
-along_start d out rest whole e q =
-    let P : List Noted → Type 0 = λ ns. Along d d ns rest whole in
-    subst P (sym e) (record { grown = grown_refl d; below = λ k n l. absurd (omega arith); same = q })
-
-pub along_end : {old now : Shared} {out : List Noted} {rest whole : List Entry} → Along old now out rest whole → rest ≡ [] → Reads now out whole
-along_end {old} {now} {out} a e = record { below = a.below; same = sym (append-nil (entries_of now out)) ∙ ap (λ es. entries_of now out ++ es) (sym e) ∙ a.same }
 
 pub next_is : {X : Type 0} (xs : List X) (i : ℕ) (x : X) → i < length xs → x ≡ get_or xs i x → drop i xs ≡ x ∷ drop (i + 1) xs
 next_is xs i x l e = drop-cons xs i x l ∙ ap₂ ◌∷◌ (sym e) (ap (λ k. drop k xs) (sym (add-one i)))
@@ -86,18 +68,6 @@ pub next_placed : (base : ℕ) (rs : Rows) (i : ℕ) (r : List Value) → i < le
     → placed (base + i) (drop i rs) ≡ (r, λ s. bool_at s (base + i)) ∷ placed (base + (i + 1)) (drop (i + 1) rs)
 next_placed base rs i r l e = ap (placed (base + i)) (next_is rs i r l e) ∙ ap (λ k. (r, λ s. bool_at s (base + i)) ∷ placed k (drop (i + 1) rs)) (add_assoc base i 1)
 
-pub reads_as : {d : Shared} {ns : List Noted} {es fs : List Entry} → es ≡ fs → Reads d ns es → Reads d ns fs
-reads_as e i = record { below = i.below; same = i.same ∙ e }
-
-pub reads_same : {d : Shared} {ms ns : List Noted} {es : List Entry} → ms ≡ ns → Reads d ns es → Reads d ms es
-reads_same {d} {ms} {ns} {es} e i = let P : List Noted → Type 0 = λ xs. Reads d xs es in subst P (sym e) i
-
-pub reads_append : {d : Shared} {ms ns : List Noted} {es fs : List Entry} → Reads d ms es → Reads d ns fs → Reads d (ms ++ ns) (es ++ fs)
-reads_append {d} {ms} {ns} i j = record {
-  below = All-append (λ (m : Noted). m.node < length d.entries) ms ns i.below j.below;
-  same = map-append (entry_of d) ms ns ∙ ap₂ ◌++◌ i.same j.same;
-}
-
 pub projected_same : (d : Shared) (ns : List Noted) (es : List Expr) (env : Env) → entries_of d (projected_rows ns es env) ≡ projected (entries_of d ns) (λ r. row_by wrapped es (r ∷ env))
 projected_same d [] es env = refl
 projected_same d (n ∷ ns) es env = ap (λ xs. (row_by wrapped es (n.row ∷ env), λ s. val d s n.node) ∷ xs) (projected_same d ns es env)
@@ -106,12 +76,6 @@ pub projected_below : (d : Shared) (ns : List Noted) (es : List Expr) (env : Env
 projected_below d [] es env b k m l = absurd (omega arith)
 projected_below d (n ∷ ns) es env b zero m l = b 0 n (omega arith)
 projected_below d (n ∷ ns) es env b (suc k) m l = projected_below d ns es env (λ i f h. b (suc i) f (omega arith)) k m (omega arith)
-
-pub reads_projected : {d : Shared} {ns : List Noted} {fs : List Entry} (es : List Expr) (env : Env) → Reads d ns fs → Reads d (projected_rows ns es env) (projected fs (λ r. row_by wrapped es (r ∷ env)))
-reads_projected {d} {ns} es env i = record {
-  below = projected_below d ns es env i.below;
-  same = projected_same d ns es env ∙ ap (λ xs. projected xs (λ r. row_by wrapped es (r ∷ env))) i.same;
-}
 
 -- the rows of a table are at its places
 head_drop : (b : ℕ) (s : List Bool) → head (drop b s) ≡ bool_at s b

@@ -72,14 +72,6 @@ all-in : (front xs : Rows) → AllIn (front ++ xs) xs
 all-in front [] = tt
 all-in front (x ∷ xs) = (in-middle front x xs, subst (λ (l : Rows). AllIn l xs) (sym (shift-rows front x xs)) (all-in (front ++ x ∷ []) xs))
 
-all-has : (all xs : Rows) → AllIn all xs → list_all (has_row all) xs ≡ true
-all-has all [] h = refl
-all-has all (x ∷ xs) h = ap₂ ◌&&◌ h.0 (all-has all xs h.1)
-
--- each of the rows is among them
-pub all-own : (xs : Rows) → list_all (has_row xs) xs ≡ true
-all-own xs = all-has xs xs (all-in [] xs)
-
 filter-among : (n : ℕ) (f g : List Value → Bool) (all xs : Rows) → ((x : List Value) → length x ≡ n → has_row all x ≡ true → f x ≡ g x) → Wide n xs → AllIn all xs → filter f xs ≡ filter g xs
 filter-among n f g all [] h w i = refl
 filter-among n f g all (x ∷ xs) h w i = ap₂ (λ (b : Bool) (rest : Rows). cond b (x ∷ rest) rest) (h x w.0 i.0) (filter-among n f g all xs h w.1 i.1)

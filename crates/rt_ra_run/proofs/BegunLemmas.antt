@@ -1,6 +1,6 @@
 -- Which files a reading of two algebra texts begins.
 use Rattle.std.proofs.Common.{◌≡◌, subst, sym, ◌∷◌, ◌++◌, Bool, IsTrue, List, [], Ok}
-use Rattle.std.specs.Prelude.{Option, None, Some}
+use Rattle.std.specs.Prelude.{Option, Some}
 use Rattle.rt_io.proofs.AddLemmas.{adds_then}
 use Rattle.rt_io.specs.Edge.{AddsPrefix}
 use Rattle.rt_input.specs.declared.part.Part.TheVariants.{Query1}
@@ -8,7 +8,7 @@ use Rattle.rt_input.specs.Begun.{AddsAll, AddsSome, data_files, data_reached, th
 use Rattle.rt_input.specs.Held.{Holding}
 use Rattle.rt_input.specs.Judged.{Data}
 use Rattle.rt_input.specs.Source.{Text}
-use Rattle.rt_input.proofs.BegunLemmas.{none_begun, some_first, some_then, when_reached}
+use Rattle.rt_input.proofs.BegunLemmas.{some_first, some_then, when_reached}
 use Rattle.rt_ra_run.specs.declared.command.RaCommand.{RaCommand}
 use Rattle.rt_ra_run.specs.declared.query.Lowered.{Lowered}
 use Rattle.rt_ra_run.specs.Begun.{BeginsFor, asked_files, asked_reached, queries_reached, query_files, tables_of}
@@ -40,7 +40,3 @@ module _ (tells : Bool) (k : RaCommand) (held later : Holding) (old mid new : Li
 pub spelled_begun : (tells : Bool) (held : Holding) (o : Option RaCommand) (k : RaCommand) (old new : List Text) → o ≡ Some k
     → AddsSome (IsTrue tells) (asked_files k) (asked_reached k held) old new → BeginsFor tells held o old new
 spelled_begun tells held o k old new is some = subst (λ (p : Option RaCommand). BeginsFor tells held p old new) (sym is) some
-
-pub unspelled_begun : (tells : Bool) (held : Holding) (o : Option RaCommand) (old new : List Text) → new ≡ old → BeginsFor tells held o old new
-unspelled_begun tells held None old new same = same
-unspelled_begun tells held (Some k) old new same = none_begun (IsTrue tells) (asked_files k) (asked_reached k held) old new same

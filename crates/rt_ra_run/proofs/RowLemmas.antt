@@ -1,7 +1,7 @@
 -- What the rows of a call's answers follow from, and that an accepted command over files and sinks
 -- that don't fail gets a verdict.
 use Rattle.std.proofs.Common.{◌≡◌, ℕ, IsTrue, List, refl, sym, ap, subst, inl, inr, ◌∙◌, arith}
-use Rattle.std.specs.Prelude.{Option, Some, None, Result, Ok, Err, IsSome, IsSomeAnd, IfOk, IsOkAnd, ◌<◌, ◌≤◌, ◌^◌, ⊤}
+use Rattle.std.specs.Prelude.{Option, Some, None, Result, Ok, Err, IsSomeAnd, IfOk, IsOkAnd, ◌<◌, ◌≤◌, ◌^◌, ⊤}
 use Rattle.std.specs.Option.{ForSome}
 use Rattle.rt_io.specs.Logs.{Log, Broke, NoSinkRose, at_place}
 use Rattle.rt_io.specs.declared.place.Place.{Place}
@@ -23,18 +23,13 @@ use Rattle.rt_ra_run.specs.declared.asked.Asked.{Asked}
 use Rattle.rt_ra_run.specs.declared.command.RaCommand.{RaCommand}
 use Rattle.rt_ra_run.specs.declared.outcome.RaOutcome.{RaOutcome}
 use Rattle.rt_ra_run.specs.declared.outcome.RaOutcome.TheVariants.{Verdict, Refused}
-use Rattle.rt_ra_run.specs.Answers.{IfSaid, IsRead, IsTextOf, IsVerdictOrMemory, Judged, Judges, NoFileRose, PlacedRow, ReadFaultAt, ReadFaultRow, Row, SpentRow, Writes, WritesAll, YieldsTo}
+use Rattle.rt_ra_run.specs.Answers.{IfSaid, IsRead, IsTextOf, IsVerdictOrMemory, Judged, Judges, NoFileRose, ReadFaultAt, ReadFaultRow, Row, SpentRow, Writes, WritesAll, YieldsTo}
 use Rattle.rt_ra_run.specs.Asked.{HasNumbers, IsAsked}
 use Rattle.rt_ra_run.specs.Judged.{Reaches, asked_judged, command_judged, paths_of, ra_judged}
-use Rattle.rt_ra_run.specs.Placed.{Placed}
-use Rattle.rt_ra_run.specs.Steps.{IsLong, Stops}
-use Rattle.rt_ra_run.specs.Texts.{place, refusal_text}
-use Rattle.rt_ra_run.specs.Words.{WordsStop, limit_of, ra_command}
+use Rattle.rt_ra_run.specs.Texts.{place}
+use Rattle.rt_ra_run.specs.Words.{ra_command}
 
 -- ---- from the reading of the files to the rows
-
-is_some : {T : Type 0} (o : Option T) (x : T) → o ≡ Some x → IsSome o
-is_some o x e = rw e refl
 
 some_and : {T : Type 0} (P : T → Type 0) (o : Option T) (x : T) → o ≡ Some x → P x → IsSomeAnd o P
 some_and {T = X} P o x e p = subst (λ (q : Option X). IsSomeAnd q P) (sym e) p
@@ -42,72 +37,10 @@ some_and {T = X} P o x e p = subst (λ (q : Option X). IsSomeAnd q P) (sym e) p
 judged-command : (c : Call) (k : RaCommand) → ra_command c.words ≡ Some k → ra_judged c.words c.files.held ≡ asked_judged k c.files.held
 judged-command c k e = ap (λ (o : Option RaCommand). command_judged o c.files.held) e
 
-placed_row : (c : Call) (k : RaCommand) (o : RaOutcome) → ra_command c.words ≡ Some k
-    → (IsTrue c.files.tells → Placed k c.files.held o) → PlacedRow c o
-placed_row c k o e placed other is =
-    let same : k ≡ other = let p : Some k ≡ Some other = sym e ∙ is in cc in
-    subst (λ (x : RaCommand). IsTrue c.files.tells → Placed x c.files.held o) same placed
-
 -- a row, where it isn't out of memory
 abbrev pub Stop : Call → RaOutcome → Type 0
 Stop c (Verdict outcome.NoMemory) = ⊤
 Stop c o = Row c o
-
-limit-said : (c : Call) (k : RaCommand) (o : RaOutcome) → ra_command c.words ≡ Some k → refusal_text k.work_limit o ≡ refusal_text (limit_of (ra_command c.words)) o
-limit-said c k o e = ap (λ (x : Option RaCommand). refusal_text (limit_of x) o) (sym e)
-
-pub stop_row : (c : Call) (k : RaCommand) (o : RaOutcome) → ra_command c.words ≡ Some k
-    → Stops c.files k (asked_judged k c.files.held) (Reaches k c.files.held) o
-    → (IsTrue c.files.tells → Placed k c.files.held o) → Stop c o
-stop_row c k (Verdict outcome.Agree) e stop placed = absurd stop
-stop_row c k (Verdict (outcome.Witness keep)) e stop placed = absurd stop
-stop_row c k (Verdict outcome.Usage) e stop placed = absurd stop
-stop_row c k (Verdict (outcome.Refused part fault)) e stop placed =
-    (is_some _ k e, stop.0, λ t. judged-command c k e ∙ stop.1 t, placed_row c k (Verdict (outcome.Refused part fault)) e placed)
-stop_row c k (Verdict (outcome.Spent s)) e stop placed = absurd stop
-stop_row c k (Verdict (outcome.Limit l)) e stop placed = (some_and (λ k. IsLong c.files k l) _ k e stop.0, λ t. judged-command c k e ∙ stop.1 t)
-stop_row c k (Verdict (outcome.ReadFault part)) e stop placed = some_and (ReadFaultAt c.files part) _ k e (record { failed = stop.0; reached = stop.1 })
-stop_row c k (Verdict outcome.WriteFault) e stop placed = absurd stop
-stop_row c k (Verdict outcome.NoMemory) e stop placed = tt
-stop_row c k (Refused part fault) e stop placed =
-    (is_some _ k e, stop.0, λ t. judged-command c k e ∙ stop.1 t, placed_row c k (Refused part fault) e placed)
-
--- what is said where the reading stops
-pub stop_says : {T : Type 0} (c : Call) (k : RaCommand) (judged : Result T RaOutcome) (R : Part → Type 0) (o : RaOutcome) (said : List ℕ) → ra_command c.words ≡ Some k
-    → Stops c.files k judged R o → said ≡ refusal_text k.work_limit o → IsTextOf c o said
-stop_says c k judged R (Verdict outcome.Agree) said e stop text = absurd stop
-stop_says c k judged R (Verdict (outcome.Witness keep)) said e stop text = absurd stop
-stop_says c k judged R (Verdict outcome.Usage) said e stop text = absurd stop
-stop_says c k judged R (Verdict (outcome.Refused part fault)) said e stop text = text ∙ limit-said c k (Verdict (outcome.Refused part fault)) e
-stop_says c k judged R (Verdict (outcome.Spent s)) said e stop text = absurd stop
-stop_says c k judged R (Verdict (outcome.Limit l)) said e stop text = text ∙ limit-said c k (Verdict (outcome.Limit l)) e
-stop_says c k judged R (Verdict (outcome.ReadFault part)) said e stop text = text ∙ limit-said c k (Verdict (outcome.ReadFault part)) e
-stop_says c k judged R (Verdict outcome.WriteFault) said e stop text = absurd stop
-stop_says c k judged R (Verdict outcome.NoMemory) said e stop text = text ∙ limit-said c k (Verdict outcome.NoMemory) e
-stop_says c k judged R (Refused part fault) said e stop text = text ∙ limit-said c k (Refused part fault) e
-
--- the arguments are none
-pub usage_row : (c : Call) (o : Outcome) → WordsStop (ra_command c.words) o → Stop c (Verdict o)
-usage_row c outcome.Agree stop = absurd stop
-usage_row c (outcome.Witness keep) stop = absurd stop
-usage_row c outcome.Usage stop = stop
-usage_row c (outcome.Refused part fault) stop = absurd stop
-usage_row c (outcome.Spent s) stop = absurd stop
-usage_row c (outcome.Limit l) stop = absurd stop
-usage_row c (outcome.ReadFault part) stop = absurd stop
-usage_row c outcome.WriteFault stop = absurd stop
-usage_row c outcome.NoMemory stop = tt
-
-pub usage_says : (c : Call) (o : Outcome) (said : List ℕ) → WordsStop (ra_command c.words) o → said ≡ refusal_text 0 (Verdict o) → IsTextOf c (Verdict o) said
-usage_says c outcome.Agree said stop text = absurd stop
-usage_says c (outcome.Witness keep) said stop text = absurd stop
-usage_says c outcome.Usage said stop text = text
-usage_says c (outcome.Refused part fault) said stop text = absurd stop
-usage_says c (outcome.Spent s) said stop text = absurd stop
-usage_says c (outcome.Limit l) said stop text = absurd stop
-usage_says c (outcome.ReadFault part) said stop text = absurd stop
-usage_says c outcome.WriteFault said stop text = absurd stop
-usage_says c outcome.NoMemory said stop text = text
 
 pub read_row : (c : Call) (k : RaCommand) (a : Asked) → ra_command c.words ≡ Some k → IsAsked a → HasNumbers k a
     → (IsTrue c.files.tells → asked_judged k c.files.held ≡ Ok a) → IsRead c a

@@ -1,5 +1,5 @@
 -- The answers of parsing.
-use Rattle.std.proofs.Common.{◌≡◌, ◌∙◌, sym, ap, subst, List, true, false, Ok}
+use Rattle.std.proofs.Common.{◌≡◌, sym, ap, subst, List, false, Ok}
 use Rattle.rt_token.specs.Words.{kinds}
 use Rattle.rt_token.specs.declared.token.Token.{Token}
 use Rattle.rt_token.specs.declared.token.TokenKind.{TokenKind}
@@ -13,10 +13,6 @@ use Rattle.rt_ra_tree.proofs.TreeLemmas.{one-tree}
 
 pub shallow : (tokens : List Token) (t : RaText) → IsTreeOf tokens t → is_deep (kinds tokens) ≡ false
 shallow tokens t f = subst (λ (ks : List TokenKind). is_deep ks ≡ false) f.1 f.0.1
-
--- the tokens of a tree are not nested too deep
-pub refused-deep : (tokens : List Token) → is_deep (kinds tokens) ≡ true → (t : RaText) (P : Type 0) → IsTreeOf tokens t → P
-refused-deep tokens d t P f = let e : true ≡ false = sym d ∙ shallow tokens t f in cc e
 
 pub tree-of : (tokens : List Token) (t : RaText) → is_deep (kinds tokens) ≡ false → Spells tokens t → IsTreeOf tokens t
 tree-of tokens t d s = ((s.0, subst (λ (ks : List TokenKind). is_deep ks ≡ false) (sym s.1) d), s.1)

@@ -1,7 +1,6 @@
 -- Which line is the first bad one, and that a text is of one certificate.
-use Rattle.std.proofs.Common.{◌≡◌, ◌<◌, ◌≤◌, ◌+◌, ◌^◌, ℕ, zero, suc, List, [], ◌∷◌, ◌++◌, drop, take, length-drop, Bool, true, map, refl, sym, ap, ◌∙◌, subst, append_assoc, Option, Some, None, length, length-append, arith, inl, inr}
-use Rattle.std.specs.Prelude.{◌⊎◌, ◌==◌, Result, Ok, Err}
-use Rattle.std.proofs.lemmas.Bool.Decides.{nat_tests}
+use Rattle.std.proofs.Common.{◌≡◌, ◌<◌, ◌≤◌, ◌+◌, ◌^◌, ℕ, zero, suc, List, [], ◌∷◌, ◌++◌, drop, take, length-drop, map, refl, sym, ap, ◌∙◌, subst, append_assoc, Option, Some, None, length, length-append, arith, inl, inr}
+use Rattle.std.specs.Prelude.{◌⊎◌, Result, Ok, Err}
 use Rattle.std.proofs.lemmas.List.{take_all}
 use Rattle.rt_recorder.specs.declared.fault.CertFault.{CertFault}
 use Rattle.rt_recorder.specs.declared.fault.CertFault.TheVariants.{BadLine, NoMemory}
@@ -299,10 +298,6 @@ not-ended Verdict n e = e
 not-ended (Keep rows) n e = e
 not-ended (Added keep) n e = e
 not-ended (Steps c) n e = e
-
-pub is-empty : (rest : Text) (b : Bool) → b ≡ (length rest == 0) → b ≡ true → rest ≡ []
-is-empty [] b e f = refl
-is-empty (x ∷ rest) b e f = absurd (grind (arith, nat_tests))
 
 -- ---- what the reading gives
 

@@ -1,8 +1,8 @@
 -- Steps that are accepted one after another.
-use Rattle.std.proofs.Common.{◌≡◌, ℕ, zero, suc, ◌≤◌, ◌||◌, ◌<◌, ◌+◌, Bool, true, false, List, [], ◌∷◌, ◌++◌, length, take, get_or, refl, sym, ap, ◌∙◌, subst, append_assoc, arith, Option, Some, None, inl, inr}
+use Rattle.std.proofs.Common.{◌≡◌, ℕ, zero, suc, ◌||◌, ◌<◌, ◌+◌, Bool, true, false, List, [], ◌∷◌, ◌++◌, length, take, get_or, refl, sym, ap, ◌∙◌, subst, append_assoc, arith, Option, Some, None, inl, inr}
 use Rattle.std.specs.Prelude.{not, IsTrue, Result, Ok, Err, IfOk}
 use Rattle.std.specs.Option.{IfSome}
-use Rattle.std.proofs.lemmas.List.{take_more, take_all, length-take-le}
+use Rattle.std.proofs.lemmas.List.{take_more, length-take-le}
 use Rattle.rt_clause.specs.Literal.{Literal, negated}
 use Rattle.rt_clause.specs.Lists.{line_at}
 use Rattle.rt_clause.specs.Models.{IsModel, clause_true, lit_true}
@@ -59,9 +59,6 @@ wrong-at lines now ss i s h e f a w =
       accepted = a;
       wrong = λ x. w (subst (λ (ls : Lines). IsAccepted ls s) (sym f) x);
     }
-
-pub all-accepted : (lines : Lines) (ss : List Step) (i : ℕ) → length ss ≤ i → AreAccepted lines (take i ss) → AreAccepted lines ss
-all-accepted lines ss i h a = subst (AreAccepted lines) (take_all i ss h) a
 
 pub so : (b : Bool) → b ≡ true → IsTrue b
 so true e = refl

@@ -16,9 +16,6 @@ use Rattle.rt_recorder.specs.Reading.{IsClaim, Reads, claim_line, lines_read}
 
 -- ---- behind the head and the verdict
 
-pub head-no : (line : Text) → line ≢ header → Begins (line ∷ []) → ⊥
-head-no line n (c, f, more, e) = let t : line ≡ header = cc in n t
-
 first-claim : (line : Text) → Reads IsClaim claim_line line None → (k : Option (List ℕ)) (rest more : List Text) → IfSome k ArePlaces → verdict_lines k ++ rest ≡ line ∷ more → ⊥
 first-claim line n None rest more f e = let t : line ≡ agree = cc in n Agree tt t
 first-claim line n (Some ps) rest more f e = let t : line ≡ witness (length ps) = cc in n (Witness (length ps)) f.few t
@@ -56,14 +53,6 @@ verdict-peel None None rest more e = cc
 verdict-peel None (Some qs) rest more e = let t : agree ≡ witness (length qs) = cc in absurd (agree-other (length qs) t)
 verdict-peel (Some ps) None rest more e = let t : agree ≡ witness (length ps) = cc in absurd (agree-other (length ps) t)
 verdict-peel (Some ps) (Some qs) rest more e = cc
-
-pub added-no : (line : Text) (keep : Option (List ℕ)) → Reads IsNumber added_line line None → Begins (header ∷ verdict_lines keep ++ line ∷ []) → ⊥
-added-no line keep n (c, f, more, e) =
-    let rest : List Text = added_line c.added ∷ (map step_line c.steps ++ last_line ∷ []) in
-    let t : verdict_lines c.keep ++ rest ≡ (verdict_lines keep ++ line ∷ []) ++ more = cc in
-    let u : rest ≡ line ∷ more = verdict-peel c.keep keep rest (line ∷ more) (t ∙ append_assoc (verdict_lines keep) (line ∷ []) more) in
-    let v : line ≡ added_line c.added = cc in
-    n c.added f.added v
 
 -- ---- behind the steps
 

@@ -41,9 +41,6 @@ pub steps-added : {T E : Type 0} (r : Result T E) (lines new : Lines) (line : Li
 steps-added (Ok x) lines new line ds dnew ss h e f g k = subst (λ (ls : Lines). AreSteps ls dnew ss) (sym e) (subst (λ (bs : List Bool). AreSteps (lines ++ line ∷ []) bs ss) (sym f) (along-add [] lines line ds ss h))
 steps-added (Err x) lines new line ds dnew ss h e f g k = subst (λ (ls : Lines). AreSteps ls dnew ss) (sym g) (subst (λ (bs : List Bool). AreSteps lines bs ss) (sym k) h)
 
-pub steps-same : (lines new : Lines) (ds dnew : List Bool) (ss : List Step) → AreSteps lines ds ss → new ≡ lines → dnew ≡ ds → AreSteps new dnew ss
-steps-same lines new ds dnew ss h g k = subst (λ (ls : Lines). AreSteps ls dnew ss) (sym g) (subst (λ (bs : List Bool). AreSteps lines bs ss) (sym k) h)
-
 pub steps-derived : (lines new : Lines) (lits : List Literal) (hints : List ℕ) (ds dnew : List Bool) (ss : List Step) (s : Step) → AreSteps lines ds ss → IsStep s → s.lits ≡ lits → s.hints ≡ hints
     → All (λ h. h < length lines) hints → follows lines lits hints ≡ true → new ≡ lines ++ lits ∷ [] → dnew ≡ ds ++ true ∷ [] → AreSteps new dnew (ss ++ s ∷ [])
 steps-derived lines new lits hints ds dnew ss s h f a b known fol e g =

@@ -47,9 +47,6 @@ pub record IsAlong {X : Type 0} (Fits : X → Type 0) (spell : X → Text) (text
   pub fit : Each Fits out
   pub onward : (xs : List X) → Each Fits xs → text ≡ spaced spell xs → (ys : List X) × Each Fits ys × (rest ≡ spaced spell ys)
 
-pub along-start : {X : Type 0} (Fits : X → Type 0) (spell : X → Text) (text : Text) → IsAlong Fits spell text [] text
-along-start Fits spell text = record { parts = refl; fit = tt; onward = λ xs f e. (xs, f, e) }
-
 each-snoc : {X : Type 0} (Fits : X → Type 0) (xs : List X) (x : X) → Each Fits xs → Fits x → Each Fits (xs ++ x ∷ [])
 each-snoc Fits [] x f h = (h, tt)
 each-snoc Fits (y ∷ xs) x f h = (f.0, each-snoc Fits xs x f.1 h)
@@ -63,12 +60,6 @@ along-more {X} Fits spell free text out rest more word behind x a e c r = record
 } where
   whole : rest ≡ 32 ∷ (spell x ++ behind)
   whole = e ∙ ap (λ (t : Text). 32 ∷ t) (c.parts ∙ ap (λ (t : Text). t ++ behind) r.1)
-
-pub along-done : {X : Type 0} (Fits : X → Type 0) (spell : X → Text) (text : Text) (out : List X) (rest : Text) → IsAlong Fits spell text out rest → rest ≡ [] → Reads (Each Fits) (spaced spell) text (Some out)
-along-done Fits spell text out rest a e = (a.fit, a.parts ∙ ap (λ (t : Text). spaced spell out ++ t) e ∙ nil (spaced spell out)) where
-  nil : (t : Text) → t ++ [] ≡ t
-  nil [] = refl
-  nil (b ∷ t) = ap (λ (s : Text). b ∷ s) (nil t)
 
 pub along-no_piece : {X : Type 0} (Fits : X → Type 0) (spell : X → Text) → IsFree Fits spell → (text : Text) (out : List X) (rest more word behind : Text)
     → IsAlong Fits spell text out rest → rest ≡ 32 ∷ more → IsCut 32 more word behind → Reads Fits spell word None → Reads (Each Fits) (spaced spell) text None

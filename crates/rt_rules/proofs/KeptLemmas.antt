@@ -1,5 +1,5 @@
 -- Kept rows, one row at a time.
-use Rattle.std.proofs.Common.{◌≡◌, ℕ, suc, ◌+◌, ◌<◌, ◌≤◌, ◌-◌, Bool, true, false, cond, not, ◌&&◌, ◌||◌, List, [], ◌∷◌, length, drop, take, take_all, get_or, refl, sym, ap, arith, add-one, add-zero, ◌∙◌}
+use Rattle.std.proofs.Common.{◌≡◌, ℕ, suc, ◌+◌, ◌<◌, ◌≤◌, ◌-◌, Bool, true, false, cond, not, ◌&&◌, ◌||◌, List, [], ◌∷◌, length, drop, take, take_all, get_or, refl, sym, ap, arith, add-one, ◌∙◌}
 use Rattle.std.proofs.Math.Seq.{drop-cons, drop-length}
 use Rattle.std.proofs.lemmas.List.{drop-drop}
 use Rattle.std.specs.List.{list_all, list_any}
@@ -15,9 +15,6 @@ use Rattle.rt_rules.proofs.BoolLemmas.{and-false, and-true}
 -- the kept rows from a row on, `base` being the place of the table's first row
 abbrev pub since : Rows → ℕ → ℕ → List Bool → Rows
 since rows base at keep = kept_rows (drop at rows) (drop (base + at) keep)
-
-pub since-start : (rows : Rows) (base : ℕ) (keep : List Bool) → since rows base 0 keep ≡ kept_rows rows (drop base keep)
-since-start rows base keep = ap (λ b. kept_rows rows (drop b keep)) (add-zero base)
 
 pub since-end : (rows : Rows) (base : ℕ) (keep : List Bool) → since rows base (length rows) keep ≡ []
 since-end rows base keep = ap (λ rs. kept_rows rs (drop (base + length rows) keep)) (drop-length rows)

@@ -79,18 +79,6 @@ null-none from to row place (o ∷ others) h =
       and-false true = refl
       and-false false = refl
 
--- one without matches those that have its values
-pub filled-same : (from to : List ℕ) (row : List Value) (place : ℕ) (others : Rows) → list_any is_null (cells from row) ≡ false
-    → places_where (λ o. row_eq (cells from row) (cells to o)) place others ≡ places_where (agree from to row) place others
-filled-same from to row place [] h = refl
-filled-same from to row place (o ∷ others) h =
-    let yes : row_eq (cells from row) (cells to o) ≡ agree from to row o = sym (ap (λ b. row_eq (cells from row) (cells to o) && not b) h ∙ and-true (row_eq (cells from row) (cells to o))) in
-    ap (λ b. cond b (place ∷ places_where (λ o. row_eq (cells from row) (cells to o)) (place + 1) others) (places_where (λ o. row_eq (cells from row) (cells to o)) (place + 1) others)) yes
-    ∙ ap (λ ps. cond (agree from to row o) (place ∷ ps) ps) (filled-same from to row (place + 1) others h) where
-      and-true : (b : Bool) → (b && true) ≡ b
-      and-true true = refl
-      and-true false = refl
-
 pub each-one : {X : Type 0} (P : X → Type 0) (x : X) (xs : List X) → P x → Each P xs → Each P (x ∷ xs)
 each-one P x xs p h zero d b = p
 each-one P x xs p h (suc i) d b = h i d (omega (arith, b))

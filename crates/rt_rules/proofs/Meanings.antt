@@ -85,11 +85,6 @@ clauses-more old new ns n f g h grown m one e =
         by false true p = refl
         by false false p = refl
 
--- a gate over all clauses
-pub all-means : (old new : Shared) (ns : List ℕ) (n : ℕ) (f h : List Bool → Bool) → IsGrown old new → n < length new.entries → ((keep : List Bool) → val new keep n ≡ list_all (val old keep) ns) → MeanAll old ns f
-    → ((keep : List Bool) → length keep ≡ old.rows → f keep ≡ h keep) → Means new n h
-all-means old new ns n f h grown below v m e = record { below = below; same = λ keep l. (let k = l ∙ grown.rows in v keep ∙ m.same keep k ∙ e keep k) }
-
 pub indexed-grown : (old new : Shared) → IsGrown old new → (groups : Grouped) (columns : List ℕ) (rows : Rows) (base : ℕ) → IsIndexed old groups columns rows base → IsIndexed new groups columns rows base
 indexed-grown old new g groups columns rows base m = record {
   below = λ key. each-grown old new g (group_at groups key) (m.below key);

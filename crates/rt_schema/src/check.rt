@@ -1,5 +1,5 @@
-//! CHECKs, as the parser hands them over: OR of ANDs of atoms. Each type has a drop of its own, as
-//! in `table`.
+//! CHECKs, as `rt_ddl` makes them: OR of ANDs of atoms. Each type has a drop of its own, as in
+//! `table`.
 
 use rt_value::{List, Op, Value};
 

@@ -4,7 +4,7 @@ use Rattle.std.proofs.lemmas.List.Folds.{list_any-append}
 use Rattle.rt_clause.proofs.Bools.{bool-cases, or-cases, or-right, or-left}
 use Rattle.rt_store.specs.declared.trail.Step.{Step}
 use Rattle.rt_store.specs.Trail.{value_in, IsApart}
-use Rattle.rt_solver.specs.Marking.{stands, mark_at, steps_marked, IsMarking, IsUnmarked}
+use Rattle.rt_solver.specs.Marking.{stands, mark_at, steps_marked, IsMarking}
 use Rattle.rt_store.proofs.Number.{none-apart}
 
 pub count-older : (marks : List Bool) (s : Step) (t : List Step) → steps_marked marks t ≤ steps_marked marks (s ∷ t)
@@ -78,21 +78,6 @@ longer : (ws : List ℕ) (w : ℕ) → length (ws ++ w ∷ []) ≡ length ws + 1
 longer [] w = refl
 longer (x ∷ ws) w = let r = longer ws w in omega (arith, r)
 
-pub marking-set : (marks : List Bool) (marked more : List ℕ) (v due : ℕ) → IsMarking marks marked due → v < length marks → more ≡ marked ++ v ∷ [] → IsMarking (slice_set marks v true) more (due + 1)
-marking-set marks marked more v due h b e =
-    let P : List ℕ → Type 0 = λ ws. IsMarking (slice_set marks v true) ws (due + 1) in
-    subst P (sym e) (record {
-      listed = λ w m. elim (bool-cases (nat_eq w v)) [
-        | inl y ↦ (let q : w ≡ v = search rules in let S : ℕ → Type 0 = λ k. stands (marked ++ v ∷ []) k ≡ true in subst S (sym q) (stands-last marked v))
-        | inr n ↦ stands-kept marked v w (h.listed w (sym (mark-other marks v w n) ∙ m))
-      ];
-      within = λ w s. let l : length (slice_set marks v true) ≡ length marks = length-set marks v true in elim (stands-push marked v w s) [
-        | inl a ↦ (let x = h.within w a in omega (arith, x, l))
-        | inr q ↦ omega (arith, q, b, l)
-      ];
-      few = (let f = h.few in let l : length (marked ++ v ∷ []) ≡ length marked + 1 = longer marked v in omega (arith, f, l));
-    })
-
 -- the last of the list
 pub marking-last : (marks : List Bool) (marked less : List ℕ) (v due : ℕ) → IsMarking marks marked due → marked ≡ less ++ v ∷ [] → (v < length marks) × (length less < length marked)
 marking-last marks marked less v due h e =
@@ -113,13 +98,3 @@ marking-take marks marked less v due h e =
       within = λ w s. let l : length (slice_set marks v false) ≡ length marks = length-set marks v false in let x = g.within w (stands-kept less v w s) in omega (arith, x, l);
       few = omega arith;
     }
-
--- where none is listed, none is marked
-pub marking-none : (marks : List Bool) (marked : List ℕ) (due : ℕ) → IsMarking marks marked due → marked ≡ [] → IsUnmarked (record { marks = marks; marked = marked; due = 0 })
-marking-none marks marked due h e = record {
-  none = λ v. elim (bool-cases (mark_at marks v)) [
-    | inl y ↦ absurd (let q = ap (λ ws. stands ws v) e in let s = h.listed v y in cc)
-    | inr n ↦ n
-  ];
-  due = refl;
-}

@@ -11,10 +11,6 @@ use Rattle.rt_solver.specs.Answers.{Reads}
 use Rattle.rt_store.proofs.Tables.{value-has}
 use Rattle.rt_store.proofs.FreshLaws.{absent-lit}
 
-beq-refl : (b : Bool) → beq b b ≡ true
-beq-refl true = refl
-beq-refl false = refl
-
 -- a literal that is not false is true
 pub not-false-true : (m : ℕ) (t : List Step) (bools : List Bool) → Reads m t bools → (l : Literal) → l.var < m → is_false (lits t) l ≡ false → lit_true bools l ≡ true
 not-false-true m t bools r l b n = by l.on (slice_index_or bools l.var false) (value-has t l.var (slice_index_or bools l.var false) (r l.var b)) n where

@@ -65,9 +65,6 @@ before-none P (s ∷ t) e = by s.why e (before-none P t) where
   by Assumed q f = (tt, f q)
   by Decided q f = absurd (cc)
 
-pub part-more : (s : Step) (t : List Step) (early : List Literal) → IsPart early (lits t) → IsPart early (lits (s ∷ t))
-part-more s t early h l g = has-tail s.lit l (lits t) (h l g)
-
 pub part-suffix : (above t : List Step) → IsPart (lits t) (lits (above ++ t))
 part-suffix [] t l g = g
 part-suffix (s ∷ above) t l g = has-tail s.lit l (lits (above ++ t)) (part-suffix above t l g)

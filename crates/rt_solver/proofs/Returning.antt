@@ -141,10 +141,6 @@ norepeat-clause (d ∷ ds) h = let P : List Literal → Type 0 = HasNoRepeat in
     subst P (sym (front-last d ds)) (norepeat-snoc (map negated (reverse ds)) (negated d) (norepeat-clause ds h.1)
     (λ k g. h.0 (negated k) (reverse-has ds (negated k) (has-map (reverse ds) k g))))
 
-suffix-has : (xs t : List Step) (l : Literal) → has (lits t) l ≡ true → has (lits (xs ++ t)) l ≡ true
-suffix-has [] t l g = g
-suffix-has (x ∷ xs) t l g = has-tail x.lit l (lits (xs ++ t)) (suffix-has xs t l g)
-
 pub line-end : (lines : List (List Literal)) (c : List Literal) → line_at (lines ++ c ∷ []) (length (lines ++ c ∷ []) - 1) ≡ c
 line-end lines c = let e : length (lines ++ c ∷ []) - 1 ≡ length lines = (let l = length-append lines (c ∷ []) in omega (arith, l)) in ap (line_at (lines ++ c ∷ [])) e ∙ end lines where
   end : (xs : List (List Literal)) → line_at (xs ++ c ∷ []) (length xs) ≡ c

@@ -25,10 +25,6 @@ queue-newest clauses (s ∷ t) n e h =
     let P : List Literal → Type 0 = λ x. IsQueued clauses x (s ∷ t) in
     subst P (sym (ap (λ k. lits (drop k (s ∷ t))) z)) h
 
-pub queue-length : (t : List Step) (clauses : List (List Literal)) → IsQueuedNow clauses t → 1 ≤ length t
-queue-length [] clauses h = absurd h
-queue-length (s ∷ t) clauses h = omega arith
-
 -- so too a decision
 pub queue-decided : (clauses : List (List Literal)) (t after : List Step) (s : Step) (n : ℕ) → n ≡ length t → after ≡ s ∷ t → IsQueued clauses (lits t) after → IsQueued clauses (lits (oldest n after)) after
 queue-decided clauses t after s n e a h =

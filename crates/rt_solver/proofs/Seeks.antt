@@ -1,5 +1,5 @@
 -- A question that is decided before all else: where it is false, nothing is decided.
-use Rattle.std.proofs.Common.{◌≡◌, ℕ, ◌<◌, ◌≤◌, Bool, true, false, List, [], ◌∷◌, ◌++◌, refl, sym, subst, ◌⊎◌, inl, inr, Option, Some, None, IfSome, arith}
+use Rattle.std.proofs.Common.{◌≡◌, ℕ, ◌<◌, Bool, true, false, List, [], ◌∷◌, ◌++◌, refl, sym, subst, ◌⊎◌, inl, inr, Option, Some, None, IfSome, arith}
 use Rattle.rt_clause.specs.Literal.{Literal, negated}
 use Rattle.rt_clause.specs.Lists.{has, is_false}
 use Rattle.rt_clause.proofs.Bools.{bool-cases}
@@ -9,14 +9,10 @@ use Rattle.rt_store.specs.declared.trail.Why.{Why}
 use Rattle.rt_store.specs.declared.trail.Why.TheVariants.{Line, Decided, Assumed}
 use Rattle.rt_solver.specs.declared.order.Order.{Order}
 use Rattle.rt_solver.specs.declared.order.Order.TheVariants.{Free, Fixed}
-use Rattle.rt_solver.specs.declared.next.Next.{Next}
-use Rattle.rt_solver.specs.declared.next.Next.TheVariants.{Whole, Missed, Decide}
-use Rattle.rt_solver.specs.Picking.{Picking, IsOffered}
-use Rattle.rt_store.specs.Trail.{lits, value_in, IsApart, IfDecided, decisions, decided_by}
+use Rattle.rt_store.specs.Trail.{lits, IsApart, IfDecided, decisions, decided_by}
 use Rattle.rt_solver.specs.Propagating.{AreForced, IsPropagated}
-use Rattle.rt_solver.specs.Seeking.{IsLed, IsFalseAtRoot, IsChosen, IsNext}
+use Rattle.rt_solver.specs.Seeking.{IsLed, IsFalseAtRoot}
 use Rattle.rt_store.proofs.FreshLaws.{consistent}
-use Rattle.rt_solver.proofs.Picks.{offered-more}
 
 -- of an optional literal
 pub if-some : (P Q : Literal → Type 0) (o : Option Literal) → ((a : Literal) → P a → Q a) → IfSome o P → IfSome o Q
@@ -88,23 +84,6 @@ denied-at m o a t e p l h =
     let P : Literal → Type 0 = λ k. has (lits t) k ≡ false in
     let L : Option Literal → Type 0 = λ q. IfSome q (λ x. IsLed x t) in
     (h, led-none a t (subst L e l) (subst P (negated-twice a) (consistent m t p (negated a) h)))
-
--- what comes next where no question is open, with a question that is true
-pub next-asked : (picking : Picking) (vars : ℕ) (order : Order) (a : Literal) (steps : List Step) (n : Next) → IsNext picking vars order None steps n → has (lits steps) a ≡ true → IsNext picking vars order (Some a) steps n
-next-asked picking vars order a steps Whole h t = (h.0, t)
-next-asked picking vars order a steps (Missed b) h t = absurd (let e = h.0 in cc)
-next-asked picking vars order a steps (Decide lit) h t = record { within = h.within; unset = h.unset; smallest = h.smallest; fixed = h.fixed; offered = h.offered; led = inr t }
-
--- an open question may be decided next
-pub chosen-asked : (picking : Picking) (vars : ℕ) (order : Order) (a : Literal) (steps : List Step) → picking.bound ≤ vars → a.var < picking.bound → value_in steps a.var ≡ None → IsOffered picking steps → (order ≡ Fixed → picking.bound ≡ 0) → IsChosen picking vars order (Some a) steps a
-chosen-asked picking vars order a steps f l u o n = record {
-  within = omega (arith, f, l);
-  unset = u;
-  smallest = λ z. absurd (omega (arith, l, z));
-  fixed = λ z. absurd (let e = n z in omega (arith, l, e));
-  offered = λ s q. offered-more picking (s ∷ []) steps o;
-  led = inl refl;
-}
 
 -- the question is one of the variables that the heap offers
 pub asked-bound : (order : Order) (o : Option Literal) (first bound : ℕ) → (order ≡ Free → bound ≡ first) → (order ≡ Fixed → o ≡ None) → IfSome o (λ a. a.var < first) → IfSome o (λ a. a.var < bound)

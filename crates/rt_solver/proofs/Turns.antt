@@ -1,16 +1,13 @@
 -- A watched literal that is false, and what becomes of it.
-use Rattle.std.proofs.Common.{◌≡◌, ◌≢◌, ℕ, ◌-◌, ◌<◌, ◌≤◌, Bool, true, false, not, nat_eq, nat_lt, min, List, [], ◌∷◌, length, take, get_or, swap, refl, sym, ap, subst, ◌∙◌, ◌⊎◌, inl, inr, Some, arith, rules}
+use Rattle.std.proofs.Common.{◌≡◌, ◌≢◌, ℕ, ◌-◌, ◌<◌, ◌≤◌, true, false, nat_eq, List, [], length, get_or, swap, sym, ap, subst, ◌∙◌, ◌⊎◌, inl, inr, Some, arith, rules}
 use Rattle.std.proofs.lemmas.List.Edits.{length-swap, swapped_from_swap}
-use Rattle.rt_clause.specs.Literal.{Literal, lit_eq}
+use Rattle.rt_clause.specs.Literal.{Literal}
 use Rattle.rt_clause.specs.Lists.{has, is_false}
 use Rattle.rt_clause.proofs.Bools.{bool-cases}
-use Rattle.rt_clause.proofs.Literals.{has-head, lit_eq-refl}
 use Rattle.rt_store.specs.declared.trail.Step.{Step}
-use Rattle.rt_store.specs.Trail.{lits, value_in, IsUnit}
+use Rattle.rt_store.specs.Trail.{lits, IsUnit}
 use Rattle.rt_store.specs.Watching.{literal_in}
-use Rattle.rt_solver.specs.Turning.{AreFalseWithin, AreFalseFrom, IsFreeAt, IsMoved, IsHeld, IsLast}
-use Rattle.rt_store.specs.declared.trail.Why.TheVariants.{Line}
-use Rattle.rt_store.specs.Table.{IsStatus}
+use Rattle.rt_solver.specs.Turning.{AreFalseFrom, IsMoved}
 use Rattle.rt_store.proofs.Looks.{has-at}
 use Rattle.rt_store.proofs.Copies.{place-of, read-same, literal-at, literal-long, literal-read, spread-from, swap-same}
 
@@ -57,52 +54,9 @@ moved c new p j other l b w low jw e d s =
       spread = spread-from new p l other b at kept d;
     }
 
-pub free-at : (t : List Step) (c : List Literal) (other l : Literal) (j : ℕ) → 2 ≤ j → j < length c → l ≡ get_or c j l → lit_eq l other ≡ false → is_false (lits t) l ≡ false → IsFreeAt t c other j
-free-at t c other l j a b e n f = record {
-  low = a;
-  within = b;
-  usable = λ k q. let s : k ≡ l = read-same c j k l b q e in
-      let P : Literal → Type 0 = λ x. (x ≢ other) × (is_false (lits t) x ≡ false) in
-      subst P (sym s) ((λ z. let r = lit_eq-refl other in let w : lit_eq l other ≡ true = ap (λ x. lit_eq x other) z ∙ r in cc), f);
-}
-
 pub literal-below : (m : ℕ) (c : List Literal) (p : ℕ) (l : Literal) → p < 2 → literal_in c p ≡ Some l → ((k : Literal) → has c k ≡ true → k.var < m) → l.var < m
 literal-below m c p l b e h = let long = literal-long c p l e in h l (has-at c p l (omega (arith, b, long)) (literal-read c p l b e))
-
--- the two parts of a search
-pub false-parts : (t : List Step) (c : List Literal) (other : Literal) (b : ℕ) → AreFalseWithin t c other b (length c) → AreFalseWithin t c other 2 b → AreFalseFrom t c other
-false-parts t c other b late early j l low high e = elim (bool-cases (nat_lt j b)) [
-  | inl y ↦ early j l low (search rules) e
-  | inr n ↦ late j l (search rules) high e
-]
-
-pub take-first : (c : List Literal) → take (min (length c) 1) c ≡ take 1 c
-take-first [] = refl
-take-first (a ∷ c) = let e : min (length (a ∷ c)) 1 ≡ 1 = omega arith in ap (λ n. take n (a ∷ c)) e
 
 -- the other watched literal, as it is read
 pub other-read : (c : List Literal) (p : ℕ) (k l : Literal) → p < 2 → literal_in c p ≡ Some k → l ≡ get_or c (1 - p) l → literal_in c (1 - p) ≡ Some l
 other-read c p k l b w o = literal-at c (1 - p) l (omega arith) (literal-long c p k w) o
-
--- the last literal that is left became true
-pub held : (t after : List Step) (c : List Literal) (n : ℕ) (l : Literal) → after ≡ record { lit = l; why = Line n } ∷ t → IsUnit c (lits t) l → IsHeld c t after n l
-held t after c n l s u = record {
-  among = u.among;
-  true_now = ap (λ x. has (lits x) l) s ∙ has-head l (lits t);
-  steps = inr (s, u);
-}
-
--- or was true
-pub held-already : (t : List Step) (c : List Literal) (n : ℕ) (l : Literal) → has c l ≡ true → has (lits t) l ≡ true → IsHeld c t t n l
-held-already t c n l e h = record { among = e; true_now = h; steps = inl refl }
-
--- or is false
-pub last-told : (t : List Step) (c : List Literal) (n : ℕ) (l : Literal) (on : Bool) → IsUnit c (lits t) l → IsStatus (lits t) (value_in t l.var) l (Some on) → IsLast c t t n l (not on)
-last-told t c n l true u s = held-already t c n l u.among s
-last-told t c n l false u s = (
-  λ k h. elim (u.others k h) [
-    | inl q ↦ (let P : Literal → Type 0 = λ x. is_false (lits t) x ≡ true in subst P (sym q) s)
-    | inr r ↦ r
-  ],
-  refl,
-)

@@ -1,5 +1,5 @@
 -- The tree that is read is the one that the tokens have, and so the answer is what they say.
-use Rattle.std.proofs.Common.{◌≡◌, ◌∙◌, sym, ap, subst, ℕ, List, refl, Bool, true, false, Option, Some, None, Result, Ok, Err}
+use Rattle.std.proofs.Common.{◌≡◌, ◌∙◌, sym, ap, subst, ℕ, List, refl, Bool, true, false, Option, Some, None, Ok, Err}
 use Rattle.std.specs.Option.{option_and_then}
 use Rattle.rt_token.specs.Terminals.{Kinds, Word}
 use Rattle.rt_token.specs.Words.{kinds, marks}
@@ -8,13 +8,12 @@ use Rattle.rt_token.specs.declared.read_fault.ReadFault.TheVariants.{Syntax}
 use Rattle.rt_token.specs.declared.token.Token.{Token}
 use Rattle.rt_token.specs.declared.token.TokenKind.{TokenKind}
 use Rattle.rt_tree.specs.declared.tree.Sql.{Sql}
-use Rattle.rt_value.specs.Gives.{Gives}
 use Rattle.rt_sql.specs.Depth.{is_deep}
 use Rattle.rt_sql.specs.Formed.{IsTreeOf}
 use Rattle.rt_sql.specs.Reads.{read_sql}
-use Rattle.rt_sql.specs.Refusals.{HasNoTree, IsAnswer, is_memory, refusal, refusal_of, unsupported}
+use Rattle.rt_sql.specs.Refusals.{HasNoTree, refusal, refusal_of, unsupported}
 use Rattle.rt_sql.specs.Trees.{Spells, TreeRead}
-use Rattle.rt_sql.specs.Whole.{of_tree, placeless, sql_read, tree_read, unless_deep, unless_refused}
+use Rattle.rt_sql.specs.Whole.{of_tree, sql_read, tree_read, unless_deep, unless_refused}
 use Rattle.rt_sql.specs.declared.fault.SqlFault.{SqlFault}
 use Rattle.rt_sql.specs.declared.fault.SqlFault.TheVariants as fault
 use Rattle.rt_sql.proofs.ChainLaws.{sql-reads}
@@ -57,9 +56,6 @@ none-read : (tokens : List Token) (o : Option Sql) → tree_read tokens ≡ o �
 none-read tokens None r n = refl
 none-read tokens (Some t) r n = absurd (n t (read-is-tree tokens t r))
 
-refused-read : (tokens : List Token) (f : SqlFault) → refusal tokens ≡ Some f → sql_read tokens ≡ Err f
-refused-read tokens f e = ap (λ (o : Option SqlFault). unless_refused o (tree_read tokens)) e
-
 no-tree-read : (tokens : List Token) → refusal tokens ≡ None → HasNoTree tokens → sql_read tokens ≡ Err (fault.Syntax 0)
 no-tree-read tokens e n = ap (λ (o : Option SqlFault). unless_refused o (tree_read tokens)) e ∙ none-read tokens (tree_read tokens) refl n
 
@@ -76,11 +72,3 @@ pub syntax-gives-read : (tokens : List Token) (e : ReadFault) (left : ℕ) → e
 syntax-gives-read tokens e left p u d r =
     let none = subst (λ (e : ReadFault). TreeRead tokens (Err e)) p r in
     no-tree-read tokens (ap (λ (o : Option (Word × ℕ)). refusal_of o (is_deep (kinds tokens))) (sym u) ∙ ap (refusal_of None) d) (λ t f. none t (spells tokens t f))
-
-pub answer-read : (tokens : List Token) (r : Result Sql SqlFault) → IsAnswer tokens r → Gives is_memory (placeless r) (sql_read tokens)
-answer-read tokens (Ok t) h =
-    ap (λ (o : Option SqlFault). unless_refused o (tree_read tokens)) (unrefused tokens t h) ∙ ap of_tree (tree-is-read tokens t h)
-answer-read tokens (Err (fault.Unsupported w at)) h = refused-read tokens (fault.Unsupported w at) h
-answer-read tokens (Err fault.TooDeep) h = refused-read tokens fault.TooDeep h
-answer-read tokens (Err (fault.Syntax at)) h = no-tree-read tokens h.0 h.1
-answer-read tokens (Err fault.NoMemory) h = tt

@@ -1,11 +1,11 @@
 -- The literals of a clause by their places, and a copy in which some are exchanged.
-use Rattle.std.proofs.Common.{◌≡◌, ◌≢◌, ℕ, zero, suc, ◌-◌, ◌<◌, ◌≤◌, true, List, [], ◌∷◌, length, take, get_or, swap, refl, sym, ap, subst, ◌∙◌, inl, inr, Some, arith}
+use Rattle.std.proofs.Common.{◌≡◌, ◌≢◌, ℕ, zero, suc, ◌-◌, ◌<◌, ◌≤◌, true, List, [], ◌∷◌, length, get_or, swap, refl, sym, ap, ◌∙◌, inl, inr, Some, arith}
 use Rattle.std.proofs.lemmas.List.{get_or_default}
 use Rattle.std.proofs.lemmas.List.Edits.{length-swap, swapped_from_swap}
 use Rattle.std.proofs.lemmas.List.Sorted.{list_any-IsPermutation, IsPermutation-swap}
 use Rattle.rt_clause.specs.Literal.{Literal, lit_eq}
 use Rattle.rt_clause.specs.Lists.{has}
-use Rattle.rt_clause.proofs.Literals.{has-head, has-cases}
+use Rattle.rt_clause.proofs.Literals.{has-cases}
 use Rattle.rt_store.specs.Same.{IsSame, IsSpread, AreFirst, HasOther}
 use Rattle.rt_store.specs.Watching.{literal_in}
 
@@ -50,23 +50,6 @@ pub swap-same : (c new : List Literal) (i j : ℕ) → i < length c → j < leng
 swap-same c new i j a b e =
     let q = λ (l : Literal). list_any-IsPermutation (lit_eq l) c new (IsPermutation-swap c new i j a b e) in
     record { to = λ l h. sym (q l) ∙ h; from = λ l h. q l ∙ h }
-
--- a copy in which the first two literals differ
-pub other-none : (c : List Literal) → AreFirst c → IsSame c (take 1 c) × IsSpread (take 1 c)
-other-none [] h = (record { to = λ l g. g; from = λ l g. g }, tt)
-other-none (a ∷ c) h = (
-  record {
-    to = λ l g. elim (has-cases a l c g) [
-      | inl e ↦ (let P : Literal → Type 0 = λ x. has (a ∷ []) x ≡ true in subst P (sym e) (has-head a []))
-      | inr r ↦ (let P : Literal → Type 0 = λ x. has (a ∷ []) x ≡ true in subst P (sym (h l r)) (has-head a []))
-    ];
-    from = λ l g. elim (has-cases a l [] g) [
-      | inl e ↦ (let P : Literal → Type 0 = λ x. has (a ∷ c) x ≡ true in subst P (sym e) (has-head a c))
-      | inr r ↦ absurd (cc)
-    ];
-  },
-  tt,
-)
 
 pub other-within : (c : List Literal) (j : ℕ) → HasOther c j → (1 < length c) × (j < length c)
 other-within [] j h = absurd h

@@ -10,7 +10,7 @@ use rt_value::NoMemory;
 use std::alloc::Global;
 use std::marker::Model;
 
-// What the first conflicts raise a activity by; each next step is greater by one at least.
+// What the first conflicts raise an activity by; each next step is greater by one at least.
 const FIRST_STEP: u64 = 64;
 
 // No activity and no step grows past this number.

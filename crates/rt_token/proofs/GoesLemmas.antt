@@ -19,16 +19,9 @@ pub record LexGoes (found : List Token) (at : ℕ) (text : Text) : Type 0 where
   pub within : at ≤ length text
   pub so_far : with_front found (lexed_from 0 at (drop at text)) ≡ lexed_from 0 0 text
 
-front-none : (r : Tokens) → with_front [] r ≡ r
-front-none (Ok ts) = refl
-front-none (Err e) = refl
-
 front-more : (found : List Token) (t : Token) (r : Tokens) → with_front found (before t r) ≡ with_front (found ++ t ∷ []) r
 front-more found t (Ok ts) = ap (λ (l : List Token). Ok l) (sym (append_assoc found (t ∷ []) ts))
 front-more found t (Err e) = refl
-
-pub goes-start : (text : Text) → LexGoes [] 0 text
-goes-start text = record { within = omega arith; so_far = front-none _ }
 
 -- bytes that belong to what was read before are passed over
 pub inside-drop : (n at : ℕ) (z : Text) → n ≤ length z → lexed_from n at z ≡ lexed_from 0 (at + n) (drop n z)

@@ -215,10 +215,6 @@ made-sound {B = B} p f sp spell s same ks q e =
     let h : (f a.0.0, a.0.1) ≡ q = some-is _ _ a.2 in
     subst (λ (q : B × Kinds). ks ≡ spell q.0 ++ q.1) h (s ks a.0 a.1 ∙ ap (λ (t : Kinds). t ++ a.0.1) (sym (same a.0.0)))
 
-pub made-reads : {A B : Type 0} (p : Parser A) (f : A → B) (sp : A → Kinds) (spell : B → Kinds) (x : A) (rest : Kinds)
-    → spell (f x) ≡ sp x → p (sp x ++ rest) ≡ Some (x, rest) → made f p (spell (f x) ++ rest) ≡ Some (f x, rest)
-made-reads p f sp spell x rest same e = rw (same, e) refl
-
 either-by : {A : Type 0} (p r : Parser A) (spell : A → Kinds) (ks : Kinds) (q : A × Kinds)
     → (p ks ≡ Some q → ks ≡ spell q.0 ++ q.1) → (r ks ≡ Some q → ks ≡ spell q.0 ++ q.1) → (b : Bool) → cond b (p ks) (r ks) ≡ Some q → ks ≡ spell q.0 ++ q.1
 either-by p r spell ks q f g true e = f e
@@ -252,12 +248,6 @@ word-alternative-sound w p r spell s t ks q e = or-else-sound (plain_word w) p r
 
 pub no-other-sound : {A : Type 0} (spell : A → Kinds) → Sound no_other spell
 no-other-sound spell ks q e = cc e
-
-pub either-left : {A : Type 0} (test : Kinds → Bool) (p r : Parser A) (ks : Kinds) → test ks ≡ true → either test p r ks ≡ p ks
-either-left test p r ks e = rw e refl
-
-pub either-right : {A : Type 0} (test : Kinds → Bool) (p r : Parser A) (ks : Kinds) → test ks ≡ false → either test p r ks ≡ r ks
-either-right test p r ks e = rw e refl
 
 -- ---- weaker laws
 

@@ -24,16 +24,9 @@ pub record Goes {A : Type 0} (step : Step A) (items : List A) (rest start : Kind
   pub enough : length rest ≤ turns
   pub so_far : with_front items (many step turns rest) ≡ many step (length start) start
 
-front-none : {A : Type 0} (o : Option (List A × Kinds)) → with_front [] o ≡ o
-front-none None = refl
-front-none (Some q) = refl
-
 front-more : {A : Type 0} (front : List A) (x : A) (o : Option (List A × Kinds)) → with_front front (o >>= λ q. Some (x ∷ q.0, q.1)) ≡ with_front (front ++ x ∷ []) o
 front-more front x None = refl
 front-more {A = A} front x (Some q) = ap (λ (l : List A). Some (l, q.1)) (sym (append_assoc front (x ∷ []) q.0))
-
-pub goes-start : {A : Type 0} (step : Step A) (start : Kinds) → Goes step [] start start
-goes-start step start = record { turns = length start; enough = omega arith; so_far = front-none _ }
 
 more-of : {A : Type 0} (step : Step A) (items : List A) (rest start more : Kinds) (x : A) (n : ℕ) → length rest ≤ n → with_front items (many step n rest) ≡ many step (length start) start
     → step rest ≡ Some (Some (x, more)) → length more < length rest → Goes step (items ++ x ∷ []) more start

@@ -1,16 +1,12 @@
 -- A token's terminal, and a terminal's token.
-use Rattle.std.proofs.Common.{◌≡◌, ◌∙◌, sym, ap, subst, ℕ, List, [], ◌∷◌, ◌++◌, refl, Bool, true, false, Option, Some, None, Err, append_assoc, cond, map}
+use Rattle.std.proofs.Common.{◌≡◌, ◌∙◌, sym, ap, subst, ℕ, List, [], ◌∷◌, ◌++◌, refl, Bool, true, false, Option, Some, None, cond, map}
 use Rattle.std.specs.Prelude.{◌&&◌, ◌||◌, not, bytes_eq, ℤ}
-use Rattle.std.proofs.lemmas.List.{append-nil}
 use Rattle.std.proofs.lemmas.Slice.Eq.{bytes_eq-Decides}
 use Rattle.rt_token.specs.declared.fixed.Fixed.{Fixed}
 use Rattle.rt_token.specs.declared.fixed.Fixed.TheVariants as fixed
 use Rattle.rt_token.specs.declared.terminal.Terminal.{Terminal}
 use Rattle.rt_token.specs.declared.terminal.Terminal.TheVariants as terminal
 use Rattle.rt_token.proofs.ManyLemmas.{some-is}
-use Rattle.rt_token.specs.declared.read_fault.ReadFault.{ReadFault}
-use Rattle.rt_token.specs.declared.read_fault.ReadFault.TheVariants.{Syntax, NoMemory}
-use Rattle.rt_token.specs.Reads.{Answers}
 use Rattle.rt_token.specs.Reserved.{is_reserved}
 use Rattle.rt_token.specs.declared.sym.Sym.{Sym}
 use Rattle.rt_token.specs.declared.sym.Sym.TheVariants as sign
@@ -238,27 +234,3 @@ marks-reads (t ∷ ts) h =
 abbrev pub with_front : List Terminal → Option (List Terminal) → Option (List Terminal)
 with_front front None = None
 with_front front (Some ts) = Some (front ++ ts)
-
-pub marks-start : (ks : List TokenKind) → with_front [] (marks ks) ≡ marks ks
-marks-start ks = go (marks ks)
-  where
-    go : (o : Option (List Terminal)) → with_front [] o ≡ o
-    go None = refl
-    go (Some ts) = refl
-
-marks-step : (front : List Terminal) (t : Terminal) (o : Option (List Terminal)) → with_front front (in_front (Some t) o) ≡ with_front (front ++ t ∷ []) o
-marks-step front t None = refl
-marks-step front t (Some ts) = ap (λ (l : List Terminal). Some l) (sym (append_assoc front (t ∷ []) ts))
-
-pub marks-more : (front : List Terminal) (k : TokenKind) (ks all : List TokenKind) (t : Terminal) → with_front front (marks (k ∷ ks)) ≡ marks all → mark k ≡ Some t → with_front (front ++ t ∷ []) (marks ks) ≡ marks all
-marks-more front k ks all t h e = sym (marks-step front t (marks ks)) ∙ ap (λ (o : Option Terminal). with_front front (in_front o (marks ks))) (sym e) ∙ h
-
-marks-none : (front : List Terminal) (k : TokenKind) (ks all : List TokenKind) → with_front front (marks (k ∷ ks)) ≡ marks all → mark k ≡ None → marks all ≡ None
-marks-none front k ks all h e = sym h ∙ ap (λ (o : Option Terminal). with_front front (in_front o (marks ks))) e
-
-pub marks-fail : (front : List Terminal) (k : TokenKind) (ks all : List TokenKind) (e : ReadFault) → with_front front (marks (k ∷ ks)) ≡ marks all → Answers {A = Terminal} (Err e) (mark k) → Answers {A = List Terminal} (Err e) (marks all)
-marks-fail front k ks all (Syntax left) h a = marks-none front k ks all h a
-marks-fail front k ks all NoMemory h a = tt
-
-pub marks-end : (front : List Terminal) (all : List TokenKind) → with_front front (marks []) ≡ marks all → marks all ≡ Some front
-marks-end front all h = sym h ∙ rw append-nil refl

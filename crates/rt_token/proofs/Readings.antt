@@ -1,6 +1,6 @@
 -- That the token at the front of a text is read from its bytes.
 use Rattle.std.proofs.Common.{◌≡◌, ◌<◌, ◌+◌, ◌-◌, ◌≤◌, ◌∙◌, subst, ℕ, zero, suc, List, [], ◌∷◌, ◌++◌, length, refl, Option, Some, None, arith, IsTrue, true, false, Bool, take, drop, get_or, ap, sym, drop-drop, length-drop}
-use Rattle.std.specs.Prelude.{option_map, ◌==◌, ◌||◌, if◌then◌else◌, nat_le, IfOk, Ok, Err}
+use Rattle.std.specs.Prelude.{option_map, ◌==◌, if◌then◌else◌, nat_le, IfOk, Ok, Err}
 use Rattle.std.specs.List.{prefix_len}
 use Rattle.std.specs.Str.{IsCharBoundary, IsUtf8}
 use Rattle.std.proofs.lemmas.Str.{IsCharBoundary-after_ascii, IsCharBoundary-before_ascii}
@@ -14,11 +14,6 @@ use Rattle.rt_token.specs.Lexed.{Front, Text, closing, is_letter, is_word_byte}
 use Rattle.rt_token.specs.Spelled.{AreReadings, IsRead, IsReading, doubled, enclosed, is_word}
 use Rattle.rt_token.specs.Layout.{AreInOrder}
 use Rattle.rt_token.proofs.LexLemmas.{front-passes}
-
-letter-of : (a d u : Bool) → a || u ≡ true → (a || d) || u ≡ true
-letter-of true d u h = refl
-letter-of false true u h = refl
-letter-of false false u h = h
 
 word-of : (b : ℕ) (z : Text) (m : ℕ) → is_word_byte b ≡ true → m ≡ prefix_len is_word_byte (b ∷ z) → m ≡ suc (prefix_len is_word_byte z)
 word-of b z m h e = let n : 1 + prefix_len is_word_byte z ≡ suc (prefix_len is_word_byte z) = omega arith in e ∙ rw h n

@@ -1,7 +1,6 @@
 -- From what is said of a row or of a list of candidates to the outcome of the call.
 use Rattle.std.proofs.Common.{◌≡◌, ◌∙◌, ◌≤◌, ◌-◌, Bool, true, List, [], ◌∷◌, Result, Ok, Err, length, take, drop, get_or, refl, sym, ap, subst, inl, inr, arith}
 use Rattle.std.proofs.lemmas.List.{take_all}
-use Rattle.std.proofs.lemmas.Slice.Eq.{bytes_eq-Decides}
 use Rattle.std.specs.Prelude.{IfOk, codes}
 use Rattle.std.specs.Str.{bytes_eq}
 use Rattle.rt_io.specs.Command.{command}
@@ -9,7 +8,6 @@ use Rattle.rt_input.specs.declared.outcome.Outcome.{Outcome}
 use Rattle.rt_input.specs.declared.outcome.Outcome.TheVariants as outcome
 use Rattle.rt_input.specs.Reading.{Call, Stop, limit_of}
 use Rattle.rt_input.specs.Source.{Text}
-use Rattle.rt_input.specs.Steps.{Seen}
 use Rattle.rt_value.specs.declared.no_memory.NoMemory.{NoMemory}
 use Rattle.rt_tools.specs.declared.run.ToolAnswer.{ToolAnswer}
 use Rattle.rt_row.specs.RowVerdicts.{IsRowAnswer}
@@ -29,12 +27,6 @@ use Rattle.rt_tools.specs.Words.{IsGradeAnd, IsRowAnd, IsUsage, Tool, grade, row
 
 pub row_words : (first text : Text) (args : List Text) → bytes_eq first (codes "row") ≡ true → tool_of (first ∷ text ∷ args) ≡ row text args
 row_words first text args is = rw is refl
-
--- the first argument is `grade`
-pub grade_words : (first : Text) (args : List Text) → bytes_eq first (codes "grade") ≡ true → tool_of (first ∷ args) ≡ grade args
-grade_words first args is =
-    let same : first ≡ codes "grade" = (bytes_eq-Decides first (codes "grade")).0 is in
-    ap (λ (name : Text). tool_of (name ∷ args)) same
 
 -- ---- a row
 
@@ -98,36 +90,20 @@ module _ (c : Call) (args : List Text) (is : tool_of c.words ≡ grade args) whe
 
 -- ---- from the arguments after the name of the tool
 
-pub row_prepared : (words : List Text) (s : Seen) (name text word : Text) (b : Bool) (r : Result ToolAnswer NoMemory) → 2 ≤ length words → name ≡ get_or words 0 name → text ≡ get_or words 1 text
+pub row_prepared : (words : List Text) (c : Call) (name text word : Text) (b : Bool) (r : Result ToolAnswer NoMemory) → 2 ≤ length words → name ≡ get_or words 0 name → text ≡ get_or words 1 text
     → b ≡ true → b ≡ bytes_eq word (codes "row") → word ≡ name
-    → IfOk r (λ a. SaysRow (record { words = take (length words - 2) (drop 2 words); files = s }) text a.outcome a.text) → IfOk r (λ a. Ends (record { words = words; files = s }) a.outcome a.text)
-row_prepared [] s name text word b r long first second equal eq same says = absurd (omega (arith, long))
-row_prepared (x ∷ []) s name text word b r long first second equal eq same says = absurd (omega (arith, long))
-row_prepared (x ∷ y ∷ rest) s name text word b r long first second equal eq same says =
+    → IfOk r (λ a. SaysRow (with_words c (take (length words - 2) (drop 2 words))) text a.outcome a.text) → IfOk r (λ a. Ends (with_words c words) a.outcome a.text)
+row_prepared [] c name text word b r long first second equal eq same says = absurd (omega (arith, long))
+row_prepared (x ∷ []) c name text word b r long first second equal eq same says = absurd (omega (arith, long))
+row_prepared (x ∷ y ∷ rest) c name text word b r long first second equal eq same says =
     let whole : take (length (x ∷ y ∷ rest) - 2) rest ≡ rest = take_all (length (x ∷ y ∷ rest) - 2) rest (omega arith) in
     let named : bytes_eq x (codes "row") ≡ true = ap (λ (t : Text). bytes_eq t (codes "row")) (sym (same ∙ first)) ∙ sym eq ∙ equal in
-    let said : IfOk r (λ a. SaysRow (record { words = rest; files = s }) y a.outcome a.text) =
-    subst (λ (ws : List Text). IfOk r (λ a. SaysRow (record { words = ws; files = s }) y a.outcome a.text)) whole
-    (subst (λ (q : Text). IfOk r (λ a. SaysRow (record { words = take (length (x ∷ y ∷ rest) - 2) rest; files = s }) q a.outcome a.text)) second says) in
+    let said : IfOk r (λ a. SaysRow (with_words c rest) y a.outcome a.text) =
+    subst (λ (ws : List Text). IfOk r (λ a. SaysRow (with_words c ws) y a.outcome a.text)) whole
+    (subst (λ (q : Text). IfOk r (λ a. SaysRow (with_words c (take (length (x ∷ y ∷ rest) - 2) rest)) q a.outcome a.text)) second says) in
     by_case r said (row_words x y rest named)
   where
-    by_case : (r : Result ToolAnswer NoMemory) → IfOk r (λ a. SaysRow (record { words = rest; files = s }) y a.outcome a.text)
-        → tool_of (x ∷ y ∷ rest) ≡ row y rest → IfOk r (λ a. Ends (record { words = x ∷ y ∷ rest; files = s }) a.outcome a.text)
-    by_case (Ok a) says is = row_ends (record { words = x ∷ y ∷ rest; files = s }) y rest is a.outcome a.text says
-    by_case (Err e) says is = tt
-
-pub grade_prepared : (words : List Text) (s : Seen) (name word : Text) (b : Bool) (r : Result ToolAnswer NoMemory) → 1 ≤ length words → name ≡ get_or words 0 name
-    → b ≡ true → b ≡ bytes_eq word (codes "grade") → word ≡ name
-    → IfOk r (λ a. SaysGrade (record { words = take (length words - 1) (drop 1 words); files = s }) a.outcome a.text) → IfOk r (λ a. Ends (record { words = words; files = s }) a.outcome a.text)
-grade_prepared [] s name word b r long first equal eq same says = absurd (omega (arith, long))
-grade_prepared (x ∷ rest) s name word b r long first equal eq same says =
-    let whole : take (length (x ∷ rest) - 1) rest ≡ rest = take_all (length (x ∷ rest) - 1) rest (omega arith) in
-    let named : bytes_eq x (codes "grade") ≡ true = ap (λ (t : Text). bytes_eq t (codes "grade")) (sym (same ∙ first)) ∙ sym eq ∙ equal in
-    let said : IfOk r (λ a. SaysGrade (record { words = rest; files = s }) a.outcome a.text) =
-    subst (λ (ws : List Text). IfOk r (λ a. SaysGrade (record { words = ws; files = s }) a.outcome a.text)) whole says in
-    by_case r said (grade_words x rest named)
-  where
-    by_case : (r : Result ToolAnswer NoMemory) → IfOk r (λ a. SaysGrade (record { words = rest; files = s }) a.outcome a.text)
-        → tool_of (x ∷ rest) ≡ grade rest → IfOk r (λ a. Ends (record { words = x ∷ rest; files = s }) a.outcome a.text)
-    by_case (Ok a) says is = grade_ends (record { words = x ∷ rest; files = s }) rest is a.outcome a.text says
+    by_case : (r : Result ToolAnswer NoMemory) → IfOk r (λ a. SaysRow (with_words c rest) y a.outcome a.text)
+        → tool_of (x ∷ y ∷ rest) ≡ row y rest → IfOk r (λ a. Ends (with_words c (x ∷ y ∷ rest)) a.outcome a.text)
+    by_case (Ok a) says is = row_ends (with_words c (x ∷ y ∷ rest)) y rest is a.outcome a.text says
     by_case (Err e) says is = tt

@@ -21,7 +21,7 @@ use Rattle.rt_tools.specs.Words.{IsGradeAnd, IsRowAnd, IsUsage, Tool, grade, nei
 
 -- the call of a command of `ratest` with these arguments, over the same files
 abbrev pub with_words : Call → List Text → Call
-with_words c words = record { words = words; files = c.files }
+with_words c words = record { words = words; files = c.files; readings = c.readings }
 
 -- ---- answers and their texts
 

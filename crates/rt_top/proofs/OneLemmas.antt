@@ -10,7 +10,7 @@ use Rattle.rt_input.specs.Accepted.{Accepted}
 use Rattle.rt_input.specs.Reading.{Call, IsRead}
 use Rattle.rt_top.specs.Answers.{IsTextOf}
 use Rattle.rt_input.specs.Judged.{judged}
-use Rattle.rt_top.specs.One.{AreAlike, IsDecided, IsFinal}
+use Rattle.rt_top.specs.One.{AreAlike, AreGivenAlike, IsDecided, IsFinal}
 use Rattle.rt_top.specs.Smallest.{Agrees, IsFirst, IsSmallest}
 use Rattle.rt_top.specs.GivenUp.{IsVerdict}
 use Rattle.rt_top.specs.Texts.{agree_of, witness_of}
@@ -62,18 +62,23 @@ same-input a b h input other r s =
     let e : Ok input ≡ Ok other = sym (r.told h.told) ∙ same ∙ s.told h.told_too in
     cc
 
-pub answer-one : (a b : Call) → AreAlike a b → (o p : Outcome) → IsDecided o → IsDecided p → (said told : List ℕ) → IsTextOf a o said → IsTextOf b p told → (o ≡ p) × (said ≡ told)
+pub same-given : (a b : Call) → AreGivenAlike a b → (input other : Accepted) → IsRead a input → IsRead b other → input ≡ other
+same-given a b h input other r s =
+    let e : Ok input ≡ Ok other = sym (r.given h.held h.fits) ∙ ap (λ words. judged words h.held) h.words ∙ s.given h.held h.fits_too in
+    cc
+
+pub answer-one : (a b : Call) → ((input other : Accepted) → IsRead a input → IsRead b other → input ≡ other) → (o p : Outcome) → IsDecided o → IsDecided p → (said told : List ℕ) → IsTextOf a o said → IsTextOf b p told → (o ≡ p) × (said ≡ told)
 answer-one a b h outcome.Agree outcome.Agree d e said told x y =
-    let same = same-input a b h x.0 y.0 x.1 y.1 in (refl, x.3 ∙ ap agree_of same ∙ sym y.3)
+    let same = h x.0 y.0 x.1 y.1 in (refl, x.3 ∙ ap agree_of same ∙ sym y.3)
 answer-one a b h outcome.Agree (outcome.Witness t) d e said told x y =
     let A : Accepted → Type 0 = Agrees in
-    absurd (smallest-none y.0 t y.2 (subst A (same-input a b h x.0 y.0 x.1 y.1) x.2))
+    absurd (smallest-none y.0 t y.2 (subst A (h x.0 y.0 x.1 y.1) x.2))
 answer-one a b h (outcome.Witness s) outcome.Agree d e said told x y =
     let A : Accepted → Type 0 = Agrees in
-    absurd (smallest-none x.0 s x.2 (subst A (sym (same-input a b h x.0 y.0 x.1 y.1)) y.2))
+    absurd (smallest-none x.0 s x.2 (subst A (sym (h x.0 y.0 x.1 y.1)) y.2))
 answer-one a b h (outcome.Witness s) (outcome.Witness t) d e said told x y =
     let S : Accepted → Type 0 = λ i. IsSmallest i s in
-    let same = same-input a b h x.0 y.0 x.1 y.1 in
+    let same = h x.0 y.0 x.1 y.1 in
     let one = smallest-one y.0 s t (subst S same x.2) y.2 in
     (ap outcome.Witness one, x.3 ∙ (λ i. witness_of (same i) (one i)) ∙ sym y.3)
 answer-one a b h outcome.Agree outcome.Usage d e said told x y = absurd e

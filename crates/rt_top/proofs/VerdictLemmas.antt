@@ -1,6 +1,6 @@
 -- What the rows of a call's answers follow from, and that an accepted command over files and sinks
 -- that don't fail gets a verdict.
-use Rattle.std.proofs.Common.{◌≡◌, ℕ, List, false, Result, Ok, Err, refl, sym, ap, subst, inl, inr, ◌∙◌, arith}
+use Rattle.std.proofs.Common.{◌≡◌, ℕ, List, Result, Ok, Err, refl, sym, ap, subst, inl, inr, ◌∙◌, arith}
 use Rattle.std.specs.Prelude.{Option, Some, None, IsSomeAnd, ◌<◌, ◌≤◌, ◌^◌}
 use Rattle.std.specs.Option.{ForSome}
 use Rattle.rt_io.specs.Edge.{Rose}
@@ -18,12 +18,10 @@ use Rattle.rt_input.specs.Source.{source_of}
 use Rattle.rt_io.specs.Command.{command}
 use Rattle.rt_io.specs.Ranges.{Command}
 use Rattle.rt_input.specs.Judged.{command_judged, judged}
-use Rattle.rt_input.specs.Steps.{is_memory}
 use Rattle.rt_input.specs.Texts.{place}
-use Rattle.rt_top.specs.Texts.{refusal_text}
-use Rattle.rt_input.specs.Reading.{Call, ReadFaultAt, ReadFaultRow, Stop, IsRead, IsTold, limit_of}
+use Rattle.rt_input.specs.Reading.{Call, ReadFaultAt, ReadFaultRow, IsRead, IsTold}
 use Rattle.rt_input.proofs.RowLemmas.{known, named_from_reached}
-use Rattle.rt_top.specs.Answers.{HasRoom, IsVerdictOrMemory, SpentRow, YieldsTo, NoFileRose, Row, IfText, WritesAll, Writes, Judges, IsTextOf}
+use Rattle.rt_top.specs.Answers.{HasRoom, IsVerdictOrMemory, SpentRow, NoFileRose, Row, IfText, WritesAll, Writes, Judges, IsTextOf}
 
 -- ---- from the verdict on an input to the rows
 
@@ -50,28 +48,6 @@ verdict_says c input outcome.WriteFault said read judges = absurd judges
 verdict_says c input outcome.NoMemory said read judges = absurd judges
 
 -- ---- from what stops the reading to the rows
-
-pub stopped_row : (c : Call) (o : Outcome) → is_memory o ≡ false → Stop c o → Row c o
-stopped_row c outcome.Agree calm stop = absurd stop
-stopped_row c (outcome.Witness keep) calm stop = absurd stop
-stopped_row c outcome.Usage calm stop = stop
-stopped_row c (outcome.Refused part fault) calm stop = stop
-stopped_row c (outcome.Spent s) calm stop = absurd stop
-stopped_row c (outcome.Limit l) calm stop = stop
-stopped_row c (outcome.ReadFault part) calm stop = stop
-stopped_row c outcome.WriteFault calm stop = stop
-stopped_row c outcome.NoMemory calm stop = absurd cc
-
-pub stopped_says : (c : Call) (o : Outcome) (said : List ℕ) → Stop c o → said ≡ refusal_text (limit_of (command c.words)) o → IsTextOf c o said
-stopped_says c outcome.Agree said stop is = absurd stop
-stopped_says c (outcome.Witness keep) said stop is = absurd stop
-stopped_says c outcome.Usage said stop is = is
-stopped_says c (outcome.Refused part fault) said stop is = is
-stopped_says c (outcome.Spent s) said stop is = absurd stop
-stopped_says c (outcome.Limit l) said stop is = is
-stopped_says c (outcome.ReadFault part) said stop is = is
-stopped_says c outcome.WriteFault said stop is = absurd stop
-stopped_says c outcome.NoMemory said stop is = is
 
 -- ---- which file is the last one
 
@@ -149,31 +125,6 @@ gets_verdict c out err o said result input row spoke tells calm sinks ok room = 
 ]
 
 -- ---- refusals
-
-refused_as : {T : Type 0} (r : Result T Outcome) (refusal o : Outcome) → r ≡ Err refusal → r ≡ Err o → refusal ≡ o
-refused_as r refusal o p q = cc
-
--- the outcome that its row allows, for an input that is refused
-row_yields : (c : Call) (o refusal : Outcome) → Row c o → IsTold c → judged c.words c.files.held ≡ Err refusal → YieldsTo refusal o
-row_yields c outcome.Agree refusal row tells is = not_accepted _ refusal row.0 is (row.1.told tells)
-row_yields c (outcome.Witness keep) refusal row tells is = not_accepted _ refusal row.0 is (row.1.told tells)
-row_yields c outcome.Usage refusal row tells is = refused_as (judged c.words c.files.held) refusal outcome.Usage is (ap (command_judged c.files.held) row)
-row_yields c (outcome.Refused part fault) refusal row tells is = refused_as _ refusal _ is (row.2 tells)
-row_yields c (outcome.Spent s) refusal row tells is = not_accepted _ refusal row.0 is (row.1.told tells)
-row_yields c (outcome.Limit l) refusal row tells is = refused_as _ refusal _ is (row.1 tells)
-row_yields c (outcome.ReadFault part) refusal row tells is = tt
-row_yields c outcome.WriteFault refusal row tells is = tt
-row_yields c outcome.NoMemory refusal row tells is = tt
-
-pub yields : (c : Call) (out err : Log) (o : Outcome) (said : List ℕ) (result refusal : Outcome) → Row c o → Writes out err o said result
-    → IsTold c → judged c.words c.files.held ≡ Err refusal → YieldsTo refusal result
-yields c out err o said result refusal row spoke tells is = elim spoke.ends [
-  | inl h ↦ subst (YieldsTo refusal) (sym h.0) (row_yields c o refusal row tells is)
-  | inr h ↦ elim h [
-    | inl f ↦ subst (YieldsTo refusal) (sym f.0) tt
-    | inr m ↦ subst (YieldsTo refusal) (sym m.0) tt
-  ]
-]
 
 -- ---- texts
 

@@ -4,6 +4,7 @@
 ghost use Rattle.std.specs.Prelude.{◌≡◌, ◌⊎◌, false, None, IfOk, Ok, Err};
 ghost use Rattle.rt_io.specs.Edge.{NoneFell};
 ghost use Rattle.rt_io.specs.Command.{command};
+ghost use Rattle.rt_io.specs.Gave.{Adds};
 ghost use Rattle.rt_input.specs.Judged.{judged};
 ghost use Rattle.rt_input.specs.Accepted.{Accepted};
 ghost use Rattle.rt_io.specs.Logs.{log, NoSinkRose, WritesNothing};
@@ -56,6 +57,7 @@ fn refused(alloc: Global, words: &[Txt], outcome: Outcome) -> Result<Answer, NoM
 fn prepare<F: Files>(alloc: Global, words: &[Txt], files: &mut F) -> Result<Answer, NoMemory>
     ensures row { IfOk result (λ a. Row (call F.Files words.now files.old files.new) a.outcome) }
     ensures says { IfOk result (λ a. IsTextOf (call F.Files words.now files.old files.new) a.outcome a.text) }
+    ensures adds { Adds (F.gave files.old) (F.gave files.new) }
     ensures begun { Begins F.Files (command words.now) files.old files.new }
     ensures last { IfOk result (λ a. EndsFor (command words.now) a.outcome (F.begun files.old) (F.begun files.new)) }
     ensures made { IsMadeCall (command words.now) → files.new ≡ files.old }
@@ -130,6 +132,8 @@ pub fn ratest<F: Files, O: Sink, E: Sink>(
     ensures complete { let c = call F.Files words.now files.old files.new in
         IsTold c → NoFileRose c → NoSinkRose (log O.Sink out.old out.new) (log E.Sink err.old err.new)
         → (input : Accepted) → judged words.now (F.held files.old) ≡ Ok input → HasRoom input → IsVerdictOrMemory result }
+    // What was given before the call stays, and readings are added.
+    ensures adds { Adds (F.gave files.old) (F.gave files.new) }
     // The files that are begun are first ones of those that the command names, in the order of
     // the reading, and none after the first refusal.
     ensures begun { Begins F.Files (command words.now) files.old files.new }

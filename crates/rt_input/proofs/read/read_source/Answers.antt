@@ -1,6 +1,9 @@
-use Rattle.std.proofs.Common.{◌≡◌, ◌∙◌, Ok, ap, sym}
+use Rattle.std.proofs.Common.{◌≡◌, ◌∙◌, Ok, ap, refl, sym}
 use Rattle.std.proofs.lemmas.Result.{err_from_is_err_and}
+use Rattle.rt_io.specs.Gave.{Fits}
+use Rattle.rt_io.proofs.GaveLemmas.{adds_on, fits_first, fits_then}
 use Rattle.rt_input.specs.Accepted.{Accepted}
+use Rattle.rt_input.specs.Held.{Holding}
 use Rattle.rt_input.specs.Judged.{Reaches, input_judged, within_limit}
 use Rattle.rt_input.specs.Source.{IsKnown}
 use Rattle.rt_input.specs.Steps.{Refuses, Stops, seen}
@@ -28,6 +31,25 @@ returns-in-Ok-clause-ok g c =
     (λ same told t. judged_all held (g.F.Files.held c.first_of.new.files) source k c.in_ok-first.first c.in-Ok.right c.requires c.in_ok-first.ensures.held
     (c.in_ok-first.ensures.ok t) (c.in-Ok.ensures.ok t) ∙ ap within_limit (sym c.input_of.ensures.same) ∙ told.1)
     c.within_limit.ensures.ok
+
+pub returns-in-Ok-clause-given : goal.returns-in-Ok-clause-given
+returns-in-Ok-clause-given g c =
+    let k = c.args.words.now in
+    let source = c.args.source.now in
+    let input = c.input_of.result in
+    let gave = g.F.Files.gave in
+    if_ok (λ (same : Accepted). (same ≡ input) × (within_limit input ≡ Ok same))
+    (λ same. (held : Holding) → Fits held (gave c.args.files.now) (gave c.read_right.new.files) → input_judged held k ≡ Ok same) c.within_limit.result
+    (λ same told held fits. judged_all held held source k c.in_ok-first.first c.in-Ok.right c.requires refl
+    (c.in_ok-first.ensures.given held (fits_first held _ _ _ c.read_right.ensures.adds fits)) (c.in-Ok.ensures.given held (fits_then held _ _ _ c.in_ok-first.ensures.adds fits))
+    ∙ ap within_limit (sym c.input_of.ensures.same) ∙ told.1)
+    c.within_limit.ensures.ok
+
+pub returns-in-Ok-clause-adds : goal.returns-in-Ok-clause-adds
+returns-in-Ok-clause-adds g c = adds_on _ _ _ c.in_ok-first.ensures.adds c.read_right.ensures.adds
+
+pub returns-in-Err-clause-adds : goal.returns-in-Err-clause-adds
+returns-in-Err-clause-adds g c = adds_on _ _ _ c.in_ok-first.ensures.adds c.read_right.ensures.adds
 
 pub returns-in-Ok-clause-err : goal.returns-in-Ok-clause-err
 returns-in-Ok-clause-err g c =

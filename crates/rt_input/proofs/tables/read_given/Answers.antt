@@ -10,6 +10,7 @@ use Rattle.rt_input.specs.declared.outcome.Outcome.{Outcome}
 use Rattle.rt_input.specs.declared.part.Part.TheVariants as part
 use Rattle.rt_input.specs.Judged.{IsTableReached, no_rows, table_judged, tables_judged}
 use Rattle.rt_io.proofs.AddLemmas.{all_then}
+use Rattle.rt_io.proofs.GaveLemmas.{adds_none, adds_on, fits_first, fits_then}
 use Rattle.rt_input.proofs.BegunLemmas.{files-from, files-more, reached-from, table_begun, when_err}
 use Rattle.rt_input.proofs.EndLemmas.{ends_later}
 use Rattle.rt_input.proofs.StepLemmas.{stops_on}
@@ -22,6 +23,8 @@ tables-init g c = record {
   empty = λ k h. rw c.in_ok-given.ensures.no_rows (no_rows-at (length c.args.schema.now) k);
   few = rw c.in_ok-given.ensures.no_rows (omega (arith, no_rows-places (length c.args.schema.now)));
   told = λ t. ap Ok (sym c.in_ok-given.ensures.no_rows);
+  given = λ held fits. ap Ok (sym c.in_ok-given.ensures.no_rows);
+  adds = adds_none _ _ refl;
   begun = sym (append-nil (g.F.Files.begun c.args.files.now));
   made = λ m. refl;
   has = refl;
@@ -57,6 +60,9 @@ returns-in_err-read_table-clause-err g c =
       subst (λ (r : Result Tables Outcome). IsOk r) (sym (c.tables.invariant.told t)) refl,
     ))
     c.in_err-read_table.ensures.err)
+
+pub returns-in_err-read_table-clause-adds : goal.returns-in_err-read_table-clause-adds
+returns-in_err-read_table-clause-adds g c = adds_on _ _ _ c.tables.invariant.adds c.in_err-read_table.ensures.adds
 
 pub returns-in_err-read_table-clause-begun : goal.returns-in_err-read_table-clause-begun
 returns-in_err-read_table-clause-begun g c =
@@ -105,6 +111,10 @@ tables-preserved g c =
       told = λ t. tables_judged-more source held (no_rows schema) schema at c.tables.given.tables table rows within is (c.tables.invariant.told t)
           (ap (λ h. table_judged source h at table (places c.tables.given.tables)) (sym c.tables.invariant.held) ∙ c.in_ok-read_table.ensures.ok t)
           ∙ ap Ok (sym c.in_ok-read_table.ensures.tables);
+      given = λ held fits. tables_judged-more source held (no_rows schema) schema at c.tables.given.tables table rows within is
+          (c.tables.invariant.given held (fits_first held _ _ _ c.in_ok-read_table.ensures.adds fits))
+          (c.in_ok-read_table.ensures.given held (fits_then held _ _ _ c.tables.invariant.adds fits)) ∙ ap Ok (sym c.in_ok-read_table.ensures.tables);
+      adds = adds_on _ _ _ c.tables.invariant.adds c.in_ok-read_table.ensures.adds;
       begun = all_then _ _ _ _ _ c.tables.invariant.begun c.in_ok-read_table.ensures.begun_ok ∙ ap (λ fs. g.F.Files.begun c.args.files.now ++ fs) (sym (files-more source schema at table within is));
       made = λ m. c.in_ok-read_table.ensures.made m ∙ c.tables.invariant.made m;
       has = c.in_ok-read_table.ensures.has ∙ c.tables.invariant.has;

@@ -24,6 +24,13 @@ returns-in-Ok-clause-ok g c = λ t.
     c.in_ok-copy.ensures (columns_at-get c.args.schema.now c.args.at c.args.table.now c.requires.is_table)
     (c.in_ok-text.ensures.ok t ∙ ap Ok (sym c.as_slice.ensures)) c.in-Ok.ensures.rows
 
+pub returns-in-Ok-clause-given : goal.returns-in-Ok-clause-given
+returns-in-Ok-clause-given g c = λ held fits.
+    table_read c.args.source.now held c.args.at c.args.table.now c.in_ok-copy.field-0 c.as_slice.result.now
+    (places c.args.given.now.tables) (columns_at c.args.schema.now c.args.at) (Ok (rows_at c.load.new.given.tables c.args.at))
+    c.in_ok-copy.ensures (columns_at-get c.args.schema.now c.args.at c.args.table.now c.requires.is_table)
+    (c.in_ok-text.ensures.given held fits ∙ ap Ok (sym c.as_slice.ensures)) c.in-Ok.ensures.rows
+
 pub returns-in-Ok-clause-few : goal.returns-in-Ok-clause-few
 returns-in-Ok-clause-few g c =
     let within = get-within c.args.schema.now c.args.at c.args.table.now c.requires.is_table in

@@ -1,7 +1,9 @@
-use Rattle.std.proofs.Common.{◌≡◌, ◌≢◌, ◌+◌, ◌-◌, ◌^◌, min, take, append_assoc, append-nil, ◌<◌, ◌≤◌, ◌++◌, ℕ, List, [], Err, IsErrOf, length, sym, ap, ◌∙◌, arith}
+use Rattle.std.proofs.Common.{◌≡◌, ◌≢◌, ◌+◌, ◌-◌, ◌^◌, min, take, append_assoc, append-nil, ◌<◌, ◌≤◌, ◌++◌, ◌∷◌, false, ℕ, List, [], Err, IsErrOf, length, sym, ap, ◌∙◌, arith}
 use Rattle.std.proofs.lemmas.List.{length-append, length-take, take-append-le}
 use Rattle.rt_io.specs.declared.files.ReadFail.TheVariants.{Failed, TooLong, NoMemory}
+use Rattle.rt_io.specs.Gave.{reading_of}
 use Rattle.rt_io.proofs.AddLemmas.{adds_all}
+use Rattle.rt_io.proofs.GaveLemmas.{adds_none, adds_one, fits_none, fits_one, gave_end, gave_more, gave_piece}
 use Rattle.rt_io.proofs.EdgeLemmas.{never, on_ok, at_name, rose_since, rises_on, longer}
 use Rattle.rt_io.proofs.files.read_file.Goals as goal
 
@@ -35,6 +37,10 @@ returns-in-Err-Failed g c = record {
   begun_failed = λ _. c.in-Err-Failed.ensures.begun_failed (ap Err c.in-Err-Failed.field-0-is);
   begun_long = failed_not_long;
   longer = failed_not_long;
+  gave = tt;
+  gave_long = failed_not_long;
+  adds = adds_none _ _ c.in-Err-Failed.ensures.gave_err;
+  told = λ _. fits_none _ _ _ c.in-Err-Failed.ensures.gave_err;
   has = c.begin.ensures.has;
   held = c.begin.ensures.held;
   calm = tt;
@@ -56,6 +62,10 @@ returns-in-Err-NoMemory g c = record {
   begun_failed = memory_not_failed;
   begun_long = memory_not_long;
   longer = memory_not_long;
+  gave = tt;
+  gave_long = memory_not_long;
+  adds = adds_none _ _ c.in-Err-NoMemory.ensures.gave_err;
+  told = λ _. fits_none _ _ _ c.in-Err-NoMemory.ensures.gave_err;
   has = c.begin.ensures.has;
   held = c.begin.ensures.held;
   calm = tt;
@@ -73,6 +83,7 @@ reads-init g c = record {
   current = c.in-Ok.ensures.current;
   begun = c.in-Ok.ensures.begun_ok;
   told = λ tells. empty_told _ _ _ (c.in-Ok.ensures.start tells) c.new-bytes.ensures;
+  gave = c.in-Ok.ensures.gave ∙ ap (λ bytes. reading_of c.args.name.now bytes false ∷ g.F.Files.gave c.args.files.now) (sym c.new-bytes.ensures);
   there = c.in-Ok.ensures.there;
   taken = c.begin.ensures.taken ∙ sym (ap length c.new-bytes.ensures);
   within = empty_within _ _ c.new-bytes.ensures;
@@ -100,6 +111,10 @@ returns-in-Err g c = record {
   begun_failed = λ _. c.read.ensures.begun ∙ c.reads.invariant.begun;
   begun_long = failed_not_long;
   longer = failed_not_long;
+  gave = tt;
+  gave_long = failed_not_long;
+  adds = adds_one _ _ _ (c.in-Err.ensures.gave_err ∙ c.reads.invariant.gave);
+  told = λ tells. fits_one _ _ _ _ (c.in-Err.ensures.gave_err ∙ c.reads.invariant.gave) (_, c.reads.invariant.told tells);
   has = c.read.ensures.has ∙ c.reads.invariant.has;
   held = c.read.ensures.held ∙ c.reads.invariant.held;
   calm = tt;
@@ -116,46 +131,62 @@ same_taken : (taken old n max len : ℕ) (bytes : List ℕ) → max < 2 ^ 62 →
 same_taken taken old n max len bytes bound is none was long short = omega arith
 
 pub returns-then-n-eq0 : goal.returns-then-n-eq0
-returns-then-n-eq0 g c = record {
-  ok = λ tells. all_told _ _ _ _ _ _ (c.reads.invariant.told tells) (c.in-Ok-read.ensures.next tells) c.if-n-eq0.true (c.in-Ok-read.ensures.end tells c.if-n-eq0.true (omega (arith, length-take c.min-want.result c.reads.buf)));
-  there = c.reads.invariant.there;
-  taken = same_taken _ _ _ _ _ _ c.requires c.in-Ok-read.ensures.taken c.if-n-eq0.true c.reads.invariant.taken c.len.ensures c.reads-test.true;
-  within = len_within _ _ _ c.len.ensures c.reads-test.true;
-  failed = never _ _;
-  failed_within = never _ _;
-  too_long = never _ _;
-  too_long_current = never _ _;
-  begun = adds_all _ _ _ (c.read.ensures.begun ∙ c.reads.invariant.begun);
-  begun_ok = c.read.ensures.begun ∙ c.reads.invariant.begun;
-  begun_failed = never _ _;
-  begun_long = never _ _;
-  longer = never _ _;
-  has = c.read.ensures.has ∙ c.reads.invariant.has;
-  held = c.read.ensures.held ∙ c.reads.invariant.held;
-  calm = λ name. c.in-Ok-read.ensures.calm name ∙ c.reads.invariant.calm name;
-  rises = rises_on _ _ _ _ _ c.reads.invariant.current c.reads.invariant.rises c.read.ensures.same c.read.ensures.rises;
-}
+returns-then-n-eq0 g c =
+    let end = gave_end _ _ _ _ _ _ _ _ c.reads.invariant.current c.reads.invariant.gave c.if-n-eq0.true c.in-Ok-read.ensures.gave
+    (omega (arith, length-take c.min-want.result c.reads.buf)) in
+    record {
+      ok = λ tells. all_told _ _ _ _ _ _ (c.reads.invariant.told tells) (c.in-Ok-read.ensures.next tells) c.if-n-eq0.true (c.in-Ok-read.ensures.end tells c.if-n-eq0.true (omega (arith, length-take c.min-want.result c.reads.buf)));
+      there = c.reads.invariant.there;
+      taken = same_taken _ _ _ _ _ _ c.requires c.in-Ok-read.ensures.taken c.if-n-eq0.true c.reads.invariant.taken c.len.ensures c.reads-test.true;
+      within = len_within _ _ _ c.len.ensures c.reads-test.true;
+      failed = never _ _;
+      failed_within = never _ _;
+      too_long = never _ _;
+      too_long_current = never _ _;
+      begun = adds_all _ _ _ (c.read.ensures.begun ∙ c.reads.invariant.begun);
+      begun_ok = c.read.ensures.begun ∙ c.reads.invariant.begun;
+      begun_failed = never _ _;
+      begun_long = never _ _;
+      longer = never _ _;
+      gave = end;
+      gave_long = never _ _;
+      adds = adds_one _ _ _ end;
+      told = λ tells. fits_one _ _ _ _ end (sym (all_told _ _ _ _ _ _ (c.reads.invariant.told tells) (c.in-Ok-read.ensures.next tells) c.if-n-eq0.true (c.in-Ok-read.ensures.end tells c.if-n-eq0.true (omega (arith, length-take c.min-want.result c.reads.buf)))));
+      has = c.read.ensures.has ∙ c.reads.invariant.has;
+      held = c.read.ensures.held ∙ c.reads.invariant.held;
+      calm = λ name. c.in-Ok-read.ensures.calm name ∙ c.reads.invariant.calm name;
+      rises = rises_on _ _ _ _ _ c.reads.invariant.current c.reads.invariant.rises c.read.ensures.same c.read.ensures.rises;
+    }
+
+piece_told : (held bytes piece old_left left : List ℕ) (n : ℕ) → held ≡ bytes ++ old_left → old_left ≡ take n piece ++ left → held ≡ (bytes ++ take n piece) ++ left
+piece_told held bytes piece old_left left n told next = told ∙ ap (λ xs. bytes ++ xs) next ∙ sym (append_assoc bytes (take n piece) left)
 
 pub returns-then-is_err : goal.returns-then-is_err
-returns-then-is_err g c = record {
-  ok = tt;
-  there = tt;
-  taken = tt;
-  within = tt;
-  failed = memory_not_failed;
-  failed_within = memory_not_failed;
-  too_long = memory_not_long;
-  too_long_current = memory_not_long;
-  begun = adds_all _ _ _ (c.read.ensures.begun ∙ c.reads.invariant.begun);
-  begun_ok = tt;
-  begun_failed = memory_not_failed;
-  begun_long = memory_not_long;
-  longer = memory_not_long;
-  has = c.read.ensures.has ∙ c.reads.invariant.has;
-  held = c.read.ensures.held ∙ c.reads.invariant.held;
-  calm = tt;
-  rises = rises_on _ _ _ _ _ c.reads.invariant.current c.reads.invariant.rises c.read.ensures.same c.read.ensures.rises;
-}
+returns-then-is_err g c =
+    let piece = gave_piece _ _ _ _ _ _ _ _ c.reads.invariant.current c.reads.invariant.gave c.if-n-eq0.false c.in-Ok-read.ensures.gave in
+    record {
+      ok = tt;
+      there = tt;
+      taken = tt;
+      within = tt;
+      failed = memory_not_failed;
+      failed_within = memory_not_failed;
+      too_long = memory_not_long;
+      too_long_current = memory_not_long;
+      begun = adds_all _ _ _ (c.read.ensures.begun ∙ c.reads.invariant.begun);
+      begun_ok = tt;
+      begun_failed = memory_not_failed;
+      begun_long = memory_not_long;
+      longer = memory_not_long;
+      gave = tt;
+      gave_long = memory_not_long;
+      adds = adds_one _ _ _ piece;
+      told = λ tells. fits_one _ _ _ _ piece (_, piece_told _ _ _ _ _ _ (c.reads.invariant.told tells) (c.in-Ok-read.ensures.next tells));
+      has = c.read.ensures.has ∙ c.reads.invariant.has;
+      held = c.read.ensures.held ∙ c.reads.invariant.held;
+      calm = tt;
+      rises = rises_on _ _ _ _ _ c.reads.invariant.current c.reads.invariant.rises c.read.ensures.same c.read.ensures.rises;
+    }
 
 more_told : (held bytes old_left left piece rest new : List ℕ) (n : ℕ) → held ≡ bytes ++ old_left → old_left ≡ take n piece ++ left → n ≤ length piece → new ≡ bytes ++ take n (piece ++ rest) → held ≡ new ++ left
 more_told held bytes old_left left piece rest new n told next bound grown =
@@ -172,6 +203,7 @@ reads-preserved g c = let grown = on_ok c.extend.result _ c.is_err.ensures.value
   current = c.read.ensures.current ∙ c.reads.invariant.current;
   begun = c.read.ensures.begun ∙ c.reads.invariant.begun;
   told = λ tells. more_told _ _ _ _ _ _ _ _ (c.reads.invariant.told tells) (c.in-Ok-read.ensures.next tells) c.in-Ok-read.ensures.bound grown;
+  gave = gave_more _ _ _ _ _ _ _ _ _ _ c.reads.invariant.current c.reads.invariant.gave c.if-n-eq0.false c.in-Ok-read.ensures.bound grown c.in-Ok-read.ensures.gave;
   there = c.reads.invariant.there;
   taken = more_taken _ _ _ _ _ _ c.requires c.in-Ok-read.ensures.taken c.reads.invariant.taken long within;
   within = within;
@@ -208,6 +240,10 @@ returns g c = record {
   begun_failed = long_not_failed;
   begun_long = λ _. c.reads.invariant.begun;
   longer = λ _ tells. longer _ _ _ _ (above _ _ _ c.len.ensures c.reads-test.false) (c.reads.invariant.told tells);
+  gave = tt;
+  gave_long = λ _. (_, c.reads.invariant.gave, above _ _ _ c.len.ensures c.reads-test.false);
+  adds = adds_one _ _ _ c.reads.invariant.gave;
+  told = λ tells. fits_one _ _ _ _ c.reads.invariant.gave (_, c.reads.invariant.told tells);
   has = c.reads.invariant.has;
   held = c.reads.invariant.held;
   calm = tt;

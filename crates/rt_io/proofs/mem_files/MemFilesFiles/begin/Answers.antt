@@ -32,6 +32,8 @@ returns c =
       begun_failed = never _ _;
       has = refl;
       held = refl;
+      gave = c.with-self.ensures;
+      gave_err = tt;
       calm = c.enter.ensures.same;
       rises = unchanged _ _ _ c.enter.ensures.same;
     }
@@ -53,6 +55,8 @@ returns-then-is_err c = record {
   begun_failed = memory_not_failed;
   has = refl;
   held = refl;
+  gave = tt;
+  gave_err = refl;
   calm = tt;
   rises = unchanged _ _ _ c.enter.ensures.same;
 }
@@ -77,6 +81,8 @@ returns-then-is_named c =
       begun_failed = λ _. c.raise.ensures.all ∙ on_ok c.enter.result _ c.is_err.ensures.value c.if-is_err.false c.enter.ensures.entered;
       has = refl;
       held = refl;
+      gave = tt;
+      gave_err = refl;
       calm = tt;
       rises = rises_after _ _ (count_in c.args.self.now.entries.items) (count_in c.enter.new.entries.items) (count_in c.raise.new.entries.items) named c.enter.ensures.same c.raise.ensures.rises;
     }
@@ -101,6 +107,8 @@ returns-in_default c =
       begun_failed = λ _. c.raise-in_default.ensures.all ∙ on_ok c.enter.result _ c.is_err.ensures.value c.if-is_err.false c.enter.ensures.entered;
       has = refl;
       held = refl;
+      gave = tt;
+      gave_err = refl;
       calm = tt;
       rises = rises_after _ _ (count_in c.args.self.now.entries.items) (count_in c.enter.new.entries.items) (count_in c.raise-in_default.new.entries.items) named c.enter.ensures.same c.raise-in_default.ensures.rises;
     }
@@ -122,6 +130,8 @@ returns-in_default-from_slice c = record {
   begun_failed = memory_not_failed;
   has = refl;
   held = refl;
+  gave = tt;
+  gave_err = refl;
   calm = tt;
   rises = unchanged _ _ _ c.enter.ensures.same;
 }

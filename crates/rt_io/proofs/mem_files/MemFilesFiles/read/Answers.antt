@@ -3,6 +3,7 @@ use Rattle.std.proofs.lemmas.List.{length-drop, drop_all}
 use Rattle.std.specs.Option.{option_map, option_map_or}
 use Rattle.rt_io.specs.Counts.{name_at}
 use Rattle.rt_io.specs.Failing.{is_failing}
+use Rattle.rt_io.proofs.GaveLemmas.{given_at, given_none}
 use Rattle.rt_io.proofs.HeldLemmas.{reads_on, rest_of}
 use Rattle.rt_io.proofs.mem_files.MemFilesFiles.read.Goals as goal
 
@@ -58,6 +59,8 @@ returns-else-is_failing c =
       begun = refl;
       has = refl;
       held = refl;
+      gave = given_at _ _ _ _ _ _ _ _ c.in-Some.is c.is_end-ended.ensures c.with-self.ensures;
+      gave_err = tt;
       calm = λ _. refl;
       same = λ _ _. refl;
       rises = λ _. le_refl _;
@@ -93,6 +96,8 @@ returns-in-None c = record {
   begun = refl;
   has = refl;
   held = refl;
+  gave = given_none _ _ _ _ _ c.in-None.is;
+  gave_err = tt;
   calm = λ _. refl;
   same = λ _ _. refl;
   rises = λ _. le_refl _;
@@ -121,6 +126,8 @@ returns-then-is_failing c =
       begun = c.raise.ensures.all;
       has = refl;
       held = refl;
+      gave = tt;
+      gave_err = refl;
       calm = tt;
       same = λ name other. c.raise.ensures.rises.same name (λ is. other (told ∙ ap Some (sym is)));
       rises = c.raise.ensures.rises.rises;
