@@ -173,7 +173,8 @@ def serving(
     tries: bool = False,
 ) -> Iterator[Server]:
     """Serves a course at a free port, or at a socket, and stops; then standard error has to be just
-    `errors`, unless the test looks at it itself (None). Nothing is tried by a database, unless the test says so."""
+    `errors`, unless the test looks at it itself (None). Nothing is tried by a database, unless the test says so.
+    """
     words = words if tries else ("--only-proved", *words)
     path = exercise.parent / "errors"
     # What a server leaves that is killed goes with the test's folder.

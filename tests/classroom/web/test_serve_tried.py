@@ -226,9 +226,7 @@ def test_a_task_whose_reference_nothing_answers_is_not_offered(
         assert server.ask("8", "SELECT name FROM bar").status == 404
 
 
-def test_a_task_that_nothing_can_try_is_named(
-    ratest: Path, exercise: Path, tmp_path: Path
-) -> None:
+def test_a_task_that_nothing_can_try_is_named(ratest: Path, exercise: Path, tmp_path: Path) -> None:
     folder = tmp_path / "beers"
     shutil.copytree(exercise, folder)
     (folder / "exercise.toml").write_text('hints = 0\nengine = "host=/nowhere dbname=none"\n')
