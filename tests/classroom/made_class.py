@@ -58,8 +58,12 @@ def spelled(query: str, student: int, chosen: random.Random) -> str:
 
 
 def left(folder: Path) -> str:
-    """What is told on standard error of a class: the answers that `ratest` refuses and SQLite does
-    not count."""
-    texts = [" ".join(path.read_text().lower().split()) for path in folder.glob("*/answers/*.sql")]
-    by_hand = sum("count(*)" in text or "city = 3" in text for text in texts)
+    """What is told on standard error of a class: the answers that `ratest` refuses, since no
+    database is asked."""
+    texts = [
+        " ".join(re.sub("--[^\n]*\n", "", path.read_text().lower()).split())
+        for path in folder.glob("*/answers/*.sql")
+    ]
+    refused = ("count(*)", "city = 3", "nmae", "select from bar", '"bars')
+    by_hand = sum(not text.strip("; ") or any(word in text for word in refused) for text in texts)
     return f"classroom: {by_hand} of {len(texts)} answers are to be graded by hand\n"

@@ -33,6 +33,7 @@ from classroom.exercise import material as full
 from classroom.exercise import typed_rows as material
 from classroom.engines.run_child import Failed, Options
 from classroom.exercise.typed_rows import POSTGRESQL, SQLITE, Material
+from classroom.sql.lookup import tokens
 from classroom.verdict.verdict import Cause, Refusal, Verdict
 
 FORMAT = b"trial 2"
@@ -69,6 +70,7 @@ class Trial:
         object, ...
     ]  # of what decides a verdict what is neither of the material nor of the two queries
     reports: bool  # whether what differs in duplicates or order is looked for
+    names: frozenset[str] = frozenset()  # that the database has, and the material may not have
 
     @cached_property
     def digest(self) -> str:
@@ -99,11 +101,42 @@ def has_full(folder: Path) -> bool:
 
 def trial_of(given: Exercise, seconds: float, engine: str | None = None) -> Trial:
     """How the answers of this exercise are tried; a Fault where that can't be."""
-    held = full.read(given.folder)
+    held = whole = full.read(given.folder)
     if held and given.tables and not is_same(held, given):
         log.warning(full.OTHER_ROWS)
         held = None
-    return trial_over(held, lambda: of_exercise(given.folder), given.settings, seconds, engine)
+    made = trial_over(held, lambda: of_exercise(given.folder), given.settings, seconds, engine)
+    if whole is None or made.material is whole:
+        return made
+    names = names_of(whole)
+    return replace(made, names=names, rest=(*made.rest, *sorted(names)))
+
+
+def names_of(held: Material) -> frozenset[str]:
+    """The names of a database's tables, columns and views, and those in its views, folded."""
+    tables = [of.table for of in held.pool.held]
+    words = [token.name for view in held.views for token in tokens(view.statement)]
+    columns = [column.name for table in tables for column in table.columns]
+    views = [view.name for view in held.views]
+    return frozenset(map(str.casefold, (*words, *columns, *views, *(of.name for of in tables))))
+
+
+# As SQLite and PostgreSQL name a table or a column that they don't have.
+NOWHERE = re.compile(
+    r'no such (?:table|column): (.+)\Z|(?:relation|column) "?([^"]+)"? does not exist\Z', re.DOTALL
+)
+
+
+def with_names(found: Verdict, names: frozenset[str]) -> Verdict:
+    """A verdict for which no name is nowhere that the database has."""
+    refusal = found.outcome
+    if not names or not isinstance(refusal, Refusal) or refusal.cause != Cause.NAME:
+        return found
+    named = NOWHERE.match(refusal.message)
+    name = (named[1] or named[2]).split(".")[-1] if named else ""
+    if name.casefold() not in names:
+        return found
+    return replace(found, outcome=replace(refusal, cause=Cause.HELD))
 
 
 def trial_over(
@@ -236,7 +269,7 @@ def verdicts(
         for future in as_completed([threads.submit(one, *item) for item in asked.items()]):
             key, found = future.result()
             if isinstance(found, Verdict):
-                yield key, found
+                yield key, with_names(found, trial.names)
             else:
                 log.warning("%s is not tried: %s", asked[key].label, found)
 

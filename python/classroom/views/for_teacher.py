@@ -180,7 +180,7 @@ def group(
         ),
         told(first),
         remarks(members, showing),
-        first.fault if is_unreadable(first) and showing.solutions else "",
+        printed_of(first) if showing.solutions else "",
         drawing_of(first, tables),
         (
             f"{mistake.name}{' (tried, not proved)' if mistake.is_tried else ''}"
@@ -237,6 +237,12 @@ def drawing_of(of: Graded, tables: Sequence[Table]) -> Drawing | None:
 def is_unreadable(of: Graded) -> bool:
     """Whether its fault is what was printed, which is no answer of the program."""
     return of.decision.has_died
+
+
+def printed_of(of: Graded) -> str:
+    """What was printed that is no answer, or how the program ended; "" where it answered."""
+    died = of.outcome.printed.strip() if isinstance(of.outcome, witness.Died) else ""
+    return (died or of.fault) if is_unreadable(of) else ""
 
 
 def words(of: Graded, tells_all: bool = True) -> str:

@@ -17,6 +17,7 @@ from classroom.sql.schema import Table
 from classroom.web import questions as asked
 from classroom.web.questions import Text
 from classroom.sql.clean import Text as Submitted
+from ratest import printed
 
 # Of the texts of one mistake.
 MOST_TEXTS = 20
@@ -98,7 +99,10 @@ def mistakes(
     for text in texts:
         query = text.text.encode("utf-8", "replace")
         answer = Answer("", Submitted(query, query))
-        one = grade(task, answer, given.tables, given.settings, text.ran, trial=text.trial)
+        # Where the reference is refused `ratest` isn't asked, and the record is empty.
+        is_asked = text.ran.status != printed.REFUSED or text.ran.stderr
+        ran = text.ran if is_asked else None
+        one = grade(task, answer, given.tables, given.settings, ran, trial=text.trial)
         same = (
             one.grade,
             (
@@ -122,7 +126,7 @@ def mistake(
     return Mistake(
         classpage.css(first),
         classpage.words(first, showing.solutions),
-        first.fault if classpage.is_unreadable(first) and showing.solutions else "",
+        classpage.printed_of(first) if showing.solutions else "",
         sum(text.count for text, _ in members),
         len(members),
         tuple(

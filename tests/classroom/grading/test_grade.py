@@ -344,6 +344,35 @@ def test_types_of_the_database_that_answer_otherwise(ratest: Path, tmp_path: Pat
     assert "agrees over the CSV files" in ran.stdout and ran.returncode == 1
 
 
+def test_a_name_that_the_database_has_is_never_nowhere(ratest: Path, tmp_path: Path) -> None:
+    """A view and a column that schema.sql has not, where the rows of the CSV files are tried."""
+    owner = tmp_path / "s.db"
+    with sqlite3.connect(owner) as database:
+        database.executescript(
+            "CREATE TABLE part (id INTEGER PRIMARY KEY, weight REAL, name TEXT NOT NULL);"
+            "INSERT INTO part VALUES (1, 1.5, 'a'), (2, 2.5, 'b');"
+            "CREATE VIEW light AS SELECT id, name AS short FROM part WHERE weight < 2;"
+        )
+    made = tmp_path / "class"
+    assert classroom("import", owner, made).returncode == 0
+    with open(made / "part.csv", "a", encoding="utf-8") as rows:
+        rows.write("3,c\n")
+    add(
+        made,
+        "1",
+        "SELECT count(*) FROM part",
+        view="SELECT count(*) FROM light",
+        column="SELECT count(weight) FROM part",
+        nowhere="SELECT count(wieght) FROM part",
+    )
+    assert grade(made).returncode == 1
+    assert {name: of["grade"] for name, of in lines(made).items()} == {
+        "1/view": "not read",
+        "1/column": "not read",
+        "1/nowhere": "wrong SQL",
+    }
+
+
 def test_a_schema_that_ratest_refuses(ratest: Path, tmp_path: Path) -> None:
     os.environ["RATEST"] = str(ratest.absolute())
     database = sqlite3.connect(tmp_path / "full.db")
