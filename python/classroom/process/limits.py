@@ -57,6 +57,12 @@ def is_checked(path: str) -> bool:
     return _is_checked(path, known.st_mtime_ns, known.st_size)
 
 
+def has_checks(words: Sequence[str]) -> bool:
+    """Whether one of the programs of a call is such a build; each stands there with its path."""
+    programs = [word for word in words if os.path.isfile(word) and os.access(word, os.X_OK)]
+    return any(map(is_checked, programs))
+
+
 def resident(pid: int) -> int:
     """The bytes that a process and its children hold in memory; 0 where it has ended."""
     try:
@@ -111,7 +117,7 @@ def run(
     if not os.access(words[0], os.X_OK):
         raise FileNotFoundError(2, "no program", words[0])
     most = round(limits.output * MEGABYTE)
-    watches = is_checked(words[0])
+    watches = has_checks(words)
     wrapped = [
         "setpriv",
         "--pdeathsig",

@@ -2,7 +2,7 @@
 from __future__ import annotations
 
 from collections.abc import Sequence
-from dataclasses import dataclass
+from dataclasses import dataclass, replace
 
 from classroom.views import draw
 from classroom.verdict import witness
@@ -22,6 +22,7 @@ LIMIT = (
     " conditions."
 )
 REST = "No more counterexamples are shown to you within this hour."
+NOT_PROVED = "This is not proved: a build without proofs said so."
 PASSED = {
     "time": "There is no verdict within {seconds:g} seconds.",
     "memory": "There is no verdict within the memory that a question has.",
@@ -48,13 +49,23 @@ def answer_of(
     hides: str | None,
     trial: Verdict | None = None,
     said: Settings = Settings(),
+    is_proved: bool = True,
 ) -> Answer:
     """`hides` is None where counterexamples are shown, else what is told in their place. Of what a
-    database tried it says so."""
-    if trial:
-        found = tried(trial, text, hides, isinstance(outcome, witness.Agree), said)
-        if found:
-            return found
+    database tried, or a build without proofs said, it says so."""
+    agrees = isinstance(outcome, witness.Agree)
+    found = tried(trial, text, hides, agrees, said) if trial else None
+    made = found or of_ratest(outcome, text, tables, seconds, hides)
+    is_own = isinstance(outcome, (witness.Agree, witness.Witness, witness.Undecided))
+    if is_proved or not is_own or found and not agrees:
+        return made
+    return replace(made, told=f"{made.told} {NOT_PROVED}".strip())
+
+
+def of_ratest(
+    outcome: Outcome, text: str, tables: Sequence[Table], seconds: float, hides: str | None
+) -> Answer:
+    """What `ratest` said."""
     if isinstance(outcome, witness.Agree):
         return Answer(
             "agrees",

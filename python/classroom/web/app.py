@@ -273,6 +273,7 @@ class Pages:
             self.hides(answered, visitor),
             answered.trial,
             served.material.settings,
+            served.asker.is_proved,
         )
         return self.with_cookie(
             self.page(served, visitor, 200, View(task.name, text, "", answer, None, hinted)),

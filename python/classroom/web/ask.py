@@ -93,6 +93,7 @@ class Asker:
         self.kept = kept
         self.foundation = foundation
         self.trial, self.trier = trial, trier
+        self.is_proved = not limited.has_checks(self.words)
 
     def ask(self, task: Offered, text: str, visitor: Visitor) -> Answered:
         """The answer to a query of at most MOST_BYTES bytes; Busy where too many ask."""

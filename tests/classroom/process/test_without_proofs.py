@@ -3,16 +3,16 @@ from __future__ import annotations
 
 import csv
 import os
+import shlex
 import subprocess
 from pathlib import Path
 
 import pytest
 from products import TOP
+from served import serving
 
 from classroom.process import limits
 from classroom.process.limits import Limits
-
-CHECKED = Path(os.environ.get("RATEST_UNPROVED") or "/work/bin/unproved/ratest")
 
 
 def program(path: Path, text: str) -> str:
@@ -34,24 +34,48 @@ def test_what_is_resident_is_bounded(tmp_path: Path) -> None:
     assert limits.run([program(tmp_path / "waits", waits)], Limits(0.5, 200)).passed == "time"
 
 
-def grade(exercise: Path, *words: str) -> subprocess.CompletedProcess[str]:
+@pytest.fixture
+def checked(ratest: Path, tmp_path: Path) -> Path:
+    """A build without proofs: the one that RATEST_UNPROVED names, else a program with its mark that
+    answers as the proved one."""
+    named = os.environ.get("RATEST_UNPROVED")
+    if named:
+        return Path(named)
+    text = f'#!/bin/sh\n# {limits.CHECKED.decode()}\nexec {shlex.quote(str(ratest))} "$@"\n'
+    (tmp_path / "checked").write_text(text)
+    (tmp_path / "checked").chmod(0o755)
+    return tmp_path / "checked"
+
+
+def grade(program: Path, exercise: Path, *words: str) -> subprocess.CompletedProcess[str]:
     return subprocess.run(
         [TOP / "classroom", "grade", *words, exercise],
-        env={"PATH": "/usr/bin:/bin", "RATEST": str(CHECKED)},
+        env={"PATH": "/usr/bin:/bin", "RATEST": str(program)},
         capture_output=True,
         text=True,
         check=False,
     )
 
 
-@pytest.mark.skipif(not CHECKED.is_file(), reason="no build without proofs: RATEST_UNPROVED")
-def test_every_verdict_of_it_says_so(beers: Path) -> None:
-    ran = grade(beers, "--only-proved")
+def test_every_verdict_of_it_says_so(beers: Path, checked: Path) -> None:
+    ran = grade(checked, beers, "--only-proved")
     assert (ran.returncode, ran.stdout) == (1, "")
-    assert ran.stderr == f"classroom: --only-proved: {CHECKED} is a build without proofs\n"
-    ran = grade(beers)
+    assert ran.stderr == f"classroom: --only-proved: {checked} is a build without proofs\n"
+    ran = grade(checked, beers)
     assert ran.stderr.splitlines()[0].startswith("classroom: not proved: ")
     with open(beers / "results/grades.csv", encoding="utf-8", newline="") as file:
         found = list(csv.DictReader(file))
     by = {line["decided_by"] for line in found if line["grade"] in ("agrees", "differs")}
     assert by == {"not proved"}
+
+
+def test_the_page_for_students_says_so(beers: Path, checked: Path) -> None:
+    pytest.importorskip("flask")
+    pytest.importorskip("waitress")
+    pytest.importorskip("limits")
+    reference = (beers / "3/reference.sql").read_text()
+    with serving(beers, ratest=checked, errors=None, tries=True) as server:
+        for text, words in ((reference, "agrees"), ("SELECT bar FROM serves", "differs on")):
+            got = server.ask("3", text)
+            assert got.verdict.startswith(words)
+            assert "This is not proved: a build without proofs said so." in got.answer
