@@ -34,6 +34,8 @@ FOUND = (
 )
 # What black and flake8 look at.
 PYTHON = ("python", "tools", "tests")
+# What black writes; and texts that it leaves long, as SQL in tests.
+PASSED = "E203,W503,E501"
 SCRIPTS = [".ci/run", "bench/classroom", "bench/run", "tests/mutants"]
 
 
@@ -73,6 +75,27 @@ def test_format(top: Path) -> None:
         check=False,
     )
     assert done.returncode == 0, "black -l 100 " + " ".join(PYTHON)
+
+
+def test_flake8(top: Path) -> None:
+    if not shutil.which("flake8"):
+        pytest.skip("there is no flake8: apt-get install flake8")
+    done = subprocess.run(
+        [
+            "/usr/bin/python3",
+            "-m",
+            "flake8",
+            "--max-line-length",
+            "100",
+            f"--extend-ignore={PASSED}",
+        ]
+        + [*PYTHON],
+        cwd=top,
+        capture_output=True,
+        text=True,
+        check=False,
+    )
+    assert done.returncode == 0, done.stdout
 
 
 def test_scripts(top: Path) -> None:

@@ -17,7 +17,7 @@ sys.path.insert(1, str(TOP / "python"))
 from classroom.exercise.rows import repeated  # noqa: E402
 from classroom.exercise.sources import of_exercise  # noqa: E402
 from classroom.engines import child  # noqa: E402
-from classroom.exercise import typed_rows as material
+from classroom.exercise import typed_rows as material  # noqa: E402
 from classroom.verdict.verdict import ALL, JOINS, Differs, NoDifference  # noqa: E402
 
 

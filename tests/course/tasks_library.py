@@ -75,7 +75,7 @@ TASKS = [
             # Where there is no such book at all everybody has borrowed all of them.
             (
                 (
-                    f"SELECT m.name FROM member m JOIN loan l ON l.member = m.id JOIN copy c ON"
+                    "SELECT m.name FROM member m JOIN loan l ON l.member = m.id JOIN copy c ON"
                     f" c.id = l.copy JOIN book b ON b.isbn = c.isbn WHERE b.author = 1 GROUP BY"
                     f" m.id, m.name HAVING COUNT(DISTINCT b.isbn) = (SELECT COUNT(*) FROM book"
                     f" WHERE author = 1)"

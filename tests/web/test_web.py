@@ -12,7 +12,7 @@ from random import Random
 from typing import Any
 
 import pytest
-from asking import AMPLE, MEBIBYTE, Asking, Browser, Node, Unable
+from asking import MEBIBYTE, Asking, Browser, Node, Unable
 from compare.draw import Limits
 from questions import ARGUMENTS, Question, Reply, hard, large, native, of_seed, questions
 

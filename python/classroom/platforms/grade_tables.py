@@ -97,10 +97,10 @@ def gradescope_json(backs: Sequence[Back], assignment: str, visibility: str = "v
             f"gradescope: the autograder grades one student at a time, and here are {len(backs)}"
         )
     tests = []
-    for number, (part, of) in enumerate(zip(backs[0].sheet.parts, backs[0].of.answers), 1):
+    for place, (part, of) in enumerate(zip(backs[0].sheet.parts, backs[0].of.answers), 1):
         test: dict[str, object] = {
             "name": f"Task {part.title}",
-            "number": str(number),
+            "number": str(place),
             "output": markdown.part_of(part).lstrip(),
             "output_format": "md",
             "visibility": visibility,

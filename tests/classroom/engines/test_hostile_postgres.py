@@ -11,7 +11,7 @@ import shop
 from roles import Roles
 
 from classroom.base.errors import Fault
-from classroom.engines.engine import Bars, Refused, Stopped, TooMuch
+from classroom.engines.engine import Bars, Stopped, TooMuch
 from classroom.exercise.typed_rows import POSTGRESQL, Material
 from classroom.exercise.part_masks import Parts
 from classroom.engines import postgres

@@ -129,8 +129,6 @@ HOSTILE = {
 
 @pytest.mark.parametrize("name", HOSTILE)
 def test_hostile(name: str) -> None:
-    import re
-
     text, kind, words = HOSTILE[name]
     of = shop.material(items=12)
     parts = Parts(of.pool)

@@ -23,7 +23,7 @@ pytest.importorskip("waitress")
 
 from classroom.exercise import exercise  # noqa: E402
 from classroom.hints import ask_children as asking  # noqa: E402
-from classroom.hints import find_mistakes as whole
+from classroom.hints import find_mistakes as whole  # noqa: E402
 from classroom.grading.store import Results  # noqa: E402
 
 WRONG = (TOP / "examples/beers/5/answers/b.sql").read_text()

@@ -16,7 +16,7 @@ from hypothesis import strategies  # noqa: E402
 from sqlglot import exp  # noqa: E402
 
 from classroom.sql import spans  # noqa: E402
-from classroom.sql import tokens
+from classroom.sql import tokens  # noqa: E402
 from classroom.sql.tree import SETS, Node, bare, nodes, parsed, regrouped, written  # noqa: E402
 
 # Nodes that stand for themselves nowhere, and what makes a query of their text.

@@ -19,9 +19,9 @@ from compare.query import Writer  # noqa: E402
 from classroom.engines import ratest as program  # noqa: E402
 from classroom.exercise import sources  # noqa: E402
 from classroom.engines import sample as base  # noqa: E402
-from classroom.exercise import generated as made
-from classroom.sql import sqlite_schema as schema
-from classroom.sql import dialect as texts
+from classroom.exercise import generated as made  # noqa: E402
+from classroom.sql import sqlite_schema as schema  # noqa: E402
+from classroom.sql import dialect as texts  # noqa: E402
 from classroom.hints.repairs import Ground, Search  # noqa: E402
 
 WRONG, PLANTED = cases.wrong(), cases.planted()

@@ -3,7 +3,6 @@ from __future__ import annotations
 
 import html
 import json
-import os
 import math
 import re
 import shutil

@@ -28,8 +28,8 @@ pytest.importorskip("waitress")
 pytest.importorskip("limits")
 
 from classroom.web import questions as asked  # noqa: E402
-from classroom.web import hand_ins as handedin
-from classroom.web import overview
+from classroom.web import hand_ins as handedin  # noqa: E402
+from classroom.web import overview  # noqa: E402
 from classroom.web.course import Course  # noqa: E402
 from classroom.web.hand_ins import HandIns  # noqa: E402
 from classroom.exercise.window import Window  # noqa: E402
