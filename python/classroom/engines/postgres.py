@@ -13,7 +13,10 @@ from typing import Any
 
 from classroom.base.errors import Fault, library, shown
 from classroom.sql.schema import quoted
+from classroom.engines import left_schemas
+from classroom.engines.asker_rights import LOADER_RIGHTS, RIGHTS
 from classroom.engines.only_reads import MOST_TEXT
+from classroom.engines.own_words import own_words
 from classroom.verdict.compare import Answer
 from classroom.verdict.verdict import Cause
 from classroom.engines.engine import (
@@ -33,8 +36,8 @@ from classroom.engines.tables_read import places, with_views
 from classroom.sql.lookup import begins_as_query
 
 SCHEMA = "ratest_trial_"
-# Seconds after which the schema of a process that was killed is removed.
-STALE = 3600
+# Seconds in which a server that lost all its sessions is there again.
+RETURNS = 20.0
 # Parts after which the tables are emptied of the rows that are deleted in them.
 REFRESH = 500
 TEXTS = (
@@ -54,38 +57,6 @@ TEXTS = (
     "point",
 )
 PREPARE = "PREPARE query AS "
-# What an asker may do that it shouldn't, with what is told then.
-RIGHTS = (
-    (
-        (
-            "SELECT rolsuper OR rolcreaterole OR rolcreatedb OR rolbypassrls OR rolreplication FROM"
-            " pg_roles WHERE rolname = current_user"
-        ),
-        "is a superuser, or may make roles or databases",
-    ),
-    (
-        (
-            "SELECT has_database_privilege(current_database(), 'CREATE') OR"
-            " has_database_privilege(current_database(), 'TEMP')"
-        ),
-        "may create in the database",
-    ),
-    (
-        "SELECT bool_or(has_schema_privilege(oid, 'CREATE')) FROM pg_namespace",
-        "may create in a schema",
-    ),
-    (
-        (
-            "SELECT count(*) > 0 FROM pg_proc WHERE prokind IN ('f', 'p', 'w') AND"
-            " has_function_privilege(oid, 'EXECUTE') AND (provolatile = 'v' OR proname IN"
-            " ('pg_stat_get_activity', 'pg_prepared_statement', 'pg_cursor', 'txid_current',"
-            " 'pg_current_xact_id'))"
-        ),
-        "may execute volatile routines, or see other sessions",
-    ),
-    ("SELECT current_setting('temp_file_limit') = '-1'", "has no temp_file_limit"),
-)
-LOADER_RIGHT = "SELECT rolsuper FROM pg_roles WHERE rolname = current_user"
 
 
 class Server:
@@ -99,11 +70,12 @@ class Server:
         self.sessions: list[Any] = []
         self.askers: list[Any] = []
         self.loader = self.connected(loader, "engine")
-        if self.one(self.loader, LOADER_RIGHT):
+        self.address = loader
+        try:
+            self.check_rights(self.loader, "engine", LOADER_RIGHTS, "one that may load")
+        except BaseException:
             self.close()
-            raise Fault(
-                "engine: its user is a superuser; docs/SERVER.md tells how to make one that is none"
-            )
+            raise
         self.schema = f"{SCHEMA}{int(time.time())}_{secrets.token_hex(6)}"
         self.label = f"postgresql {str(self.one(self.loader, 'SHOW server_version')).split()[0]}"
 
@@ -133,17 +105,20 @@ class Server:
 
     def bound(self, session: Any, key: str, seconds: float) -> None:
         """Looks at the rights of the asker, and sets the limits of its queries."""
+        self.check_rights(session, key, RIGHTS, "one that only reads")
+        # The catalogue was asked without, since on a busy machine it takes its time.
+        session.execute(f"SET statement_timeout = {round(seconds * 1000)}; SET lock_timeout = '1s'")
+
+    def check_rights(
+        self, session: Any, key: str, rights: Sequence[tuple[str, str]], wanted: str
+    ) -> None:
+        """A Fault where the session's user may do what the queries ask for."""
         try:
-            for query, told in RIGHTS:
+            for query, told in rights:
                 if self.one(session, query):
                     raise Fault(
-                        f"{key}: its user {told}; docs/SERVER.md tells how to make one that only"
-                        " reads"
+                        f"{key}: its user {told}; docs/SERVER.md tells how to make {wanted}"
                     )
-            # The catalogue was asked without, since on a busy machine it takes its time.
-            session.execute(
-                f"SET statement_timeout = {round(seconds * 1000)}; SET lock_timeout = '1s'"
-            )
         except self.psycopg.Error as fault:
             raise Fault(f"{key}: {shown(str(fault).strip().splitlines()[0])}") from None
 
@@ -151,17 +126,8 @@ class Server:
         return session.execute(query).fetchone()[0]
 
     def make_tables(self) -> None:
-        old = [
-            name
-            for name, in self.loader.execute(
-                "SELECT nspname FROM pg_namespace WHERE nspname LIKE %s",
-                (SCHEMA.replace("_", "\\_") + "%",),
-            ).fetchall()
-        ]
-        for name in old:
-            began = re.match(rf"{SCHEMA}(\d+)_", name)
-            if began and int(began[1]) < time.time() - STALE:
-                self.loader.execute(f"DROP SCHEMA IF EXISTS {quoted(name)} CASCADE")
+        left_schemas.hold(self.loader, self.schema)
+        left_schemas.drop(self.loader, SCHEMA, self.psycopg.Error)
         user = self.one(self.askers[0], "SELECT current_user")
         self.loader.execute(
             f"CREATE SCHEMA {self.schema}; GRANT USAGE ON SCHEMA {self.schema} TO {quoted(user)}; "
@@ -172,6 +138,13 @@ class Server:
         for statement in self.material.statements:
             self.loader.execute(
                 re.sub(r"(?i)\A\s*CREATE TABLE\b", "CREATE UNLOGGED TABLE", statement)
+            )
+        sessions = ", ".join(str(session.info.backend_pid) for session in self.sessions)
+        for name in self.names:
+            # Sessions of other trials, which have the same user, see no row.
+            self.loader.execute(
+                f"ALTER TABLE {name} ENABLE ROW LEVEL SECURITY, FORCE ROW LEVEL SECURITY;"
+                f"CREATE POLICY own ON {name} USING (pg_backend_pid() IN ({sessions}))"
             )
         for view in self.material.views:
             self.loader.execute(view.statement)
@@ -186,6 +159,19 @@ class Server:
             f"INSERT INTO {name} ({columns[at]}) OVERRIDING SYSTEM VALUE VALUES "
             for at, name in enumerate(self.names)
         ]
+
+    def is_there(self) -> bool:
+        """Whether the server takes a session, now or after it has returned."""
+        until = time.monotonic() + RETURNS
+        while True:
+            try:
+                with self.psycopg.connect(self.address, connect_timeout=10) as session:
+                    session.execute("SELECT 1")
+                return True
+            except self.psycopg.Error:
+                if time.monotonic() > until:
+                    return False
+                time.sleep(0.5)
 
     def close(self) -> None:
         for session in self.sessions[1:]:
@@ -255,12 +241,8 @@ class Postgres(Server):
             at = fault.diag.statement_position
             place = int(at) - 1 - len(PREPARE) if at and at.isdigit() else None
             told = self.stopped(which, fault)
-            raise told or Refused(
-                which,
-                shown(fault.diag.message_primary or str(fault)),
-                place,
-                cause_of(fault.sqlstate or ""),
-            ) from None
+            cause = cause_of(fault.sqlstate or "")
+            raise told or Refused(which, self.words(which, fault), place, cause) from None
         answer = self.ask(
             which
         )  # over no rows; of the reference first, so that its text stands nowhere any more
@@ -273,14 +255,30 @@ class Postgres(Server):
         if state == "57014":
             return TooMuch(which, "time")
         if state == "42501" or state == "25006":
-            return Bars(which, fault.diag.message_primary or "it may not do that")
+            return Bars(which, self.words(which, fault))
         if state == "42601" and "multiple commands" in str(fault):
             return Bars(which, "it has more than one statement")
         if state[:2] in ("53", "54"):
             return TooMuch(which, "memory" if state == "53200" else "size of a value")
         if state[:2] in ("08", "57", "58", "XX") or not state:
+            # An error inside of the server is the query's own, unless the server is gone.
+            if self.is_there():
+                return Bars(which, f"PostgreSQL failed at it: {self.words(which, fault)}")
             raise Fault(f"the engine: {shown(str(fault).strip().splitlines()[0])}") from None
         return None
+
+    def words(self, which: int, fault: Any) -> str:
+        """What PostgreSQL says, with nothing quoted but the query's own text and values of the
+        rows."""
+        cells = (
+            str(cell)
+            for at in bits(self.part)
+            for cell in self.material.pool.held[self.parts.rows[at].table].rows[
+                self.parts.rows[at].number
+            ]
+        )
+        told = fault.diag.message_primary or str(fault).strip().partition("\n")[0]
+        return shown(own_words(told, self.queries[which], cells))
 
     def ask(self, which: int) -> Answer:
         try:
@@ -291,7 +289,7 @@ class Postgres(Server):
             told = self.stopped(which, fault)
             if told:
                 raise told from None
-            return Answer(0, (), shown(fault.diag.message_primary or str(fault)))
+            return Answer(0, (), self.words(which, fault))
         except MemoryError:
             raise TooMuch(which, "memory") from None
         if len(lines) > MOST_LINES:

@@ -14,6 +14,8 @@ from classroom.base.errors import Fault
 from classroom.engines.engine import Bars, Refused, Stopped, TooMuch
 from classroom.exercise.typed_rows import POSTGRESQL, Material
 from classroom.exercise.part_masks import Parts
+from classroom.engines import postgres
+from classroom.engines.own_words import own_words
 from classroom.engines.postgres import Postgres
 
 TWELVE = ", ".join(f"item i{at}" for at in range(12))
@@ -232,11 +234,85 @@ def test_an_asker_that_may_execute_volatile_routines_is_refused(
 def test_what_a_killed_trial_left_is_removed(roles: Roles, material: Material) -> None:
     import psycopg
 
+    left = f"ratest_trial_{int(time.time())}_abc"
     with psycopg.connect(roles.loader, autocommit=True) as session:
-        session.execute("CREATE SCHEMA ratest_trial_1000_abc")
-    Postgres(
+        session.execute(f"CREATE SCHEMA {left}")
+    engine = Postgres(
         material, Parts(material.pool), "SELECT 1", "SELECT 1", roles.loader, roles.asker
-    ).close()
+    )
+    try:
+        assert (left,) not in schemas(roles) and (engine.schema,) in schemas(roles)
+        # One that is in use stays.
+        Postgres(
+            material, Parts(material.pool), "SELECT 1", "SELECT 1", roles.loader, roles.asker
+        ).close()
+        assert (engine.schema,) in schemas(roles)
+    finally:
+        engine.close()
+
+
+@pytest.mark.parametrize("user, key", [("ratest_asker", "asker"), ("ratest_loader", "loader")])
+def test_sessions_that_show_their_texts_are_refused(
+    user: str, key: str, roles: Roles, material: Material
+) -> None:
+    import psycopg
+
+    with psycopg.connect(roles.owner, autocommit=True) as session:
+        session.execute(f"ALTER ROLE {user} SET track_activities = on")
+        try:
+            with pytest.raises(Fault, match="track_activities"):
+                Postgres(
+                    material,
+                    Parts(material.pool),
+                    "SELECT 1",
+                    "SELECT 1",
+                    roles.loader,
+                    roles.asker,
+                )
+        finally:
+            session.execute(f"ALTER ROLE {user} SET track_activities = off")
+
+
+def test_an_error_inside_of_the_server_is_the_query_s(roles: Roles, material: Material) -> None:
+    with pytest.raises(Bars, match="PostgreSQL failed at it: expected 2-element int8 array"):
+        Postgres(
+            material,
+            Parts(material.pool),
+            "SELECT ord FROM item",
+            "SELECT int4_avg_accum('{1,2,3}', 1)",
+            roles.loader,
+            roles.asker,
+        )
+
+
+def test_a_server_that_is_gone_is_a_fault(
+    roles: Roles, material: Material, monkeypatch: pytest.MonkeyPatch
+) -> None:
+    engine = Postgres(
+        material, Parts(material.pool), "SELECT 1", "SELECT 1", roles.loader, roles.asker
+    )
+    monkeypatch.setattr(postgres, "RETURNS", 0.0)
+    engine.address += " port=1"
+    with pytest.raises(Fault, match="the engine: "):
+        engine.stopped(1, engine.psycopg.OperationalError("the connection is closed"))
+    engine.close()
+
+
+@pytest.mark.parametrize(
+    "message, told",
+    [
+        ('invalid input syntax for type integer: "PREPARE query AS SELECT 7"', None),
+        ("invalid input syntax for type integer: \"PREPARE query AS SELECT 'abc'\"", None),
+        ('invalid input syntax for type integer: "Ann"', "the same"),
+        ('invalid input syntax for type integer: "abc"', "the same"),
+        ('column "sku" of "a "b" secret"', None),
+        ('unterminated "secret', None),
+        ("division by zero", "the same"),
+    ],
+)
+def test_a_message_quotes_the_own_text_and_the_rows_alone(message: str, told: str | None) -> None:
+    made = own_words(message, "SELECT 'abc'::integer, sku FROM item", ["Ann"])
+    assert made == message if told else ("PREPARE" not in made and "secret" not in made)
 
 
 def test_rows_can_be_stored_the_other_way_round(roles: Roles, material: Material) -> None:
