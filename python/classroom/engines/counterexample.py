@@ -177,6 +177,7 @@ class Search:
 
     def outcome(self) -> verdict.Outcome:
         """What all looks together say."""
+        self.look_at_all()
         kind = self.look(self.whole, is_thorough=True)
         self.looks.known[self.whole] = kind
         if kind in self.counts:
@@ -212,6 +213,15 @@ class Search:
         return self.none(
             NoDifference(0, tried, self.whole.bit_count() + 1 if is_whole else below, is_joined)
         )
+
+    def look_at_all(self) -> None:
+        """Takes all tables for read where the rows of those that were found show no difference and
+        all rows do."""
+        everything = (1 << len(self.parts.rows)) - 1
+        if everything != self.whole and self.look(everything) in self.counts:
+            if self.look(self.whole) not in self.counts:
+                self.tables = frozenset(range(len(self.material.pool.held)))
+                self.whole = everything
 
     def none(self, found: NoDifference) -> verdict.Outcome:
         if any(self.looks.undetermined):
