@@ -76,8 +76,8 @@ TASKS = [
             (
                 (
                     "SELECT m.name FROM member m JOIN loan l ON l.member = m.id JOIN copy c ON"
-                    f" c.id = l.copy JOIN book b ON b.isbn = c.isbn WHERE b.author = 1 GROUP BY"
-                    f" m.id, m.name HAVING COUNT(DISTINCT b.isbn) = (SELECT COUNT(*) FROM book"
+                    " c.id = l.copy JOIN book b ON b.isbn = c.isbn WHERE b.author = 1 GROUP BY"
+                    " m.id, m.name HAVING COUNT(DISTINCT b.isbn) = (SELECT COUNT(*) FROM book"
                     f" WHERE author = 1)"
                 ),
                 WRONG,

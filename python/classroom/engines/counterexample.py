@@ -2,7 +2,7 @@
 from __future__ import annotations
 
 import random
-from collections.abc import Callable, Collection, Iterator
+from collections.abc import Callable, Iterator
 from dataclasses import dataclass, field
 
 from classroom.engines import join_tuples as joins
@@ -15,11 +15,10 @@ from classroom.verdict.compare import (
     ROWS,
     Answer,
     difference,
-    plain,
     rounded,
 )
+from classroom.engines.answer_lines import lines, side
 from classroom.engines.engine import ANSWER, REFERENCE, Engine
-from classroom.exercise.cells import Cell, Cells
 from classroom.exercise.typed_rows import Material
 from classroom.exercise.part_masks import Mask, Parts, bits
 from classroom.verdict.verdict import (
@@ -33,7 +32,6 @@ from classroom.verdict.verdict import (
     NotDetermined,
     Remark,
     Shown,
-    Side,
 )
 
 SHRINKINGS = 20
@@ -44,6 +42,7 @@ FEW_LAWFUL = 3_000  # so many lawful parts are all tried, whatever the queries j
 FEW_UNIONS = 3_000  # so many unions are tried where no difference is known
 MOST_UNIONS = 400_000  # unions that are remembered at once
 MOST_TUPLES = 50_000
+FEW_TIED = 100  # parts without a difference on which ties are looked for
 MOST_LOOKS = 200_000  # parts whose outcome is remembered
 SEED = "rows"
 
@@ -75,9 +74,9 @@ class Looks:
     known: dict[Mask, str] = field(default_factory=dict)
     tried: int = 0
     undetermined: list[bool] = field(default_factory=lambda: [False, False])
-    slight: dict[str, Mask] = field(
-        default_factory=dict
-    )  # a first part for each kind that counts for nothing
+    tied: list[int] = field(default_factory=lambda: [0, 0])  # parts asked for ties alone
+    # A first part for each kind that counts for nothing.
+    slight: dict[str, Mask] = field(default_factory=dict)
 
 
 class Search:
@@ -91,13 +90,8 @@ class Search:
         queries: tuple[str, str],
         wanted: Wanted,
     ) -> None:
-        self.engine, self.parts, self.material, self.queries, self.wanted = (
-            engine,
-            parts,
-            material,
-            queries,
-            wanted,
-        )
+        self.engine, self.parts, self.material = engine, parts, material
+        self.queries, self.wanted = queries, wanted
         self.counts = wanted.kinds()
         self.tables = engine.tables
         self.whole = parts.of_tables(self.tables)
@@ -140,7 +134,11 @@ class Search:
             return ""
         back = self.engine.answers(part, backwards=True)
         again = difference(*back, self.is_ordered)
-        stable = [not difference(one, other, False) for one, other in zip(ahead, back)]
+        stable = [
+            not difference(one, other, False)
+            and not self.is_tied(which, part, bool(found or again))
+            for which, (one, other) in enumerate(zip(ahead, back))
+        ]
         for which in (REFERENCE, ANSWER):
             self.looks.undetermined[which] |= not stable[which]
         if not all(stable):
@@ -154,6 +152,23 @@ class Search:
             self.looks.slight.setdefault(kind, part)
         return kind
 
+    def is_tied(self, which: int, part: Mask, is_wanted: bool) -> bool:
+        """Whether the answer depends on how ties are broken. Of parts without a difference only a
+        few are asked, until one is tied."""
+        if not is_wanted:
+            if self.looks.undetermined[which] or self.looks.tied[which] >= FEW_TIED:
+                return False
+            self.looks.tied[which] += 1
+        first = None
+        for way in range(self.engine.ties(which)):
+            found = self.engine.tied_answer(which, way, part)
+            if found is None:
+                return False
+            first = first or found
+            if difference(first, found, False):
+                return True
+        return False
+
     def differs(self, part: Mask) -> bool:
         return self.kind(part) in self.counts
 
@@ -162,6 +177,7 @@ class Search:
 
     def outcome(self) -> verdict.Outcome:
         """What all looks together say."""
+        self.look_at_all()
         kind = self.look(self.whole, is_thorough=True)
         self.looks.known[self.whole] = kind
         if kind in self.counts:
@@ -197,6 +213,15 @@ class Search:
         return self.none(
             NoDifference(0, tried, self.whole.bit_count() + 1 if is_whole else below, is_joined)
         )
+
+    def look_at_all(self) -> None:
+        """Takes all tables for read where the rows of those that were found show no difference and
+        all rows do."""
+        everything = (1 << len(self.parts.rows)) - 1
+        if everything != self.whole and self.look(everything) in self.counts:
+            if self.look(self.whole) not in self.counts:
+                self.tables = frozenset(range(len(self.material.pool.held)))
+                self.whole = everything
 
     def none(self, found: NoDifference) -> verdict.Outcome:
         if any(self.looks.undetermined):
@@ -290,6 +315,8 @@ class Search:
         while True:
             found, how, count = self.smaller(best)
             if found is None:
+                if any(self.looks.undetermined):  # such parts tell nothing of fewer rows
+                    how, least, count = "", NOTHING, 0
                 return self.told(best, how or least, count)
             best = found
 
@@ -382,32 +409,3 @@ class Search:
             told = next((line for line in lines(*both) if line.reference != line.answer), None)
             made.append(Remark(kind, told))
         return tuple(made)
-
-
-def lines(reference: Answer, answer: Answer) -> tuple[verdict.Line, ...]:
-    """The rows of both answers, each once, in the order in which they came, with how often each has
-    it."""
-    bags = reference.bag(), answer.bag()
-    shown: dict[tuple[object, ...], Cells] = {}
-    for of in (reference, answer):
-        for key, line in zip(rounded(of.lines), of.lines):
-            shown.setdefault(key, cells(line))
-    return tuple(verdict.Line(line, bags[0][key], bags[1][key]) for key, line in shown.items())
-
-
-def side(answer: Answer) -> Side:
-    return Side(answer.columns, tuple(map(cells, answer.lines)), answer.failure)
-
-
-def cells(line: Collection[object]) -> Cells:
-    """The values as they are shown: what is no number and no text by its text."""
-    return tuple(value if value is None or type(value) in (int, float, str, bytes) else shown(value) for value in line)  # type: ignore[misc]
-
-
-def shown(value: object) -> Cell:
-    if isinstance(value, bool):
-        return "true" if value else "false"
-    if isinstance(value, (bytearray, memoryview)):
-        return bytes(value)
-    text = plain(value)
-    return text if isinstance(text, str) else str(value)

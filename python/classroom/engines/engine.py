@@ -61,6 +61,13 @@ class Engine(Protocol):
         """What both queries answer on a part, whose rows are stored in their order or the other way
         round."""
 
+    def ties(self, which: int) -> int:
+        """How many ways of breaking ties one of the queries has; 0 where no order in it chooses
+        rows, or where the ways aren't known."""
+
+    def tied_answer(self, which: int, way: int, part: Mask) -> Answer | None:
+        """What it answers where ties are broken in one of the ways; None where that failed."""
+
     def joined(
         self, tables: Sequence[tuple[int, str]], condition: str
     ) -> Iterator[tuple[int, ...]]:

@@ -1,8 +1,10 @@
-"""The schemas of trials that were ended from outside: each is removed by the next trial.
+"""What a server has of trials that were ended from outside, and whether it is there itself: the
+schemas that they left are removed by the next trial.
 
 A session holds an advisory lock as long as it lives; a schema without one belongs to no trial. """
 from __future__ import annotations
 
+import time
 from contextlib import suppress
 from typing import Any
 
@@ -37,3 +39,17 @@ def drop(session: Any, prefix: str, error: type[Exception]) -> None:
             session.execute(f"DROP SCHEMA IF EXISTS {quoted(name)} CASCADE")
         session.execute("SELECT pg_advisory_unlock(%s)", lock)
     session.execute("SET lock_timeout = 0")
+
+
+def is_there(psycopg: Any, address: str, seconds: float) -> bool:
+    """Whether the server takes a session, at once or within so many seconds."""
+    until = time.monotonic() + seconds
+    while True:
+        try:
+            with psycopg.connect(address, connect_timeout=10) as session:
+                session.execute("SELECT 1")
+            return True
+        except psycopg.Error:
+            if time.monotonic() > until:
+                return False
+            time.sleep(0.5)

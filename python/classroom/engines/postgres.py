@@ -13,7 +13,7 @@ from typing import Any
 
 from classroom.base.errors import Fault, library, shown
 from classroom.sql.schema import quoted
-from classroom.engines import left_schemas
+from classroom.engines import left_schemas, tie_keys
 from classroom.engines.asker_rights import LOADER_RIGHTS, RIGHTS
 from classroom.engines.only_reads import MOST_TEXT
 from classroom.engines.own_words import own_words
@@ -160,19 +160,6 @@ class Server:
             for at, name in enumerate(self.names)
         ]
 
-    def is_there(self) -> bool:
-        """Whether the server takes a session, now or after it has returned."""
-        until = time.monotonic() + RETURNS
-        while True:
-            try:
-                with self.psycopg.connect(self.address, connect_timeout=10) as session:
-                    session.execute("SELECT 1")
-                return True
-            except self.psycopg.Error:
-                if time.monotonic() > until:
-                    return False
-                time.sleep(0.5)
-
     def close(self) -> None:
         for session in self.sessions[1:]:
             session.close()
@@ -226,6 +213,7 @@ class Postgres(Server):
             self.part, self.backwards, self.loads = 0, False, 0
             for which in (REFERENCE, ANSWER):
                 self.prepare(which)
+            self.ways = [self.prepared_ways(which) for which in (REFERENCE, ANSWER)]
         except Stopped as stopped:
             stopped.engine = self.label
             self.close()
@@ -241,9 +229,8 @@ class Postgres(Server):
             at = fault.diag.statement_position
             place = int(at) - 1 - len(PREPARE) if at and at.isdigit() else None
             told = self.stopped(which, fault)
-            raise told or Refused(
-                which, self.words(which, fault), place, cause_of(fault.sqlstate or "")
-            ) from None
+            cause = cause_of(fault.sqlstate or "")
+            raise told or Refused(which, self.words(which, fault), place, cause) from None
         answer = self.ask(
             which
         )  # over no rows; of the reference first, so that its text stands nowhere any more
@@ -263,7 +250,7 @@ class Postgres(Server):
             return TooMuch(which, "memory" if state == "53200" else "size of a value")
         if state[:2] in ("08", "57", "58", "XX") or not state:
             # An error inside of the server is the query's own, unless the server is gone.
-            if self.is_there():
+            if left_schemas.is_there(self.psycopg, self.address, RETURNS):
                 return Bars(which, f"PostgreSQL failed at it: {self.words(which, fault)}")
             raise Fault(f"the engine: {shown(str(fault).strip().splitlines()[0])}") from None
         return None
@@ -281,9 +268,9 @@ class Postgres(Server):
         told = fault.diag.message_primary or str(fault).strip().partition("\n")[0]
         return shown(own_words(told, self.queries[which], cells))
 
-    def ask(self, which: int) -> Answer:
+    def ask(self, which: int, name: str = "query") -> Answer:
         try:
-            cursor = self.askers[which].execute("EXECUTE query")
+            cursor = self.askers[which].execute(f"EXECUTE {name}")
             lines = cursor.fetchall()
             columns = len(cursor.description or ())
         except self.psycopg.Error as fault:
@@ -296,6 +283,28 @@ class Postgres(Server):
         if len(lines) > MOST_LINES:
             raise TooMuch(which, "rows")
         return Answer(columns, lines)
+
+    def prepared_ways(self, which: int) -> int:
+        """Prepares the query with its ties broken; the number of ways."""
+        ways = 0
+        try:
+            for text in tie_keys.untied_texts(self.queries[which], self.material, "postgres"):
+                self.askers[which].execute(f"PREPARE way_{ways} AS {text}")
+                ways += 1
+        except self.psycopg.Error:
+            return 0
+        return ways
+
+    def ties(self, which: int) -> int:
+        return self.ways[which]
+
+    def tied_answer(self, which: int, way: int, part: Mask) -> Answer | None:
+        self.load(part)
+        try:
+            found = self.ask(which, f"way_{way}")
+        except Stopped:
+            return None
+        return None if found.failure else found
 
     @property
     def tables(self) -> frozenset[int]:

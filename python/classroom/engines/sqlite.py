@@ -11,6 +11,7 @@ import time
 from collections.abc import Iterator, Sequence
 from contextlib import contextmanager
 
+from classroom.engines import tie_keys
 from classroom.engines.only_reads import MOST_TEXT, OTHERWISE, READ, barred, bound, in_memory
 from classroom.sql.schema import quoted
 from classroom.verdict.compare import Answer
@@ -202,6 +203,8 @@ class Sqlite:
         self.queries = (reference, answer)
         self.stored = [Stored(material, parts, backwards, seconds) for backwards in (False, True)]
         self.check_both()
+        tie_keys.add_function(self.stored[0].db)
+        self.ways = [list(tie_keys.untied_texts(text, material, "sqlite")) for text in self.queries]
 
     def check_both(self) -> None:
         """Refuses a query over any rows; an answer that is wrong SQL is told so where the reference
@@ -274,6 +277,17 @@ class Sqlite:
         return stored.ask(REFERENCE, self.queries[REFERENCE]), stored.ask(
             ANSWER, self.queries[ANSWER]
         )
+
+    def ties(self, which: int) -> int:
+        return len(self.ways[which])
+
+    def tied_answer(self, which: int, way: int, part: Mask) -> Answer | None:
+        self.stored[0].load(part)
+        try:
+            found = self.stored[0].ask(which, self.ways[which][way])
+        except Stopped:
+            return None
+        return None if found.failure else found
 
     def joined(
         self, tables: Sequence[tuple[int, str]], condition: str

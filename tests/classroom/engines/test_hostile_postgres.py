@@ -11,10 +11,12 @@ import shop
 from roles import Roles
 
 from classroom.base.errors import Fault
+from classroom.engines.counterexample import Search, Wanted
 from classroom.engines.engine import Bars, Stopped, TooMuch
 from classroom.exercise.typed_rows import POSTGRESQL, Material
 from classroom.exercise.part_masks import Parts
 from classroom.engines import postgres
+from classroom.verdict.verdict import Differs
 from classroom.engines.own_words import own_words
 from classroom.engines.postgres import Postgres
 
@@ -326,3 +328,25 @@ def test_rows_can_be_stored_the_other_way_round(roles: Roles, material: Material
         for one, other in zip(ahead, back):
             assert len(one.lines) > 1 and list(one.lines) == list(other.lines)[::-1]
     engine.close()
+
+
+@pytest.mark.parametrize(
+    "condition",
+    [
+        "(ARRAY[(SELECT COUNT(*) FROM customer)])[1] = 0",
+        "E'it\\'s' <> '' AND (SELECT COUNT(*) FROM customer) = 0 AND '''' <> ''",
+        "$$'$$ <> '' AND (SELECT COUNT(*) FROM customer) = 0",
+    ],
+)
+def test_a_table_that_a_text_hides_has_its_rows(
+    condition: str, roles: Roles, material: Material
+) -> None:
+    reference = "SELECT ord FROM item"
+    parts = Parts(material.pool)
+    queries = reference, f"{reference} WHERE {condition}"
+    engine = Postgres(material, parts, *queries, roles.loader, roles.asker)
+    try:
+        found = Search(engine, parts, material, queries, Wanted()).outcome()
+    finally:
+        engine.close()
+    assert isinstance(found, Differs) and found.difference == "rows"

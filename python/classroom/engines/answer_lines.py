@@ -1,0 +1,38 @@
+"""Answers as a verdict shows them."""
+from __future__ import annotations
+
+from collections.abc import Collection
+
+from classroom.exercise.cells import Cell, Cells
+from classroom.verdict import verdict
+from classroom.verdict.compare import Answer, plain, rounded
+from classroom.verdict.verdict import Side
+
+
+def lines(reference: Answer, answer: Answer) -> tuple[verdict.Line, ...]:
+    """The rows of both answers, each once, in the order in which they came, with how often each has
+    it."""
+    bags = reference.bag(), answer.bag()
+    shown: dict[tuple[object, ...], Cells] = {}
+    for of in (reference, answer):
+        for key, line in zip(rounded(of.lines), of.lines):
+            shown.setdefault(key, cells(line))
+    return tuple(verdict.Line(line, bags[0][key], bags[1][key]) for key, line in shown.items())
+
+
+def side(answer: Answer) -> Side:
+    return Side(answer.columns, tuple(map(cells, answer.lines)), answer.failure)
+
+
+def cells(line: Collection[object]) -> Cells:
+    """The values as they are shown: what is no number and no text by its text."""
+    return tuple(value if value is None or type(value) in (int, float, str, bytes) else shown(value) for value in line)  # type: ignore[misc]
+
+
+def shown(value: object) -> Cell:
+    if isinstance(value, bool):
+        return "true" if value else "false"
+    if isinstance(value, (bytearray, memoryview)):
+        return bytes(value)
+    text = plain(value)
+    return text if isinstance(text, str) else str(value)

@@ -1,0 +1,287 @@
+"""Texts of a query in which the orders that choose rows have a last key, so that no two rows tie.
+
+An order chooses rows before LIMIT and OFFSET, in DISTINCT ON, in the windows whose value depends on
+it, and in what puts values one behind the other, as string_agg. SQL leaves open in which order tied
+rows come: a query whose answers differ between keys is not determined. """
+from __future__ import annotations
+
+from collections.abc import Callable, Mapping, Sequence
+
+import sqlglot
+from sqlglot import exp
+from sqlglot.errors import SqlglotError
+
+from classroom.sql.lookup import tokens
+from classroom.sql.tree import SETS, Node, nodes
+
+# The text of a key, of the expressions by which rows are known.
+KeyOf = Callable[[Sequence[str]], str]
+# Whatever the frame is, the order of tied rows counts; the others see the frame's peers alike.
+NUMBERED = frozenset({"ROW_NUMBER", "NTILE", "LAG", "LEAD", "FIRST_VALUE"})
+RANKED = frozenset({"RANK", "DENSE_RANK", "PERCENT_RANK", "CUME_DIST"})
+MOST_WORDS = 2_000  # of a query that is looked at
+# Without one of these words no order chooses rows.
+CHOOSING = frozenset({"limit", "fetch", "offset", "over", "on", "string_agg", "array_agg"})
+
+
+def chooses(tree: Node) -> bool:
+    """Whether an order in the query may choose rows."""
+    return any(
+        isinstance(node, (exp.Limit, exp.Fetch, exp.Offset, exp.Window, exp.ArrayAgg))
+        or isinstance(node, exp.GroupConcat)
+        or isinstance(node, exp.Distinct)
+        and bool(node.args.get("on"))
+        for node in nodes(tree)
+    )
+
+
+def untied(
+    query: str, dialect: str, columns: Mapping[str, Sequence[str]], key_of: KeyOf, is_down: bool
+) -> str | None:
+    """The query with the key, from high to low where it is down; None where no order chooses or
+    where the text isn't read.
+
+    The columns are those of the tables, by their names in small letters."""
+    words = [token.text.lower() for token in tokens(query)]
+    if len(words) > MOST_WORDS or CHOOSING.isdisjoint(words):
+        return None
+    try:
+        tree = sqlglot.parse_one(query, read=dialect)
+        if tree is None or not chooses(tree) or not is_kept(query, tree, dialect):
+            return None
+        writer = _Writer(dialect, columns, key_of, is_down)
+        made = writer.written(tree)
+        return str(made.sql(dialect, comments=False)) if writer.count else None
+    except (SqlglotError, RecursionError, ValueError, AttributeError, TypeError, IndexError):
+        return None
+
+
+def is_kept(query: str, tree: Node, dialect: str) -> bool:
+    """Whether sqlglot writes the words back that it sometimes loses."""
+    before, after = (
+        [token.text.lower() for token in tokens(text)]
+        for text in (query, tree.sql(dialect, comments=False))
+    )
+    words = ("distinct", "filter", "recursive", "all", "over", "order")
+    return all(before.count(word) == after.count(word) for word in words)
+
+
+class _Writer:
+    def __init__(
+        self, dialect: str, columns: Mapping[str, Sequence[str]], key_of: KeyOf, is_down: bool
+    ) -> None:
+        self.dialect, self.key_of, self.is_down = dialect, key_of, is_down
+        self.columns: dict[str, Sequence[str]] = dict(columns)
+        self.count = 0  # of the keys that were put
+
+    def written(self, tree: Node) -> Node:
+        for cte in [node for node in nodes(tree) if isinstance(node, exp.CTE)]:
+            alias = cte.args["alias"]
+            names = [self.spelled(one) for one in alias.args.get("columns") or []]
+            self.columns[str(cte.alias).lower()] = names or self.names(cte.this)
+        for select in [node for node in nodes(tree) if isinstance(node, exp.Select)]:
+            self.select(select)
+        for union in [node for node in nodes(tree) if isinstance(node, SETS)]:
+            if not isinstance(union.parent, SETS):
+                new = self.compound(union)
+                if union is tree:
+                    tree = new
+                elif new is not union:
+                    union.replace(new)
+        return tree
+
+    def select(self, select: Node) -> None:
+        known = self.known(select)
+        if not known:
+            return
+        for node in [one for one in nodes(select) if isinstance(one, exp.Window)]:
+            if node.find_ancestor(exp.Select) is select and self.is_open(node):
+                self.put(node, known)
+        if self.dialect != "sqlite" and not select.args.get("group"):
+            self.aggregates(select, known)
+        elif self.dialect != "sqlite":
+            self.aggregates(select, self.from_columns(select))
+        distinct = select.args.get("distinct")
+        if distinct and distinct.args.get("on"):
+            if not select.args.get("order"):
+                keys: list[Node] = [
+                    exp.Ordered(this=one.copy()) for one in distinct.args["on"].expressions
+                ]
+                select.set("order", exp.Order(expressions=keys))
+            self.put(select, known)
+        elif self.is_cut(select) and not is_last(select):
+            if distinct:
+                known = [self.sql(unaliased(item)) for item in select.expressions]
+                if self.dialect != "sqlite":
+                    if select.args.get("group") or select.find(exp.Window, exp.AggFunc):
+                        return
+                    # The same rows, of which an order may ask for more than their columns.
+                    select.set("distinct", None)
+                    groups = [sqlglot.parse_one(one, read=self.dialect) for one in known]
+                    select.set("group", exp.Group(expressions=groups))
+            self.put(select, known)
+
+    def aggregates(self, select: Node, known: list[str]) -> None:
+        for node in [
+            one for one in nodes(select) if isinstance(one, (exp.GroupConcat, exp.ArrayAgg))
+        ]:
+            if node.find_ancestor(exp.Select) is not select or not known:
+                continue
+            name = "separator" if isinstance(node, exp.GroupConcat) else "this"
+            inner = node.args.get(name)
+            if isinstance(node.this, exp.Order):
+                inner, name = node.this, "this"
+            if isinstance(inner, exp.Distinct) or isinstance(node.this, exp.Distinct):
+                continue
+            if isinstance(inner, exp.Order):
+                inner.append("expressions", self.key(known))
+            elif inner is not None and name == "this":
+                node.set("this", exp.Order(this=inner.copy(), expressions=[self.key(known)]))
+            else:
+                node.set("this", exp.Order(this=node.this.copy(), expressions=[self.key(known)]))
+
+    def compound(self, union: Node) -> Node:
+        """A compound of SELECTs that LIMIT cuts, as a table whose rows are ordered."""
+        last = union
+        while isinstance(last, SETS):
+            last = last.expression
+        if not isinstance(last, exp.Select) or not self.is_cut(last):
+            return union
+        names = self.names(union)
+        if not names or len(set(names)) < len(names):
+            return union
+        outer = exp.Select(
+            expressions=[exp.Star()],
+            **{part: last.args.get(part) for part in ("order", "limit", "offset")},
+        )
+        for part in ("order", "limit", "offset"):
+            last.set(part, None)
+        inner = union.copy()
+        ways = inner.args.get("with")
+        inner.set("with", None)
+        outer.set("with", ways)
+        alias = exp.TableAlias(this=exp.to_identifier("ratest_all"))
+        outer.set("from", exp.From(expressions=[exp.Subquery(this=inner, alias=alias)]))
+        self.put(outer, [f'ratest_all."{name}"' for name in names])
+        return outer
+
+    def put(self, node: Node, known: list[str]) -> None:
+        order = node.args.get("order")
+        if order:
+            order.append("expressions", self.key(known))
+        else:
+            node.set("order", exp.Order(expressions=[self.key(known)]))
+
+    def key(self, known: list[str]) -> Node:
+        self.count += 1
+        key = sqlglot.parse_one(f"SELECT {self.key_of(known)}", read=self.dialect).expressions[0]
+        is_first = (self.dialect == "sqlite") != self.is_down
+        return exp.Ordered(this=key, desc=self.is_down, nulls_first=is_first)
+
+    def is_open(self, window: Node) -> bool:
+        """Whether the value depends on the order of tied rows, in a way that a key can show."""
+        if window.args.get("alias") or isinstance(window.this, exp.Identifier):
+            return False
+        inner = window.this.this if isinstance(window.this, exp.Filter) else window.this
+        name = inner.name if isinstance(inner, exp.Anonymous) else inner.sql_name()
+        name, spec = str(name).upper(), window.args.get("spec")
+        if name in RANKED:
+            return False
+        if spec is None:
+            return name in NUMBERED
+        return name in NUMBERED - {"FIRST_VALUE"} or str(spec.args.get("kind")).upper() == "ROWS"
+
+    def is_cut(self, select: Node) -> bool:
+        return bool(select.args.get("limit") or select.args.get("offset"))
+
+    def known(self, select: Node) -> list[str]:
+        """The expressions by which the rows of a SELECT are known."""
+        group = select.args.get("group")
+        if group and group.expressions:
+            made = []
+            for one in group.expressions:
+                if isinstance(one, exp.Literal) and not one.is_string:
+                    one = unaliased(select.expressions[int(one.name) - 1])
+                made.append(self.sql(self.meant(select, one)))
+            return made
+        return [] if group else self.from_columns(select)
+
+    def meant(self, select: Node, node: Node) -> Node:
+        """What an alias of the SELECT stands for, where the name is no column."""
+        if isinstance(node, exp.Column) and not node.args.get("table"):
+            for item in select.expressions:
+                if isinstance(item, exp.Alias) and item.alias.lower() == node.name.lower():
+                    names = {
+                        one.rpartition(".")[2].strip('"').lower()
+                        for one in self.from_columns(select)
+                    }
+                    return node if node.name.lower() in names else item.this
+        return node
+
+    def from_columns(self, select: Node) -> list[str]:
+        made = []
+        for source in sources(select):
+            named = source.args.get("alias")
+            alias = self.spelled((named and named.this) or source.this)
+            for name in self.of_source(source):
+                made.append(f"{quoted(alias)}.{quoted(name)}" if alias else quoted(name))
+        return made
+
+    def of_source(self, source: Node) -> Sequence[str]:
+        alias = source.args.get("alias")
+        named = [self.spelled(one) for one in (alias.args.get("columns") or [])] if alias else []
+        if named:
+            return named
+        if isinstance(source, exp.Table):
+            return self.columns.get(str(source.name).lower(), ())
+        return self.names(source.this) if isinstance(source, exp.Subquery) else ()
+
+    def names(self, query: Node) -> list[str]:
+        """The names of the columns of a query; none of one that has columns without a name."""
+        while isinstance(query, (exp.Subquery, *SETS)):
+            query = query.this
+        made: list[str] = []
+        for item in query.expressions if isinstance(query, exp.Select) else []:
+            if isinstance(item, exp.Star):
+                made += [name for source in sources(query) for name in self.of_source(source)]
+            elif isinstance(item, exp.Column) and isinstance(item.this, exp.Star):
+                for source in sources(query):
+                    if str(source.alias or source.name).lower() == item.table.lower():
+                        made += self.of_source(source)
+            elif isinstance(item, (exp.Alias, exp.Column)):
+                made.append(
+                    self.spelled(item.args["alias"] if isinstance(item, exp.Alias) else item.this)
+                )
+            else:
+                return []
+        return made
+
+    def spelled(self, name: Node | None) -> str:
+        """A name as it is in quotes: small in PostgreSQL where it stands without them."""
+        if not isinstance(name, exp.Identifier):
+            return ""
+        text = str(name.this)
+        return text if name.args.get("quoted") or self.dialect == "sqlite" else text.lower()
+
+    def sql(self, node: Node) -> str:
+        return str(node.sql(self.dialect))
+
+
+def is_last(select: Node) -> bool:
+    """Whether what stands behind a SELECT is of the compound that it ends."""
+    return isinstance(select.parent, SETS) and select.arg_key == "expression"
+
+
+def unaliased(item: Node) -> Node:
+    return item.this if isinstance(item, exp.Alias) else item
+
+
+def sources(select: Node) -> list[Node]:
+    """What stands in the FROM."""
+    begin = select.args.get("from")
+    joins = select.args.get("joins") or []
+    return [*(begin.expressions if begin else []), *(join.this for join in joins)]
+
+
+def quoted(name: str) -> str:
+    return '"' + name.replace('"', '""') + '"'
