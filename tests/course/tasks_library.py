@@ -78,7 +78,7 @@ TASKS = [
                     "SELECT m.name FROM member m JOIN loan l ON l.member = m.id JOIN copy c ON"
                     " c.id = l.copy JOIN book b ON b.isbn = c.isbn WHERE b.author = 1 GROUP BY"
                     " m.id, m.name HAVING COUNT(DISTINCT b.isbn) = (SELECT COUNT(*) FROM book"
-                    f" WHERE author = 1)"
+                    " WHERE author = 1)"
                 ),
                 WRONG,
             ),
