@@ -192,7 +192,7 @@ def test_a_step_without_an_end_takes_no_more_of_the_processor(
 ) -> None:
     """What no limit of SQLite ends ends with the process, whatever the clock says."""
     (tmp_path / "child.py").write_text(
-        f"import sys; sys.path.insert(0, {str(TOP / 'python')!r})\nimport classroom.trial.child as"
+        f"import sys; sys.path.insert(0, {str(TOP / 'python')!r})\nimport classroom.engines.child as"
         " child\nchild.MORE_SECONDS = 0.5\ndef spin(*_):\n    while True: pass\nchild.tried ="
         " spin\nchild.main()\n"
     )
