@@ -61,7 +61,7 @@ def left(folder: Path) -> str:
     """What is told on standard error of a class: the answers that `ratest` refuses, since no
     database is asked."""
     texts = [
-        " ".join(re.sub("--[^\n]*\n", "", path.read_text().lower()).split())
+        " ".join(re.sub("--[^\n]*", "", path.read_text().lower()).split())
         for path in folder.glob("*/answers/*.sql")
     ]
     refused = ("count(*)", "city = 3", "nmae", "select from bar", '"bars')

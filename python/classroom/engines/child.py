@@ -1,10 +1,10 @@
-"""Questions in processes of their own, which `classroom.process.forkserver` makes: each about a material, a
-file of JSON.
+"""Questions in processes of their own, which `classroom.process.forkserver` makes: each about a
+material, a file of JSON.
 
 The material is what `classroom.exercise.typed_rows` writes. A question, JSON too, has `reference`,
 `answer`, `seconds`, `looks`, `duplicates`, `order`, `agrees`, and for PostgreSQL `engine` and
-`asker`, the two connections. What comes back is a verdict, as `classroom.verdict.verdict` writes it,
-or `{"fault": TEXT}` where the engine can't be had. """
+`asker`, the two connections. What comes back is a verdict, as `classroom.verdict.verdict` writes
+it, or `{"fault": TEXT}` where the engine can't be had. """
 from __future__ import annotations
 
 import contextlib

@@ -17,9 +17,9 @@ from ratest import installed
 
 def find(name: str = "ratest") -> Path:
     """The program of a name: the one that the variable of this name in capitals tells; else that of
-    the wheel that this package came in; else that of the repository, the proved one or else the one without proofs, which is made where
-    it isn't there; else the one that was installed with this package below a prefix; else the one on the PATH.
-    """
+    the wheel that this package came in; else that of the repository, the proved one or else the one
+    without proofs, which is made where it isn't there; else the one that was installed with this
+    package below a prefix; else the one on the PATH."""
     told = os.environ.get(name.upper())
     if told:
         path = Path(told).absolute()

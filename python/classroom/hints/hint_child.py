@@ -5,7 +5,7 @@ QUESTION is a file of JSON: `exercise`, a folder with the schema and the rows; `
 with other rows of the schema, or null; `program`, the path of `ratest_plus`; `reference`;
 `answers`, texts by their keys; `classes`, whether they are looked for; `tried`, whether nothing is
 proved, since a database decided; `kind`, as what rows are compared then; `material`, `engine` and
-`asker` where that is PostgreSQL, as `classroom.trial.child` gets them, else null; `deep`, for how
+`asker` where that is PostgreSQL, as `classroom.engines.child` gets them, else null; `deep`, for how
 many seconds two changes are looked for. FOLDER is an empty one for what is needed meanwhile. For
 each answer a line of JSON is printed: `[KEY, MISTAKE]`, as `classroom.repair.records` writes it.
 """

@@ -26,7 +26,7 @@ CHILD = f"""
 import json, os, signal, sys, time
 sys.path.insert(0, {str(TOP / "python")!r})
 from pathlib import Path
-from classroom import forking
+from classroom.process import forkserver as forking
 
 def answer(material, question):
     what, place = json.loads(question)["answer"].split()
@@ -139,7 +139,7 @@ def test_no_child_outlives_what_asked_it(child: None, tmp_path: Path) -> None:
     wanted = f"wait {place}"
     asks = (
         f"import sys; sys.path[:0] = {[str(TOP / 'python'), str(TOP / 'tests/classroom')]!r}\nfrom"
-        " pathlib import Path\nimport shop\nfrom classroom.trial import asking\nasking.CHILD ="
+        " pathlib import Path\nimport shop\nfrom classroom.engines import run_child as asking\nasking.CHILD ="
         f" Path({str(tmp_path / 'child.py')!r})\nwith asking.trier(shop.material(),"
         f" asking.Options()) as made:\n    made.ask('-', {wanted!r})\n"
     )

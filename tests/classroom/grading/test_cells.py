@@ -4,11 +4,17 @@ from __future__ import annotations
 
 import csv
 import io
+import random
+import re
 from dataclasses import replace
 from pathlib import Path
 
+import pytest
+from products import classroom
+
 from classroom.views import for_teacher as classpage
 from classroom.exercise.exercise import Answer, Task
+from classroom.base.csvcells import restored, safe
 from classroom.verdict.decision import Decision, Grade
 from classroom.grading.graded import Graded
 from classroom.mutants import mutants_csv as told
@@ -115,3 +121,27 @@ def test_one_mistake_that_is_proved_and_tried_is_two_lines() -> None:
     assert [
         [of.answer.name for of in members] for members in classpage.grouped(graded, answers)
     ] == [["ann", "zoe"], ["ben"]]
+
+
+@pytest.mark.parametrize("seed", range(4))
+def test_no_cell_begins_with_a_formula(seed: int) -> None:
+    """Whichever sign a spreadsheet parts cells by; and what is read back is what was written."""
+    chosen = random.Random(seed)
+    for _ in range(20_000):
+        cell = "".join(chosen.choices("=+-@;,\t\r\n'\" a", k=chosen.randrange(9)))
+        made = safe(cell)
+        parts = re.split(r"[;,\t\r\n]", made)
+        assert not [part for part in parts if part.lstrip('"').startswith(("=", "+", "-", "@"))]
+        assert restored(made) == cell
+
+
+@pytest.mark.parametrize("name", ["b;=1+1;", "c,=1+1", "d\t=1+1", "=1+1"])
+def test_no_file_has_a_formula(ratest: Path, beers: Path, name: str) -> None:
+    """grades.csv and class.csv, parted by each sign."""
+    (beers / f"1/answers/{name}.sql").write_text('SELECT ";=1+1;" FROM drinker')
+    classroom("grade", beers)
+    for path in (beers / "results").glob("*.csv"):
+        text = path.read_text(encoding="utf-8")
+        for sign in ",;\t":
+            found = csv.reader(io.StringIO(text, newline=""), delimiter=sign)
+            assert not [cell for line in found for cell in line if cell.startswith("=")], path

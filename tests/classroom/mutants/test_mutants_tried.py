@@ -186,7 +186,7 @@ def test_duplicates_where_they_count(beers: Path) -> None:
 CHILD = f"""
 import sys; sys.path.insert(0, {str(TOP / "python")!r})
 import os, signal, time
-import classroom.trial.child as child
+import classroom.engines.child as child
 ever = child.tried
 def tried(material, question, parts):
     if "MAX" in question["answer"]:
