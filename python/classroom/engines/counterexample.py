@@ -13,7 +13,6 @@ from classroom.verdict.compare import (
     FAILURE,
     ORDER,
     ROWS,
-    Answer,
     difference,
     rounded,
 )
