@@ -1,5 +1,5 @@
-"""The keys by which SQLite and PostgreSQL order tied rows: a hash of a seed and of what the rows are
-known by."""
+"""The keys by which SQLite and PostgreSQL order tied rows: a hash of a seed and of what the rows
+are known by."""
 from __future__ import annotations
 
 import hashlib
