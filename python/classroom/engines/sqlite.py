@@ -30,7 +30,8 @@ from classroom.engines.join_tuples import named
 from classroom.exercise.typed_rows import Material
 from classroom.exercise.part_masks import Mask, Parts, bits
 from classroom.engines.tables_read import places, with_views
-from classroom.sql.lookup import begins_as_query, clock, tokens, unknown_name
+from classroom.sql.lookup import begins_as_query, clock, unknown_name
+from classroom.sql.tokens import GAPS, pieces, tokens
 
 # Steps of SQLite's machine between two looks at the time.
 STEPS = 200
@@ -364,7 +365,7 @@ def told(failure: str, text: str) -> tuple[str, int | None]:
     if wanted:
         word = wanted[1].split(".")[-1].lower()
         found = [
-            token.start
+            token.begin
             for token in tokens(text)
             if token.text.lower() == word or token.name.lower() == word
         ]
@@ -372,16 +373,10 @@ def told(failure: str, text: str) -> tuple[str, int | None]:
     return failure, place
 
 
-# Words before a rule that can't stand in the table that is stored the other way round.
-WORD = re.compile(
-    r"""(?P<gap>\s+|--[^\n]*|/\*.*?\*/)|(?P<text>'(?:[^']|'')*')|(?P<name>"(?:[^"]|"")*"|`(?:[^`]|``)*`|\[[^\]]*\])
-    |(?P<word>[^\W\d]\w*)|(?P<number>\d[\w.]*)|(?P<other>.)""",
-    re.VERBOSE | re.DOTALL,
-)
-
-
 def words(statement: str) -> list[tuple[str, str]]:
-    return [(match.lastgroup or "", match[0]) for match in WORD.finditer(statement)]
+    return [
+        ("gap" if token.kind in GAPS else token.kind, token.text) for token in pieces(statement)
+    ]
 
 
 def with_rowid(statement: str) -> str:
