@@ -17,7 +17,7 @@ from sqlglot import exp
 from sqlglot.errors import SqlglotError
 
 from classroom.sql.tree import Node, nodes
-from classroom.sql.lookup import tokens
+from classroom.sql.tokens import Dialect, tokens
 
 COMPARISONS = (exp.EQ, exp.NEQ, exp.LT, exp.LTE, exp.GT, exp.GTE)
 MOST_TABLES = 8  # in one tuple
@@ -55,6 +55,10 @@ class Joined:
     conditions: tuple[Node, ...]
 
 
+# By sqlglot's names.
+READERS = {"sqlite": Dialect.SQLITE, "postgres": Dialect.POSTGRESQL}
+
+
 class Schema(NamedTuple):
     """Names of tables and their columns, in small letters, by their numbers."""
 
@@ -67,7 +71,7 @@ def understood(queries: Sequence[str], schema: Schema, dialect: str) -> Understo
     made = Understood()
     numbers = {name: at for at, name in enumerate(schema.tables)}
     for text in queries:
-        seen = mentions(text, numbers)
+        seen = mentions(text, numbers, READERS[dialect])
         try:
             tree = sqlglot.parse_one(text, read=dialect)
             if tree is None:
@@ -82,7 +86,7 @@ def understood(queries: Sequence[str], schema: Schema, dialect: str) -> Understo
                 if name in numbers:
                     seen[numbers[name]] = seen.get(numbers[name], 0) - 1
         except (SqlglotError, RecursionError, ValueError, AttributeError):
-            made.alone |= set(mentions(text, numbers))
+            made.alone |= set(mentions(text, numbers, READERS[dialect]))
             continue
         # A name that is no table of a FROM that was read may be one in a place that isn't known.
         made.alone |= {table for table, count in seen.items() if count}
@@ -108,12 +112,12 @@ def named(text: str, numbers: Mapping[str, int], dialect: str) -> frozenset[int]
         ]
         return frozenset(numbers[name] for name in names if name in numbers)
     except (SqlglotError, RecursionError, ValueError, AttributeError):
-        return frozenset(mentions(text, numbers))
+        return frozenset(mentions(text, numbers, READERS[dialect]))
 
 
-def mentions(text: str, numbers: Mapping[str, int]) -> dict[int, int]:
+def mentions(text: str, numbers: Mapping[str, int], dialect: Dialect) -> dict[int, int]:
     """How often the name of each table stands in a text, but for names before or behind a dot."""
-    read = tokens(text)
+    read = tokens(text, dialect)
     count: dict[int, int] = {}
     for at, token in enumerate(read):
         near = {read[at - 1].text if at else "", read[at + 1].text if at + 1 < len(read) else ""}
@@ -395,19 +399,19 @@ def is_ordered(text: str, dialect: str) -> bool:
     try:
         tree = sqlglot.parse_one(text, read=dialect)
     except (SqlglotError, RecursionError):
-        return ordered_by_tokens(text)
+        return ordered_by_tokens(text, READERS[dialect])
     while isinstance(tree, (exp.Paren, exp.Subquery)):
         if tree.args.get("order"):
             return True
         tree = tree.this
     if tree is None:
         return False
-    return bool(tree.args.get("order")) or ordered_by_tokens(text)
+    return bool(tree.args.get("order")) or ordered_by_tokens(text, READERS[dialect])
 
 
-def ordered_by_tokens(text: str) -> bool:
+def ordered_by_tokens(text: str, dialect: Dialect) -> bool:
     depth = 0
-    for token in tokens(text):
+    for token in tokens(text, dialect):
         depth += (token.text == "(") - (token.text == ")")
         if depth == 0 and token.kind == "word" and token.text.lower() == "order":
             return True

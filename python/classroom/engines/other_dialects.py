@@ -5,7 +5,7 @@ import re
 from typing import Any
 
 from classroom.base.errors import Missing, library
-from classroom.sql.lookup import tokens
+from classroom.sql.tokens import tokens
 
 # By sqlglot's word, the first that reads a text is named.
 DIALECTS = {

@@ -34,6 +34,7 @@ from classroom.exercise.typed_rows import Material
 from classroom.exercise.part_masks import Mask, Parts, bits
 from classroom.engines.tables_read import places, with_views
 from classroom.sql.lookup import begins_as_query
+from classroom.sql.tokens import Dialect
 
 SCHEMA = "ratest_trial_"
 # Seconds in which a server that lost all its sessions is there again.
@@ -313,7 +314,7 @@ class Postgres(Server):
         return frozenset(
             table
             for text in with_views(self.queries, self.material)
-            for table in mentions(text, numbers)
+            for table in mentions(text, numbers, Dialect.POSTGRESQL)
         )
 
     def load(self, part: Mask, backwards: bool = False) -> None:

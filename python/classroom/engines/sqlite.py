@@ -32,6 +32,7 @@ from classroom.exercise.typed_rows import Material
 from classroom.exercise.part_masks import Mask, Parts, bits
 from classroom.engines.tables_read import places, with_views
 from classroom.sql.lookup import begins_as_query, clock, unknown_name
+from classroom.sql.tokens import GAPS, pieces
 
 # Steps of SQLite's machine between two looks at the time.
 STEPS = 200
@@ -314,16 +315,10 @@ class Sqlite:
             stored.close()
 
 
-# Words before a rule that can't stand in the table that is stored the other way round.
-WORD = re.compile(
-    r"""(?P<gap>\s+|--[^\n]*|/\*.*?\*/)|(?P<text>'(?:[^']|'')*')|(?P<name>"(?:[^"]|"")*"|`(?:[^`]|``)*`|\[[^\]]*\])
-    |(?P<word>[^\W\d]\w*)|(?P<number>\d[\w.]*)|(?P<other>.)""",
-    re.VERBOSE | re.DOTALL,
-)
-
-
 def words(statement: str) -> list[tuple[str, str]]:
-    return [(match.lastgroup or "", match[0]) for match in WORD.finditer(statement)]
+    return [
+        ("gap" if token.kind in GAPS else token.kind, token.text) for token in pieces(statement)
+    ]
 
 
 def with_rowid(statement: str) -> str:

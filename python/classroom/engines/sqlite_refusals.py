@@ -4,7 +4,7 @@ from __future__ import annotations
 import re
 
 from classroom.engines.engine import Refused, Stopped, TooMuch
-from classroom.sql.lookup import tokens
+from classroom.sql.tokens import tokens
 from classroom.verdict.verdict import Cause
 
 # Of what SQLite says where it refuses a text: a name that is nowhere; its grammar.
@@ -58,7 +58,7 @@ def told(failure: str, text: str) -> tuple[str, int | None]:
     if wanted:
         word = wanted[1].split(".")[-1].lower()
         found = [
-            token.start
+            token.begin
             for token in tokens(text)
             if token.text.lower() == word or token.name.lower() == word
         ]

@@ -21,7 +21,7 @@ from classroom.base.errors import Fault, shown, visible
 from classroom.base.files import Folder, NotRead
 from classroom.sql.schema import Table, tables_of
 from classroom.exercise.settings import Settings, TaskSettings
-from classroom.sql.clean import Text
+from classroom.sql.clean import CleanText
 
 RESULTS = "results"
 REFERENCE, ANSWERS = "reference.sql", "answers"
@@ -34,7 +34,7 @@ class Answer:
     """A file NAME.sql of a student."""
 
     name: str
-    text: Text = Text()
+    text: CleanText = CleanText()
     fault: str = ""  # why it is not read; then the text is empty
 
     @property

@@ -15,8 +15,9 @@ from classroom.base.errors import Fault, shown
 from classroom.exercise.rows import Cells, Foreign, Held, Pool
 from classroom.sql.schema import Column, Table, literal, quoted
 from classroom.exercise.typed_rows import POSTGRESQL, SQLITE, Made, Material
-from classroom.sql.lookup import Token, tokens, without_comments
+from classroom.sql.tokens import Dialect, Token, tokens, without_comments
 
+PG = Dialect.POSTGRESQL
 MOST_BYTES = 67_108_864
 OTHER_ROWS = (
     "full.db or full.sql has other rows than the CSV files, which are tried in its place: import"
@@ -111,9 +112,9 @@ def pool_of(found: Sequence[tuple[model.Table, list[Column], list[Any]]]) -> Poo
 
 def query_of(statement: str) -> str:
     """The query of a CREATE VIEW."""
-    found = tokens(statement)
+    found = tokens(statement, PG)
     at = next((at for at, token in enumerate(found) if token.text.lower() == "as"), len(found) - 1)
-    return statement[found[at].start + len(found[at].text) :].strip().removesuffix(";")
+    return statement[found[at].begin + len(found[at].text) :].strip().removesuffix(";")
 
 
 def of_script(script: bytes) -> Material:
@@ -126,14 +127,14 @@ def of_script(script: bytes) -> Material:
     views: list[Made] = []
     before: list[str] = []
     for statement, data in parts(text):
-        found = tokens(statement)
+        found = tokens(statement, PG)
         words = [token.text.upper() for token in found]
         plain = unqualified(statement, found)
-        named = tokens(plain)
+        named = tokens(plain, PG)
         if words[:2] == ["CREATE", "TABLE"]:
             name = named[2].name
             tables[name] = model.Table(name, name)
-            statements[name] = [without_comments(plain.split("\nPARTITION BY")[0])]
+            statements[name] = [without_comments(plain.split("\nPARTITION BY")[0], PG)]
         elif words[:2] in (["CREATE", "TYPE"], ["CREATE", "DOMAIN"]):
             before.append(plain)
         elif words[:2] == ["CREATE", "VIEW"]:
@@ -163,7 +164,9 @@ def part_of(script: bytes, numbers: Mapping[str, Sequence[int]]) -> bytes:
         made.append(f"{statement};\n")
         if statement.startswith("COPY "):
             wanted = set(
-                numbers.get(written(tokens(unqualified(statement, tokens(statement)))[1].name), ())
+                numbers.get(
+                    written(tokens(unqualified(statement, tokens(statement, PG)), PG)[1].name), ()
+                )
             )
             made += [f"{line}\n" for number, line in enumerate(data, 1) if number in wanted]
             made.append("\\.\n")
@@ -192,10 +195,7 @@ def parts(text: str) -> Iterator[tuple[str, list[str]]]:
 
 def is_whole(text: str) -> bool:
     """Whether no text and no name is open at the end."""
-    return not any(
-        token.text[0] in "'\"" and (len(token.text) < 2 or token.text[-1] != token.text[0])
-        for token in tokens(text)
-    )
+    return not any(token.kind == "open" for token in tokens(text, PG))
 
 
 def unqualified(statement: str, found: Sequence[Token]) -> str:
@@ -209,8 +209,8 @@ def unqualified(statement: str, found: Sequence[Token]) -> str:
             and token.name != "pg_catalog"
             and is_schema(found, at)
         ):
-            made.append(statement[end : token.start])
-            end = found[at + 1].start + 1
+            made.append(statement[end : token.begin])
+            end = found[at + 1].begin + 1
     return "".join([*made, statement[end:]])
 
 
@@ -273,7 +273,7 @@ def constraint(
                 [
                     one.name
                     for one in found[number + 1 :]
-                    if one.start < ending(found, number) and one.text != ","
+                    if one.begin < ending(found, number) and one.text != ","
                 ]
             )
     if "FOREIGN" in words[at:]:
@@ -288,7 +288,7 @@ def constraint(
 
 
 def ending(found: Sequence[Token], at: int) -> int:
-    return next((token.start for token in found[at:] if token.text == ")"), found[-1].start)
+    return next((token.begin for token in found[at:] if token.text == ")"), found[-1].begin)
 
 
 def field(text: str) -> str | None:

@@ -21,7 +21,6 @@ from dataclasses import replace
 
 from classroom.exercise.exercise import Answer, Task
 from classroom.exercise.settings import Settings
-from classroom.sql.clean import odd_character
 from classroom.verdict import sentences, witness
 from classroom.verdict.compare import COLUMNS, DUPLICATES, ORDER
 from classroom.verdict.decision import PROVED, Decision, Grade, Note, NoteKind
@@ -84,19 +83,11 @@ def by_proof(answer: Answer, proof: Outcome, prover: str) -> Decision:
     if isinstance(proof, witness.Refused):
         if witness.tells_columns(proof):
             return Decision(Grade.DIFFERS, prover, notes=(Note(NoteKind.OTHER_COLUMNS),))
-        return Decision(Grade.NOT_READ, fault=fault_of(answer, proof))
+        return Decision(Grade.NOT_READ, fault=proof.fault)
     if isinstance(proof, witness.Limit):
         return Decision(Grade.NO_VERDICT, fault=f"{LIMIT}{proof.fault}")
     assert isinstance(proof, witness.NoVerdict)
     return Decision(Grade.NO_VERDICT, fault=f"passes the limit of {proof.passed}")
-
-
-def fault_of(answer: Answer, proof: witness.Refused) -> str:
-    """Why it is refused, with the name of an odd character that stands at the place."""
-    if proof.part != "query 2" or proof.place is None:
-        return proof.fault
-    odd = odd_character(answer.text.query.decode("utf-8", "replace"), proof.place)
-    return f"{proof.fault}: {odd}" if odd else proof.fault
 
 
 def agreeing(made: Decision, trial: Verdict | None, said: Settings) -> Decision:

@@ -33,7 +33,7 @@ from classroom.exercise import material as full
 from classroom.exercise import typed_rows as material
 from classroom.engines.run_child import Failed, Options
 from classroom.exercise.typed_rows import POSTGRESQL, SQLITE, Material
-from classroom.sql.lookup import tokens
+from classroom.sql.tokens import tokens
 from classroom.verdict.verdict import Cause, Refusal, Verdict
 
 FORMAT = b"trial 2"

@@ -16,11 +16,10 @@ from classroom.platforms.html import text_of
 from classroom.people.identity import composed, fault_of_id, key
 from classroom.people.roster import ClassList
 from classroom.platforms.task_names import ENDINGS, task_named
+from classroom.sql.tokens import is_blank
 
 EMPTY, NO_QUERY = "it is empty", "no query is in it"
 SPLIT = r"^[ \t]*--[ \t]*task[ \t]+(\S+).*$"
-# Possessive: a run of dashes can be cut in one way.
-COMMENT = re.compile(r"(?:\s++|--[^\n]*+|/\*.*?\*/)*+", re.DOTALL)
 
 
 @dataclass(frozen=True)
@@ -125,7 +124,10 @@ def _parts(handed: Handed, rules: Rules) -> tuple[list[tuple[str, bytes]], list[
         return [], [fault]
     content = handed.member.content
     if handed.is_online_text:
-        content = text_of(content.decode("utf-8", "replace")).encode()
+        try:
+            content = text_of(content.decode("utf-8", "replace")).encode()
+        except ValueError as why:
+            return [], [str(why)]
     if not content.strip():
         return [], [EMPTY]
     if rules.task is not None:
@@ -139,7 +141,7 @@ def _parts(handed: Handed, rules: Rules) -> tuple[list[tuple[str, bytes]], list[
         if named is None and len(rules.tasks) == 1:
             named = rules.tasks[0]
         if named is not None:
-            is_empty = COMMENT.fullmatch(text) is not None
+            is_empty = is_blank(text)
             return ([], [NO_QUERY]) if is_empty else ([(named, content)], [])
     return _split(text, begins, tasks)
 
@@ -192,14 +194,14 @@ def _split(
         ]
     faults = []
     before = text[: begins[0].start()]
-    if COMMENT.fullmatch(before) is None:
+    if not is_blank(before):
         line = before.count(chr(10)) + 1
         faults.append(f"a query stands before the comment of the first task, in line {line}")
     names = [tasks.get(key(_name_in(begin))) for begin in begins]
     parts: list[tuple[str, bytes]] = []
     for begin, end, task in zip(begins, [*begins[1:], None], names):
         part = text[begin.end() : end.start() if end else len(text)].strip("\n")
-        if COMMENT.fullmatch(part) is not None:
+        if is_blank(part):
             continue
         if task is None:
             faults.append(f"a comment names the task {shown(begin[1])}, which is none")

@@ -1,51 +1,11 @@
 """What is looked up in the text of a query before an engine gets it."""
 from __future__ import annotations
 
-import re
 from collections.abc import Collection
-from typing import NamedTuple
 
-TOKEN = re.compile(
-    r"""(?P<gap>\s+|--[^\n]*|/\*.*?(?:\*/|\Z))
-    |(?P<text>'(?:[^']|'')*'?)
-    |(?P<quoted>"(?:[^"]|"")*"?|`(?:[^`]|``)*`?|\[[^\]]*\]?)
-    |(?P<word>[^\W\d][\w$]*)
-    |(?P<number>\d[\w.]*)
-    |(?P<other><>|<=|>=|!=|==|\|\||::|.)""",
-    re.VERBOSE | re.DOTALL,
-)
+from classroom.sql.tokens import Token, tokens
+
 CLOCKS = {"date": 0, "time": 0, "datetime": 0, "julianday": 0, "unixepoch": 0, "strftime": 1}
-
-
-class Token(NamedTuple):
-    kind: str  # text, quoted, word, number or other
-    text: str  # as it stands
-    start: int  # its first character, from 0
-
-    @property
-    def name(self) -> str:
-        """Of a quoted one what stands in its quotes; else its text."""
-        if self.kind not in ("quoted", "text"):
-            return self.text
-        end = {"[": "]"}.get(self.text[0], self.text[0])
-        return self.text[1:].removesuffix(end).replace(end * 2, end)
-
-
-def tokens(text: str) -> list[Token]:
-    """The tokens of a query, without white space and comments."""
-    return [
-        Token(match.lastgroup or "other", match[0], match.start())
-        for match in TOKEN.finditer(text)
-        if match.lastgroup != "gap"
-    ]
-
-
-def without_comments(text: str) -> str:
-    """The text with a blank for each comment."""
-    return "".join(
-        " " if match.lastgroup == "gap" and match[0][0] in "-/" else match[0]
-        for match in TOKEN.finditer(text)
-    )
 
 
 def begins_as_query(text: str) -> bool:
@@ -94,7 +54,7 @@ def unknown_name(text: str, names: Collection[str]) -> tuple[str, int] | None:
     known.update(name.lower() for name in columns_of_with(found))
     for at, token in enumerate(found):
         if token.kind == "quoted" and token.text[0] == '"' and token.name.lower() not in known:
-            return token.name, token.start
+            return token.name, token.begin
     return None
 
 
@@ -102,7 +62,7 @@ def names_something(found: list[Token], at: int) -> bool:
     """Whether the token at a place gives a name: behind AS, before AS (of WITH) or behind a column
     or a table."""
     before = found[at - 1]
-    after = found[at + 1] if at + 1 < len(found) else Token("other", "", 0)
+    after = found[at + 1] if at + 1 < len(found) else Token("sign", "", 0)
     if before.kind == "word" and before.text.lower() == "as":
         return True
     if (

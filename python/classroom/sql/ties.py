@@ -11,7 +11,7 @@ import sqlglot
 from sqlglot import exp
 from sqlglot.errors import SqlglotError
 
-from classroom.sql.lookup import tokens
+from classroom.sql.tokens import tokens
 from classroom.sql.tree import SETS, Node, nodes
 
 # The text of a key, of the expressions by which rows are known.

@@ -158,7 +158,15 @@ def hints(given: Exercise, of: Graded, mistakes: Mapping[str, Mistake]) -> tuple
 
 
 def told(of: Graded) -> str:
-    """What the verdict means, in words to the student."""
+    """What the verdict means, in words to the student, and what was seen in the text itself."""
+    return told_of_verdict(of) + "".join(
+        f" It was read {remark}." if remark.startswith("without ") else f" It has {remark}."
+        for remark in of.answer.text.remarks
+        if " line " in remark
+    )
+
+
+def told_of_verdict(of: Graded) -> str:
     slight = "".join(
         f" It {trial_words.remark(note.value)}."
         for note in of.decision.notes

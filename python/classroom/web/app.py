@@ -31,7 +31,7 @@ from classroom.web.hint_buttons import REST as NO_MORE
 from classroom.web.served_exercise import Offered
 from classroom.web.visitors import Visitor, Visitors
 from classroom.web.queue import Busy
-from classroom.sql.clean import Text as Submitted
+from classroom.sql.clean import CleanText as Submitted
 from classroom.web.login import Behind, Front, login, network
 
 # A form in which every byte of a query takes three.

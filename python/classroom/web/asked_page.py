@@ -16,7 +16,7 @@ from classroom.verdict.decision import Grade
 from classroom.sql.schema import Table
 from classroom.web import questions as asked
 from classroom.web.questions import Text
-from classroom.sql.clean import Text as Submitted
+from classroom.sql.clean import CleanText as Submitted
 from ratest import printed
 
 # Of the texts of one mistake.

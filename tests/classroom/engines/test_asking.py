@@ -16,7 +16,7 @@ from products import TOP
 
 from classroom.grading import trials as tried
 from classroom.exercise.exercise import Answer, Task
-from classroom.sql.clean import Text
+from classroom.sql.clean import CleanText
 from classroom.engines import run_child as asking
 from classroom.engines.run_child import Options
 from classroom.verdict.verdict import Cause, NotDetermined, Refusal, Verdict
@@ -65,7 +65,7 @@ def questions(**answers: str) -> dict[str, tried.Pair]:
     task = Task("1", Path("1"), reference=b"SELECT 1")
     return {
         name: tried.Question(
-            task, Answer(name, Text(text.encode(), text.encode())), name, False
+            task, Answer(name, CleanText(text.encode(), text.encode())), name, False
         ).pair
         for name, text in answers.items()
     }

@@ -11,7 +11,7 @@ from classroom.exercise.exercise import Answer, Task
 from classroom.exercise.settings import Settings
 from classroom.grading.decide import decide
 from classroom.grading.graded import Graded
-from classroom.sql.clean import Text
+from classroom.sql.clean import CleanText
 from classroom.verdict import sentences, witness
 from classroom.verdict.compare import COLUMNS, DUPLICATES, FAILURE, ORDER, ROWS
 from classroom.verdict.decision import NOT_PROVED, PROVED, Decision
@@ -31,7 +31,7 @@ from classroom.verdict.verdict import (
 ENGINE = "sqlite 3.40.1"
 QUERY = b"SELECT name\nFROM drinker"
 TASK = Task("1", Path("1"), reference=b"SELECT name FROM drinker")
-ANSWER = Answer("ann", Text(QUERY, QUERY))
+ANSWER = Answer("ann", CleanText(QUERY, QUERY))
 DEFAULT = Settings()
 STRICT = Settings(duplicates="wrong", order="wrong")
 AGREE = witness.Agree()

@@ -270,7 +270,15 @@ QUERY = "SELECT name FROM bar WHERE name = 'Müller'"
         (QUERY.encode("utf-16"), QUERY, ("read as UTF-16",)),
         (b"\xfe\xff" + QUERY.encode("utf-16-be"), QUERY, ("read as UTF-16",)),
         (QUERY.encode("latin-1"), QUERY, ("read as Latin-1",)),
-        ("SELECT ’ü’".encode("cp1252"), "SELECT ’ü’", ("read as Windows-1252",)),
+        (
+            "SELECT ’ü’".encode("cp1252"),
+            "SELECT ’ü’",
+            (
+                "read as Windows-1252",
+                "a typographic quote at line 1, column 8",
+                "a typographic quote at line 1, column 10",
+            ),
+        ),
     ],
 )
 def test_encodings(raw: bytes, whole: str, remarks: tuple[str, ...]) -> None:
@@ -336,9 +344,10 @@ def test_texts_of_a_class(ratest: Path, empty: Path) -> None:
         "typographic": (
             "not read",
             "",
-            "unexpected byte at 36: a typographic quote at line 2, column 14",
+            "unexpected byte at 36; a typographic quote at line 2, column 14; a typographic quote at"
+            " line 2, column 20",
         ),
-        "blank": ("not read", "", "unexpected byte at 6: a no-break space at line 1, column 7"),
+        "blank": ("not read", "", "unexpected byte at 6; a no-break space at line 1, column 7"),
         "tab": ("differs", "0", ""),
         "two": ("not read", "", "more than one statement"),
         "large": ("not read", "", "more than 64 KiB"),

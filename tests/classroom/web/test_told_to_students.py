@@ -17,7 +17,7 @@ from classroom.verdict.decision import Grade
 from classroom.views.answer import answer_of
 from classroom.web.ask import shows_rows
 from classroom.exercise.settings import Settings
-from classroom.sql.clean import Text
+from classroom.sql.clean import CleanText
 from classroom.verdict.compare import DUPLICATES, FAILURE, ORDER, ROWS
 from classroom.verdict.verdict import (
     ALL,
@@ -38,7 +38,7 @@ REFUSED = witness.Refused("query 2", "not supported: count", None)
 
 
 def answer(query: bytes = b"SELECT count(*) FROM t") -> Answer:
-    return Answer("ann", Text(query, query))
+    return Answer("ann", CleanText(query, query))
 
 
 def tried(found: Verdict, said: Settings = Settings(), proof: witness.Outcome = REFUSED) -> Graded:

@@ -18,18 +18,14 @@ from classroom.exercise.importing.checks import (
     Unread,
     conditions_of,
 )
+from classroom.sql.tokens import Dialect
+from classroom.sql.tokens import tokens as read
 
 # What an operand may turn out to be: a condition in parentheses, a side, or a list of sides.
 Operand = Union[Node, Side, list[Side]]
 
 SIGNS = {"=": "=", "==": "=", "<>": "<>", "!=": "<>", "<": "<", "<=": "<=", ">": ">", ">=": ">="}
 MOST_DEPTH = 50
-
-TOKEN = r"""(?P<gap>(?:[ \t\r\n\f\v]|--[^\n]*|/\*.*?(?:\*/|\Z))+)
-    |(?P<number>\.?[0-9](?:[eE][-+](?=[0-9])|[\w.])*)
-    |(?P<word>[A-Za-z_\x80-\U0010ffff][\w$\x80-\U0010ffff]*)
-    |(?P<quoted>%s)
-    |(?P<sign>%s|.)"""
 
 
 @dataclass(frozen=True)
@@ -43,20 +39,23 @@ class Token:
         return self.kind == "word" and self.text.upper() in words
 
 
-def pattern(quoted: str, signs: str) -> re.Pattern[str]:
-    return re.compile(TOKEN % (quoted, signs), re.VERBOSE | re.DOTALL)
-
-
-def tokens(text: str, form: re.Pattern[str]) -> list[Token]:
-    found = []
-    for match in form.finditer(text):
-        kind, of = match.lastgroup or "", match[0]
-        if kind == "quoted":
-            kind, end = of[0], of[-1]
-            of = of[1:-1] if kind == "[" else of[1:-1].replace(end * 2, end)
-        if kind != "gap":
-            found.append(Token(kind, of, match.start(), match.end()))
-    return found
+def tokens(text: str, dialect: Dialect) -> list[Token]:
+    made = []
+    for one in read(text, dialect):
+        kind, inside = one.kind, one.name
+        if kind in ("quoted", "text"):
+            # A text that begins with a letter, as X'00', is no plain constant: X is told.
+            letter = one.text[0] not in "'\"`["
+            kind, inside = (
+                ("word", re.split("['\"]", one.text)[0])
+                if letter
+                else (
+                    one.text[0],
+                    inside,
+                )
+            )
+        made.append(Token(kind, inside, one.begin, one.end))
+    return made
 
 
 def shortened(text: str, found: Sequence[Token]) -> str:
@@ -72,11 +71,11 @@ class Reader:
     """Reads one condition, with the sides that its names stand for. What differs by product is in
     subclasses."""
 
-    form: ClassVar[re.Pattern[str]]  # of its tokens
+    dialect: ClassVar[Dialect]  # of its tokens
 
     def __init__(self, text: str, sides: Mapping[str, Side]) -> None:
         self.sides = sides
-        self.tokens = tokens(text, self.form) + [Token("end", "", len(text), len(text))]
+        self.tokens = tokens(text, self.dialect) + [Token("end", "", len(text), len(text))]
         self.at = self.depth = 0
 
     def check(self, name: str) -> Check:

@@ -8,9 +8,9 @@ from dataclasses import replace
 
 from classroom.exercise.importing.checks import NOTHING, Leaf, Side, Unread
 from classroom.exercise.importing.dates import padded
-from classroom.exercise.importing.check_reader import Operand, Reader, Token, pattern
+from classroom.exercise.importing.check_reader import Operand, Reader, Token
+from classroom.sql.tokens import Dialect
 
-FORM = pattern(r"""'(?:[^']|'')*'|"(?:[^"]|"")*\"""", r"::|[-+*/<>=~!@\#%^&|?`]+")
 # A whole NUMERIC may have more than 64 bits.
 BITS = {"boolean": 2, "smallint": 16, "integer": 32, "bigint": 64, "numeric": 1000}
 MOMENTS = (
@@ -23,7 +23,7 @@ TEXTS = ("text", "character varying", "bpchar")
 
 
 class Condition(Reader):
-    form = FORM
+    dialect = Dialect.POSTGRESQL
 
     def __init__(self, text: str, sides: Mapping[str, Side], in_c: int, digits: int) -> None:
         super().__init__(text, sides)

@@ -11,13 +11,10 @@ from dataclasses import replace
 
 from classroom.exercise.importing.checks import EQUALITY, NOTHING, ORDER, Check, Leaf, Side, Unread
 from classroom.exercise.importing.model import Column
-from classroom.exercise.importing.check_reader import Reader, Token, pattern, shortened, tokens
+from classroom.exercise.importing.check_reader import Reader, Token, shortened, tokens
 from classroom.base.errors import shown
+from classroom.sql.tokens import Dialect
 
-FORM = pattern(
-    r"""'(?:[^']|'')*'|"(?:[^"]|"")*"|`(?:[^`]|``)*`|\[[^\]]*\]""",
-    "<>|<=|>=|==|!=|[|][|]|<<|>>|->>|->",
-)
 ROWID = ("rowid", "_rowid_", "oid")
 # The affinity of columns of moments: SQLite makes numbers of the texts that they are compared with.
 NUMERIC = "numeric"
@@ -33,7 +30,7 @@ def fold(name: str) -> str:
 
 
 class Condition(Reader):
-    form = FORM
+    dialect = Dialect.SQLITE
 
     def __init__(self, text: str, sides: Mapping[str, Side], table: str, binary: int) -> None:
         super().__init__(text, sides)
@@ -126,7 +123,7 @@ def bodies_of(items: Items) -> Iterator[tuple[str | None, list[Token]]]:
 
 
 def has_collation(statement: str) -> bool:
-    return any(token.says("COLLATE") for token in tokens(statement, FORM))
+    return any(token.says("COLLATE") for token in tokens(statement, Dialect.SQLITE))
 
 
 def checks_of(
@@ -135,7 +132,7 @@ def checks_of(
     """The CHECKs of a table, which may name these columns, of which some are of moments."""
     # The collation BINARY orders texts of UTF-16 by the bytes of that.
     binary = ORDER if encoding == "utf-8" else EQUALITY
-    items = items_of(tokens(statement, FORM))
+    items = items_of(tokens(statement, Dialect.SQLITE))
     collations = collations_of(items)
     sides = {
         fold(column.name): Side(
