@@ -260,7 +260,7 @@ def endless(folder: Path) -> Path:
     """An exercise, beside a program that stands for `ratest` and sleeps where the queries
     differ."""
     program = folder / "ratest"
-    program.write_text('#!/bin/sh\ncmp -s "$3" "$4" || exec sleep 100\n')
+    program.write_text('#!/bin/sh\ncmp -s "$3" "$4" && echo agree || exec sleep 100\n')
     program.chmod(0o755)
     return single(folder / "x", endless="SELECT * FROM t")
 
