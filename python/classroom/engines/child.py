@@ -27,7 +27,8 @@ from classroom.engines import other_dialects
 from classroom.engines.engine import REFERENCE, Engine, Refused, Stopped, TooMuch
 from classroom.exercise.typed_rows import POSTGRESQL, SQLITE, Material
 from classroom.exercise.part_masks import Parts
-from classroom.engines.counterexample import RANDOM_PARTS, SHRINKINGS, Search, Wanted
+from classroom.engines.counterexample import Search
+from classroom.engines.looks import RANDOM_PARTS, SHRINKINGS, Wanted
 from classroom.verdict.verdict import Cause, Refusal, Verdict
 
 # Of the processor beyond the time in which is tried: to begin, and to end a step.

@@ -3,21 +3,14 @@ from __future__ import annotations
 
 import random
 from collections.abc import Callable, Iterator
-from dataclasses import dataclass, field
 
 from classroom.engines import join_tuples as joins
+from classroom.engines.join_conditions import Schema
 from classroom.verdict import verdict
-from classroom.verdict.compare import (
-    COLUMNS,
-    DUPLICATES,
-    FAILURE,
-    ORDER,
-    ROWS,
-    difference,
-    rounded,
-)
+from classroom.verdict.compare import DUPLICATES, ORDER, difference, rounded
 from classroom.engines.answer_lines import lines, side
 from classroom.engines.engine import ANSWER, REFERENCE, Engine
+from classroom.engines.looks import Looks, Wanted
 from classroom.exercise.typed_rows import Material
 from classroom.exercise.part_masks import Mask, Parts, bits
 from classroom.verdict.verdict import (
@@ -33,8 +26,6 @@ from classroom.verdict.verdict import (
     Shown,
 )
 
-SHRINKINGS = 20
-RANDOM_PARTS = 1000
 FEW_RANDOM = 200  # of queries that are known to agree
 MOST_RANDOM = 16  # rows of a random part
 FEW_LAWFUL = 3_000  # so many lawful parts are all tried, whatever the queries join
@@ -44,38 +35,6 @@ MOST_TUPLES = 50_000
 FEW_TIED = 100  # parts without a difference on which ties are looked for
 MOST_LOOKS = 200_000  # parts whose outcome is remembered
 SEED = "rows"
-
-
-@dataclass(frozen=True)
-class Wanted:
-    """What counts as a difference, and how long is tried."""
-
-    seconds: float = 10.0
-    counts_duplicates: bool = False
-    counts_order: bool = False
-    random_parts: int = RANDOM_PARTS
-    shrinkings: int = SHRINKINGS
-    agrees: bool = False  # the queries are known to agree as sets
-    looks: int = 0  # that stand for the seconds; 0: the engine's clock counts
-
-    def kinds(self) -> frozenset[str]:
-        return frozenset(
-            (set() if self.agrees else {COLUMNS, FAILURE, ROWS})
-            | ({DUPLICATES} if self.counts_duplicates else set())
-            | ({ORDER} if self.counts_order else set())
-        )
-
-
-@dataclass
-class Looks:
-    """What was seen of the parts so far."""
-
-    known: dict[Mask, str] = field(default_factory=dict)
-    tried: int = 0
-    undetermined: list[bool] = field(default_factory=lambda: [False, False])
-    tied: list[int] = field(default_factory=lambda: [0, 0])  # parts asked for ties alone
-    # A first part for each kind that counts for nothing.
-    slight: dict[str, Mask] = field(default_factory=dict)
 
 
 class Search:
@@ -246,7 +205,7 @@ class Search:
 
     def units(self) -> tuple[list[Mask], bool]:
         """The rows that can matter together, and whether the queries' joins were understood."""
-        schema = joins.Schema(
+        schema = Schema(
             [name.lower() for name in self.material.names()],
             [
                 frozenset(column.name.lower() for column in held.table.columns)

@@ -16,10 +16,11 @@ import sqlglot
 from sqlglot import exp
 from sqlglot.errors import SqlglotError
 
-from classroom.sql.tree import Node, nodes
+from classroom.engines.join_conditions import COMPARISONS, Schema, Writer, column
+from classroom.engines.tables_read import READERS, found, mentions, name_of
+from classroom.sql.tree import Node
 from classroom.sql.tokens import Dialect, tokens
 
-COMPARISONS = (exp.EQ, exp.NEQ, exp.LT, exp.LTE, exp.GT, exp.GTE)
 MOST_TABLES = 8  # in one tuple
 
 
@@ -55,17 +56,6 @@ class Joined:
     conditions: tuple[Node, ...]
 
 
-# By sqlglot's names.
-READERS = {"sqlite": Dialect.SQLITE, "postgres": Dialect.POSTGRESQL}
-
-
-class Schema(NamedTuple):
-    """Names of tables and their columns, in small letters, by their numbers."""
-
-    tables: Sequence[str]
-    columns: Sequence[frozenset[str]]
-
-
 def understood(queries: Sequence[str], schema: Schema, dialect: str) -> Understood:
     """Of both queries and the views."""
     made = Understood()
@@ -98,42 +88,6 @@ def understood(queries: Sequence[str], schema: Schema, dialect: str) -> Understo
             and name_of(table.this) in numbers
         }
     return made
-
-
-def named(text: str, numbers: Mapping[str, int], dialect: str) -> frozenset[int]:
-    """The tables that a query names where tables can stand."""
-    try:
-        tree = sqlglot.parse_one(text, read=dialect)
-        if tree is None:
-            raise ValueError
-        names = [name_of(table.this) for table in found(tree, exp.Table)]
-        names += [
-            name_of(node.args["field"]) for node in found(tree, exp.In) if node.args.get("field")
-        ]
-        return frozenset(numbers[name] for name in names if name in numbers)
-    except (SqlglotError, RecursionError, ValueError, AttributeError):
-        return frozenset(mentions(text, numbers, READERS[dialect]))
-
-
-def mentions(text: str, numbers: Mapping[str, int], dialect: Dialect) -> dict[int, int]:
-    """How often the name of each table stands in a text, but for names before or behind a dot."""
-    read = tokens(text, dialect)
-    count: dict[int, int] = {}
-    for at, token in enumerate(read):
-        near = {read[at - 1].text if at else "", read[at + 1].text if at + 1 < len(read) else ""}
-        if token.name.lower() in numbers and token.kind != "text" and "." not in near:
-            table = numbers[token.name.lower()]
-            count[table] = count.get(table, 0) + 1
-    # One that stands beside a dot alone is mentioned all the same.
-    for at, token in enumerate(read):
-        if token.name.lower() in numbers and at and read[at - 1].text == ".":
-            count.setdefault(numbers[token.name.lower()], 0)
-    return count
-
-
-def found(tree: Node, kind: type[Node]) -> list[Node]:
-    """All nodes of a kind."""
-    return [node for node in nodes(tree) if isinstance(node, kind)]
 
 
 def no_tables(tree: Node) -> Iterator[str]:
@@ -270,12 +224,6 @@ def using(
     return made
 
 
-def column(alias: str, name: str) -> Node:
-    return exp.Column(
-        this=exp.Identifier(this=name, quoted=True), table=exp.Identifier(this=alias, quoted=True)
-    )
-
-
 def source_of(node: Node, numbers: Mapping[str, int], gone: set[str]) -> Source | None:
     if not isinstance(node, exp.Table) or not isinstance(node.this, exp.Identifier):
         return None
@@ -290,108 +238,12 @@ def source_of(node: Node, numbers: Mapping[str, int], gone: set[str]) -> Source 
     return Source(numbers[name], name)
 
 
-def name_of(node: Node | str | None) -> str:
-    if isinstance(node, exp.Column):
-        node = node.this
-    return str(node.this if isinstance(node, exp.Identifier) else node or "").lower()
-
-
 def conjuncts(condition: Node) -> list[Node]:
     while isinstance(condition, exp.Paren):
         condition = condition.this
     if isinstance(condition, exp.And):
         return conjuncts(condition.this) + conjuncts(condition.expression)
     return [condition]
-
-
-class Writer:
-    """Writes the conditions of one FROM that are understood, all columns with the name of their
-    table."""
-
-    def __init__(
-        self, tables: Mapping[str, int], schema: Schema, dialect: str, is_plain: bool
-    ) -> None:
-        self.tables, self.schema, self.dialect = tables, schema, dialect
-        self.is_plain = is_plain  # the FROM has tables of the schema alone
-
-    def owner(self, node: Node) -> str | None:
-        """The name of the table that a column is of; None where it isn't known."""
-        name, table = name_of(node.this), node.args.get("table")
-        if table is not None:
-            alias = name_of(table)
-            return (
-                alias
-                if alias in self.tables and name in self.schema.columns[self.tables[alias]]
-                else None
-            )
-        if not self.is_plain:
-            return None
-        holders = [alias for alias, of in self.tables.items() if name in self.schema.columns[of]]
-        return holders[0] if len(holders) == 1 else None
-
-    def aliases(self, condition: Node) -> set[str] | None:
-        """The tables that a condition names; None where one isn't known."""
-        owners = [self.owner(node) for node in found(condition, exp.Column)]
-        return None if None in owners else {owner for owner in owners if owner}
-
-    def is_known(self, condition: Node) -> bool:
-        """Whether a condition is of a form that is written back as it was read."""
-        node = condition
-        if isinstance(node, exp.Paren):
-            return self.is_known(node.this)
-        if isinstance(node, (exp.And, exp.Or)):
-            return self.is_known(node.this) and self.is_known(node.expression)
-        if isinstance(node, exp.Not):
-            return self.is_known(node.this)
-        if isinstance(node, COMPARISONS):
-            return self.is_value(node.this) and self.is_value(node.expression)
-        if isinstance(node, exp.Is):
-            return self.is_value(node.this) and isinstance(node.expression, exp.Null)
-        if isinstance(node, exp.Between):
-            return all(self.is_value(node.args.get(part)) for part in ("this", "low", "high"))
-        if isinstance(node, exp.In):
-            return (
-                not node.args.get("query")
-                and not node.args.get("unnest")
-                and not node.args.get("field")
-                and all(map(self.is_value, [node.this, *node.expressions]))
-                and bool(node.expressions)
-            )
-        return (
-            isinstance(node, exp.Like)
-            and self.is_value(node.this)
-            and self.is_value(node.expression)
-        )
-
-    def is_value(self, node: Node | None) -> bool:
-        if isinstance(node, exp.Paren):
-            return self.is_value(node.this)
-        if isinstance(node, exp.Neg):
-            return isinstance(node.this, exp.Literal)
-        if isinstance(node, (exp.Add, exp.Sub, exp.Mul)):
-            return self.is_value(node.this) and self.is_value(node.expression)
-        return (
-            isinstance(node, exp.Literal)
-            or isinstance(node, exp.Column)
-            and self.owner(node) is not None
-        )
-
-    def all_of(self, conditions: Sequence[Node], names: set[str]) -> str:
-        """The AND of those conditions that are known and name these tables alone."""
-        texts = []
-        for condition in conditions:
-            if self.is_known(condition) and (self.aliases(condition) or set()) <= names:
-                texts.append(f"({self.written(condition)})")
-        return " AND ".join(texts)
-
-    def written(self, condition: Node) -> str:
-        copy: Node = condition.copy()  # type: ignore[no-untyped-call]
-        for node in found(copy, exp.Column):
-            new = column(self.owner(node) or "", name_of(node.this))
-            if node is copy:
-                return str(new.sql(dialect=self.dialect))
-            node.replace(new)  # type: ignore[no-untyped-call]
-        return str(copy.sql(dialect=self.dialect, comments=False))
 
 
 def is_ordered(text: str, dialect: str) -> bool:

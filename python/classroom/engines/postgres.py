@@ -15,8 +15,8 @@ from classroom.base.errors import Fault, library, shown
 from classroom.sql.schema import quoted
 from classroom.engines import left_schemas, tie_keys
 from classroom.engines.asker_rights import LOADER_RIGHTS, RIGHTS
-from classroom.engines.only_reads import MOST_TEXT
 from classroom.engines.own_words import own_words
+from classroom.engines.postgres_refusals import cause_of, look
 from classroom.verdict.compare import Answer
 from classroom.verdict.verdict import Cause
 from classroom.engines.engine import (
@@ -29,11 +29,10 @@ from classroom.engines.engine import (
     Stopped,
     TooMuch,
 )
-from classroom.engines.join_tuples import mentions
+from classroom.engines.tables_read import mentions
 from classroom.exercise.typed_rows import Material
 from classroom.exercise.part_masks import Mask, Parts, bits
 from classroom.engines.tables_read import places, with_views
-from classroom.sql.lookup import begins_as_query
 from classroom.sql.tokens import Dialect
 
 SCHEMA = "ratest_trial_"
@@ -377,27 +376,6 @@ class Postgres(Server):
             raise ValueError("too many tuples")
         for line in lines:
             yield tuple(known[table, place] for (table, _), place in zip(tables, line))
-
-
-# Tables, columns, functions and aliases that are nowhere or are ambiguous.
-UNKNOWN = frozenset({"42P01", "42703", "42883", "42702", "42P09", "42725", "3F000"})
-
-
-def cause_of(state: str) -> Cause:
-    """Why PostgreSQL doesn't prepare a text, by the SQLSTATE."""
-    if state in UNKNOWN:
-        return Cause.NAME
-    return Cause.SYNTAX if state[:2] in ("22", "42") else Cause.UNSUPPORTED
-
-
-def look(which: int, text: str) -> None:
-    """Refuses a text that is no query before the server gets it."""
-    if len(text.encode("utf-8", "replace")) > MOST_TEXT:
-        raise TooMuch(which, "size of a value")
-    if "\0" in text:
-        raise Refused(which, "a byte that is no character of a text", text.index("\0"))
-    if not begins_as_query(text):
-        raise Bars(which, "it is no query, which begins with SELECT, WITH or VALUES")
 
 
 def literal(value: object) -> str:

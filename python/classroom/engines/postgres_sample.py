@@ -10,7 +10,8 @@ from classroom.engines.sample import MOST_ROWS, Listed
 from classroom.verdict.compare import rounded
 from classroom.engines.engine import ANSWER, Stopped
 from classroom.exercise.typed_rows import Material
-from classroom.engines.postgres import Server, literal, look
+from classroom.engines.postgres import Server, literal
+from classroom.engines.postgres_refusals import look
 
 QUERY_SECONDS = 1.0
 STEPS = 250_000  # that a second counts as

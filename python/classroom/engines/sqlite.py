@@ -26,7 +26,7 @@ from classroom.engines.engine import (
     Stopped,
     TooMuch,
 )
-from classroom.engines.join_tuples import named
+from classroom.engines.tables_read import named
 from classroom.engines.sqlite_refusals import stopped_by
 from classroom.exercise.typed_rows import Material
 from classroom.exercise.part_masks import Mask, Parts, bits

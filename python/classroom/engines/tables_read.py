@@ -1,11 +1,18 @@
-"""Which tables two queries read."""
+"""Which tables a query names."""
 from __future__ import annotations
 
-from collections.abc import Sequence
+from collections.abc import Mapping, Sequence
 
-from classroom.engines.join_tuples import mentions
+import sqlglot
+from sqlglot import exp
+from sqlglot.errors import SqlglotError
+
 from classroom.exercise.typed_rows import Material
-from classroom.sql.tokens import Dialect
+from classroom.sql.tokens import Dialect, tokens
+from classroom.sql.tree import Node, nodes
+
+# By sqlglot's names.
+READERS = {"sqlite": Dialect.SQLITE, "postgres": Dialect.POSTGRESQL}
 
 
 def places(material: Material) -> dict[str, int]:
@@ -25,3 +32,45 @@ def with_views(queries: Sequence[str], material: Material) -> list[str]:
             if any(mentions(text, views, dialect) for text in queries)
         ),
     ]
+
+
+def named(text: str, numbers: Mapping[str, int], dialect: str) -> frozenset[int]:
+    """The tables that a query names where tables can stand."""
+    try:
+        tree = sqlglot.parse_one(text, read=dialect)
+        if tree is None:
+            raise ValueError
+        names = [name_of(table.this) for table in found(tree, exp.Table)]
+        names += [
+            name_of(node.args["field"]) for node in found(tree, exp.In) if node.args.get("field")
+        ]
+        return frozenset(numbers[name] for name in names if name in numbers)
+    except (SqlglotError, RecursionError, ValueError, AttributeError):
+        return frozenset(mentions(text, numbers, READERS[dialect]))
+
+
+def mentions(text: str, numbers: Mapping[str, int], dialect: Dialect) -> dict[int, int]:
+    """How often the name of each table stands in a text, but for names before or behind a dot."""
+    read = tokens(text, dialect)
+    count: dict[int, int] = {}
+    for at, token in enumerate(read):
+        near = {read[at - 1].text if at else "", read[at + 1].text if at + 1 < len(read) else ""}
+        if token.name.lower() in numbers and token.kind != "text" and "." not in near:
+            table = numbers[token.name.lower()]
+            count[table] = count.get(table, 0) + 1
+    # One that stands beside a dot alone is mentioned all the same.
+    for at, token in enumerate(read):
+        if token.name.lower() in numbers and at and read[at - 1].text == ".":
+            count.setdefault(numbers[token.name.lower()], 0)
+    return count
+
+
+def found(tree: Node, kind: type[Node]) -> list[Node]:
+    """All nodes of a kind."""
+    return [node for node in nodes(tree) if isinstance(node, kind)]
+
+
+def name_of(node: Node | str | None) -> str:
+    if isinstance(node, exp.Column):
+        node = node.this
+    return str(node.this if isinstance(node, exp.Identifier) else node or "").lower()

@@ -29,6 +29,7 @@ from classroom.web.health import health
 from classroom.web.hint_buttons import BUTTONS, Hinted, shown
 from classroom.web.hint_buttons import REST as NO_MORE
 from classroom.web.served_exercise import Offered
+from classroom.web.showing import Showing
 from classroom.web.visitors import Visitor, Visitors
 from classroom.web.queue import Busy
 from classroom.sql.clean import CleanText as Submitted
@@ -37,44 +38,6 @@ from classroom.web.login import Behind, Front, login, network
 # A form in which every byte of a query takes three.
 MOST_FORM = 4 * MOST_BYTES
 COOKIE = "visitor"
-HEADERS = {
-    "X-Content-Type-Options": "nosniff",
-    "Referrer-Policy": "no-referrer",
-    "Cross-Origin-Opener-Policy": "same-origin",
-    "Cross-Origin-Resource-Policy": "same-origin",
-    "Cache-Control": "no-store",
-}
-POLICY = (
-    "default-src 'none'; style-src 'self'; script-src 'self'; connect-src 'self'; "
-    "img-src 'self' data:; form-action 'self'; base-uri 'none'; frame-ancestors {}"
-)
-
-
-@dataclass(frozen=True)
-class Showing:
-    """What students are shown, and where."""
-
-    only_verdict: bool = False
-    frame_ancestors: tuple[
-        str, ...
-    ] = ()  # the sites in whose frames the page stands; none where it stands alone
-
-    @property
-    def is_framed(self) -> bool:
-        return bool(self.frame_ancestors)
-
-    def headers(self) -> dict[str, str]:
-        if self.is_framed:
-            return {
-                **HEADERS,
-                "Content-Security-Policy": POLICY.format(" ".join(self.frame_ancestors)),
-                "Cross-Origin-Resource-Policy": "cross-origin",
-            }
-        return {
-            **HEADERS,
-            "Content-Security-Policy": POLICY.format("'none'"),
-            "X-Frame-Options": "DENY",
-        }
 
 
 class View(NamedTuple):

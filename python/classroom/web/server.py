@@ -16,7 +16,8 @@ import waitress
 from classroom.grading.open import Opened
 from classroom.web import overview
 from classroom.web.about import About
-from classroom.web.app import MOST_FORM, Showing, application
+from classroom.web.app import MOST_FORM, application
+from classroom.web.showing import Showing
 from classroom.web.course import Course
 from classroom.web.overview import Watched
 from classroom.web.visitors import Visitors

@@ -11,7 +11,8 @@ import shop
 from roles import Roles
 
 from classroom.base.errors import Fault
-from classroom.engines.counterexample import Search, Wanted
+from classroom.engines.counterexample import Search
+from classroom.engines.looks import Wanted
 from classroom.engines.engine import Bars, Stopped, TooMuch
 from classroom.exercise.typed_rows import POSTGRESQL, Material
 from classroom.exercise.part_masks import Parts

@@ -15,10 +15,12 @@ from hypothesis import HealthCheck, given, reject, settings
 from hypothesis import strategies as st
 
 from classroom.engines import join_tuples as joins
+from classroom.engines.join_conditions import Schema
 from classroom.verdict.compare import rounded
 from classroom.engines.engine import Refused
 from classroom.exercise.part_masks import Parts
-from classroom.engines.counterexample import Search, Wanted
+from classroom.engines.counterexample import Search
+from classroom.engines.looks import Wanted
 from classroom.engines.sqlite import Sqlite
 
 # `TRIAL_PAIRS=20000` draws so many pairs of queries.
@@ -312,7 +314,7 @@ UNDERSTOOD = [
 def test_what_is_understood(text: str, count: int | None, alone: tuple[str, ...]) -> None:
     pool = shop.pool()
     names = [held.table.name for held in pool.held]
-    schema = joins.Schema(
+    schema = Schema(
         names, [frozenset(column.name for column in held.table.columns) for held in pool.held]
     )
     found = joins.understood([text], schema, "sqlite")

@@ -17,7 +17,8 @@ from classroom.engines.run_child import Options, trier
 from classroom.verdict.compare import COLUMNS, DUPLICATES, FAILURE, ORDER, ROWS, difference
 from classroom.exercise.typed_rows import from_json, of_schema, to_json
 from classroom.exercise.part_masks import Parts
-from classroom.engines.counterexample import Search, Wanted
+from classroom.engines.counterexample import Search
+from classroom.engines.looks import Wanted
 from classroom.engines.sqlite import Sqlite
 from classroom.verdict.verdict import (
     ALL,

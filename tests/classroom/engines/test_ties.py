@@ -11,7 +11,8 @@ from typing import Any
 import pytest
 from roles import Roles
 
-from classroom.engines.counterexample import Search, Wanted
+from classroom.engines.counterexample import Search
+from classroom.engines.looks import Wanted
 from classroom.engines.engine import Engine
 from classroom.engines.postgres import Postgres
 from classroom.engines.sqlite import Sqlite

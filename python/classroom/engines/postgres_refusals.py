@@ -1,0 +1,27 @@
+"""Why PostgreSQL refuses a query, or is not even asked."""
+from __future__ import annotations
+
+from classroom.engines.engine import Bars, Refused, TooMuch
+from classroom.engines.only_reads import MOST_TEXT
+from classroom.sql.lookup import begins_as_query
+from classroom.verdict.verdict import Cause
+
+# Tables, columns, functions and aliases that are nowhere or are ambiguous.
+UNKNOWN = frozenset({"42P01", "42703", "42883", "42702", "42P09", "42725", "3F000"})
+
+
+def cause_of(state: str) -> Cause:
+    """Why PostgreSQL doesn't prepare a text, by the SQLSTATE."""
+    if state in UNKNOWN:
+        return Cause.NAME
+    return Cause.SYNTAX if state[:2] in ("22", "42") else Cause.UNSUPPORTED
+
+
+def look(which: int, text: str) -> None:
+    """Refuses a text that is no query before the server gets it."""
+    if len(text.encode("utf-8", "replace")) > MOST_TEXT:
+        raise TooMuch(which, "size of a value")
+    if "\0" in text:
+        raise Refused(which, "a byte that is no character of a text", text.index("\0"))
+    if not begins_as_query(text):
+        raise Bars(which, "it is no query, which begins with SELECT, WITH or VALUES")
