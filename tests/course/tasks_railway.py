@@ -1,7 +1,7 @@
 """Twenty tasks over the railway with four answers each, and what each should get."""
 from __future__ import annotations
 
-from tasks_library import ERROR, ORDER, RIGHT, WRONG
+from tasks_library import ERROR, FOREIGN, ORDER, RIGHT, WRONG
 
 TASKS = [
     (
@@ -34,7 +34,7 @@ TASKS = [
                 "SELECT name FROM station WHERE opened > '1950-01-01' AND opened < '1951-01-01'",
                 WRONG,
             ),
-            ("SELECT name FROM station WHERE year(opened) = 1950", ERROR),
+            ("SELECT name FROM station WHERE year(opened) = 1950", FOREIGN),
         ],
     ),
     (

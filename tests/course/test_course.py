@@ -24,6 +24,7 @@ GRADES = {
     tasks_library.WRONG: {"differs"},
     tasks_library.ORDER: {"not determined"},
     tasks_library.ERROR: {"wrong SQL"},
+    tasks_library.FOREIGN: {"not read"},
 }
 # Of the tried differences so many have to be shown to be the smallest.
 LEAST = 0.95

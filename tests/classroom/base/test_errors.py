@@ -2,13 +2,14 @@
 from __future__ import annotations
 
 import sys
+from typing import Any, cast
 
 import pytest
 from classroom.base.errors import EXTRAS, Missing, library
 
 
 def told(monkeypatch: pytest.MonkeyPatch, name: str, prefix: str) -> str:
-    monkeypatch.setitem(sys.modules, name, None)
+    monkeypatch.setitem(cast(dict[str, Any], sys.modules), name, None)
     monkeypatch.setattr(sys, "base_prefix", "/usr")
     monkeypatch.setattr(sys, "prefix", prefix)
     with pytest.raises(Missing) as fault:

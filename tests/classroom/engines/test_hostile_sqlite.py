@@ -28,7 +28,7 @@ TWO_TO = (
 )
 
 # The query, and what ends it with the words of the limit; None where it is answered in time.
-HOSTILE = {
+HOSTILE: dict[str, tuple[str, type[Stopped], str]] = {
     "endless recursion": (
         "WITH RECURSIVE r(n) AS (SELECT 1 UNION ALL SELECT n + 1 FROM r) SELECT count(*) FROM r",
         TooMuch,
@@ -86,7 +86,7 @@ HOSTILE = {
         TooMuch,
         "time",
     ),
-    "a long pattern": (f"SELECT {LONG} LIKE {LONG}", Refused, "pattern"),
+    "a long pattern": (f"SELECT {LONG} LIKE {LONG}", TooMuch, "pattern"),
     "random": ("SELECT random()", Bars, "random"),
     "randomblob": ("SELECT randomblob(8)", Bars, "randomblob"),
     "load_extension": ("SELECT load_extension('x.so')", Bars, "load_extension"),
@@ -116,10 +116,10 @@ HOSTILE = {
     "EXPLAIN": ("EXPLAIN SELECT * FROM item", Bars, "SELECT"),
     "two statements": ("SELECT 1; DELETE FROM item", Bars, "one statement"),
     "COMMIT": ("COMMIT", Bars, "SELECT"),
-    "2,000 columns": (f"SELECT {', '.join(['1'] * 2000)}", Refused, "columns"),
-    "depth": (f"SELECT {'(' * 900}1{')' * 900}", Refused, "depth|overflow"),
-    "NOT 900 times": (f"SELECT {'NOT ' * 900}1", Refused, "depth|overflow"),
-    "a compound of 400": (" UNION ".join(["SELECT 1"] * 400), Refused, "compound"),
+    "2,000 columns": (f"SELECT {', '.join(['1'] * 2000)}", TooMuch, "columns"),
+    "depth": (f"SELECT {'(' * 900}1{')' * 900}", TooMuch, "depth|overflow"),
+    "NOT 900 times": (f"SELECT {'NOT ' * 900}1", TooMuch, "depth|overflow"),
+    "a compound of 400": (" UNION ".join(["SELECT 1"] * 400), TooMuch, "compound"),
     "a byte that is no text": ("SELECT 1 \0", Refused, "byte"),
     "a text of 70,000": (f"SELECT '{'x' * 70_000}'", TooMuch, "size"),
     "nothing": ("", Bars, "SELECT"),

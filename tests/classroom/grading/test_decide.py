@@ -65,7 +65,8 @@ def decided(
 def points(made: Decision) -> str:
     """As the table has them."""
     share = Graded(TASK, ANSWER, made).points
-    return {None: "by hand", 0: "0", 1: "all"}[share]
+    words: dict[float | None, str] = {None: "by hand", 0: "0", 1: "all"}
+    return words[share]
 
 
 def test_no_text_of_one_query() -> None:
