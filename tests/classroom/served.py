@@ -132,7 +132,7 @@ class Server:
                 words = Path(f"/proc/{process}/cmdline").read_bytes().split(b"\0")
             except OSError:
                 continue
-            if any(word.endswith(b"trial/child.py") for word in words):
+            if any(word.endswith(b"engines/child.py") for word in words):
                 found.append(process)
         return found
 

@@ -8,7 +8,7 @@ from classroom.sql.spans import Span
 
 
 class Kind(enum.Enum):
-    """What is changed, as far as a student may be told; a sentence of `classroom.repair.hints` goes
+    """What is changed, as far as a student may be told; a sentence of `classroom.hints.steps` goes
     with each."""
 
     COMPARISON = "comparison"

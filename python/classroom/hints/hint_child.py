@@ -7,7 +7,7 @@ with other rows of the schema, or null; `program`, the path of `ratest_plus`; `r
 proved, since a database decided; `kind`, as what rows are compared then; `material`, `engine` and
 `asker` where that is PostgreSQL, as `classroom.engines.child` gets them, else null; `deep`, for how
 many seconds two changes are looked for. FOLDER is an empty one for what is needed meanwhile. For
-each answer a line of JSON is printed: `[KEY, MISTAKE]`, as `classroom.repair.records` writes it.
+each answer a line of JSON is printed: `[KEY, MISTAKE]`, as `classroom.hints.mistake` writes it.
 """
 from __future__ import annotations
 
