@@ -340,7 +340,7 @@ def test_progress_is_shown_on_a_terminal_alone(ratest: Path, beers: Path) -> Non
 
 def test_a_second_run_at_once_is_refused(ratest: Path, beers: Path) -> None:
     code = (
-        "import sys, time; from pathlib import Path; from classroom.results import Results\nwith"
+        "import sys, time; from pathlib import Path; from classroom.grading.store import Results\nwith"
         f" Results(Path({str(beers / 'results')!r})).held(): print('held', flush=True);"
         " time.sleep(60)"
     )
