@@ -44,18 +44,28 @@ EXTRAS = {
 }
 
 
+# The line of a library that is tested, where another one means something else: sqlglot's trees
+# differ from line to line.
+LINES = {"sqlglot": "10.6"}
+
+
 def library(name: str, package: str) -> ModuleType:
-    """A library that one subcommand needs; where it is missing, the line that installs it.
+    """A library that one subcommand needs; where it is missing, or of another line than the one
+    that is tested, the line that installs it.
 
     A virtual environment sees none of Debian's packages, so there pip gets it.
     """
+    line = f"apt-get install {package}"
+    if sys.prefix != sys.base_prefix and name in EXTRAS:
+        line = f"pip install 'ratest[{EXTRAS[name]}]'"
     try:
-        return importlib.import_module(name)
+        found = importlib.import_module(name)
     except ImportError:
-        line = f"apt-get install {package}"
-        if sys.prefix != sys.base_prefix and name in EXTRAS:
-            line = f"pip install 'ratest[{EXTRAS[name]}]'"
         raise Missing(f"the library {name} is not there: {line}") from None
+    version, wanted = str(getattr(found, "__version__", "")), LINES.get(name, "")
+    if wanted and version and not version.startswith(f"{wanted}."):
+        raise Missing(f"the library {name} is of version {version}, and {wanted} is wanted: {line}")
+    return found
 
 
 def tool(name: str, package: str) -> str:

@@ -156,12 +156,12 @@ def path(value: Any, key: str) -> str:
     return str(said)
 
 
-MOST = 10**18 - 1
 EXERCISE: dict[str, Callable[[Any, str], Any]] = {
     "title": text,
     "time": number(0.001, 1e6, "a number of seconds"),
-    "work": whole(1, MOST),
-    "conflicts": whole(1, MOST),
+    # As `ratest` takes them.
+    "work": whole(1, 32_000_000),
+    "conflicts": whole(1, 10_000_000),
     "engine": text,
     "engine_asker": text,
     "tried": one_of("right", "by hand"),

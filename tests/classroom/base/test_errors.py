@@ -2,6 +2,7 @@
 from __future__ import annotations
 
 import sys
+from types import ModuleType
 from typing import Any, cast
 
 import pytest
@@ -38,3 +39,11 @@ def test_each_extra_is_one_of_the_wheel() -> None:
         assert any(
             one.startswith(name.replace("markdown_it", "markdown-it-py")) for one in extras[extra]
         )
+
+
+def test_another_line_of_sqlglot_is_refused(monkeypatch: pytest.MonkeyPatch) -> None:
+    other = ModuleType("sqlglot")
+    other.__dict__["__version__"] = "25.1.0"
+    monkeypatch.setitem(sys.modules, "sqlglot", other)
+    with pytest.raises(Missing, match="version 25.1.0, and 10.6 is wanted: "):
+        library("sqlglot", "python3-sqlglot")
