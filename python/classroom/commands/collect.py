@@ -12,11 +12,12 @@ serve` before the exercise closed is the answer.
 
 The answers go to EXERCISE/TASK/answers/ID.sql. The id is that of the class list
 (class/students.csv, or --students), which knows the numbers by its columns moodle and canvas;
-without it, the name in the archive. The task of a file is that of --task; else that of its name;
-else the file is split at comments `-- task T`. Of several submissions of one student Canvas's last
-one counts.
+without it, the name in the archive. The task of a file is that of --task; else, where comments
+`-- task T` name two tasks or more, the file is split at them; else it is that of its name, or of
+one such comment. Of several submissions of one student Canvas's last one counts. --place, or a line
+of EXERCISE/class/placed.csv, goes before all of this.
 
-Where each answer came from is written to EXERCISE/class/collected.csv. An answer that is there
+What became of each file is written to EXERCISE/class/collected.csv. An answer that is there
 already with another text is kept, and named, unless --force is given. So the same command may be
 run again.
 
@@ -27,19 +28,22 @@ from __future__ import annotations
 import argparse
 import logging
 import re
+from collections.abc import Mapping, Sequence
 from pathlib import Path
 
 from classroom.exercise import exercise
 from classroom.people import roster as students
-from classroom.people.identity import fault_of_id
+from classroom.people.identity import fault_of_id, key
 from classroom.views.draw import counted
 from classroom.base.errors import Fault, shown
 from classroom.platforms import archive
 from classroom.platforms import collect as collecting
 from classroom.platforms import forms
 from classroom.platforms import place as placing
+from classroom.platforms import placed_by_hand
 from classroom.platforms.archive import Member
 from classroom.platforms.forms import Handed
+from classroom.platforms.placed_by_hand import label_key
 from classroom.web import hand_ins as handedin
 from classroom.web.questions import LOG
 from classroom.web.course import place_of_hand_ins
@@ -65,6 +69,17 @@ def add_arguments(parser: argparse.ArgumentParser) -> None:
         help="the form of the archive, where its names don't tell it",
     )
     parser.add_argument("--task", metavar="T", help="all files are answers to this task")
+    parser.add_argument(
+        "--place",
+        nargs=3,
+        action="append",
+        default=[],
+        metavar=("FILE", "STUDENT", "TASK"),
+        help=(
+            "a file of the archive is this student's answer to this task; may be given again, and"
+            " is kept in EXERCISE/class/placed.csv"
+        ),
+    )
     parser.add_argument(
         "--task-pattern",
         metavar="RE",
@@ -125,8 +140,12 @@ def run(arguments: argparse.Namespace) -> int:
         answers, rest = of_page(place_of_hand_ins(log_file), given, listed)
         source = "the page"
     else:
-        answers, rest = of_archive(arguments, tuple(tasks), listed)
+        by_hand = placed_by_hand.read_placed(given.folder, tuple(tasks), listed)
+        by_hand |= placed_by_hand.checked(arguments.place, tuple(tasks), listed)
+        answers, rest = of_archive(arguments, tuple(tasks), listed, by_hand)
         source = arguments.source.name
+        if arguments.place and not arguments.dry_run:
+            placed_by_hand.write_placed(given.folder, by_hand)
     done = collecting.collect(
         given.folder,
         {name: task.folder for name, task in tasks.items()},
@@ -136,27 +155,63 @@ def run(arguments: argparse.Namespace) -> int:
         arguments.force,
         not arguments.dry_run,
     )
+    if arguments.dry_run:
+        for answer in answers:
+            print(
+                f"{shown(answer.handed.member.label)}: task {shown(answer.task)} of"
+                f" {shown(answer.student)}"
+            )
     return tell(answers, rest, done, listed)
 
 
 def of_archive(
-    arguments: argparse.Namespace, tasks: tuple[str, ...], listed: students.ClassList
+    arguments: argparse.Namespace,
+    tasks: tuple[str, ...],
+    listed: students.ClassList,
+    by_hand: Mapping[str, placed_by_hand.ByHand],
 ) -> tuple[list[placing.Placed], list[placing.NotPlaced]]:
-    """The answers in an archive, and what could not be placed."""
+    """The answers in an archive, and what could not be placed. What a teacher placed goes before."""
     found = list(archive.members(arguments.source))
     unread = [placing.NotPlaced(one.label, one.fault) for one in found if one.fault]
     readable = [one for one in found if not one.fault]
-    handed, others = forms.handed(readable, arguments.form or forms.form_of(readable))
+    fixed = placed_so(readable, listed, by_hand)
+    known = {one.handed.member for one in fixed}
+    left = [one for one in readable if one not in known]
+    handed, others = forms.handed(left, arguments.form or forms.form_of(readable))
     answers, rest = placing.placed(
         handed, placing.Rules(tasks, listed, arguments.task, arguments.task_pattern)
     )
-    return answers, [
+    taken = {(one.task, key(one.student)): one for one in fixed}
+    passed = [one for one in answers if (one.task, key(one.student)) in taken]
+    for name in sorted(set(by_hand) - {label_key(one.label) for one in found}):
+        log.warning("placed by hand, and not in this archive: %s", shown(name))
+    return [*(one for one in answers if one not in passed), *fixed], [
         *rest,
+        *(placing.passed_over(one, taken[one.task, key(one.student)]) for one in passed),
         *unread,
         *(
             placing.NotPlaced(one.label, "its name has not the form of the others")
             for one in others
         ),
+    ]
+
+
+def placed_so(
+    members: Sequence[Member],
+    listed: students.ClassList,
+    by_hand: Mapping[str, placed_by_hand.ByHand],
+) -> list[placing.Placed]:
+    """The files that a teacher placed."""
+    return [
+        placing.Placed(
+            to.task,
+            to.student,
+            member.content,
+            Handed(member, "id", to.student, to.student, member.path[-1]),
+            listed.with_id(to.student) is not None,
+        )
+        for member in members
+        if (to := by_hand.get(label_key(member.label)))
     ]
 
 
@@ -194,7 +249,8 @@ def tell(
     listed: students.ClassList,
 ) -> int:
     """Prints what was done; gives the exit status."""
-    for one in sorted(rest, key=lambda one: one.label):
+    unplaced = [one for one in rest if one.is_open]
+    for one in sorted(unplaced, key=lambda one: one.label):
         log.warning("not placed: %s: %s", shown(one.label), one.why)
     for answer in done.kept:
         log.warning(
@@ -213,5 +269,7 @@ def tell(
     print(
         f"{counted(people, 'student')}, {counted(len(answers), 'answer')}: {done.new} new,"
         f" {done.replaced} replaced, {done.same} as they were, {len(done.kept)} kept"
+        + (f", {len(unplaced)} not placed" if unplaced else "")
+        + (f", {len(rest) - len(unplaced)} passed over" if len(rest) > len(unplaced) else "")
     )
-    return 1 if rest or done.kept or strangers else 0
+    return 1 if unplaced or done.kept or strangers else 0

@@ -3,7 +3,8 @@
     task,answer,source,member,late,sha256,state,why
 
 A line has the state `placed`, with the task and the answer that the file became, or `unplaced`, with
-the student's id in the column `answer` where it is known, and why; a file without a query is `empty`. A list of an earlier version has
+the student's id in the column `answer` where it is known, and why; a file without a query is `empty`,
+one in whose place a later one of the student counts `older`, and one with the bytes of that `same`. A list of an earlier version has
 the first six columns, and only files that were placed. A name that a spreadsheet would take for a
 formula has a quote in front, which is not read back.
 """
@@ -25,7 +26,7 @@ from classroom.people.identity import key
 LIST = Path("class/collected.csv")
 COLUMNS = ("task", "answer", "source", "member", "late", "sha256", "state", "why")
 OLD = COLUMNS[:6]
-PLACED, UNPLACED, EMPTY = "placed", "unplaced", "empty"
+PLACED, UNPLACED, EMPTY, OLDER, SAME = "placed", "unplaced", "empty", "older", "same"
 # More than any list has.
 MOST_BYTES = 100_000_000
 

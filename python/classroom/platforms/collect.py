@@ -13,9 +13,7 @@ from pathlib import Path
 from classroom.base.errors import Fault, shown
 from classroom.base.files import write
 from classroom.exercise.collected import (
-    EMPTY,
     PLACED,
-    UNPLACED,
     Collected,
     read_collected,
     write_collected,
@@ -70,8 +68,7 @@ def collect(
             line = line_of(answer, source)
             listed[line.of] = line
     for one in rest:
-        state = EMPTY if one.is_empty else UNPLACED
-        line = Collected("", one.student, source, one.label, state=state, why=one.why)
+        line = Collected("", one.student, source, one.label, state=one.state, why=one.why)
         listed[line.of] = line
     if writes:
         write_collected(folder, listed.values())

@@ -11,6 +11,8 @@ from collections.abc import Iterable, Mapping, Sequence
 from dataclasses import dataclass
 
 from classroom.base.errors import shown
+from classroom.exercise import collected
+from classroom.exercise.collected import OLDER, SAME, UNPLACED
 from classroom.platforms.forms import Handed
 from classroom.platforms.html import text_of
 from classroom.people.identity import composed, fault_of_id, key
@@ -41,11 +43,17 @@ class NotPlaced:
     why: str
     student: str = ""  # the id of who handed it in; empty where that is not known
     file: str = ""  # its name, as it was handed in
+    instead: str = ""  # OLDER or SAME, where another file of the student counts in its place
 
     @property
-    def is_empty(self) -> bool:
-        """Whether nothing was handed in with it."""
-        return self.why in (EMPTY, NO_QUERY)
+    def state(self) -> str:
+        """As the list of what was collected has it."""
+        return self.instead or (collected.EMPTY if self.why in (EMPTY, NO_QUERY) else UNPLACED)
+
+    @property
+    def is_open(self) -> bool:
+        """Whether somebody has to look at it."""
+        return not self.instead
 
 
 @dataclass(frozen=True)
@@ -83,9 +91,17 @@ def placed(found: Iterable[Handed], rules: Rules) -> tuple[list[Placed], list[No
         kept = _last(same)
         if isinstance(kept, Placed):
             chosen.append(kept)
+            rest += [passed_over(one, kept) for one in same if one is not kept]
         else:
             rest.append(kept)
     return chosen, rest
+
+
+def passed_over(one: Placed, kept: Placed) -> NotPlaced:
+    """A file in whose place another one of the student counts."""
+    instead = SAME if one.content == kept.content else OLDER
+    why = f"{kept.handed.member.label} counts in its place for task {shown(one.task)}"
+    return NotPlaced(one.handed.member.label, why, one.student, one.handed.file, instead)
 
 
 def _ids(

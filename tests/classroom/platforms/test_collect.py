@@ -120,8 +120,13 @@ def test_canvas_late_and_handed_in_again(listed: Path, tmp_path: Path) -> None:
     assert (ran.returncode, ran.stderr) == (0, "")
     assert found(listed) == ANSWERS
     with open(listed / "class/collected.csv", encoding="utf-8", newline="") as file:
-        rows = list(csv.DictReader(file))
+        lines = list(csv.DictReader(file))
+    rows = [row for row in lines if row["state"] == "placed"]
     assert len(rows) == 12 and {row["answer"] for row in rows if row["late"]} == {"ben"}
+    # The earlier ones are in the list, too.
+    others = [row for row in lines if row["state"] != "placed"]
+    assert {row["answer"] for row in others} == {"li", "ben"}
+    assert {row["state"] for row in others} <= {"older", "same"}
     assert {row["source"] for row in rows} == {"c.zip"}
     assert {row["member"] for row in rows if row["answer"] == "li"} == {
         f"nali_104_453{at}1_{task}-1.sql" for at, task in enumerate(TASKS)
