@@ -265,6 +265,9 @@ def tell(
     )
     if strangers:
         log.warning("not in the class list: %s", shown(*strangers))
+    if listed.renamed:
+        told = ", ".join(f"{use} is {shown(name)}" for use, name in listed.renamed)
+        print(f"class list: {told}")
     people = len({answer.student for answer in answers})
     print(
         f"{counted(people, 'student')}, {counted(len(answers), 'answer')}: {done.new} new,"

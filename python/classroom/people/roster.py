@@ -1,8 +1,8 @@
 """The class list: who is in the class, and under which numbers the platforms know them.
 
-A CSV file in UTF-8 with a header: `id` and `name`, and `moodle`, `canvas` and `email` where they
-are needed; other columns are passed over. Answers of a student are the files ID.sql. Commas or
-semicolons part the cells. """
+A CSV file with a header: `id` and `name`, and `moodle`, `canvas`, `email` and `login` where they
+are needed, or the usual names for these (`people.headers`); other columns are passed over. Answers
+of a student are the files ID.sql. """
 from __future__ import annotations
 
 import csv
@@ -15,10 +15,10 @@ from pathlib import Path
 
 from classroom.base import files as reading
 from classroom.base.errors import Fault, shown
+from classroom.people.headers import columns_of, decoded, parted
 from classroom.people.identity import composed, fault_of_id, key
 
 MOST_BYTES = 4_000_000
-NEEDED = ("id", "name")
 # The columns by which a platform's archive names a student, each of whose numbers is one student's.
 NUMBERS = ("moodle", "canvas")
 
@@ -32,6 +32,7 @@ class Student:
     moodle: str = ""  # the participant's number
     canvas: str = ""  # the user's number
     email: str = ""
+    login: str = ""
 
 
 @dataclass(frozen=True)
@@ -39,6 +40,8 @@ class ClassList:
     """The students in the order of the list; none where there is no list."""
 
     students: tuple[Student, ...] = ()
+    # By what they are for, the columns that have another name: `id`, `Matrikelnummer`.
+    renamed: tuple[tuple[str, str], ...] = ()
 
     def with_id(self, name: str) -> Student | None:
         """The student whose id this is, however it is written."""
@@ -46,18 +49,17 @@ class ClassList:
 
     def known(self, column: str, number: str) -> Student | None:
         """The student that has this number in a column, the id being one too, and the e-mail
-        address another name of the id."""
-        if not key(number):
-            return None
-        found = self._by.get((column, key(number)))
-        return found or (self._by.get(("email", key(number))) if column == "id" else None)
+        address and the login other names of the id."""
+        columns = (column, "email", "login") if column == "id" else (column,)
+        found = [self._by.get((name, key(number))) for name in columns] if key(number) else []
+        return next(filter(None, found), None)
 
     @cached_property
     def _by(self) -> Mapping[tuple[str, str], Student]:
         return {
             (column, key(getattr(student, column))): student
             for student in self.students
-            for column in ("id", "email", *NUMBERS)
+            for column in ("id", "email", "login", *NUMBERS)
             if getattr(student, column)
         }
 
@@ -68,9 +70,9 @@ def read(path: Path) -> ClassList:
     if raw is None:
         return ClassList()
     try:
-        return list_of(raw.decode("utf-8-sig"))
+        return list_of(decoded(raw))
     except UnicodeDecodeError:
-        raise Fault(f"{shown(os.fspath(path))}: not UTF-8") from None
+        raise Fault(f"{shown(os.fspath(path))}: it begins as UTF-16 and is none") from None
     except csv.Error as fault:
         raise Fault(f"{shown(os.fspath(path))}: no CSV file: {fault}") from None
     except Fault as fault:
@@ -79,31 +81,30 @@ def read(path: Path) -> ClassList:
 
 def list_of(text: str) -> ClassList:
     """The class list of a text; a Fault names the line that is wrong."""
-    head = text.partition("\n")[0]
-    lines = csv.reader(
-        io.StringIO(text, newline=""),
-        delimiter=";" if ";" in head and "," not in head else ",",
-        strict=True,
-    )
-    header = [cell.strip().casefold() for cell in next(lines, [])]
-    for name in NEEDED:
-        if header.count(name) != 1:
-            raise Fault(f"the first line has to name the columns, and {name} once among them")
+    delimiter, text = parted(text)
+    lines = csv.reader(io.StringIO(text, newline=""), delimiter=delimiter, strict=True)
+    header: list[str] = next(lines, [])
+    columns = columns_of(header)
     students: list[Student] = []
     seen: dict[tuple[str, str], int] = {}
     for cells in lines:
         if any(cell.strip() for cell in cells):
-            student = student_of(header, cells, lines.line_num)
+            student = student_of(header, columns, cells, lines.line_num)
             check_new(student, seen, lines.line_num)
             students.append(student)
-    return ClassList(tuple(students))
+    renamed = [(use, composed(header[at])) for use, at in columns.items() if key(header[at]) != use]
+    return ClassList(tuple(students), tuple(renamed))
 
 
-def student_of(header: Sequence[str], cells: Sequence[str], line: int) -> Student:
+def student_of(
+    header: Sequence[str], columns: Mapping[str, int], cells: Sequence[str], line: int
+) -> Student:
     if len(cells) > len(header):
         raise Fault(f"line {line}: more cells than columns")
     # An archive may write ö as o and a mark.
-    values = dict(zip(header, map(composed, cells)))
+    values = {use: composed(cells[at]) for use, at in columns.items() if at < len(cells)}
+    if "name" not in columns:
+        values["name"] = composed(f"{values.get('first', '')} {values.get('last', '')}")
     known = {field.name: values.get(field.name, "") for field in fields(Student)}
     why = fault_of_id(known["id"])
     if why:
@@ -115,7 +116,7 @@ def student_of(header: Sequence[str], cells: Sequence[str], line: int) -> Studen
 
 def check_new(student: Student, seen: dict[tuple[str, str], int], line: int) -> None:
     """A Fault where an earlier line has the id, or one of the numbers."""
-    for column in ("id", "email", *NUMBERS):
+    for column in ("id", "email", "login", *NUMBERS):
         value = key(getattr(student, column))
         if value and seen.setdefault((column, value), line) != line:
             raise Fault(
