@@ -17,9 +17,9 @@ without it, the name in the archive. The task of a file is that of --task; else,
 one such comment. Of several submissions of one student Canvas's last one counts. --place, or a line
 of EXERCISE/class/placed.csv, goes before all of this.
 
-What became of each file is written to EXERCISE/class/collected.csv. An answer that is there
-already with another text is kept, and named, unless --force is given. So the same command may be
-run again.
+What became of each file is written to EXERCISE/class/collected.csv. An answer that was
+collected before is replaced by a later one, and kept in EXERCISE/class/older. One that was edited
+since is left, and named, unless --force is given. So the same command may be run again.
 
 Exit status: 0 where everything is placed, 1 where something could not be placed or was kept, which
 standard error tells, 2 for words that can't be read. """
@@ -109,7 +109,7 @@ def add_arguments(parser: argparse.ArgumentParser) -> None:
         help="the --asked-file of the server (EXERCISE/results/asked.db)",
     )
     parser.add_argument(
-        "--force", action="store_true", help="write over answers that are there with another text"
+        "--force", action="store_true", help="write over answers that were edited, too"
     )
     parser.add_argument(
         "--dry-run", action="store_true", help="write nothing, and tell what would be done"
@@ -254,10 +254,12 @@ def tell(
         log.warning("not placed: %s: %s", shown(one.label), one.why)
     for answer in done.kept:
         log.warning(
-            "kept: the answer of %s to task %s is there with another text; --force writes it over",
+            "kept: the answer of %s to task %s was edited here; --force writes it over",
             shown(answer.student),
             shown(answer.task),
         )
+    for member in done.gone:
+        log.warning("no longer in the archive: %s; its answer is left as it is", shown(member))
     strangers = (
         sorted({answer.student for answer in answers if not answer.listed})
         if listed.students

@@ -1,6 +1,8 @@
 """Writes answers to their places in an exercise, TASK/answers/ID.sql, and where each came from.
 
-An answer that is there with other bytes is only written over where that is wanted.
+An answer that `collect` wrote and nobody edited is replaced by a later one, and kept in
+class/older/TASK/ID.DIGEST.sql. One that somebody edited, or put there by hand, is only written over
+where that is wanted.
 """
 from __future__ import annotations
 
@@ -21,6 +23,10 @@ from classroom.exercise.collected import (
 from classroom.platforms.place import NotPlaced, Placed
 
 
+# Where replaced answers are kept, below the exercise.
+OLDER = Path("class/older")
+
+
 @dataclass
 class Done:
     """What was done with the answers."""
@@ -28,7 +34,8 @@ class Done:
     new: int = 0
     replaced: int = 0
     same: int = 0
-    kept: list[Placed] = field(default_factory=list)  # others are there, which were left
+    kept: list[Placed] = field(default_factory=list)  # edited ones are there, which were left
+    gone: list[str] = field(default_factory=list)  # were in this archive once
 
 
 def collect(
@@ -55,9 +62,13 @@ def collect(
             there: bytes | None = path.read_bytes()
         except FileNotFoundError:
             there = None
-        if there is not None and there != answer.content and not overwrites:
-            done.kept.append(answer)
-            continue
+        if there is not None and there != answer.content:
+            before = listed.get(line_of(answer, source).of)
+            if not (overwrites or before and before.sha256 == digest(there)):
+                done.kept.append(answer)
+                continue
+            if writes:
+                keep_older(folder, answer, there)
         done.new += there is None
         done.same += there == answer.content
         done.replaced += there is not None and there != answer.content
@@ -70,9 +81,25 @@ def collect(
     for one in rest:
         line = Collected("", one.student, source, one.label, state=one.state, why=one.why)
         listed[line.of] = line
+    members = {answer.handed.member.label for answer in answers} | {one.label for one in rest}
+    done.gone += [
+        line.member
+        for line in listed.values()
+        if line.state == PLACED and line.source == source and line.member not in members
+    ]
     if writes:
         write_collected(folder, listed.values())
     return done
+
+
+def keep_older(folder: Path, answer: Placed, text: bytes) -> None:
+    """Keeps the text of an answer that is replaced."""
+    place = folder / OLDER / answer.task
+    for there in (folder / OLDER, place):
+        if there.is_symlink():
+            raise Fault(f"{shown(os.fspath(there))}: a link, which is not followed")
+    place.mkdir(parents=True, exist_ok=True)
+    write(place / f"{answer.student}.{digest(text)[:12]}.sql", text)
 
 
 def _place(task: Path, answer: Placed) -> Path:
@@ -91,5 +118,9 @@ def line_of(answer: Placed, source: str) -> Collected:
         source,
         answer.handed.member.label,
         "late" if answer.handed.is_late else "",
-        hashlib.sha256(answer.content).hexdigest(),
+        digest(answer.content),
     )
+
+
+def digest(content: bytes) -> str:
+    return hashlib.sha256(content).hexdigest()

@@ -192,7 +192,7 @@ def test_what_can_not_be_placed_is_named(
     assert found(exercise) == {"ben": {"1": "SELECT 2\n"}, **placed}
 
 
-def test_nothing_is_written_over_without_force(exercise: Path, tmp_path: Path) -> None:
+def test_a_later_archive_replaces_what_nobody_edited(exercise: Path, tmp_path: Path) -> None:
     first = made_archives.written(
         tmp_path / "1.zip", [("anna/1.sql", "SELECT 1\n"), ("ben/1.sql", "SELECT 2\n")]
     )
@@ -200,24 +200,53 @@ def test_nothing_is_written_over_without_force(exercise: Path, tmp_path: Path) -
         tmp_path / "2.zip", [("anna/1.sql", "SELECT 3\n"), ("ben/1.sql", "SELECT 2\n")]
     )
     assert collect(first, exercise).returncode == 0
-    ran = collect(second, exercise)
-    assert ran.returncode == 1 and "the answer of anna to task 1" in ran.stderr
-    assert ran.stdout == "2 students, 2 answers: 0 new, 0 replaced, 1 as they were, 1 kept\n"
+    ran = collect(second, exercise, "--dry-run")
+    assert ran.returncode == 0 and ", 1 replaced, 1 as they were, 0 kept" in ran.stdout
     assert found(exercise)["anna"] == {"1": "SELECT 1\n"}
-    ran = collect(second, exercise, "--force", "--dry-run")
-    assert (
-        ran.returncode == 0
-        and ", 1 replaced," in ran.stdout
-        and found(exercise)["anna"] == {"1": "SELECT 1\n"}
-    )
-    assert collect(second, exercise, "--force").returncode == 0 and found(exercise)["anna"] == {
-        "1": "SELECT 3\n"
-    }
+    ran = collect(second, exercise)
+    assert (ran.returncode, ran.stderr) == (0, "")
+    assert ran.stdout == "2 students, 2 answers: 0 new, 1 replaced, 1 as they were, 0 kept\n"
+    assert found(exercise)["anna"] == {"1": "SELECT 3\n"}
+    older = list((exercise / "class/older/1").iterdir())
+    assert [path.read_text() for path in older] == ["SELECT 1\n"]
+    assert older[0].name.startswith("anna.")
     listed = (exercise / "class/collected.csv").read_text().splitlines()
     assert [line.split(",")[:3] for line in listed[1:]] == [
         ["1", "anna", "2.zip"],
         ["1", "ben", "2.zip"],
     ]
+
+
+def test_what_was_edited_is_written_over_by_force_alone(exercise: Path, tmp_path: Path) -> None:
+    archive = made_archives.written(
+        tmp_path / "1.zip", [("anna/1.sql", "SELECT 1\n"), ("ben/1.sql", "SELECT 2\n")]
+    )
+    assert collect(archive, exercise).returncode == 0
+    (exercise / "1/answers/anna.sql").write_text("SELECT 1 -- edited\n")
+    ran = collect(archive, exercise)
+    assert ran.returncode == 1 and "the answer of anna to task 1 was edited here" in ran.stderr
+    assert ran.stdout == "2 students, 2 answers: 0 new, 0 replaced, 1 as they were, 1 kept\n"
+    assert found(exercise)["anna"] == {"1": "SELECT 1 -- edited\n"}
+    assert collect(archive, exercise, "--force").returncode == 0
+    assert found(exercise)["anna"] == {"1": "SELECT 1\n"}
+    older = list((exercise / "class/older/1").iterdir())
+    assert [path.read_text() for path in older] == ["SELECT 1 -- edited\n"]
+
+
+def test_what_was_put_there_by_hand_is_kept(exercise: Path, tmp_path: Path) -> None:
+    (exercise / "1/answers").mkdir(parents=True, exist_ok=True)
+    (exercise / "1/answers/anna.sql").write_text("SELECT 9\n")
+    archive = made_archives.written(tmp_path / "1.zip", [("anna/1.sql", "SELECT 1\n")])
+    assert collect(archive, exercise).returncode == 1
+    assert found(exercise)["anna"] == {"1": "SELECT 9\n"}
+
+
+def test_what_is_gone_from_the_archive_is_named(exercise: Path, tmp_path: Path) -> None:
+    files = [("anna/1.sql", "SELECT 1\n"), ("ben/1.sql", "SELECT 2\n")]
+    assert collect(made_archives.written(tmp_path / "1.zip", files), exercise).returncode == 0
+    ran = collect(made_archives.written(tmp_path / "1.zip", files[:1]), exercise)
+    assert "no longer in the archive: ben/1.sql" in ran.stderr
+    assert found(exercise)["ben"] == {"1": "SELECT 2\n"}
 
 
 def test_a_hostile_archive(exercise: Path, tmp_path: Path) -> None:
