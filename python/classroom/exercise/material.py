@@ -20,8 +20,8 @@ from classroom.sql.tokens import Dialect, Token, tokens, without_comments
 PG = Dialect.POSTGRESQL
 MOST_BYTES = 67_108_864
 OTHER_ROWS = (
-    "full.db or full.sql has other rows than the CSV files, which are tried in its place: import"
-    " makes it anew"
+    "full.db or full.sql differs from schema.sql and the CSV files, which are tried in its place"
+    " (import makes it anew): %s"
 )
 # How a text of COPY writes what would end a field or a line.
 ESCAPES = {"b": "\b", "f": "\f", "n": "\n", "r": "\r", "t": "\t", "v": "\v"}

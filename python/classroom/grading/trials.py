@@ -6,8 +6,6 @@ A database answers, so what comes of it is called tried wherever it is shown, an
 from __future__ import annotations
 
 import argparse
-import csv
-import io
 import json
 import logging
 import re
@@ -30,6 +28,7 @@ from classroom.grading.decide import is_open
 from classroom.exercise.settings import Settings
 from classroom.engines import run_child as asking
 from classroom.exercise import material as full
+from classroom.exercise import same_rows
 from classroom.exercise import typed_rows as material
 from classroom.engines.run_child import Failed, Options
 from classroom.exercise.typed_rows import POSTGRESQL, SQLITE, Material
@@ -102,8 +101,9 @@ def has_full(folder: Path) -> bool:
 def trial_of(given: Exercise, seconds: float, engine: str | None = None) -> Trial:
     """How the answers of this exercise are tried; a Fault where that can't be."""
     held = whole = full.read(given.folder)
-    if held and given.tables and not is_same(held, given):
-        log.warning(full.OTHER_ROWS)
+    rows = same_rows.rows_of(given.files, given.tables)
+    if held and (where := same_rows.difference(held, given.tables, rows)):
+        log.warning(full.OTHER_ROWS, where)
         held = None
     made = trial_over(held, lambda: of_exercise(given.folder), given.settings, seconds, engine)
     if whole is None or made.material is whole:
@@ -181,21 +181,6 @@ def wanted(arguments: argparse.Namespace, given: Exercise, seconds: float) -> Tr
     except Fault as fault:
         log.warning("nothing is tried: %s", fault)
         return None
-
-
-def is_same(held: Material, given: Exercise) -> bool:
-    """Whether each table of schema.sql has as many rows in the CSV file as in the picture of the
-    database."""
-    counts = {of.table.name: len(of.rows) for of in held.pool.held}
-    for table in given.tables:
-        lines = csv.reader(
-            io.StringIO(
-                given.files.get(f"{table.name}.csv", b"").decode("utf-8", "replace"), newline=""
-            )
-        )
-        if counts.get(table.name) != sum(1 for line in lines if line) - 1:
-            return False
-    return True
 
 
 def product_of(word: str) -> str:

@@ -13,6 +13,7 @@ from classroom.base.errors import Fault, shown
 from classroom.exercise.rows import Pool, Row
 from classroom.base.files import write
 from classroom.exercise import material as full
+from classroom.exercise import same_rows
 from classroom.exercise.typed_rows import Material
 
 FULL = (DATABASE, SCRIPT)
@@ -90,9 +91,10 @@ def of_source(source: str, pool: Pool) -> Picture:
     held = full.read(place)
     if held is None:
         return Picture(pool)
-    counts = {of.table.name: len(of.rows) for of in held.pool.held}
-    if any(counts.get(of.table.name) != len(of.rows) for of in pool.held):
-        log.warning("%s: %s", shown(source), full.OTHER_ROWS)
+    rows = {of.table.name: of.rows for of in pool.held}
+    where = same_rows.difference(held, [of.table for of in pool.held], rows)
+    if where:
+        log.warning(f"%s: {full.OTHER_ROWS}", shown(source), where)
         return Picture(pool)
     if (place / DATABASE).is_file():
         return Picture(pool, str(place / DATABASE))
