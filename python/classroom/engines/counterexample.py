@@ -11,6 +11,8 @@ from classroom.verdict.compare import DUPLICATES, ORDER, difference, rounded
 from classroom.engines.answer_lines import lines, side
 from classroom.engines.engine import ANSWER, REFERENCE, Engine
 from classroom.engines.looks import Looks, Wanted
+from classroom.exercise.rows import picked
+from classroom.exercise.shown_columns import hidden_of, statement_without
 from classroom.exercise.typed_rows import Material
 from classroom.exercise.part_masks import Mask, Parts, bits
 from classroom.verdict.verdict import (
@@ -329,19 +331,25 @@ class Search:
         kind = self.kind(part)
         if difference(*ahead, self.is_ordered) != kind:
             ahead = self.engine.answers(part, backwards=True)
+        hidden = hidden_of(self.material, self.queries)
+        held_of = self.material.pool.held
+        columns = [
+            [at for at, column in enumerate(held.table.columns) if column.name not in hidden[table]]
+            for table, held in enumerate(held_of)
+        ]
         kept = []
         for at in bits(part):
             row = self.parts.rows[at]
-            held = self.material.pool.held[row.table]
-            kept.append(WitnessRow(held.table.name, row.number + 1, held.rows[row.number]))
+            cells = picked(held_of[row.table].rows[row.number], columns[row.table])
+            kept.append(WitnessRow(held_of[row.table].table.name, row.number + 1, cells))
         used = self.tables | {self.parts.table(at) for at in bits(part)}
         tables = tuple(
             Shown(
                 held.table.name,
-                tuple(column.name for column in held.table.columns),
-                self.material.statements[at],
+                tuple(held.table.columns[place].name for place in columns[at]),
+                statement_without(self.material, at, hidden[at]),
             )
-            for at, held in enumerate(self.material.pool.held)
+            for at, held in enumerate(held_of)
             if at in used
         )
         return Differs(

@@ -152,5 +152,5 @@ def repeated(at: int, rows: Sequence[Cells], places: tuple[int, ...]) -> Iterabl
         seen.add(values)
 
 
-def picked(cells: Cells, places: tuple[int, ...]) -> Cells:
+def picked(cells: Cells, places: Sequence[int]) -> Cells:
     return tuple(cells[place] for place in places)

@@ -51,6 +51,7 @@ class Material:
     statements: tuple[str, ...]  # one CREATE TABLE a table
     views: tuple[Made, ...] = ()
     before: str = ""  # of PostgreSQL, types that the tables need
+    hidden: tuple[tuple[str, ...], ...] = ()  # a table's columns that schema.sql has not
 
     def names(self) -> list[str]:
         return [held.table.name for held in self.pool.held]
@@ -185,6 +186,7 @@ def to_json(of: Material) -> dict[str, Any]:
         "product": of.product,
         "statements": list(of.statements),
         "before": of.before,
+        "hidden": [list(names) for names in of.hidden],
         "lawful": [
             sorted(row.number for row in of.pool.lawful if row.table == at)
             for at in range(len(of.pool.held))
@@ -226,4 +228,5 @@ def from_json(text: dict[str, Any]) -> Material:
         tuple(text["statements"]),
         tuple(Made(*view) for view in text["views"]),
         text["before"],
+        tuple(tuple(names) for names in text["hidden"]),
     )

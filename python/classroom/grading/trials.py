@@ -23,6 +23,7 @@ from classroom.exercise.exercise import Answer, Exercise, Task, digest
 from classroom.base.errors import Fault, library, shown
 from classroom.process.limits import Ran
 from classroom.exercise.rows import Pool
+from classroom.exercise.shown_columns import with_hidden
 from classroom.exercise.sources import of_exercise
 from classroom.grading.decide import is_open
 from classroom.exercise.settings import Settings
@@ -35,7 +36,7 @@ from classroom.exercise.typed_rows import POSTGRESQL, SQLITE, Material
 from classroom.sql.tokens import tokens
 from classroom.verdict.verdict import Cause, Refusal, Verdict
 
-FORMAT = b"trial 2"
+FORMAT = b"trial 3"
 # For one answer, if `--time` isn't less; `ratest` was asked before.
 SECONDS = 10.0
 LEAST_SECONDS = 0.5
@@ -105,8 +106,10 @@ def trial_of(given: Exercise, seconds: float, engine: str | None = None) -> Tria
     if held and (where := same_rows.difference(held, given.tables, rows)):
         log.warning(full.OTHER_ROWS, where)
         held = None
+    if held:
+        held = with_hidden(held, given.tables)
     made = trial_over(held, lambda: of_exercise(given.folder), given.settings, seconds, engine)
-    if whole is None or made.material is whole:
+    if whole is None or made.material is held:
         return made
     names = names_of(whole)
     return replace(made, names=names, rest=(*made.rest, *sorted(names)))
