@@ -11,7 +11,7 @@ import os
 import re
 import stat
 from collections.abc import Iterator, Mapping
-from dataclasses import dataclass, field
+from dataclasses import dataclass, field, replace
 from pathlib import Path
 
 from classroom.base import files as reading
@@ -22,6 +22,9 @@ from classroom.base.files import Folder, NotRead
 from classroom.sql.schema import Table, tables_of
 from classroom.exercise.settings import Settings, TaskSettings
 from classroom.sql.clean import CleanText
+from classroom.sql.tokens import Dialect
+from classroom.exercise.importing.snapshot import SCRIPT
+from classroom.exercise.typed_rows import POSTGRESQL, SQLITE, product_of
 
 RESULTS = "results"
 REFERENCE, ANSWERS = "reference.sql", "answers"
@@ -50,10 +53,11 @@ class Task:
     name: str
     folder: Path
     answers: tuple[Answer, ...] = ()
-    reference: bytes = b""
+    reference: bytes = b""  # without what tools put around a query
     fault: str = ""  # why no answer can be graded
     limit: str = ""  # that the reference alone passes over these rows
     settings: TaskSettings = TaskSettings()
+    remarks: tuple[str, ...] = ()  # on the text of the reference
 
     @property
     def label(self) -> str:
@@ -77,6 +81,7 @@ class Exercise:
     ]  # schema.sql and the CSV file of each table, by their names in the folder
     tables: tuple[Table, ...]  # none where they can't be read of the schema
     settings: Settings = field(default_factory=Settings)
+    dialect: Dialect = Dialect.SQLITE  # of its texts
 
     @property
     def results(self) -> Path:
@@ -102,27 +107,31 @@ def load(folder: Path) -> Exercise:
     if not tasks:
         raise Fault(f"{shown(str(folder))}: no task: neither reference.sql nor a folder with one")
     said = settings.read(folder, [task.name for task in tasks])
-    tasks = tuple(_with_settings(task, said) for task in tasks)
+    tasks = tuple(replace(task, settings=said.of_task(task.name)) for task in tasks)
     schema = read(folder / "schema.sql")
     try:
         tables = tables_of(schema.decode("utf-8", "replace"))
     except Fault:
         tables = ()  # `ratest`, which is asked before anything else, tells the place
     return Exercise(
-        folder, tasks, ignored, {"schema.sql": schema, **dict(_rows(folder, tables))}, tables, said
+        folder,
+        tasks,
+        ignored,
+        {"schema.sql": schema, **dict(_rows(folder, tables))},
+        tables,
+        said,
+        dialect_of(folder),
     )
 
 
-def _with_settings(task: Task, said: Settings) -> Task:
-    return Task(
-        task.name,
-        task.folder,
-        task.answers,
-        task.reference,
-        task.fault,
-        task.limit,
-        said.of_task(task.name),
-    )
+def dialect_of(folder: Path) -> Dialect:
+    """In which the texts of an exercise are read: that of its engine, else of what `import`
+    kept."""
+    try:
+        product = product_of(settings.engine_of(folder))
+    except Fault:
+        product = POSTGRESQL if (folder / SCRIPT).is_file() else SQLITE
+    return Dialect.POSTGRESQL if product == POSTGRESQL else Dialect.SQLITE
 
 
 def _rows(folder: Path, tables: tuple[Table, ...]) -> Iterator[tuple[str, bytes]]:
@@ -142,7 +151,7 @@ def tasks_of(folder: Path) -> tuple[tuple[Task, ...], tuple[Path, ...]]:
     answers."""
     ignored: list[Path] = []
     with reading.opened(folder) as top:
-        tasks = tuple(_tasks(folder, top, ignored))
+        tasks = tuple(_tasks(folder, top, ignored, dialect_of(folder)))
     seen: dict[str, str] = {}
     for task in tasks:
         other = seen.setdefault(task.label.casefold(), task.name)
@@ -151,7 +160,7 @@ def tasks_of(folder: Path) -> tuple[tuple[Task, ...], tuple[Path, ...]]:
     return tasks, tuple(ignored)
 
 
-def _tasks(folder: Path, top: Folder, ignored: list[Path]) -> Iterator[Task]:
+def _tasks(folder: Path, top: Folder, ignored: list[Path], dialect: Dialect) -> Iterator[Task]:
     inner = [
         name
         for name in sorted(top.names(), key=in_order)
@@ -166,40 +175,49 @@ def _tasks(folder: Path, top: Folder, ignored: list[Path]) -> Iterator[Task]:
                 f"{shown(str(folder))}: a task at the top and tasks in folders, as"
                 f" {shown(inner[0])}"
             )
-        yield _task(folder.resolve().name or "task", folder, top, ignored)
+        yield _task(folder.resolve().name or "task", folder, top, ignored, dialect)
     for name in inner:
         try:
             with top.folder(name) as own:
-                yield _task(name, folder / name, own, ignored)
+                yield _task(name, folder / name, own, ignored, dialect)
         except NotRead as fault:
             yield Task(name, folder / name, fault=f"{shown(str(folder / name))}: {fault}")
 
 
-def _task(name: str, folder: Path, own: Folder, ignored: list[Path]) -> Task:
-    fault, reference, answers = "", b"", []
+def _task(name: str, folder: Path, own: Folder, ignored: list[Path], dialect: Dialect) -> Task:
+    fault, reference, answers = "", CleanText(), []
     try:
-        reference = read(folder / REFERENCE)
+        reference = _reference(read(folder / REFERENCE), dialect)
     except FileNotFoundError:
         fault = f"no file {REFERENCE}"
     except OSError as why:
         fault = f"{REFERENCE}: {why.strerror}"
+    except NotRead as why:
+        fault = f"{REFERENCE}: {why}"
     if own.holds(ANSWERS):
         try:
             with own.folder(ANSWERS) as place:
                 for file in sorted(place.names(), key=in_order):
                     if file.endswith(".sql") and not file.startswith("."):
-                        answers.append(_answer(file, place))
+                        answers.append(_answer(file, place, dialect))
                     else:
                         ignored.append(folder / ANSWERS / file)
         except NotRead as why:
             fault = fault or f"{ANSWERS}: {why}"
-    return Task(name, folder, tuple(answers), reference, fault)
+    return Task(name, folder, tuple(answers), reference.query, fault, remarks=reference.remarks)
 
 
-def _answer(file: str, place: Folder) -> Answer:
+def _reference(raw: bytes, dialect: Dialect) -> CleanText:
+    """The text of a reference, which may be longer than an answer."""
+    if len(raw) > texts.MOST_BYTES:
+        return CleanText(raw, raw)
+    return texts.text_of(raw, dialect)
+
+
+def _answer(file: str, place: Folder, dialect: Dialect) -> Answer:
     name = file.removesuffix(".sql")
     try:
-        return Answer(name, texts.text_of(place.read(file, texts.MOST_BYTES + 1)))
+        return Answer(name, texts.text_of(place.read(file, texts.MOST_BYTES + 1), dialect))
     except NotRead as fault:
         return Answer(name, fault=str(fault))
 

@@ -69,6 +69,16 @@ def read(folder: Path, tasks: Iterable[str]) -> Settings:
         raise Fault(f"{shown(str(path))}: {fault}") from None
 
 
+def engine_of(folder: Path) -> str:
+    """What the settings say of the engine, before anything else is known; empty where they say
+    nothing or can't be read, which `read` tells."""
+    try:
+        found = tomllib.loads((reading.bounded(folder / FILE, MOST_BYTES) or b"").decode())
+    except (Fault, ValueError):
+        return ""
+    return str(found.get("engine", ""))
+
+
 def settings_of(found: Mapping[str, Any], tasks: Iterable[str]) -> Settings:
     """The settings of what a file says."""
     values = checked(found, {**EXERCISE, "task": table}, "")

@@ -1,11 +1,13 @@
 """The rows of an exercise as a database has them, with the statements that make its tables."""
 from __future__ import annotations
 
+import re
 import sqlite3
 from collections.abc import Collection, Sequence
 from dataclasses import dataclass, replace
 from typing import Any, cast
 
+from classroom.base.errors import Fault, shown
 from classroom.exercise.rows import Cells, Foreign, Held, Pool, Row
 from classroom.exercise.rules import rules_of
 from classroom.sql.schema import Column, Table, Token, items_of, quoted, tables_of
@@ -28,6 +30,7 @@ __all__ = [
     "from_json",
     "of_rows",
     "of_schema",
+    "product_of",
     "to_json",
 ]
 
@@ -55,6 +58,18 @@ class Material:
 
     def names(self) -> list[str]:
         return [held.table.name for held in self.pool.held]
+
+
+def product_of(word: str) -> str:
+    """The product that an engine's word or connection names."""
+    if word in (SQLITE, POSTGRESQL):
+        return word
+    if "=" in word or re.match("postgres(ql)?://", word):
+        return POSTGRESQL
+    raise Fault(
+        f"engine: {shown(word)}: sqlite is wanted, or a connection as"
+        " postgresql://USER@HOST/DATABASE"
+    )
 
 
 def of_schema(pool: Pool, product: str) -> Material:

@@ -80,6 +80,8 @@ def opened(arguments: argparse.Namespace, seconds: float, conflicts: int | None 
         is_proved,
     )
     for task in made.given.tasks:
+        for remark in task.remarks:
+            log.warning("task %s: reference.sql: %s", shown(task.name), remark)
         if task.fault:
             is_tried = tries and task.reference
             log.log(

@@ -32,7 +32,7 @@ from classroom.exercise import material as full
 from classroom.exercise import same_rows
 from classroom.exercise import typed_rows as material
 from classroom.engines.run_child import Failed, Options
-from classroom.exercise.typed_rows import POSTGRESQL, SQLITE, Material
+from classroom.exercise.typed_rows import POSTGRESQL, SQLITE, Material, product_of
 from classroom.sql.tokens import tokens
 from classroom.verdict.verdict import Cause, Refusal, Verdict
 
@@ -184,17 +184,6 @@ def wanted(arguments: argparse.Namespace, given: Exercise, seconds: float) -> Tr
     except Fault as fault:
         log.warning("nothing is tried: %s", fault)
         return None
-
-
-def product_of(word: str) -> str:
-    if word in (SQLITE, POSTGRESQL):
-        return word
-    if "=" in word or re.match("postgres(ql)?://", word):
-        return POSTGRESQL
-    raise Fault(
-        f"engine: {shown(word)}: sqlite is wanted, or a connection as"
-        " postgresql://USER@HOST/DATABASE"
-    )
 
 
 @dataclass(frozen=True)

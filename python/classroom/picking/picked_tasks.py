@@ -39,7 +39,7 @@ def tasks_for(source: str, folder: Path) -> Sequence[Task]:
         place = folder if task.folder == Path(source) else folder / task.name
         (place / exercise.ANSWERS if task.answers else place).mkdir(parents=True, exist_ok=True)
         if not task.fault:
-            write(place / exercise.REFERENCE, task.reference)
+            write(place / exercise.REFERENCE, exercise.read(task.folder / exercise.REFERENCE))
         for answer in task.answers:
             if answer.fault:
                 log.warning(

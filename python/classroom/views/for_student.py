@@ -20,6 +20,7 @@ from classroom.hints import steps_shown as steps
 from classroom.hints.mistake import Mistake
 from classroom.verdict import sentences as trial_words
 from classroom.verdict.verdict import Remark
+from classroom.sql.clean import CleanText
 from classroom.marks.gradebook import Standing
 from ratest.places import Place
 
@@ -159,9 +160,15 @@ def hints(given: Exercise, of: Graded, mistakes: Mapping[str, Mistake]) -> tuple
 
 def told(of: Graded) -> str:
     """What the verdict means, in words to the student, and what was seen in the text itself."""
-    return told_of_verdict(of) + "".join(
+    return told_of_verdict(of) + told_of_text(of.answer.text)
+
+
+def told_of_text(text: CleanText) -> str:
+    """What was left out of it, and signs of a word processor in it, each in a sentence behind a
+    blank."""
+    return "".join(
         f" It was read {remark}." if remark.startswith("without ") else f" It has {remark}."
-        for remark in of.answer.text.remarks
+        for remark in text.remarks
         if " line " in remark
     )
 

@@ -32,7 +32,9 @@ from classroom.web.served_exercise import Offered
 from classroom.web.showing import Showing
 from classroom.web.visitors import Visitor, Visitors
 from classroom.web.queue import Busy
-from classroom.sql.clean import CleanText as Submitted
+from classroom.sql.clean import CleanText, text_of
+from classroom.base.files import NotRead
+from classroom.views.for_student import told_of_text
 from classroom.web.login import Behind, Front, login, network
 
 # A form in which every byte of a query takes three.
@@ -208,11 +210,18 @@ class Pages:
         if fields["do"] == "hand in":
             return self.hand_in(served, visitor, task, text)
         try:
-            answered = served.asker.ask(task, text, visitor)
+            clean = text_of(text.encode("utf-8", "replace"), served.material.dialect)
+        except NotRead as fault:
+            return self.page(
+                served, visitor, 200, View(task.name, text, f"The query is not read: {fault}.")
+            )
+        query = clean.query.decode()
+        try:
+            answered = served.asker.ask(task, query, visitor)
             hinted = self.hinted(
                 served,
                 task,
-                text,
+                query,
                 answered,
                 visitor,
                 fields["step"] if fields["do"] == "hint" else "",
@@ -227,10 +236,10 @@ class Pages:
             busy.headers["Retry-After"] = "3"
             return busy
         if fields["do"] != "hint":
-            self.keep(served, task, text, answered)
+            self.keep(served, task, clean, answered)
         answer = answer_of(
             answered.outcome,
-            text,
+            query,
             served.material.tables,
             served.asker.limits.seconds,
             self.hides(answered, visitor),
@@ -238,6 +247,7 @@ class Pages:
             served.material.settings,
             served.asker.is_proved,
         )
+        answer = replace(answer, told=f"{answer.told}{told_of_text(clean)}".strip())
         return self.with_cookie(
             self.page(served, visitor, 200, View(task.name, text, "", answer, None, hinted)),
             visitor,
@@ -266,8 +276,7 @@ class Pages:
             return Hinted((NO_MORE,))
         return shown(hinter.steps(answered.key, task, text, visitor, how), int(step), text)
 
-    def keep(self, served: Served, task: Offered, text: str, answered: Answered) -> None:
-        query = text.encode("utf-8", "replace")
+    def keep(self, served: Served, task: Offered, clean: CleanText, answered: Answered) -> None:
         told = grade(
             Task(
                 task.name,
@@ -275,7 +284,7 @@ class Pages:
                 reference=b"",
                 fault="its reference is refused" if task.is_tried else "",
             ),
-            SubmittedAnswer("", Submitted(query, query)),
+            SubmittedAnswer("", clean),
             served.material.tables,
             served.material.settings,
             answered.ran,
@@ -287,7 +296,7 @@ class Pages:
                 served.material.digest,
                 task.digest,
                 task.name,
-                text,
+                clean.query.decode(),
                 told.grade,
                 answered.ran,
                 answered.trial,

@@ -18,6 +18,7 @@ from classroom.sql.schema import Table
 from classroom.web import schema_drawing as relations
 from classroom.exercise.window import Window
 from classroom.exercise.settings import Settings
+from classroom.sql.tokens import Dialect
 
 MOST_QUESTION = 10_000  # characters that are shown of one
 MOST_ROWS = 100  # of a table that are shown
@@ -60,6 +61,7 @@ class Material:
     drawing: bytes | None  # of the schema, as SVG
     window: Window
     settings: Settings = Settings()
+    dialect: Dialect = Dialect.SQLITE  # of what is asked
 
     def task(self, name: str) -> Offered | None:
         return next((task for task in self.tasks if task.name == name), None)
@@ -92,6 +94,7 @@ def copied(given: Exercise, folder: Path, tried: Collection[str] = ()) -> Materi
         relations.drawn(schema, given.tables),
         window,
         settings,
+        given.dialect,
     )
 
 

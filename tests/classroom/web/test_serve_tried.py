@@ -99,7 +99,27 @@ def test_not_determined_and_what_is_barred(server: Server) -> None:
         "differs (tried) on 3 rows: other rows",
     )
     assert server.ask("6", "SELECT printf('%d', 1)").verdict == "refused: it calls printf"
-    assert server.ask("6", "DELETE FROM drinker").verdict.startswith("refused: it is no query")
+    assert (
+        "The query is not read: it is a DELETE, and no query."
+        in server.ask("6", "DELETE FROM drinker").answer
+    )
+
+
+def test_what_tools_put_around_a_query_is_left_out(server: Server) -> None:
+    """Of what is proved and of what is tried; a place is one of the text as it was typed."""
+    for task, query in (("3", (TOP / "examples/beers/3/reference.sql").read_text()), ("6", COUNT)):
+        plain = server.ask(task, query)
+        got = server.ask(task, f".headers on\n```sql\n{query.rstrip().removesuffix(';')};\n```\n")
+        assert got.verdict == plain.verdict in ("agrees", "no difference found (tried)")
+        assert "It was read without .headers on in line 1." in got.answer
+        assert "It was read" not in plain.answer
+    got = server.ask("6", "\\c beers\nSELECT name,\n  nosuch FROM drinker")
+    assert got.verdict == "wrong SQL: no such column: nosuch (line 3, column 3)"
+    got = server.ask("6", "SELECT name FROM drinker; SELECT 2")
+    assert "The query is not read: more than one statement." in got.answer and not got.verdict
+    assert "SELECT name FROM drinker; SELECT 2" in got.body
+    got = server.ask("3", "SELECT name\u00a0FROM drinker")
+    assert "It has a no-break space at line 1, column 12." in got.answer
 
 
 def test_what_is_proved_stays_proved(server: Server) -> None:
