@@ -30,6 +30,7 @@ FOUND = (
     "tests",
     "tests/classroom",
     *(f"tests/classroom/{name}" for name in ROOMS),
+    "tests/launcher",
     "tools",
 )
 # What black and flake8 look at.

@@ -15,6 +15,7 @@ from collections.abc import Sequence
 from classroom.base import log as tell
 from classroom.commands import COMMANDS
 from classroom.base.errors import Fault, told
+from classroom.engines.ratest import prove
 from ratest.installed import VERSION
 
 USAGE, FAULT, STOPPED = 2, 1, 130
@@ -55,6 +56,8 @@ def main(words: Sequence[str] | None = None) -> int:
     arguments = parser().parse_args(words)
     tell.begin(arguments.verbose)
     try:
+        if getattr(arguments, "build", ()):
+            prove(arguments.build)
         status: int = arguments.run(arguments)
         sys.stdout.flush()
         return status

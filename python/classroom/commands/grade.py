@@ -50,6 +50,7 @@ log = logging.getLogger(__name__)
 def add_arguments(parser: argparse.ArgumentParser) -> None:
     options.exercise(parser)
     options.jobs(parser, ", on each machine")
+    options.build(parser, "ratest")
     parser.add_argument(
         "--hosts",
         metavar="FILE",

@@ -38,6 +38,7 @@ def add_arguments(parser: argparse.ArgumentParser) -> None:
     options.exercise(parser, ", graded")
     parser.add_argument("--task", metavar="T", help="of this task alone")
     options.jobs(parser)
+    options.build(parser, "ratest_plus")
     parser.add_argument(
         "--deep", action="store_true", help="look for two changes where one is not enough"
     )

@@ -22,6 +22,7 @@ from collections.abc import Sequence
 
 from classroom.grading import open as opening
 from classroom.commands import options
+from classroom.engines import ratest as program
 from classroom.process import pool as parallel
 from classroom.grading import trials as tried
 from classroom.exercise.exercise import Task
@@ -37,6 +38,7 @@ def add_arguments(parser: argparse.ArgumentParser) -> None:
     options.exercise(parser)
     parser.add_argument("--task", metavar="T", help="of this task alone")
     options.jobs(parser)
+    options.build(parser, "ratest", "ratest_plus")
     options.limits(parser, "a mutant", 60)
     tried.add_arguments(parser)
 
@@ -65,6 +67,7 @@ def run(arguments: argparse.Namespace) -> int:
     results = Results(given.folder / "mutants")
     with results.held() as work:
         verdicts = grading.Verdicts(results.runs, given.files, opened.options)
+        program.told_proved(verdicts.program, arguments.only_proved)
         back = {task.label: questions.written_back(task) for task in tasks}
         found = verdicts.grade(
             [*back.values(), *(of for one in asked.values() for of in one)], means, work

@@ -28,6 +28,18 @@ def exercise(parser: argparse.ArgumentParser, note: str = "") -> None:
     )
 
 
+def build(parser: argparse.ArgumentParser, *names: str) -> None:
+    """Whether the programs of these names are proved first."""
+    parser.add_argument(
+        "--build",
+        dest="build",
+        action="store_const",
+        const=names,
+        default=(),
+        help=f"prove and build {' and '.join(names)} first, where that isn't done yet",
+    )
+
+
 def jobs(parser: argparse.ArgumentParser, note: str = "") -> None:
     parser.add_argument(
         "--jobs",

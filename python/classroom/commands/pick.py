@@ -43,6 +43,7 @@ def add_arguments(parser: argparse.ArgumentParser) -> None:
         "--seed", metavar="N", type=options.count, default=1, help="of the rows at random (1)"
     )
     options.jobs(parser)
+    options.build(parser, "ratest", "ratest_plus")
     parser.add_argument(
         "--work",
         metavar="N",

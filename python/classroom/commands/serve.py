@@ -103,6 +103,7 @@ def add_arguments(parser: argparse.ArgumentParser) -> None:
         help="its mode, as chmod takes it (660)",
     )
     options.jobs(parser)
+    options.build(parser, "ratest", "ratest_plus")
     parser.add_argument(
         "--queue", metavar="N", type=options.count, default=64, help="questions that may wait (64)"
     )

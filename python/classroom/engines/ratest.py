@@ -1,6 +1,7 @@
 """Where the programs `ratest` and `ratest_plus` are, and one call of them."""
 from __future__ import annotations
 
+import logging
 import os
 import shutil
 import subprocess
@@ -10,9 +11,11 @@ from pathlib import Path
 
 from classroom.process import lifeline
 from classroom.process import limits as limited
-from classroom.base.errors import Fault
+from classroom.base.errors import Fault, shown
 from classroom.process.limits import Limits, Ran
 from ratest import installed
+
+log = logging.getLogger(__name__)
 
 
 def find(name: str = "ratest") -> Path:
@@ -75,9 +78,7 @@ def made_without_proofs(name: str) -> Path:
     it ends with this process. A Fault where it can't be made."""
     path = unproved_path(name)
     words = [sys.executable, "-ESc", WITHOUT_PROOFS, os.fspath(installed.REPOSITORY), name]
-    guarded = [sys.executable, "-I", os.fspath(lifeline.__file__), str(os.getpid()), *words]
-    done = subprocess.run(guarded, stdin=subprocess.DEVNULL, stdout=sys.stderr, check=False)
-    if done.returncode != 0 or not path.is_file():
+    if run_guarded(words) != 0 or not path.is_file():
         raise Fault(f"the program {name} is not built: {installed.REPOSITORY / name} --build")
     return path
 
@@ -85,6 +86,41 @@ def made_without_proofs(name: str) -> Path:
 def is_proved(program: Path) -> bool:
     """Whether a program has no sign of a build without proofs."""
     return not limited.is_checked(os.fspath(program))
+
+
+def told_proved(program: Path, only_proved: bool) -> bool:
+    """Whether a program is proved; else that is told, or a Fault where nothing else is wanted."""
+    if is_proved(program):
+        return True
+    if only_proved:
+        raise Fault(f"--only-proved: {shown(str(program))} is a build without proofs")
+    log.warning("not proved: %s is a build with run-time checks in place of proofs", program)
+    return False
+
+
+def prove(names: Sequence[str]) -> None:
+    """Proves and builds the repository's programs, each by its launcher, which ends with this
+    process. A Fault where there is none of them, or it can't be proved."""
+    for name in names:
+        launcher = installed.REPOSITORY / name
+        if os.environ.get(name.upper()):
+            raise Fault(f"--build: the variable {name.upper()} names the program that is taken")
+        if installed.packed(name) or not launcher.is_file():
+            raise Fault(f"--build: {name} is installed here, and there is no repository to build")
+        status = run_guarded([os.fspath(launcher), "--build"])
+        if status != 0 or not proved_path(name).is_file():
+            raise Fault(f"--build: {name} is not proved and built")
+
+
+def run_guarded(words: Sequence[str]) -> int:
+    """The status of a program that ends, with all that it started, where this process ends."""
+    guard = [sys.executable, "-I", os.fspath(lifeline.__file__), str(os.getpid())]
+    with subprocess.Popen([*guard, *words], stdin=subprocess.DEVNULL, stdout=sys.stderr) as process:
+        try:
+            return process.wait()
+        finally:
+            # Where this process is stopped; one that is killed would leave what it guards.
+            process.terminate()
 
 
 def there(name: str) -> Path:

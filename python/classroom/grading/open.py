@@ -66,11 +66,7 @@ def opened(arguments: argparse.Namespace, seconds: float, conflicts: int | None 
     limits = Limits(arguments.time or said.time or seconds, arguments.memory)
     ratest = program.find()
     tries = not getattr(arguments, "only_proved", True)
-    is_proved = program.is_proved(ratest)
-    if not is_proved and getattr(arguments, "only_proved", False):
-        raise Fault(f"--only-proved: {shown(str(ratest))} is a build without proofs")
-    if not is_proved:
-        log.warning("not proved: %s is a build with run-time checks in place of proofs", ratest)
+    is_proved = program.told_proved(ratest, getattr(arguments, "only_proved", False))
     made = Opened(
         asked(given, ratest, limits, options_of(work, conflicts), tries and has_full(given.folder)),
         ratest,

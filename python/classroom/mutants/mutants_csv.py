@@ -11,6 +11,7 @@ from classroom.base.csvcells import safe
 from ratest.draw import counted
 from classroom.mutants.proofs import OPEN, REFUSED, TOLD, Verdict
 from classroom.mutants.question import Question
+from classroom.verdict.decision import NOT_PROVED
 
 
 @dataclass(frozen=True)
@@ -89,8 +90,10 @@ def summary(made: Sequence[Judged], noun: str = "mutant") -> str:
 
 
 def by_whom(made: Sequence[Judged]) -> str:
-    """As `, by sqlite 3.40.1 and not proved`, of what was tried."""
+    """As `, by sqlite 3.40.1 and not proved`, of what was tried or a build without proofs said."""
     engines = sorted({one.verdict.engine for one in made} - {""})
+    if any(one.verdict.decided_by == NOT_PROVED for one in made):
+        engines.insert(0, "a build without proofs")
     return f", by {', '.join(engines)} and not proved" if engines else ""
 
 

@@ -4,7 +4,7 @@ from __future__ import annotations
 import json
 import os
 from collections.abc import Mapping, Sequence
-from dataclasses import asdict, dataclass
+from dataclasses import asdict, dataclass, replace
 from pathlib import Path
 
 from classroom.process import pool as parallel
@@ -13,6 +13,7 @@ from classroom.exercise.exercise import digest
 from classroom.process.limits import Ran
 from classroom.mutants.question import Question
 from classroom.base.files import write
+from classroom.verdict.decision import NOT_PROVED, PROVED
 from ratest import printed
 
 MOST_IN_LIST = 256  # that the program takes
@@ -31,11 +32,14 @@ class Verdict:
     rows: int = 0  # of the witness
     why: str = ""  # it is refused or open
     engine: str = ""  # of a database that tried; empty of what `ratest` says
+    is_proved: bool = True  # of what `ratest` says: False where a build without proofs said it
 
     @property
     def decided_by(self) -> str:
-        """ "proved" or the engine; empty where there is no verdict."""
-        return "" if self.kind in (OPEN, REFUSED) else self.engine or "proved"
+        """PROVED, NOT_PROVED or the engine; empty where there is no verdict."""
+        if self.kind in (OPEN, REFUSED):
+            return ""
+        return self.engine or (PROVED if self.is_proved else NOT_PROVED)
 
 
 class Verdicts:
@@ -46,6 +50,7 @@ class Verdicts:
         self.files = files
         self.options = tuple(options)
         self.program = program.find("ratest_plus")
+        self.is_proved = program.is_proved(self.program)
         self.common = digest(
             b"1",
             self.program.read_bytes(),
@@ -63,7 +68,8 @@ class Verdicts:
 
     def kept(self, of: Question) -> Verdict | None:
         try:
-            return Verdict(**json.loads((self.folder / f"{self.key(of)}.json").read_bytes()))
+            kept = Verdict(**json.loads((self.folder / f"{self.key(of)}.json").read_bytes()))
+            return replace(kept, is_proved=self.is_proved)
         except (OSError, ValueError, TypeError):
             return None
 
@@ -109,8 +115,8 @@ class Verdicts:
             jobs, {"ratest_plus": self.program}, self.files, files, means, work
         ):
             for key, verdict in read(ran, members[job]).items():
-                found[key] = verdict
-                self.keep(key, verdict)
+                found[key] = replace(verdict, is_proved=self.is_proved)
+                self.keep(key, found[key])
         return found
 
 

@@ -71,11 +71,14 @@ def pick(source: str, folder: Path, wanted: Wanted) -> int:
         log.warning("%s", note)
     given = tasks_for(source, folder)
     said = settings.read(folder, [task.name for task in given])
+    ratest, plus = program.find(), program.find("ratest_plus")
+    for one in (ratest, plus):
+        program.told_proved(one, wanted.only_proved)
     results = Results(folder / "picking")
     with results.held() as work:
         held = picture.of_source(source, pool)
         used: set[str] = set()
-        proving = Proving(pool, results, wanted.means, work, wanted.options, program.find(), used)
+        proving = Proving(pool, results, wanted.means, work, wanted.options, ratest, used)
         tasks = Tasks(proving, said, lambda: tries(held, said, wanted, results, work, used))
         tasks.add(given)
         found = passes.search(tasks.asking, tasks.asked, wanted.seed, wanted.tell)

@@ -8,8 +8,9 @@ import products
 import pytest
 from roles import Roles
 
-from classroom.exercise import exercise, material
+from classroom.exercise import material
 from classroom.exercise.same_rows import difference, rows_of
+from classroom.sql.schema import tables_of
 
 SQLITE = """CREATE TABLE Team ("Full Name" VARCHAR(30) PRIMARY KEY, founded DATE, home TEXT, cups INT, fee DECIMAL(6, 2), open BOOLEAN);
 CREATE TABLE goal (at INTEGER, by VARCHAR(30) REFERENCES Team, speed REAL, note TEXT);
@@ -84,7 +85,7 @@ EDITS = [
 def place(folder: Path) -> str:
     """Where the folder's database first differs from its other files."""
     files = {path.name: path.read_bytes() for path in folder.iterdir() if path.is_file()}
-    tables = exercise.tables_of(files["schema.sql"].decode())
+    tables = tables_of(files["schema.sql"].decode())
     whole = material.read(folder)
     assert whole is not None
     return difference(whole, tables, rows_of(files, tables))

@@ -87,8 +87,10 @@ def test_a_students_page_has_no_column_that_is_left_out(folder: Path, ratest: Pa
     (folder / "1/answers").mkdir(parents=True)
     (folder / "1/reference.sql").write_text(f"{JOINED} ORDER BY 1")
     (folder / "1/answers/anna.sql").write_text(f"{JOINED} AND grade > 3 ORDER BY 1")
-    for words in (["grade", folder], ["feedback", folder]):
-        done = products.classroom(*words, env={"RATEST": str(ratest), "PATH": "/usr/bin:/bin"})
+    for word in ("grade", "feedback"):
+        done = products.classroom(
+            word, folder, env={"RATEST": str(ratest), "PATH": "/usr/bin:/bin"}
+        )
         assert done.returncode == 0, done.stderr
     page = (folder / "results/feedback/anna.md").read_text()
     assert "John" in page, page

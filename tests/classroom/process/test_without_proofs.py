@@ -79,3 +79,62 @@ def test_the_page_for_students_says_so(beers: Path, checked: Path) -> None:
             got = server.ask("3", text)
             assert got.verdict.startswith(words)
             assert "This is not proved: a build without proofs said so." in got.answer
+
+
+def ask(
+    words: list[str | Path], checked: Path, plus: Path
+) -> tuple[subprocess.CompletedProcess[str], list[str]]:
+    """A call with both programs, and the lines in which it says what is not proved."""
+    ran = subprocess.run(
+        [TOP / "classroom", *words],
+        env={"PATH": "/usr/bin:/bin", "RATEST": str(checked), "RATEST_PLUS": str(plus)},
+        capture_output=True,
+        text=True,
+        check=False,
+    )
+    return ran, [line for line in ran.stderr.splitlines() if "not proved" in line]
+
+
+def test_mutants_and_pick_say_so(ratest: Path, ratest_plus: Path, tmp_path: Path) -> None:
+    pytest.importorskip("sqlglot", reason="no sqlglot: apt-get install python3-sqlglot")
+    builds = []
+    for program_of in (ratest, ratest_plus):
+        name = tmp_path / f"{program_of.name}.unproved"
+        told = f"# {limits.CHECKED.decode()}"
+        name.write_text(f'#!/bin/sh\n{told}\nexec {shlex.quote(str(program_of))} "$@"\n')
+        name.chmod(0o755)
+        builds.append(name)
+    (tmp_path / "few/1").mkdir(parents=True)
+    (tmp_path / "few/schema.sql").write_text("CREATE TABLE t (id INTEGER PRIMARY KEY, a INTEGER);")
+    (tmp_path / "few/t.csv").write_text("id,a\n1,2\n2,3\n3,4\n4,3\n")
+    (tmp_path / "few/1/reference.sql").write_text("SELECT id FROM t WHERE a < 3")
+
+    def checks(folder: str, programs: list[Path]) -> tuple[str, set[str]]:
+        calls: list[list[str | Path]] = [
+            ["mutants", tmp_path / "few"],
+            ["pick", tmp_path / "few", tmp_path / folder],
+        ]
+        for words in calls:
+            ran, lines = ask(words, programs[0], programs[1])
+            assert ran.returncode == 0, ran.stderr
+            unproved = [one for one in programs if one in builds]
+            assert lines == [
+                f"classroom: not proved: {one} is a build with run-time checks in place of proofs"
+                for one in unproved
+            ]
+            of_build = ", by a build without proofs and not proved" in ran.stdout
+            assert of_build == (programs[1] in builds), ran.stdout
+            if unproved:
+                ran, _ = ask([*words, "--only-proved"], programs[0], programs[1])
+                assert (ran.returncode, ran.stdout) == (1, "")
+                assert ran.stderr.endswith(
+                    f"--only-proved: {unproved[0]} is a build without proofs\n"
+                )
+        with open(tmp_path / "few/mutants/mutants.csv", encoding="utf-8", newline="") as file:
+            found = {line["decided_by"] for line in csv.DictReader(file)}
+        return ran.stdout, found
+
+    assert checks("one", builds)[1] == {"not proved"}
+    assert checks("two", [ratest, builds[1]])[1] == {"not proved"}
+    assert checks("three", [builds[0], ratest_plus])[1] == {"proved"}
+    assert checks("four", [ratest, ratest_plus])[1] == {"proved"}
