@@ -18,6 +18,8 @@ COLUMNS, FAILURE, ROWS, DUPLICATES, ORDER = KINDS = (
     "duplicates",
     "order",
 )
+# An order in which rows came, and which nothing asks for.
+LEFT_OPEN = "order left open"
 # Of a number with a fraction. A sum in another order, or a quotient, has other digits behind them.
 DIGITS = 12
 # The digits of a float that an error of its last bits leaves as they are.
