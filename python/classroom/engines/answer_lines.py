@@ -1,21 +1,24 @@
 """Answers as a verdict shows them."""
 from __future__ import annotations
 
+from collections import Counter
 from collections.abc import Collection
 
 from classroom.exercise.cells import Cell, Cells
 from classroom.verdict import verdict
-from classroom.verdict.compare import Answer, plain, rounded
+from classroom.verdict.compare import Answer, plain, rounded, with_floats
 from classroom.verdict.verdict import Side
 
 
 def lines(reference: Answer, answer: Answer) -> tuple[verdict.Line, ...]:
     """The rows of both answers, each once, in the order in which they came, with how often each has
     it."""
-    bags = reference.bag(), answer.bag()
+    floats = with_floats(reference.lines, answer.lines)
+    keys = [rounded(of.lines, floats) for of in (reference, answer)]
+    bags = [Counter(of) for of in keys]
     shown: dict[tuple[object, ...], Cells] = {}
-    for of in (reference, answer):
-        for key, line in zip(rounded(of.lines), of.lines):
+    for of, known in zip((reference, answer), keys):
+        for key, line in zip(known, of.lines):
             shown.setdefault(key, cells(line))
     return tuple(verdict.Line(line, bags[0][key], bags[1][key]) for key, line in shown.items())
 

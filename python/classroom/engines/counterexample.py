@@ -13,6 +13,7 @@ from classroom.engines.engine import ANSWER, REFERENCE, Engine
 from classroom.engines.looks import Looks, Wanted
 from classroom.exercise.rows import picked
 from classroom.exercise.shown_columns import hidden_of, statement_without
+from classroom.engines.row_orders import RowOrders
 from classroom.exercise.typed_rows import Material
 from classroom.exercise.part_masks import Mask, Parts, bits
 from classroom.verdict.verdict import (
@@ -56,7 +57,8 @@ class Search:
         self.tables = engine.tables
         self.whole = parts.of_tables(self.tables)
         self.dialect = "sqlite" if material.product == "sqlite" else "postgres"
-        self.is_ordered = joins.is_ordered(queries[REFERENCE], self.dialect)
+        self.orders = RowOrders(engine, queries, self.dialect)
+        self.is_ordered = self.orders.is_ordered[REFERENCE]
         self.looks = Looks()
         self.few_parts, self.few_unions = (
             round(few * engine.pace) for few in (FEW_LAWFUL, FEW_UNIONS)
@@ -89,11 +91,11 @@ class Search:
     def look(self, part: Mask, is_thorough: bool = False) -> str:
         self.looks.tried += 1
         ahead = self.engine.answers(part)
-        found = difference(*ahead, self.is_ordered)
+        found = self.orders.difference(part, ahead)
         if not found and not self.is_ordered and not is_thorough:
             return ""
         back = self.engine.answers(part, backwards=True)
-        again = difference(*back, self.is_ordered)
+        again = self.orders.difference(part, back)
         stable = [
             not difference(one, other, False)
             and not self.is_tied(which, part, bool(found or again))
@@ -103,10 +105,10 @@ class Search:
             self.looks.undetermined[which] |= not stable[which]
         if not all(stable):
             return ""
-        if ORDER in (found, again) and rounded(ahead[REFERENCE].lines) != rounded(
-            back[REFERENCE].lines
-        ):
-            found, again = ("" if kind == ORDER else kind for kind in (found, again))
+        if ORDER in (found, again):
+            lines, others = rounded(ahead[REFERENCE].lines), rounded(back[REFERENCE].lines)
+            if lines != others and not self.orders.runs(part, REFERENCE, ahead[REFERENCE]):
+                found, again = ("" if kind == ORDER else kind for kind in (found, again))
         kind = found or again
         if kind not in self.counts and (kind in (DUPLICATES, ORDER) or kind and self.wanted.agrees):
             self.looks.slight.setdefault(kind, part)
@@ -329,8 +331,10 @@ class Search:
     def told(self, part: Mask, least: str, count: int) -> Differs:
         ahead = self.engine.answers(part)
         kind = self.kind(part)
+        is_left_open = False
         if difference(*ahead, self.is_ordered) != kind:
             ahead = self.engine.answers(part, backwards=True)
+            is_left_open = difference(*ahead, self.is_ordered) != kind == ORDER
         hidden = hidden_of(self.material, self.queries)
         held_of = self.material.pool.held
         columns = [
@@ -361,6 +365,7 @@ class Search:
             least,
             count,
             tables,
+            is_left_open,
         )
 
     def remarks(self) -> tuple[Remark, ...]:
@@ -373,5 +378,6 @@ class Search:
             if not difference(*both, self.is_ordered):
                 both = self.engine.answers(small, backwards=True)
             told = next((line for line in lines(*both) if line.reference != line.answer), None)
-            made.append(Remark(kind, told))
+            is_left_open = kind == ORDER and not difference(*both, self.is_ordered)
+            made.append(Remark(kind, told, is_left_open))
         return tuple(made)

@@ -69,6 +69,10 @@ class Engine(Protocol):
     def tied_answer(self, which: int, way: int, part: Mask) -> Answer | None:
         """What it answers where ties are broken in one of the ways; None where that failed."""
 
+    def ranked_answer(self, which: int, part: Mask) -> Answer | None:
+        """What it answers with one more column, the rank of each row by the keys of its ORDER BY;
+        None where it has none, or the keys can't be asked."""
+
     def joined(
         self, tables: Sequence[tuple[int, str]], condition: str
     ) -> Iterator[tuple[int, ...]]:

@@ -12,6 +12,7 @@ from collections.abc import Iterator, Sequence
 from typing import Any
 
 from classroom.base.errors import Fault, library, shown
+from classroom.sql import ranks
 from classroom.sql.schema import quoted
 from classroom.engines import left_schemas, tie_keys
 from classroom.engines.asker_rights import LOADER_RIGHTS, RIGHTS
@@ -40,23 +41,10 @@ SCHEMA = "ratest_trial_"
 RETURNS = 20.0
 # Parts after which the tables are emptied of the rows that are deleted in them.
 REFRESH = 500
-TEXTS = (
-    "date",
-    "time",
-    "timetz",
-    "timestamp",
-    "timestamptz",
-    "interval",
-    "json",
-    "jsonb",
-    "uuid",
-    "inet",
-    "cidr",
-    "xml",
-    "money",
-    "point",
-)
+# Types whose values are taken as texts.
+TEXTS = "date time timetz timestamp timestamptz interval json jsonb uuid inet cidr xml money point".split()
 PREPARE = "PREPARE query AS "
+RANKED = "ranked"  # the name of the text that shows ranks
 
 
 class Server:
@@ -214,6 +202,7 @@ class Postgres(Server):
             for which in (REFERENCE, ANSWER):
                 self.prepare(which)
             self.ways = [self.prepared_ways(which) for which in (REFERENCE, ANSWER)]
+            self.has_ranks = [self.prepared_rank(which) for which in (REFERENCE, ANSWER)]
         except Stopped as stopped:
             stopped.engine = self.label
             self.close()
@@ -295,13 +284,30 @@ class Postgres(Server):
             return 0
         return ways
 
+    def prepared_rank(self, which: int) -> bool:
+        """Prepares the query with the ranks of its rows; whether that could be done."""
+        text = ranks.ranked(self.queries[which], "postgres")
+        try:
+            if text:
+                self.askers[which].execute(f"PREPARE {RANKED} AS {text}")
+        except self.psycopg.Error:
+            return False
+        return bool(text)
+
     def ties(self, which: int) -> int:
         return self.ways[which]
 
     def tied_answer(self, which: int, way: int, part: Mask) -> Answer | None:
+        return self.beside(which, f"way_{way}", part)
+
+    def ranked_answer(self, which: int, part: Mask) -> Answer | None:
+        return self.beside(which, RANKED, part) if self.has_ranks[which] else None
+
+    def beside(self, which: int, name: str, part: Mask) -> Answer | None:
+        """The answer to what is prepared beside a query; None where it fails."""
         self.load(part)
         try:
-            found = self.ask(which, f"way_{way}")
+            found = self.ask(which, name)
         except Stopped:
             return None
         return None if found.failure else found

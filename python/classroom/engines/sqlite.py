@@ -32,6 +32,7 @@ from classroom.exercise.typed_rows import Material
 from classroom.exercise.part_masks import Mask, Parts, bits
 from classroom.engines.tables_read import places, with_views
 from classroom.sql.dialect import with_sets
+from classroom.sql import ranks
 from classroom.sql.lookup import begins_as_query, clock, unknown_name
 
 # Steps of SQLite's machine between two looks at the time.
@@ -208,6 +209,7 @@ class Sqlite:
         self.label = sqlite_words.label(sqlite3.sqlite_version, self.rewritten)
         tie_keys.add_function(self.stored[0].db)
         self.ways = [list(tie_keys.untied_texts(text, material, "sqlite")) for text in self.queries]
+        self.ranked = [ranks.ranked(text, "sqlite") for text in self.queries]
 
     def check_both(self) -> None:
         """Refuses a query over any rows; an answer that is wrong SQL is told so where the reference
@@ -312,12 +314,20 @@ class Sqlite:
         return len(self.ways[which])
 
     def tied_answer(self, which: int, way: int, part: Mask) -> Answer | None:
+        return self.beside(which, self.ways[which][way], part)
+
+    def beside(self, which: int, text: str, part: Mask) -> Answer | None:
+        """The answer to a text that stands beside a query; None where it fails."""
         self.stored[0].load(part)
         try:
-            found = self.stored[0].ask(which, self.ways[which][way])
+            found = self.stored[0].ask(which, text)
         except Stopped:
             return None
         return None if found.failure else found
+
+    def ranked_answer(self, which: int, part: Mask) -> Answer | None:
+        text = self.ranked[which]
+        return self.beside(which, text, part) if text else None
 
     def joined(
         self, tables: Sequence[tuple[int, str]], condition: str

@@ -8,7 +8,7 @@ from dataclasses import dataclass, replace
 from typing import Any, cast
 
 from classroom.base.errors import Fault, shown
-from classroom.exercise.rows import Cells, Foreign, Held, Pool, Row
+from classroom.exercise.rows import Cell, Cells, Foreign, Held, Pool, Row
 from classroom.exercise.rules import rules_of
 from classroom.sql.schema import Column, Table, Token, items_of, quoted, tables_of
 from classroom.exercise.cells import cell, encoded
@@ -16,11 +16,13 @@ from classroom.exercise.cells import cell, encoded
 SQLITE, POSTGRESQL = PRODUCTS = ("sqlite", "postgresql")
 SIGNS = frozenset("<>=!|")
 # Of no product: SQLite, in which no column fills itself.
+BIG = "BIGINT"
 KINDS = {
-    SQLITE: {"INTEGER": "INTEGER"},
-    POSTGRESQL: {"INTEGER": "bigint", "TEXT": 'text COLLATE "C"'},
-    "": {"INTEGER": "INT"},
+    SQLITE: {"INTEGER": "INTEGER", BIG: "INTEGER"},
+    POSTGRESQL: {"INTEGER": "integer", BIG: "bigint", "TEXT": 'text COLLATE "C"'},
+    "": {"INTEGER": "INT", BIG: "INT"},
 }
+LEAST, MOST = -(1 << 31), (1 << 31) - 1  # of an integer in PostgreSQL
 __all__ = [
     "POSTGRESQL",
     "PRODUCTS",
@@ -78,11 +80,18 @@ def of_schema(pool: Pool, product: str) -> Material:
     Rows that break a CHECK or a NOT NULL stand in no part from then on, as no witness has them.
     """
     text = pool.schema.decode("utf-8", "replace")
-    checks, filled = checks_of(text), filled_of(text)
+    checks, filled, big = checks_of(text), filled_of(text), big_of(text)
 
     def statements(of: str) -> tuple[str, ...]:
         return tuple(
-            statement(held, rules.primary, checks[held.table.name], filled[held.table.name], of)
+            statement(
+                held,
+                kinds_of(held, big[held.table.name]),
+                rules.primary,
+                checks[held.table.name],
+                filled[held.table.name],
+                of,
+            )
             for held, rules in zip(pool.held, rules_of(text), strict=True)
         )
 
@@ -125,13 +134,18 @@ def of_rows(whole: Material, rows: Collection[Row]) -> Material:
 
 
 def statement(
-    held: Held, primary: Sequence[str], checks: Sequence[str], filled: Collection[str], product: str
+    held: Held,
+    kinds: Sequence[str],
+    primary: Sequence[str],
+    checks: Sequence[str],
+    filled: Collection[str],
+    product: str,
 ) -> str:
-    kinds = KINDS[product]
+    words = KINDS[product]
     names = [quoted(column.name) for column in held.table.columns]
     items = [
-        f"{name} {kinds.get(column.kind, column.kind)}{' NOT NULL' if column.name in filled else ''}"
-        for name, column in zip(names, held.table.columns)
+        f"{name} {words.get(kind, kind)}{' NOT NULL' if column.name in filled else ''}"
+        for name, column, kind in zip(names, held.table.columns, kinds)
     ]
     for key in held.keys:
         is_primary = [held.table.columns[place].name for place in key] == list(primary)
@@ -140,6 +154,30 @@ def statement(
         )
     items += [f"CHECK ({check})" for check in checks]
     return f"CREATE TABLE {quoted(held.table.name)} ({', '.join(items)})"
+
+
+def kinds_of(held: Held, big: Collection[str]) -> list[str]:
+    """The kinds of the columns; an INTEGER is BIG where the schema says so, or a value needs more
+    than 32 bits."""
+    return [
+        BIG
+        if column.kind == "INTEGER"
+        and (column.name in big or any(is_big(row[place]) for row in held.rows))
+        else column.kind
+        for place, column in enumerate(held.table.columns)
+    ]
+
+
+def is_big(value: Cell) -> bool:
+    return isinstance(value, int) and not LEAST <= value <= MOST
+
+
+def big_of(text: str) -> dict[str, set[str]]:
+    """The columns of each table that the schema calls BIGINT."""
+    found: dict[str, set[str]] = {table.name: set() for table in tables_of(text)}
+    for name, items in items_of(text):
+        found[name] |= {item[0].text for item in items if item[1:2] == [Token("word", BIG.lower())]}
+    return found
 
 
 def checks_of(text: str) -> dict[str, list[str]]:

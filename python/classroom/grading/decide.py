@@ -106,7 +106,7 @@ def agreeing(made: Decision, trial: Verdict | None, said: Settings) -> Decision:
             grade=Grade.DIFFERS,
             by=trial.engine,
             is_tried=True,
-            notes=(*made.notes, Note(NoteKind.DIFFERENCE, trial.outcome.difference)),
+            notes=(*made.notes, Note(NoteKind.DIFFERENCE, trial.outcome.how)),
         )
     others = [one for one in trial.remarks if one.difference not in (DUPLICATES, ORDER)]
     if others:
@@ -125,7 +125,7 @@ def by_trial(
         told = (
             Note(NoteKind.OTHER_COLUMNS)
             if outcome.difference == COLUMNS
-            else Note(NoteKind.DIFFERENCE, outcome.difference)
+            else Note(NoteKind.DIFFERENCE, outcome.how)
         )
         return replace(
             by, grade=Grade.DIFFERS, fault=sentences.failure(outcome), notes=(*texts, told)

@@ -61,7 +61,7 @@ class NoteKind(Enum):
     PERHAPS_FEWER = 1  # fewer rows may do
     OTHER_COLUMNS = 2
     TEXT = 3  # how its file was read; the value is a text
-    DIFFERENCE = 4  # how it differs; the value is one of `compare.KINDS`
+    DIFFERENCE = 4  # how it differs; the value is one of `sentences.KINDS`
     SLIGHT_AGREES = 5  # proved to agree as a set; the value is a Remark
     SLIGHT_SAME = 6  # no difference was found as a set; the value is a Remark
     OTHERWISE = 7  # it agrees, and the database answers otherwise; the value is a Remark

@@ -2,7 +2,7 @@
 from __future__ import annotations
 
 from classroom.sql.schema import literal
-from classroom.verdict.compare import COLUMNS, DUPLICATES, FAILURE, ORDER, ROWS
+from classroom.verdict.compare import COLUMNS, DUPLICATES, FAILURE, LEFT_OPEN, ORDER, ROWS
 from classroom.exercise.cells import Cells
 from classroom.verdict.decision import Note, NoteKind
 from classroom.verdict.verdict import (
@@ -28,6 +28,7 @@ KINDS = {
     ROWS: "other rows",
     DUPLICATES: "the same rows another number of times",
     ORDER: "the same rows in another order",
+    LEFT_OPEN: "the same rows in an order that nothing in the answer asks for",
 }
 
 
@@ -80,6 +81,8 @@ def remark(of: Remark, tells_rows: bool = True) -> str:
     """As `returns Ann twice where the reference returns her once`, in words that fit any row."""
     if of.difference not in (DUPLICATES, ORDER):
         return "over the CSV files; the database with its own types answers otherwise"
+    if of.is_left_open:
+        return "returns the same rows in an order that nothing in it asks for"
     if of.difference == ORDER:
         return "returns the same rows in another order"
     if of.line is None or not tells_rows:
@@ -125,7 +128,7 @@ def text(of: Verdict, tells_all: bool = True) -> str:
     outcome = of.outcome
     if isinstance(outcome, Differs):
         lines = [
-            f"{DIFFERS} (tried, {of.engine}): {KINDS[outcome.difference]}",
+            f"{DIFFERS} (tried, {of.engine}): {KINDS[outcome.how]}",
             f"rows: {len(outcome.kept)}",
         ]
         lines += [f"{kept.table} {kept.number}: {listed(kept.cells)}" for kept in outcome.kept]

@@ -7,6 +7,7 @@ from enum import StrEnum
 from typing import Any, NamedTuple, Union
 
 from classroom.exercise.cells import Cells, cells, encoded
+from classroom.verdict.compare import LEFT_OPEN
 
 # By what it is known that no smaller part differs: all lawful parts were tried; all that the
 # queries' joins tell apart; each row is needed; or nothing, since the time ended before.
@@ -58,6 +59,13 @@ class Differs:
     least: str  # one of LEASTS
     parts: int  # how many smaller parts were tried for that
     tables: tuple[Shown, ...] = ()  # of the rows, and those that the queries read
+    # Of a difference in order: the rows came in the reference's order, which the answer leaves open.
+    is_left_open: bool = False
+
+    @property
+    def how(self) -> str:
+        """One of comparison.KINDS, or LEFT_OPEN."""
+        return LEFT_OPEN if self.is_left_open else self.difference
 
 
 @dataclass(frozen=True)
@@ -121,6 +129,7 @@ class Remark:
 
     difference: str  # of comparison.KINDS
     line: Line | None = None  # of duplicates, one row
+    is_left_open: bool = False  # as of `Differs`
 
 
 @dataclass(frozen=True)
@@ -169,6 +178,7 @@ def from_json(text: dict[str, Any]) -> Verdict:
                 Shown(str(name), tuple(map(str, columns)), str(statement))
                 for name, columns, statement in of["tables"]
             ),
+            bool(of["is_left_open"]),
         )
     else:
         plain = {"NoDifference": NoDifference, "NotDetermined": NotDetermined, "Refusal": Refusal}
@@ -179,7 +189,11 @@ def from_json(text: dict[str, Any]) -> Verdict:
         str(text["engine"]),
         outcome,
         tuple(
-            Remark(str(one["difference"]), line(one["line"]) if one["line"] else None)
+            Remark(
+                str(one["difference"]),
+                line(one["line"]) if one["line"] else None,
+                bool(one["is_left_open"]),
+            )
             for one in text["remarks"]
         ),
     )

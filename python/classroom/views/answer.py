@@ -108,7 +108,7 @@ def tried(
         failure = words.failure(of, False)
         return Answer(
             "differs tried",
-            f"differs (tried) on {counted(len(of.kept), 'row')}: {words.KINDS[of.difference]}",
+            f"differs (tried) on {counted(len(of.kept), 'row')}: {words.KINDS[of.how]}",
             (
                 f"{words.least(of)} {f'{failure[:1].upper()}{failure[1:]}. ' if failure else ''}{engine}"
             ),

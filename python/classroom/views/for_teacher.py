@@ -253,7 +253,7 @@ def words(of: Graded, tells_all: bool = True) -> str:
         if of.tried_witness:
             found += (
                 f" on {counted(len(of.tried_witness.kept), 'row')}:"
-                f" {trial_words.KINDS[of.tried_witness.difference]}"
+                f" {trial_words.KINDS[of.tried_witness.how]}"
             )
         return (
             f"{found}: {of.fault}"
