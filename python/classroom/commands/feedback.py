@@ -32,7 +32,7 @@ from pathlib import Path
 from classroom.views import draw
 from classroom.exercise import exercise
 from classroom.commands import options
-from classroom.marks import gradebook as standing
+from classroom.commands.book import book_of, renew
 from classroom.exercise.collected import read_collected
 from classroom.people import roster as students
 from classroom.people.identity import MOST_ID, key
@@ -95,14 +95,15 @@ def run(arguments: argparse.Namespace) -> int:
     loaded = exercise.load(arguments.exercise)
     if arguments.reference:
         check_closed(loaded)
-    given, graded = Results(loaded.results).graded(loaded)
+    results = Results(loaded.results)
+    given, graded = results.graded(loaded)
     listed = students.read(arguments.students or given.folder / given.settings.students)
-    found = standing.standings(given, graded, listed)
     template = draw.environment().get_template("feedback.html")
     mistakes = Mistakes(given).of(graded)
+    book = book_of(given, graded, listed, mistakes)
     members = members_of(given.folder)
     backs = []
-    for of in found:
+    for of in book.standings:
         made = sheet.sheet(given, of, arguments.reference, mistakes)
         backs.append(
             Back(
@@ -118,6 +119,7 @@ def run(arguments: argparse.Namespace) -> int:
         for back in backs
     }
     missing = add_platforms(files, backs, arguments, arguments.assignment or given.title)
+    renew(results, book)
     Written(given.results / FOLDER).put(files)
     print(f"{draw.counted(len(backs), 'student')}: see {shown(str(given.results / FOLDER))}")
     return 1 if missing else 0

@@ -28,14 +28,15 @@ from classroom.grading import graded as graded_answers
 from classroom.grading import grades_files
 from classroom.grading import open as opening
 from classroom.commands import options
+from classroom.commands.book import book_of, tell_notes
 from classroom.process import pool as parallel
-from classroom.marks import gradebook as standing
+from classroom.marks import mark_files
+from classroom.marks.gradebook import Gradebook, check_marks
 from classroom.people import roster as students
 from classroom.base import log as telling
 from classroom.grading import trials as tried
 from classroom.exercise.exercise import Answer, Exercise, Task, digest
 from classroom.base.errors import Fault, Missing, shown
-from classroom.grading.graded import Graded
 from classroom.grading.open import Opened
 from classroom.base.files import write
 from classroom.grading.store import Results, trial_name
@@ -81,6 +82,7 @@ def run(arguments: argparse.Namespace) -> int:
     entries = entries_of(opened)
     trial = tried.wanted(arguments, given, opened.limits.seconds)
     listed = students.read(given.folder / given.settings.students)
+    check_marks(given)
     results = Results(given.results)
     with results.held() as work:
         means = parallel.Means(opened.limits, arguments.jobs, arguments.hosts, sys.stderr.isatty())
@@ -90,13 +92,10 @@ def run(arguments: argparse.Namespace) -> int:
             results.graded_one(of.task, of.answer, given, of.key, trials.get(id(of), ""))
             for of in entries
         ]
-        results.publish(given, graded)
-        write(
-            results.folder / "class.csv",
-            standing.class_csv(given, standing.standings(given, graded, listed)),
-        )
-        publish_page(given, results, graded, listed)
-    return tell(given, graded)
+        book = book_of(given, graded, listed)
+        results.publish(given, graded, mark_files.tables(book))
+        publish_page(results, book)
+    return tell(book)
 
 
 def entries_of(opened: Opened) -> list[Entry]:
@@ -170,24 +169,24 @@ def try_all(
     return {entry: of.key for entry, of in questions.items() if of}
 
 
-def publish_page(
-    given: Exercise, results: Results, graded: Sequence[Graded], listed: students.ClassList
-) -> None:
+def publish_page(results: Results, book: Gradebook) -> None:
     """The page, but where its library is missing."""
     try:
-        write(results.folder / "page.html", classpage.page_of(given, graded, listed))
+        write(results.folder / "page.html", classpage.page_of(book))
     except Missing as missing:
         log.warning("page.html is not written: %s", missing)
 
 
-def tell(given: Exercise, graded: Sequence[Graded]) -> int:
+def tell(book: Gradebook) -> int:
     """Prints what came out, and gives the exit status."""
+    given, graded = book.given, book.graded
     print(grades_files.summary(graded))
     print(f"see {shown(str(given.results / 'grades.csv'))}")
-    left = sum(of.points is None for of in graded)
-    for line in grades_files.by_hand(graded):
+    left = len(book.open)
+    for line in mark_files.by_hand(book):
         print(line)
     sys.stdout.flush()
+    tell_notes(book)
     over = sum(graded_answers.passes_limit(of) for of in graded)
     if over:
         log.warning(
@@ -203,5 +202,5 @@ def tell(given: Exercise, graded: Sequence[Graded]) -> int:
         )
     if left:
         log.warning("%d of %d answers are to be graded by hand", left, len(graded))
-    decided = {of.task.name for of in graded if of.is_tried}
+    decided = {of.task.name for of in graded if of.is_tried or not book.mark(of).is_open}
     return 1 if left or any(task.fault and task.name not in decided for task in given.tasks) else 0

@@ -25,6 +25,7 @@ import sys
 from classroom.views import for_teacher as classpage
 from classroom.exercise import exercise
 from classroom.commands import options
+from classroom.commands.book import book_of, renew
 from classroom.people import roster as students
 from classroom.base.errors import Fault, library, shown
 from classroom.base.files import write
@@ -63,7 +64,9 @@ def run(arguments: argparse.Namespace) -> int:
         made = table.lines(graded, found)
         write(results.folder / "mistakes.csv", table.csv_of(made))
         listed = students.read(given.folder / given.settings.students)
-        write(results.folder / "page.html", classpage.page_of(given, graded, listed, found=found))
+        book = book_of(given, graded, listed, found)
+        renew(results, book)
+        write(results.folder / "page.html", classpage.page_of(book, found=found))
     for line in table.told([one for one in made if one.task in {of.task.label for of in some}]):
         print(line)
     print(f"see {shown(str(results.folder / 'mistakes.csv'))}")

@@ -18,6 +18,7 @@ from pathlib import Path
 from classroom.views import for_teacher as classpage
 from classroom.exercise import exercise
 from classroom.commands import options
+from classroom.commands.book import book_of, renew
 from classroom.people import roster as students
 from classroom.views.for_teacher import Showing
 from classroom.base.files import write
@@ -53,15 +54,12 @@ def run(arguments: argparse.Namespace) -> int:
             askedpage.page_of(given, asked, showing),
         )
         return 0
-    given, graded = Results(given.results).graded(given)
-    # Students know one another by the names of the files at most.
-    listed = (
-        students.read(given.folder / given.settings.students)
-        if showing.solutions
-        else students.ClassList()
-    )
-    write(
-        arguments.output or given.results / "page.html",
-        classpage.page_of(given, graded, listed, showing),
-    )
+    results = Results(given.results)
+    given, graded = results.graded(given)
+    book = book_of(given, graded, students.read(given.folder / given.settings.students))
+    renew(results, book)
+    if not showing.solutions:
+        # Students know one another by the names of the files at most.
+        book = book_of(given, graded, students.ClassList())
+    write(arguments.output or given.results / "page.html", classpage.page_of(book, showing))
     return 0

@@ -88,17 +88,9 @@ class Graded:
         return None
 
     @property
-    def most_points(self) -> float:
-        return self.task.settings.points
-
-    @property
-    def points(self) -> float | None:
-        """None where there is no score."""
-        return (
-            None
-            if self.grade.share is None or self.is_open
-            else self.grade.share * self.most_points
-        )
+    def share(self) -> float | None:
+        """Of the task's points, by the verdict; None where there is no score."""
+        return None if self.is_open else self.grade.share
 
     @property
     def why(self) -> str:

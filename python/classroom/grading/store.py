@@ -18,7 +18,7 @@ import json
 import os
 import re
 import shutil
-from collections.abc import Collection, Iterable, Iterator, Sequence
+from collections.abc import Collection, Iterable, Iterator, Mapping, Sequence
 from contextlib import contextmanager
 from dataclasses import replace
 from pathlib import Path
@@ -138,9 +138,22 @@ class Results:
         except (OSError, ValueError, KeyError, TypeError, AttributeError):
             return None
 
-    def publish(self, given: Exercise, graded: Sequence[Graded]) -> None:
-        """Writes what is made of all records, and removes what was written before and belongs to no
-        answer any more. What else there is in the folder is left alone."""
+    def write_tables(self, tables: Mapping[str, bytes]) -> None:
+        """Writes the tables of the marks, by their names, where they are other than before."""
+        for name, content in tables.items():
+            try:
+                is_same = (self.folder / name).read_bytes() == content
+            except OSError:
+                is_same = False
+            if not is_same:
+                write(self.folder / name, content)
+
+    def publish(
+        self, given: Exercise, graded: Sequence[Graded], tables: Mapping[str, bytes]
+    ) -> None:
+        """Writes what is made of all records and the tables of the marks, and removes what was
+        written before and belongs to no answer any more. What else there is in the folder is left
+        alone."""
         texts = {f"tasks/{of.task.name}/{of.answer.name}.txt": of for of in graded}
         wanted = {
             *texts,
@@ -149,8 +162,7 @@ class Results:
         }
         written = self._written()
         self.will_write(wanted)
-        write(self.folder / "grades.csv", grades_files.grades_csv(graded))
-        write(self.folder / "results.json", grades_files.results_json(graded))
+        self.write_tables(tables)
         write(
             self.folder / "answers.json",
             _json(

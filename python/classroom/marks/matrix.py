@@ -1,21 +1,18 @@
 """The grades of a class as a table, a line a student and a column a task."""
 from __future__ import annotations
 
-from collections.abc import Mapping, Sequence
+from collections.abc import Mapping
 from dataclasses import dataclass
 
-from classroom.marks import gradebook as standing
-from classroom.exercise.exercise import Exercise
-from classroom.grading.graded import Graded
-from classroom.grading.grades_files import number
-from classroom.marks.gradebook import Standing
+from classroom.marks.gradebook import Gradebook, Standing, cell
+from classroom.marks.mark import Mark, shown, total
 
 
 @dataclass(frozen=True)
-class Mark:
-    """The answer of a student to a task, as it is drawn: the points, which lead to the verdict."""
+class Shown:
+    """The mark of a student for a task, as it is drawn: the points, which lead to the verdict."""
 
-    anchor: str  # of the outcome on the page
+    anchor: str  # of the outcome on the page; empty where there is no answer
     grade_number: int  # among the grades of the page, from 1
     kind: str
     words: str
@@ -27,7 +24,7 @@ class Line:
     """A student."""
 
     name: str
-    marks: tuple[Mark | None, ...]  # None where nothing was handed in
+    marks: tuple[Shown | None, ...]  # None where nothing was handed in and no mark was given
     points: str
 
 
@@ -42,36 +39,38 @@ class Matrix:
     right: tuple[int, ...]  # the students with all points, by task
 
 
-def matrix(given: Exercise, found: Sequence[Standing], marks: Mapping[int, Mark]) -> Matrix:
-    """The table; `marks` are those of the answers, by their identities."""
+def matrix(book: Gradebook, drawn: Mapping[tuple[str, str], Shown]) -> Matrix:
+    """The table; `drawn` are the marks of answers, by the names of tasks and answers."""
     lines = tuple(
         Line(
-            of.student.name,
-            tuple(marks[id(answer)] if answer else None for answer in of.answers),
-            points_of(of),
+            one.student.name,
+            tuple(
+                drawn[of.task.name, of.answer.name] if of else without_answer(mark)
+                for of, mark in zip(one.answers, one.marks)
+            ),
+            points_of(one),
         )
-        for of in found
+        for one in book.standings
     )
-    columns = [[of.answers[at] for of in found] for at in range(len(given.tasks))]
-    sums = [sum(of.points or 0 for of in column if of) for column in columns]
-    most = [task.settings.points for task in given.tasks]
+    columns = [[one.marks[at] for one in book.standings] for at in range(len(book.given.tasks))]
+    sums = [total(column) for column in columns]
     return Matrix(
-        tuple(task.label for task in given.tasks),
-        tuple(map(number, [*most, sum(most)])),
+        tuple(task.label for task in book.given.tasks),
+        (*(shown(most) for most in book.most_by_task), shown(book.most)),
         lines,
-        tuple(map(number, [*sums, sum(sums)])),
-        tuple(sum(is_right(of) for of in column) for column in columns),
+        (*map(shown, sums), shown(total(mark for column in columns for mark in column))),
+        tuple(sum(mark is not None and mark.has_all for mark in column) for column in columns),
     )
 
 
-def points_of(of: Standing) -> str:
-    return f"{number(of.points)} + ?" if of.open else number(of.points)
+def without_answer(mark: Mark | None) -> Shown | None:
+    return None if mark is None or mark.is_open else Shown("", 0, "", "", cell(mark))
 
 
-def is_right(of: Graded | None) -> bool:
-    return of is not None and of.points is not None and of.points == of.most_points
+def points_of(one: Standing) -> str:
+    return f"{shown(one.points)} + ?" if one.open else shown(one.points)
 
 
-def shown_points(of: Graded) -> str:
+def shown_points(mark: Mark) -> str:
     """The points, or a question mark where a person grades."""
-    return "?" if of.points is None else standing.cell(of)
+    return "?" if mark.is_open else cell(mark)

@@ -19,9 +19,9 @@ from dataclasses import dataclass
 
 from classroom.base.errors import Fault
 from classroom.views import markdown
-from classroom.views.for_student import Sheet
+from classroom.views.for_student import Part, Sheet
 from classroom.base.csvcells import safe
-from classroom.grading.grades_files import number
+from classroom.marks.mark import ZERO, number, shown
 from classroom.platforms.forms import MOODLE, SUBMITTED
 from classroom.marks.gradebook import Standing
 from classroom.people.roster import Student
@@ -41,7 +41,14 @@ class Back:
     @property
     def comment(self) -> str:
         """All verdicts in one text."""
-        return "; ".join(f"{part.title}: {part.words} ({part.points})" for part in self.sheet.parts)
+        return "; ".join(map(told_of_part, self.sheet.parts))
+
+
+def told_of_part(part: Part) -> str:
+    """As `2: differs (1.5 of 2), late by 1 day: the join is right`."""
+    said = ", ".join(filter(None, (f"{part.title}: {part.words} ({part.points})", part.late)))
+    comment = " ".join(line.strip() for line in part.comment if line.strip())
+    return f"{said}: {comment}" if comment else said
 
 
 @dataclass(frozen=True)
@@ -97,7 +104,8 @@ def gradescope_json(backs: Sequence[Back], assignment: str, visibility: str = "v
             f"gradescope: the autograder grades one student at a time, and here are {len(backs)}"
         )
     tests = []
-    for place, (part, of) in enumerate(zip(backs[0].sheet.parts, backs[0].of.answers), 1):
+    own = backs[0].of
+    for place, (part, of, mark) in enumerate(zip(backs[0].sheet.parts, own.answers, own.marks), 1):
         test: dict[str, object] = {
             "name": f"Task {part.title}",
             "number": str(place),
@@ -105,24 +113,24 @@ def gradescope_json(backs: Sequence[Back], assignment: str, visibility: str = "v
             "output_format": "md",
             "visibility": visibility,
         }
-        if of:
+        if mark and not mark.is_open:
+            test["decided_by"] = mark.by
+        elif of:
             test["decided_by"] = of.decided_by
-        is_open = bool(backs[0].of.unplaced) if of is None else of.points is None
-        if not is_open:
-            score = of.points if of else 0
+        if not mark or mark.points is not None:
             test |= {
-                "score": score,
-                "max_score": part.most,
-                "status": "passed" if of and of.grade.share else "failed",
+                "score": number(mark.points if mark and mark.points is not None else ZERO),
+                "max_score": number(part.most),
+                "status": "passed" if mark and mark.is_right else "failed",
             }
         tests.append(test)
-    content = json.dumps({"score": backs[0].of.points, "tests": tests}, indent=1)
+    content = json.dumps({"score": number(own.points), "tests": tests}, indent=1)
     return Made(f"{content}\n".encode("ascii"), ())
 
 
 def points(back: Back) -> str:
     """Nothing as long as an answer is to be graded by hand."""
-    return "" if back.of.open else number(back.of.points)
+    return "" if back.of.open else shown(back.of.points)
 
 
 def written(rows: Iterable[Sequence[str]]) -> bytes:

@@ -7,6 +7,7 @@ from __future__ import annotations
 
 from collections.abc import Mapping, Sequence
 from dataclasses import dataclass
+from decimal import Decimal
 
 from classroom.views import for_teacher as classpage
 from classroom.marks import gradebook as standing
@@ -14,7 +15,8 @@ from classroom.views.draw import Drawing, counted
 from classroom.base.errors import shown
 from classroom.exercise.exercise import Exercise, Task
 from classroom.grading.graded import Graded
-from classroom.grading.grades_files import number
+from classroom.marks.mark import Mark
+from classroom.marks.mark import shown as shown_points
 from classroom.verdict.decision import Grade, NoteKind
 from classroom.hints import steps_shown as steps
 from classroom.hints.mistake import Mistake
@@ -66,11 +68,13 @@ class Part:
     words: str  # the verdict
     told: str  # what it means
     points: str  # as `1 of 2`, or that it is graded by hand
-    most: float  # the points that it may have
+    most: Decimal  # the points that it may have
     text: str | None
     drawing: Drawing | None
     reference: str | None  # None where it is not shown
     hints: tuple[Hint, ...] = ()
+    late: str = ""  # how late it was, with the deduction
+    comment: tuple[str, ...] = ()  # the lines of what the teacher wrote
 
 
 @dataclass(frozen=True)
@@ -101,15 +105,16 @@ def sheet(
 ) -> Sheet:
     """`mistakes` are those of answers, by the keys of their records."""
     parts = tuple(
-        part(given, task, answer, shows_references, mistakes, of.unplaced)
-        for task, answer in zip(given.tasks, of.answers)
+        part(given, task, answer, mark, shows_references, mistakes, of.unplaced)
+        for task, answer, mark in zip(given.tasks, of.answers, of.marks)
     )
     return Sheet(of.student.id, given.title, of.student.name, points_of(given, of), parts)
 
 
 def points_of(given: Exercise, of: Standing) -> str:
     """As `3 of 5 points, 1 answer still to be graded by hand`."""
-    said = f"{number(of.points)} of {number(standing.most_points(given))} points"
+    most = sum(map(standing.most_points, given.tasks))
+    said = f"{shown_points(of.points)} of {shown_points(Decimal(most))} points"
     return f"{said}, {counted(of.open, 'answer')} still to be graded by hand" if of.open else said
 
 
@@ -117,37 +122,50 @@ def part(
     given: Exercise,
     task: Task,
     of: Graded | None,
+    mark: Mark | None,
     shows_references: bool,
     mistakes: Mapping[str, Mistake] = {},
     unplaced: Sequence[str] = (),
 ) -> Part:
     reference = classpage.text_of(task.reference) if shows_references else None
-    most = number(task.settings.points)
+    points = points_of_part(task, mark)
+    late = mark.late if mark else ""
+    comment = tuple(mark.comment.splitlines()) if mark else ()
     if of is None:
         return Part(
             task.title,
             "none",
             UNPLACED.format(shown(*unplaced)) if unplaced else NOTHING,
             "",
-            standing.BY_HAND if unplaced else f"0 of {most}",
-            task.settings.points,
+            points,
+            standing.most_points(task),
             None,
             None,
             reference,
+            comment=comment,
         )
-    points = standing.BY_HAND if of.points is None else f"{number(of.points)} of {most}"
     return Part(
         task.title,
         classpage.css(of),
         classpage.words(of, False),
         told(of),
         points,
-        task.settings.points,
+        standing.most_points(task),
         classpage.text_of(of.answer.text.whole),
         classpage.drawing_of(of, given.tables),
         reference,
         hints(given, of, mistakes),
+        late,
+        comment,
     )
+
+
+def points_of_part(task: Task, mark: Mark | None) -> str:
+    """As `1.5 of 2`; of what was not handed in `0 of 2`."""
+    if mark and mark.is_open:
+        return standing.BY_HAND
+    most = shown_points(standing.most_points(task))
+    return f"{standing.cell(mark) or '0'} of {most}"
 
 
 def hints(given: Exercise, of: Graded, mistakes: Mapping[str, Mistake]) -> tuple[Hint, ...]:
@@ -189,7 +207,3 @@ def told_of_verdict(of: Graded) -> str:
     if NoteKind.NOT_LOOKED in kinds:
         return NOT_LOOKED
     return FEWER if NoteKind.PERHAPS_FEWER in kinds else TOLD[of.grade]
-
-
-def sheets(given: Exercise, found: Sequence[Standing], shows_references: bool) -> list[Sheet]:
-    return [sheet(given, of, shows_references) for of in found]

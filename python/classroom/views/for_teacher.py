@@ -7,15 +7,14 @@ from dataclasses import dataclass
 from classroom.views import draw
 from classroom.verdict import witness
 from classroom.views.draw import Drawing, counted
-from classroom.exercise.exercise import Exercise
 from classroom.grading import grades_files
 from classroom.grading.graded import Graded
 from classroom.verdict.decision import Grade, NoteKind
 from classroom.hints.mistake import Mistake
-from classroom.marks.matrix import Mark, Matrix, matrix, shown_points
+from classroom.marks.matrix import Matrix, Shown, matrix, shown_points
 from classroom.sql.schema import Table
-from classroom.marks.gradebook import standings
-from classroom.people.roster import ClassList
+from classroom.marks.gradebook import Gradebook, outcome_name
+from classroom.marks.mark import Mark
 from classroom.views import draw_tried as drawing
 from classroom.verdict import sentences as trial_words
 from classroom.verdict.compare import DUPLICATES
@@ -52,6 +51,7 @@ class Group:
     mistake: str = ""  # which one it is; empty where it is not known or not shown
     place: str = ""  # of it in these answers
     repairs: tuple[Text, ...] = ()  # the first answer as it would be right
+    outcome: str = ""  # as class/marks.csv names it; empty where it is not shown
 
 
 @dataclass(frozen=True)
@@ -80,31 +80,22 @@ class Showing:
 
 
 def page_of(
-    given: Exercise,
-    graded: Sequence[Graded],
-    listed: ClassList = ClassList(),
+    book: Gradebook,
     showing: Showing = Showing(),
     found: Mapping[str, Mistake] = {},
 ) -> bytes:
     """The page as HTML. `found` are the mistakes of answers, by the keys of their records."""
     template = draw.environment().get_template("page.html")
-    return template.render(page=page(given, graded, listed, showing, found)).encode(
-        "utf-8", "replace"
-    )
+    return template.render(page=page(book, showing, found)).encode("utf-8", "replace")
 
 
-def page(
-    given: Exercise,
-    graded: Sequence[Graded],
-    listed: ClassList,
-    showing: Showing,
-    mistakes: Mapping[str, Mistake],
-) -> Page:
+def page(book: Gradebook, showing: Showing, mistakes: Mapping[str, Mistake]) -> Page:
+    given, graded = book.given, book.graded
     # A mistake is said in words of the reference.
     mistakes = mistakes if showing.solutions else {}
     present = [grade for grade in Grade if any(of.grade == grade for of in graded)]
     parts: list[TaskPart] = []
-    marks: dict[int, Mark] = {}
+    drawn: dict[tuple[str, str], Shown] = {}
     for number, task in enumerate(given.tasks, 1):
         own = [of for of in graded if of.task.name == task.name]
         found = grouped(own, mistakes)
@@ -123,15 +114,18 @@ def page(
                 tuple(groups),
             )
         )
-        marks |= {id(of): mark(of, anchors[id(of)]) for of in own}
-    whole = matrix(given, standings(given, graded, listed), marks) if showing.names else None
+        drawn |= {
+            (of.task.name, of.answer.name): drawn_mark(of, book.mark(of), anchors[id(of)])
+            for of in own
+        }
+    whole = matrix(book, drawn) if showing.names else None
     return Page(
         given.title, grades_files.summary(graded), tuple(map(str, present)), tuple(parts), whole
     )
 
 
-def mark(of: Graded, group: Group) -> Mark:
-    return Mark(group.anchor, group.grade_number, group.kind, group.words, shown_points(of))
+def drawn_mark(of: Graded, mark: Mark, group: Group) -> Shown:
+    return Shown(group.anchor, group.grade_number, group.kind, group.words, shown_points(mark))
 
 
 def grouped(graded: Sequence[Graded], mistakes: Mapping[str, Mistake]) -> list[list[Graded]]:
@@ -191,6 +185,7 @@ def group(
         tuple(
             Text(f"With {one.mistake}", one.text) for one in (mistake.repairs if mistake else ())
         ),
+        outcome_name(first) if showing.solutions else "",
     )
 
 

@@ -27,6 +27,9 @@ def part_of(part: Part) -> str:
         f"\n## Task {plain(part.title)}\n",
         f"**{plain(part.words)}** ({plain(part.points)})\n",
     ]
+    if part.late:
+        lines.append(f"{plain(part.late)}\n")
+    lines += [f"> {plain(line)}\n" for line in part.comment if line.strip()]
     if part.told:
         lines.append(f"{plain(part.told)}\n")
     if part.text is not None:

@@ -41,6 +41,8 @@ def lines(exercise: Path) -> dict[tuple[str, str], list[str]]:
         "rows",
         "seconds",
         "fault",
+        "text",
+        "outcome",
     ]
     assert len({(line[0], line[1]) for line in found[1:]}) == len(found) - 1
     for line in found[1:]:

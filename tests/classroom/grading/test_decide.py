@@ -64,7 +64,7 @@ def decided(
 
 def points(made: Decision) -> str:
     """As the table has them."""
-    share = Graded(TASK, ANSWER, made).points
+    share = Graded(TASK, ANSWER, made).share
     words: dict[float | None, str] = {None: "by hand", 0: "0", 1: "all"}
     return words[share]
 

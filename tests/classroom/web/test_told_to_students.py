@@ -76,7 +76,7 @@ def test_why_a_database_refuses_the_reference_is_for_the_teacher(
     outcome: Outcome, proof: witness.Outcome, grade: Grade
 ) -> None:
     of = tried(Verdict(ENGINE, outcome), proof=proof)
-    assert (of.grade, of.points) == (grade, None)
+    assert (of.grade, of.share) == (grade, None)
     assert SECRET not in classpage.words(of, False)
     assert all(
         SECRET in text
@@ -116,7 +116,7 @@ def test_how_the_reference_fails_is_for_the_teacher() -> None:
             shown.told,
             classpage.words(of, False),
             classpage.told(of),
-            grades_files.results_json([of]).decode(),
+            grades_files.output(of),
         )
     )
 
