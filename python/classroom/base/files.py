@@ -131,6 +131,14 @@ def write(path: Path, content: bytes) -> None:
         raise Fault(f"{shown(str(path))} could not be written: {fault.strerror}") from None
 
 
+def fill(path: Path, content: bytes) -> None:
+    """Writes a file that nobody else reads meanwhile; a Fault names it where that can't be."""
+    try:
+        path.write_bytes(content)
+    except OSError as fault:
+        raise Fault(f"{shown(str(path))} could not be written: {fault.strerror}") from None
+
+
 class Written:
     """A folder with a list of what was written into it."""
 

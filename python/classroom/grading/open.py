@@ -17,6 +17,7 @@ from classroom.engines import ratest as program
 from classroom.verdict import witness
 from classroom.exercise.exercise import Exercise, Task
 from classroom.base.errors import Fault, shown
+from classroom.base.files import fill
 from classroom.process.limits import Limits, Ran
 from classroom.grading.trials import has_full
 from ratest import printed
@@ -99,11 +100,11 @@ def asked(
     with tempfile.TemporaryDirectory(prefix="classroom-") as name:
         work = Path(name)
         for file, text in given.files.items():
-            (work / file).write_bytes(text)
+            fill(work / file, text)
         tasks = []
         for task in given.tasks:
             # Not the name of a table's file.
-            (work / "reference").write_bytes(task.reference)
+            fill(work / "reference", task.reference)
             ran = program.run(
                 ratest, ["schema.sql", ".", "reference", "reference", *options], limits, work
             )

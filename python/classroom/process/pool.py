@@ -18,6 +18,7 @@ from queue import SimpleQueue
 from classroom.process import hosts
 from classroom.process import limits as limited
 from classroom.base import log as tell
+from classroom.base.files import fill
 from classroom.process.jobs import Job, Means
 from classroom.process.limits import Ran
 
@@ -103,7 +104,7 @@ def here(
             folder = folders.get()
             try:
                 for file in job.files:
-                    (folder / file).write_bytes(files[file])
+                    fill(folder / file, files[file])
                 ran = limited.run(
                     [os.fspath(programs[job.program]), *job.words],
                     means.limits,
@@ -140,6 +141,6 @@ def folder_of(above: Path, number: int, shared: Mapping[str, bytes]) -> Path:
         if number:
             os.link(above / "0" / name, folder / name)
         else:
-            (folder / name).write_bytes(text)
+            fill(folder / name, text)
             (folder / name).chmod(0o444)
     return folder
