@@ -187,6 +187,8 @@ def tell(book: Gradebook) -> int:
         print(line)
     sys.stdout.flush()
     tell_notes(book)
+    for line in grades_files.doubts(graded):
+        log.warning("%s", line)
     over = sum(graded_answers.passes_limit(of) for of in graded)
     if over:
         log.warning(

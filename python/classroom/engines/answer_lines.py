@@ -2,12 +2,14 @@
 from __future__ import annotations
 
 from collections import Counter
-from collections.abc import Collection
+from collections.abc import Collection, Sequence
 
 from classroom.exercise.cells import Cell, Cells
 from classroom.verdict import verdict
 from classroom.verdict.compare import Answer, plain, rounded, with_floats
-from classroom.verdict.verdict import Side
+from classroom.exercise.rows import picked
+from classroom.exercise.part_masks import Mask, Parts, bits
+from classroom.verdict.verdict import Side, WitnessRow
 
 
 def lines(reference: Answer, answer: Answer) -> tuple[verdict.Line, ...]:
@@ -21,6 +23,22 @@ def lines(reference: Answer, answer: Answer) -> tuple[verdict.Line, ...]:
         for key, line in zip(known, of.lines):
             shown.setdefault(key, cells(line))
     return tuple(verdict.Line(line, bags[0][key], bags[1][key]) for key, line in shown.items())
+
+
+def kept_rows(
+    part: Mask, parts: Parts, columns: Sequence[Sequence[int]] | None = None
+) -> tuple[WitnessRow, ...]:
+    """The rows of a part with their numbers in the files; of each table the columns with these
+    places, else all."""
+    made = []
+    for at in bits(part):
+        row = parts.rows[at]
+        held = parts.pool.held[row.table]
+        cells = held.rows[row.number]
+        if columns is not None:
+            cells = picked(cells, tuple(columns[row.table]))
+        made.append(WitnessRow(held.table.name, row.number + 1, cells))
+    return tuple(made)
 
 
 def side(answer: Answer) -> Side:

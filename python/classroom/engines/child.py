@@ -86,7 +86,7 @@ def tried(material: Material, question: dict[str, Any], parts: Parts | None = No
             )
             search = Search(engine, parts, material, engine.queries, wanted)
             outcome = search.outcome()
-            return Verdict(label, outcome, search.remarks())
+            return Verdict(label, outcome, search.remarks(), search.doubts())
         except Stopped as stopped:
             return Verdict(stopped.engine or label, refusal_of(stopped, question, material))
     finally:

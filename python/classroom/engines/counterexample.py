@@ -7,11 +7,11 @@ from collections.abc import Callable, Iterator
 from classroom.engines import join_tuples as joins
 from classroom.engines.join_conditions import Schema
 from classroom.verdict import verdict
-from classroom.verdict.compare import DUPLICATES, ORDER, difference, rounded
-from classroom.engines.answer_lines import lines, side
-from classroom.engines.engine import ANSWER, REFERENCE, Engine
+from classroom.verdict.compare import DUPLICATES, ORDER, Answer, difference, rounded
+from classroom.engines.answer_lines import kept_rows, lines, side
+from classroom.engines.doubts import doubts_of
+from classroom.engines.engine import ANSWER, REFERENCE, Engine, Refused
 from classroom.engines.looks import Looks, Wanted
-from classroom.exercise.rows import picked
 from classroom.exercise.shown_columns import hidden_of, statement_without
 from classroom.engines.row_orders import RowOrders
 from classroom.exercise.typed_rows import Material
@@ -21,8 +21,9 @@ from classroom.verdict.verdict import (
     EACH,
     JOINS,
     NOTHING,
+    Cause,
     Differs,
-    WitnessRow,
+    Doubt,
     NoDifference,
     NotDetermined,
     Remark,
@@ -91,10 +92,14 @@ class Search:
     def look(self, part: Mask, is_thorough: bool = False) -> str:
         self.looks.tried += 1
         ahead = self.engine.answers(part)
+        if self.is_failing(part, ahead):
+            return ""
         found = self.orders.difference(part, ahead)
         if not found and not self.is_ordered and not is_thorough:
             return ""
         back = self.engine.answers(part, backwards=True)
+        if self.is_failing(part, back):
+            return ""
         again = self.orders.difference(part, back)
         stable = [
             not difference(one, other, False)
@@ -103,6 +108,8 @@ class Search:
         ]
         for which in (REFERENCE, ANSWER):
             self.looks.undetermined[which] |= not stable[which]
+        if not stable[REFERENCE]:
+            self.looks.see_tie(part)
         if not all(stable):
             return ""
         if ORDER in (found, again):
@@ -113,6 +120,12 @@ class Search:
         if kind not in self.counts and (kind in (DUPLICATES, ORDER) or kind and self.wanted.agrees):
             self.looks.slight.setdefault(kind, part)
         return kind
+
+    def is_failing(self, part: Mask, both: tuple[Answer, Answer]) -> bool:
+        """Whether the reference fails on a part, which then tells nothing."""
+        if both[REFERENCE].failure:
+            self.looks.see_failure(part)
+        return bool(both[REFERENCE].failure)
 
     def is_tied(self, which: int, part: Mask, is_wanted: bool) -> bool:
         """Whether the answer depends on how ties are broken. Of parts without a difference only a
@@ -188,6 +201,9 @@ class Search:
     def none(self, found: NoDifference) -> verdict.Outcome:
         if any(self.looks.undetermined):
             return NotDetermined(*self.looks.undetermined)
+        failure = self.engine.answers(self.whole)[REFERENCE].failure
+        if failure:
+            raise Refused(REFERENCE, failure, cause=Cause.UNSUPPORTED)
         return found
 
     def few_lawful(self) -> list[Mask] | None:
@@ -341,11 +357,7 @@ class Search:
             [at for at, column in enumerate(held.table.columns) if column.name not in hidden[table]]
             for table, held in enumerate(held_of)
         ]
-        kept = []
-        for at in bits(part):
-            row = self.parts.rows[at]
-            cells = picked(held_of[row.table].rows[row.number], columns[row.table])
-            kept.append(WitnessRow(held_of[row.table].table.name, row.number + 1, cells))
+        kept = kept_rows(part, self.parts, columns)
         used = self.tables | {self.parts.table(at) for at in bits(part)}
         tables = tuple(
             Shown(
@@ -358,7 +370,7 @@ class Search:
         )
         return Differs(
             kind,
-            tuple(kept),
+            kept,
             side(ahead[REFERENCE]),
             side(ahead[ANSWER]),
             lines(*ahead),
@@ -367,6 +379,11 @@ class Search:
             tables,
             is_left_open,
         )
+
+    def doubts(self) -> tuple[Doubt, ...]:
+        """What was seen of the reference alone."""
+        text = self.queries[REFERENCE]
+        return doubts_of(self.looks, self.engine, self.parts, text, self.dialect)
 
     def remarks(self) -> tuple[Remark, ...]:
         """What differs in duplicates or order alone, each with a part as small as one shrinking

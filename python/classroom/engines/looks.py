@@ -38,5 +38,18 @@ class Looks:
     tried: int = 0
     undetermined: list[bool] = field(default_factory=lambda: [False, False])
     tied: list[int] = field(default_factory=lambda: [0, 0])  # parts asked for ties alone
+    # The smallest part on which the reference isn't determined, and on which it fails.
+    tie: Mask | None = None
+    failing: Mask | None = None
     # A first part for each kind that counts for nothing.
     slight: dict[str, Mask] = field(default_factory=dict)
+
+    def see_tie(self, part: Mask) -> None:
+        self.tie = smaller(self.tie, part)
+
+    def see_failure(self, part: Mask) -> None:
+        self.failing = smaller(self.failing, part)
+
+
+def smaller(one: Mask | None, other: Mask) -> Mask:
+    return other if one is None or other.bit_count() < one.bit_count() else one

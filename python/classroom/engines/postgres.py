@@ -17,7 +17,7 @@ from classroom.sql.schema import quoted
 from classroom.engines import left_schemas, tie_keys
 from classroom.engines.asker_rights import LOADER_RIGHTS, RIGHTS
 from classroom.engines.own_words import own_words
-from classroom.engines.postgres_refusals import cause_of, look
+from classroom.engines.postgres_refusals import cause_of, is_of_rows, look
 from classroom.verdict.compare import Answer
 from classroom.verdict.verdict import Cause
 from classroom.engines.engine import (
@@ -199,6 +199,7 @@ class Postgres(Server):
                 for table in range(len(self.names))
             ]
             self.part, self.backwards, self.loads = 0, False, 0
+            self.state = ""  # the SQLSTATE of the last query that failed
             for which in (REFERENCE, ANSWER):
                 self.prepare(which)
             self.ways = [self.prepared_ways(which) for which in (REFERENCE, ANSWER)]
@@ -220,10 +221,9 @@ class Postgres(Server):
             told = self.stopped(which, fault)
             cause = cause_of(fault.sqlstate or "")
             raise told or Refused(which, self.words(which, fault), place, cause) from None
-        answer = self.ask(
-            which
-        )  # over no rows; of the reference first, so that its text stands nowhere any more
-        if answer.failure:
+        # Over no rows; of the reference first, so that its text stands nowhere any more.
+        answer = self.ask(which)
+        if answer.failure and not is_of_rows(self.state):
             raise Refused(which, answer.failure, cause=Cause.UNSUPPORTED)
 
     def stopped(self, which: int, fault: Any) -> Stopped | None:
@@ -266,6 +266,7 @@ class Postgres(Server):
             told = self.stopped(which, fault)
             if told:
                 raise told from None
+            self.state = str(fault.sqlstate)
             return Answer(0, (), self.words(which, fault))
         except MemoryError:
             raise TooMuch(which, "memory") from None
@@ -277,7 +278,7 @@ class Postgres(Server):
         """Prepares the query with its ties broken; the number of ways."""
         ways = 0
         try:
-            for text in tie_keys.untied_texts(self.queries[which], self.material, "postgres"):
+            for text in tie_keys.untied_texts(self.queries[which], self.parts.pool, "postgres"):
                 self.askers[which].execute(f"PREPARE way_{ways} AS {text}")
                 ways += 1
         except self.psycopg.Error:

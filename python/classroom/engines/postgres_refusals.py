@@ -17,6 +17,11 @@ def cause_of(state: str) -> Cause:
     return Cause.SYNTAX if state[:2] in ("22", "42") else Cause.UNSUPPORTED
 
 
+def is_of_rows(state: str) -> bool:
+    """Whether a query fails by its data or by how many rows a subquery has, and not by its text."""
+    return state[:2] in ("21", "22")
+
+
 def look(which: int, text: str) -> None:
     """Refuses a text that is no query before the server gets it."""
     if len(text.encode("utf-8", "replace")) > MOST_TEXT:

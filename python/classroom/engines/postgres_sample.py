@@ -6,6 +6,7 @@ import time
 from typing import Any
 
 from classroom.exercise.rows import Pool, Row
+from classroom.engines import tie_keys
 from classroom.engines.sample import MOST_ROWS, Listed
 from classroom.verdict.compare import rounded
 from classroom.engines.engine import ANSWER, Stopped
@@ -62,6 +63,9 @@ class Database:
 
     def written(self, query: str) -> str:
         return query
+
+    def untied(self, query: str) -> list[str]:
+        return list(tie_keys.untied_texts(query, self.pool, "postgres"))
 
     def load(self, part: frozenset[Row], backwards: bool = False) -> None:
         if self.tables.held == (self, part, backwards):

@@ -11,6 +11,7 @@ from collections import Counter
 from collections.abc import Callable, Hashable, Iterator, Sequence
 from typing import Any, Optional, Protocol
 
+from classroom.engines import tie_keys
 from classroom.engines.only_reads import MOST_TEXT, barred, bound, in_memory
 from classroom.exercise.rows import Cell, Pool, Row, picked
 from classroom.exercise.rules import rules_of
@@ -45,6 +46,9 @@ class Holds(Protocol):
     def written(self, query: str) -> str:
         """The query as this database reads it."""
 
+    def untied(self, query: str) -> list[str]:
+        """The query with its ties broken in several ways; none where no order chooses rows."""
+
     def load(self, part: frozenset[Row], backwards: bool = False) -> None:
         """Makes these the rows, stored in their order or the other way round."""
 
@@ -77,11 +81,33 @@ class Base:
         self.rejected = [0] * len(self.parts)
 
     def answers(self, query: str) -> list[Answer]:
-        """Over each part; None too where the order that counts depends on how the rows are
-        stored."""
+        """Over each part; None too where ties leave open what the query returns, or the order that
+        counts depends on how the rows are stored."""
         text = self.database.written(query)
-        found = [self.answer(at, text) for at in range(len(self.parts))]
+        ways = self.database.untied(query)
+        found = [
+            None if ways and self.is_tied(at, ways) else self.answer(at, text)
+            for at in range(len(self.parts))
+        ]
         return [None if self.kind == ORDER and of and of[1][0] != of[1][1] else of for of in found]
+
+    def has_ties(self, query: str) -> bool:
+        """Whether ties leave open what a query returns over all rows."""
+        return self.is_tied(len(self.parts) - 1, self.database.untied(query))
+
+    def is_tied(self, at: int, ways: Sequence[str]) -> bool:
+        """Whether the ways of breaking ties give two answers on a part."""
+        self.database.load(self.parts[at])
+        first: Hashable = None
+        for text in ways:
+            found = self.database.answer(text)
+            if found is None:
+                return False
+            rows = counting(found[1], DUPLICATES)
+            if first not in (None, rows):
+                return True
+            first = rows
+        return False
 
     def answer(self, at: int, text: str) -> Answer:
         """Over one part, of a text as the database reads it."""
@@ -158,6 +184,7 @@ class Database:
             marks = ", ".join("?" * len(held.table.columns))
             self.puts.append(f"INSERT INTO {quoted(held.table.name)} VALUES ({marks})")
         bound(self.connection)
+        tie_keys.add_function(self.connection)
         self.connection.set_authorizer(self.may)
         self.connection.set_progress_handler(self.step, STEPS)
 
@@ -175,6 +202,9 @@ class Database:
 
     def written(self, query: str) -> str:
         return for_sqlite(query)
+
+    def untied(self, query: str) -> list[str]:
+        return list(tie_keys.untied_texts(self.written(query), self.pool, "sqlite"))
 
     def load(self, part: frozenset[Row], backwards: bool = False) -> None:
         if part == self.part and backwards == self.backwards:

@@ -208,7 +208,7 @@ class Sqlite:
         self.check_both()
         self.label = sqlite_words.label(sqlite3.sqlite_version, self.rewritten)
         tie_keys.add_function(self.stored[0].db)
-        self.ways = [list(tie_keys.untied_texts(text, material, "sqlite")) for text in self.queries]
+        self.ways = [[*tie_keys.untied_texts(text, parts.pool, "sqlite")] for text in self.queries]
         self.ranked = [ranks.ranked(text, "sqlite") for text in self.queries]
 
     def check_both(self) -> None:
@@ -270,7 +270,10 @@ class Sqlite:
         first = self.stored[0]
         answer = first.ask(which, text)
         if answer.failure:
-            raise stopped_by(which, answer.failure, text)
+            stopped = stopped_by(which, answer.failure, text)
+            # What SQLite reads, and then fails at, is an answer of those rows.
+            if isinstance(stopped, TooMuch) or first.ask(which, f"EXPLAIN {text}").failure:
+                raise stopped
         names = {
             name
             for held in self.material.pool.held

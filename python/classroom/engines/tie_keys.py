@@ -6,7 +6,7 @@ import hashlib
 import sqlite3
 from collections.abc import Iterator, Sequence
 
-from classroom.exercise.typed_rows import Material
+from classroom.exercise.rows import Pool
 from classroom.sql.ties import KeyOf, untied
 
 FUNCTION = "ratest_tie"
@@ -33,11 +33,11 @@ def key_of(dialect: str, seed: int) -> KeyOf:
     return written
 
 
-def untied_texts(query: str, material: Material, dialect: str, seeds: int = SEEDS) -> Iterator[str]:
+def untied_texts(query: str, pool: Pool, dialect: str, seeds: int = SEEDS) -> Iterator[str]:
     """The query with the keys of each seed; nothing where no order of it chooses rows."""
     columns = {
         held.table.name.lower(): [column.name for column in held.table.columns]
-        for held in material.pool.held
+        for held in pool.held
     }
     if str(ANY_SEED) in query:
         return

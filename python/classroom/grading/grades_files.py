@@ -1,11 +1,13 @@
 """What is told of each answer: the text of its verdict, and how many have which."""
 from __future__ import annotations
 
-from collections.abc import Sequence
+from collections.abc import Iterator, Sequence
 
+from classroom.base.errors import shown
 from classroom.grading.graded import Graded
 from classroom.verdict import sentences
 from classroom.verdict.decision import Grade
+from classroom.verdict.verdict import Doubt
 from ratest.draw import counted
 
 
@@ -31,3 +33,15 @@ def summary(graded: Sequence[Graded]) -> str:
     counts = [(grade, sum(of.grade == grade for of in graded)) for grade in Grade]
     told = [grade.of_many(count) for grade, count in counts if count]
     return f"{counted(len(graded), 'answer')}: {', '.join(told)}" if told else "no answers"
+
+
+def doubts(graded: Sequence[Graded]) -> Iterator[str]:
+    """What the trials showed of references alone, each once a task with the fewest rows."""
+    least: dict[tuple[str, bool], Doubt] = {}
+    for of in graded:
+        for doubt in of.trial.doubts if of.trial else ():
+            key = of.task.label, bool(doubt.failure)
+            if key not in least or len(doubt.rows) < len(least[key].rows):
+                least[key] = doubt
+    for (task, _), doubt in least.items():
+        yield f"task {shown(task)}: reference.sql {shown(sentences.doubt(doubt))}"

@@ -36,7 +36,7 @@ from classroom.exercise.typed_rows import POSTGRESQL, SQLITE, Material, product_
 from classroom.sql.tokens import tokens
 from classroom.verdict.verdict import Cause, Refusal, Verdict
 
-FORMAT = b"trial 3"
+FORMAT = b"trial 4"
 # For one answer, if `--time` isn't less; `ratest` was asked before.
 SECONDS = 10.0
 LEAST_SECONDS = 0.5

@@ -111,6 +111,8 @@ class Search:
         self.reference = reference
         self.words = Words(ground.schema, reference)
         self.wanted = self.base.answers(reference)
+        if is_tried and self.base.has_ties(reference):
+            raise Fault("the reference has ties: SQL leaves open what it returns over these rows")
         if is_tried and not any(self.wanted):
             raise Fault(f"{ground.engine} does not answer the reference over these rows")
         self.known: dict[tuple[int, str], list[Answer]] = {}  # what guards answer to the reference

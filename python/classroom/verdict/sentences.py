@@ -11,6 +11,7 @@ from classroom.verdict.verdict import (
     JOINS,
     Cause,
     Differs,
+    Doubt,
     NoDifference,
     NotDetermined,
     Refusal,
@@ -21,6 +22,7 @@ from classroom.verdict.verdict import (
 
 DIFFERS, NO_DIFFERENCE, NOT_DETERMINED = "differs", "no difference found", "not determined"
 TRIED = "A database found this by trying ({engine}); it is not proved."
+MOST_ROWS = 6  # that are named of a doubt
 MOST_SHOWN = 100  # rows of an answer in a text
 KINDS = {
     COLUMNS: "other columns",
@@ -91,6 +93,17 @@ def remark(of: Remark, tells_rows: bool = True) -> str:
         f"returns {row(of.line.cells)} {times(of.line.answer)} where the reference returns it "
         f"{times(of.line.reference)}"
     )
+
+
+def doubt(of: Doubt) -> str:
+    """What a teacher is told of a reference, in words behind its name."""
+    named = ", ".join(f"{row.table} {row.number}" for row in of.rows[:MOST_ROWS])
+    more = " and others" if len(of.rows) > MOST_ROWS else ""
+    on = f"the rows {named}{more}" if named else "no rows"
+    if of.failure:
+        return f"fails on {on}: {of.failure}; such rows tell nothing of an answer"
+    advice = f"; with {of.keys} as last keys of its ORDER BY it is determined" if of.keys else ""
+    return f"has ties, for example on {on}; such rows tell nothing of an answer{advice}"
 
 
 def row(cells: Cells) -> str:

@@ -133,12 +133,23 @@ class Remark:
 
 
 @dataclass(frozen=True)
+class Doubt:
+    """Rows on which the reference tells nothing: ties leave open what it returns there, or it
+    fails."""
+
+    rows: tuple[WitnessRow, ...]
+    failure: str = ""  # as a division by zero; empty of ties
+    keys: str = ""  # of ties: what its ORDER BY lacks, where that is known
+
+
+@dataclass(frozen=True)
 class Verdict:
     """An outcome with the engine that it comes from."""
 
     engine: str  # as `sqlite 3.40.1`
     outcome: Outcome
     remarks: tuple[Remark, ...] = field(default=())
+    doubts: tuple[Doubt, ...] = field(default=())  # for the teacher
 
 
 def to_json(verdict: Verdict) -> dict[str, Any]:
@@ -147,11 +158,18 @@ def to_json(verdict: Verdict) -> dict[str, Any]:
         "kind": type(verdict.outcome).__name__,
         "outcome": encoded(verdict.outcome),
         "remarks": [encoded(of) for of in verdict.remarks],
+        "doubts": [encoded(of) for of in verdict.doubts],
     }
 
 
 def line(value: Sequence[Any]) -> Line:
     return Line(cells(value[0]), int(value[1]), int(value[2]))
+
+
+def rows(value: Sequence[Any]) -> tuple[WitnessRow, ...]:
+    return tuple(
+        WitnessRow(str(table), int(number), cells(values)) for table, number, values in value
+    )
 
 
 def side(value: dict[str, Any]) -> Side:
@@ -165,10 +183,7 @@ def from_json(text: dict[str, Any]) -> Verdict:
     if kind == "Differs":
         outcome = Differs(
             str(of["difference"]),
-            tuple(
-                WitnessRow(str(table), int(number), cells(values))
-                for table, number, values in of["kept"]
-            ),
+            rows(of["kept"]),
             side(of["reference"]),
             side(of["answer"]),
             tuple(map(line, of["lines"])),
@@ -195,5 +210,9 @@ def from_json(text: dict[str, Any]) -> Verdict:
                 bool(one["is_left_open"]),
             )
             for one in text["remarks"]
+        ),
+        tuple(
+            Doubt(rows(one["rows"]), str(one["failure"]), str(one["keys"]))
+            for one in text["doubts"]
         ),
     )

@@ -49,7 +49,7 @@ def answer(material, question):
         time.sleep(3600)
     while what == "after" and not Path(place).exists():
         time.sleep(0.05)
-    return json.dumps(dict(engine="sqlite", kind="NotDetermined", outcome=dict(reference=True, answer=True), remarks=[])).encode()
+    return json.dumps(dict(engine="sqlite", kind="NotDetermined", outcome=dict(reference=True, answer=True), remarks=[], doubts=[])).encode()
 
 forking.serve(str, answer)
 """
