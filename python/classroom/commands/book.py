@@ -21,11 +21,12 @@ def book_of(
     graded: Sequence[Graded],
     listed: ClassList,
     mistakes: Mapping[str, Mistake] | None = None,
+    is_by_files: bool = False,
 ) -> Gradebook:
     """The marks by what is kept, by exercise.toml and by class/marks.csv as they are now."""
     found = Mistakes(given).of(graded) if mistakes is None else mistakes
     names = {record: one.name for record, one in found.items() if one.name}
-    return gradebook(given, graded, listed, names)
+    return gradebook(given, graded, listed, names, is_by_files)
 
 
 def renew(results: Results, book: Gradebook) -> None:

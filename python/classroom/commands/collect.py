@@ -218,10 +218,10 @@ def placed_so(
 def of_page(
     path: Path, given: exercise.Exercise, listed: students.ClassList
 ) -> tuple[list[placing.Placed], list[placing.NotPlaced]]:
-    """What was handed in at the page in time."""
+    """What was handed in at the page as long as answers were taken."""
     tasks = {task.label for task in given.tasks}
     answers, rest = [], []
-    for one in handedin.last_before(path, given.settings.closes):
+    for one in handedin.last_before(path, given.settings.last_moment):
         label = f"{one.login}, task {one.task}, {one.time.isoformat(' ')}"
         student = listed.known("id", one.login)
         name = student.id if student else one.login
@@ -235,7 +235,7 @@ def of_page(
                     one.task,
                     name,
                     member.content,
-                    Handed(member, "id", name, name, label),
+                    Handed(member, "id", name, name, label, time=one.time.isoformat()),
                     student is not None,
                 )
             )

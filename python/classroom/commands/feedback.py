@@ -131,7 +131,7 @@ def stem(name: str) -> str:
 
 
 def check_closed(given: Exercise) -> None:
-    closes = given.settings.closes
+    closes = given.settings.last_moment
     if closes and datetime.now(timezone.utc) < closes:
         raise Fault(
             f"the exercise closes at {closes.isoformat(' ')}: --reference is for afterwards"

@@ -56,10 +56,11 @@ def run(arguments: argparse.Namespace) -> int:
         return 0
     results = Results(given.results)
     given, graded = results.graded(given)
-    book = book_of(given, graded, students.read(given.folder / given.settings.students))
+    listed = students.read(given.folder / given.settings.students)
+    book = book_of(given, graded, listed)
     renew(results, book)
     if not showing.solutions:
         # Students know one another by the names of the files at most.
-        book = book_of(given, graded, students.ClassList())
+        book = book_of(given, graded, listed, is_by_files=True)
     write(arguments.output or given.results / "page.html", classpage.page_of(book, showing))
     return 0

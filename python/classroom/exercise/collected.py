@@ -2,6 +2,8 @@
 
     task,answer,source,member,late,sha256,state,why
 
+`late` has the moment of the hand-in where it is known, and `late` where a platform tells no more.
+
 A line has the state `placed`, with the task and the answer that the file became, or `unplaced`, with
 the student's id in the column `answer` where it is known, and why; a file without a query is `empty`,
 one in whose place a later one of the student counts `older`, and one with the bytes of that `same`. A list of an earlier version has
@@ -15,6 +17,7 @@ import io
 import os
 from collections.abc import Iterable, Mapping
 from dataclasses import astuple, dataclass
+from datetime import datetime
 from pathlib import Path
 from typing import NamedTuple
 
@@ -26,6 +29,7 @@ from classroom.people.identity import key
 LIST = Path("class/collected.csv")
 COLUMNS = ("task", "answer", "source", "member", "late", "sha256", "state", "why")
 OLD = COLUMNS[:6]
+LATE = "late"  # not known by how much
 PLACED, UNPLACED, EMPTY, OLDER, SAME = "placed", "unplaced", "empty", "older", "same"
 # More than any list has.
 MOST_BYTES = 100_000_000
@@ -39,7 +43,7 @@ class Collected:
     answer: str
     source: str
     member: str
-    late: str = ""
+    late: str = ""  # a moment with its zone, or LATE
     sha256: str = ""
     state: str = PLACED
     why: str = ""
@@ -64,7 +68,21 @@ def read_collected(folder: Path) -> dict[tuple[str, str], Collected]:
     if head not in (COLUMNS, OLD) or any(len(line) != len(head) for line in lines):
         raise Fault(f"{shown(os.fspath(path))} is no list of what was collected")
     read = [Collected(*map(restored, line)) for line in lines[1:]]
+    for number, one in enumerate(read, 2):
+        if not is_time(one.late):
+            raise Fault(
+                f"{shown(os.fspath(path))}: entry {number}: {shown(one.late)} in the column late is"
+                " no moment with its zone"
+            )
     return {one.of: one for one in read}
+
+
+def is_time(cell: str) -> bool:
+    """Whether it is nothing, LATE, or a moment with its zone."""
+    try:
+        return cell in ("", LATE) or datetime.fromisoformat(cell).tzinfo is not None
+    except ValueError:
+        return False
 
 
 def write_collected(folder: Path, lines: Iterable[Collected]) -> None:

@@ -27,6 +27,15 @@ class TaskSettings:
 
 
 @dataclass(frozen=True)
+class LateRule:
+    """What becomes of answers after `closes`."""
+
+    grace: float = 0  # minutes that cost nothing
+    minus: float = 0  # the part of a task's points that each day begun costs
+    until: datetime | None = None  # after it nothing counts
+
+
+@dataclass(frozen=True)
 class Settings:
     """The keys of an exercise; None where one is not said and has no value of its own."""
 
@@ -45,8 +54,14 @@ class Settings:
     opens: datetime | None = None
     closes: datetime | None = None
     after_close: str = "nothing"
+    late: LateRule | None = None
     task: Mapping[str, TaskSettings] = field(default_factory=dict)  # by the names of tasks
     said: frozenset[str] = frozenset()  # the keys that the file has
+
+    @property
+    def last_moment(self) -> datetime | None:
+        """Up to which answers are taken; None where there is no end."""
+        return (self.late.until if self.late else None) or self.closes
 
     def of_task(self, name: str) -> TaskSettings:
         return self.task.get(name, TaskSettings())
@@ -81,7 +96,7 @@ def engine_of(folder: Path) -> str:
 
 def settings_of(found: Mapping[str, Any], tasks: Iterable[str]) -> Settings:
     """The settings of what a file says."""
-    values = checked(found, {**EXERCISE, "task": table}, "")
+    values = checked(found, {**EXERCISE, "task": table, "late": late_rule}, "")
     names = set(tasks)
     made = {}
     for name, said in values.pop("task", {}).items():
@@ -92,6 +107,9 @@ def settings_of(found: Mapping[str, Any], tasks: Iterable[str]) -> Settings:
     settings = Settings(**values, task=made, said=frozenset(found))
     if settings.opens and settings.closes and settings.closes <= settings.opens:
         raise Fault("closes: it closes before it opens")
+    until = settings.late.until if settings.late else None
+    if until and (settings.closes is None or until <= settings.closes):
+        raise Fault("late.until: a moment after `closes` is wanted")
     return settings
 
 
@@ -110,6 +128,10 @@ def table(value: Any, key: str) -> Mapping[str, Any]:
     if not isinstance(value, dict):
         raise Fault(f"{shown(key)}: a table is wanted")
     return value
+
+
+def late_rule(value: Any, key: str) -> LateRule:
+    return LateRule(**checked(table(value, key), LATE, f"{key}."))
 
 
 def text(value: Any, key: str) -> str:
@@ -189,5 +211,11 @@ TASK: dict[str, Callable[[Any, str], Any]] = {
     "points": number(0, 1e6, "a number"),
     "question": path,
 }
-assert {*EXERCISE, "task", "said"} == {one.name for one in fields(Settings)}
+LATE: dict[str, Callable[[Any, str], Any]] = {
+    "grace": number(0, 1e6, "a number of minutes"),
+    "minus": number(0, 1, "a part of the points"),
+    "until": moment,
+}
+assert {*EXERCISE, "task", "late", "said"} == {one.name for one in fields(Settings)}
+assert set(LATE) == {one.name for one in fields(LateRule)}
 assert set(TASK) == {one.name for one in fields(TaskSettings)}

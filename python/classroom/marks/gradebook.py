@@ -13,11 +13,12 @@ from decimal import Decimal
 
 from classroom.base.csvcells import safe
 from classroom.base.errors import shown
-from classroom.exercise.collected import unplaced_files
+from classroom.exercise.collected import read_collected, unplaced_files
 from classroom.exercise.exercise import Exercise, Task
 from classroom.grading.graded import Graded
 from classroom.marks import hand
-from classroom.marks.mark import ZERO, About, Mark, exact, mark, total
+from classroom.marks.late import late
+from classroom.marks.mark import ZERO, About, Late, Mark, exact, mark, total
 from classroom.marks.mark import shown as shown_points
 from classroom.people.identity import key
 from classroom.people.roster import ClassList, Student
@@ -80,21 +81,36 @@ def gradebook(
     graded: Sequence[Graded],
     listed: ClassList,
     mistakes: Mapping[str, str] = {},
+    is_by_files: bool = False,
 ) -> Gradebook:
     """The marks of these answers; `mistakes` are the names of those that are known, by the keys of
-    the answers' records. A Fault where class/marks.csv has one."""
+    the answers' records. Where `is_by_files`, students have the names of their files, and who has
+    none is not there. A Fault where class/marks.csv has one."""
     most = {task.label: most_points(task) for task in given.tasks}
     lines = Lines(check_marks(given))
+    handed = read_collected(given.folder)
+
+    def late_of(one: Graded) -> Late:
+        name = key(one.answer.label)
+        line = handed.get((one.task.label, name))
+        student = listed.with_id(name)
+        closes = given.settings.closes
+        own = student.closing(closes) if student else closes
+        return late(given.settings.late, line.late if line else "", own)
+
     marks = {
         (one.task.name, one.answer.name): mark(
             most[one.task.label],
             None if one.share is None else exact(one.share),
             one.decided_by,
             [line.given for line in lines.about(one, mistakes.get(one.record, ""))],
+            late_of(one),
         )
         for one in graded
     }
-    standings = tuple(_standings(given, graded, listed, marks, lines, most))
+    standings = tuple(
+        _standings(given, graded, ClassList() if is_by_files else listed, marks, lines, most)
+    )
     return Gradebook(given, tuple(graded), standings, marks, tuple(lines.unused()))
 
 

@@ -28,6 +28,7 @@ NAMES: Mapping[str, Sequence[str]] = {
     "login": ("login", "username", "sis login id", "benutzername", "anmeldename", "kennung"),
     "moodle": ("moodle",),
     "canvas": ("canvas",),
+    "extra": ("extra", "extra time"),
 }
 MARKS = ((codecs.BOM_UTF16_LE, "utf-16"), (codecs.BOM_UTF16_BE, "utf-16"))
 DELIMITERS = (",", ";", "\t")

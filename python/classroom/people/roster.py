@@ -1,15 +1,17 @@
 """The class list: who is in the class, and under which numbers the platforms know them.
 
-A CSV file with a header: `id` and `name`, and `moodle`, `canvas`, `email` and `login` where they
-are needed, or the usual names for these (`people.headers`); other columns are passed over. Answers
+A CSV file with a header: `id` and `name`, and `moodle`, `canvas`, `email`, `login` and `extra`
+where they are needed, or the usual names for these (`people.headers`); other columns are passed over. Answers
 of a student are the files ID.sql. """
 from __future__ import annotations
 
 import csv
 import io
 import os
+import re
 from collections.abc import Mapping, Sequence
 from dataclasses import dataclass, fields
+from datetime import datetime, timedelta
 from functools import cached_property
 from pathlib import Path
 
@@ -21,6 +23,7 @@ from classroom.people.identity import composed, fault_of_id, key
 MOST_BYTES = 4_000_000
 # The columns by which a platform's archive names a student, each of whose numbers is one student's.
 NUMBERS = ("moodle", "canvas")
+MINUTES = re.compile("[0-9]{1,6}")
 
 
 @dataclass(frozen=True)
@@ -33,6 +36,15 @@ class Student:
     canvas: str = ""  # the user's number
     email: str = ""
     login: str = ""
+    extra: str = ""  # minutes after the closing time, or a moment: the student's own closing time
+
+    def closing(self, closes: datetime | None) -> datetime | None:
+        """The student's own closing time, by that of the exercise."""
+        if not self.extra or closes is None:
+            return closes
+        if MINUTES.fullmatch(self.extra):
+            return closes + timedelta(minutes=int(self.extra))
+        return datetime.fromisoformat(self.extra)
 
 
 @dataclass(frozen=True)
@@ -111,7 +123,22 @@ def student_of(
         raise Fault(f"line {line}: the id {shown(known['id'])}: {why}")
     if not known["name"]:
         raise Fault(f"line {line}: no name")
+    if not is_extra(known["extra"]):
+        raise Fault(
+            f"line {line}: extra {shown(known['extra'])}: minutes are wanted, or a moment with its"
+            " zone"
+        )
     return Student(**known)
+
+
+def is_extra(cell: str) -> bool:
+    """Whether it is nothing, a number of minutes, or a moment with its zone."""
+    try:
+        return (
+            not cell or bool(MINUTES.fullmatch(cell)) or bool(datetime.fromisoformat(cell).tzinfo)
+        )
+    except ValueError:
+        return False
 
 
 def check_new(student: Student, seen: dict[tuple[str, str], int], line: int) -> None:

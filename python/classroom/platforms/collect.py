@@ -15,6 +15,7 @@ from pathlib import Path
 from classroom.base.errors import Fault, shown
 from classroom.base.files import write
 from classroom.exercise.collected import (
+    LATE,
     PLACED,
     Collected,
     read_collected,
@@ -117,7 +118,7 @@ def line_of(answer: Placed, source: str) -> Collected:
         answer.student,
         source,
         answer.handed.member.label,
-        "late" if answer.handed.is_late else "",
+        answer.handed.time or (LATE if answer.handed.is_late else ""),
         digest(answer.content),
     )
 

@@ -50,6 +50,7 @@ class Handed:
     assignment: str = ""
     others: tuple[str, ...] = ()  # other names that the file may have had
     kind: str = ""  # at Moodle: file or onlinetext
+    time: str = ""  # of the hand-in, with its zone, where it is known
 
     @property
     def is_online_text(self) -> bool:

@@ -73,7 +73,7 @@ def copied(given: Exercise, folder: Path, tried: Collection[str] = ()) -> Materi
     for name, text in given.files.items():
         (folder / name).write_bytes(text)
     settings = given.settings
-    window = Window(settings.opens, settings.closes, settings.after_close == "reference")
+    window = Window(settings.opens, settings.last_moment, settings.after_close == "reference")
     tasks = tuple(
         offered(task, f"{number}.reference", folder, window)
         for number, task in enumerate(given.tasks)
