@@ -59,8 +59,10 @@ def reader_of(text: str, product: str) -> str:
         try:
             if len(sqlglot.parse(text, read=word)) == 1:
                 return name
-        except sqlglot.errors.SqlglotError:
-            pass
+        except RecursionError:
+            raise
+        except (sqlglot.errors.SqlglotError, RuntimeError):
+            pass  # RuntimeError where a text or a comment has no end
     return ""
 
 

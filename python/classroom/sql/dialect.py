@@ -7,39 +7,50 @@ import re
 from classroom.sql.tokens import Token, tokens
 
 SETS = ("union", "except", "intersect")
-MAY_NEED = re.compile(r"\b(?:union|except|intersect)\b|\(\s*\(", re.IGNORECASE)
+MAY_NEED = re.compile(r"\b(?:union|except|intersect)\b|\(\s*\(|\A\W*\(", re.IGNORECASE)
 
 
 def for_sqlite(query: str) -> str:
     if not MAY_NEED.search(query):
         return query
     found = tokens(query)
-    made = _Writer(query, found)
-    text, at = made.chain(0)
-    return text + "".join(
-        query[token.begin : token.end] for token in found[at:] if token.word != ";"
-    )
+    text, at = _Writer(query, found).chain(0)
+    rest = [query[token.begin : token.end] for token in found[at:] if token.word != ";"]
+    return " ".join([text, *rest])
 
 
 class _Writer:
     def __init__(self, text: str, found: list[Token]) -> None:
         self.text = text
         self.found = found
+        self.queries = self.found_queries()
 
     def word(self, at: int) -> str:
         return self.found[at].word if at < len(self.found) else ""
 
-    def begins_query(self, at: int) -> bool:
-        """Whether a parenthesis has a query in it."""
-        if self.word(at) != "(":
-            return False
-        while self.word(at) == "(":
-            at += 1
-        return self.word(at) == "select"
+    def found_queries(self) -> set[int]:
+        """The parentheses that have a query in them, in further ones or not."""
+        closed: dict[int, int] = {}
+        opened: list[int] = []
+        for at in range(len(self.found)):
+            if self.word(at) == "(":
+                opened.append(at)
+            elif self.word(at) == ")" and opened:
+                closed[opened.pop()] = at
+        made: set[int] = set()
+        for at in sorted(closed, reverse=True):
+            if self.word(at + 1) == "select" or (
+                at + 1 in made
+                and (
+                    self.word(after := closed[at + 1] + 1) in (")", *SETS) or self.ends_whole(after)
+                )
+            ):
+                made.add(at)
+        return made
 
     def chain(self, at: int) -> tuple[str, int]:
-        """Operands and set operators up to a closing parenthesis or the end, and the place behind
-        them."""
+        """Operands, set operators and what orders and cuts the whole, up to a closing parenthesis
+        or the end, and the place behind them."""
         operand, at = self.operand(at)
         operands, signs = [operand], []
         while self.word(at) in SETS:
@@ -64,7 +75,14 @@ class _Writer:
         text = operands[0]
         for sign, operand in zip(signs, operands[1:]):
             text += f" {sign} {operand}"
+        if self.ends_whole(at):
+            rest, at = self.select(at, is_rest=True)
+            text += f" {rest}"
         return text, at
+
+    def ends_whole(self, at: int) -> bool:
+        """Whether what stands here orders or cuts a whole chain."""
+        return self.word(at) == "limit" or self.word(at) == "order" and self.word(at + 1) == "by"
 
     def operand(self, at: int) -> tuple[str, int]:
         if self.word(at) == "(":
@@ -72,14 +90,16 @@ class _Writer:
             return f"SELECT * FROM ({inner})", at + 1
         return self.select(at)
 
-    def select(self, at: int) -> tuple[str, int]:
-        """A SELECT up to what ends it."""
+    def select(self, at: int, is_rest: bool = False) -> tuple[str, int]:
+        """A SELECT, or the rest of a whole, up to what ends it."""
         parts, depth = [], 0
         while at < len(self.found):
             word = self.word(at)
             if depth == 0 and (word in SETS or word in (")", ";")):
                 break
-            if self.begins_query(at):
+            if depth == 0 and not is_rest and self.ends_whole(at):
+                break
+            if at in self.queries:
                 inner, at = self.chain(at + 1)
                 parts.append(f"({inner})")
             else:

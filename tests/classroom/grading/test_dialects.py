@@ -25,6 +25,7 @@ WRONG = {
     "cut": "SELECT name FROM bar WHERE",
     "group": "SELECT name FROM bar GROUP",
     "comma": "SELECT name, FROM bar",
+    "quote": "SELECT name FROM bar WHERE name = 'T",
 }
 
 
