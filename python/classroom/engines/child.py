@@ -84,9 +84,7 @@ def tried(material: Material, question: dict[str, Any], parts: Parts | None = No
                 bool(question.get("agrees")),
                 int(question.get("looks", 0)),
             )
-            search = Search(
-                engine, parts, material, (question["reference"], question["answer"]), wanted
-            )
+            search = Search(engine, parts, material, engine.queries, wanted)
             outcome = search.outcome()
             return Verdict(label, outcome, search.remarks())
         except Stopped as stopped:

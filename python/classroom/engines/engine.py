@@ -46,7 +46,8 @@ class TooMuch(Stopped):
 class Engine(Protocol):
     """Both queries over one pool of rows, of which it holds a part."""
 
-    label: str  # as `sqlite 3.40.1`
+    label: str  # as `sqlite 3.40.1`; what was rewritten is told behind it
+    queries: tuple[str, str]  # as the engine is asked
     pace: float  # of the parts that SQLite tries, how many this one does
 
     @staticmethod

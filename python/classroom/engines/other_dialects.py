@@ -5,7 +5,7 @@ import re
 from typing import Any
 
 from classroom.base.errors import Missing, library
-from classroom.sql.tokens import tokens
+from classroom.sql.lookup import is_cut
 
 # By sqlglot's word, the first that reads a text is named.
 DIALECTS = {
@@ -43,8 +43,6 @@ FUNCTIONS = {
         " sysdate systimestamp to_clob".split()
     ),
 }
-# Behind these something has to come, which sqlglot doesn't ask for.
-OPEN_ENDS = frozenset("group order by having where on from and or not in like union".split())
 
 
 def reader_of(text: str, product: str) -> str:
@@ -64,14 +62,6 @@ def reader_of(text: str, product: str) -> str:
         except (sqlglot.errors.SqlglotError, RuntimeError):
             pass  # RuntimeError where a text or a comment has no end
     return ""
-
-
-def is_cut(text: str) -> bool:
-    """Whether it ends, or a list in it, where something has to come: sqlglot reads over that."""
-    words = [token.text.lower() for token in tokens(text)]
-    return bool(words and words[-1] in OPEN_ENDS | {","}) or any(
-        one == "," and two in ("from", "where", ")", ",") for one, two in zip(words, words[1:])
-    )
 
 
 def has_function(name: str) -> str:

@@ -5,13 +5,12 @@ Of a part that comes after another only the rows that changed are put and taken.
 from __future__ import annotations
 
 import math
-import re
 import sqlite3
 import time
 from collections.abc import Iterator, Sequence
 from contextlib import contextmanager
 
-from classroom.engines import tie_keys
+from classroom.engines import sqlite_words, tie_keys
 from classroom.engines.only_reads import MOST_TEXT, OTHERWISE, READ, barred, bound, in_memory
 from classroom.sql.schema import quoted
 from classroom.verdict.compare import Answer
@@ -26,13 +25,14 @@ from classroom.engines.engine import (
     Stopped,
     TooMuch,
 )
+from classroom.engines.stored_turned import turned, with_rowid
 from classroom.engines.tables_read import named
 from classroom.engines.sqlite_refusals import stopped_by
 from classroom.exercise.typed_rows import Material
 from classroom.exercise.part_masks import Mask, Parts, bits
 from classroom.engines.tables_read import places, with_views
+from classroom.sql.dialect import with_sets
 from classroom.sql.lookup import begins_as_query, clock, unknown_name
-from classroom.sql.tokens import GAPS, pieces
 
 # Steps of SQLite's machine between two looks at the time.
 STEPS = 200
@@ -200,11 +200,12 @@ class Sqlite:
         answer: str,
         seconds: float = QUERY_SECONDS,
     ) -> None:
-        self.label = f"sqlite {sqlite3.sqlite_version}"
         self.material, self.parts = material, parts
-        self.queries = (reference, answer)
+        self.queries = reference, answer
         self.stored = [Stored(material, parts, backwards, seconds) for backwards in (False, True)]
+        self.rewritten: set[int] = set()
         self.check_both()
+        self.label = sqlite_words.label(sqlite3.sqlite_version, self.rewritten)
         tie_keys.add_function(self.stored[0].db)
         self.ways = [list(tie_keys.untied_texts(text, material, "sqlite")) for text in self.queries]
 
@@ -226,8 +227,35 @@ class Sqlite:
         self.check(ANSWER)
 
     def check(self, which: int) -> None:
-        """Refuses a query that is wrong over any rows, or does something else than to read them."""
+        """Refuses a query that SQLite reads neither as it is nor rewritten."""
         text = self.queries[which]
+        try:
+            self.look(which, text)
+        except Stopped as stopped:
+            columns = sqlite_words.declared(self.stored[0].db, self.material)
+            other = sqlite_words.rewriting(text, stopped, columns)
+            if other is None or not self.is_read(which, other):
+                raise
+        else:
+            other = with_sets(text, is_read=True)
+            if other is not None and not self.is_read(which, other):
+                other = None
+        if other is not None:
+            self.rewritten.add(which)
+            both = list(self.queries)
+            both[which] = other
+            self.queries = both[REFERENCE], both[ANSWER]
+
+    def is_read(self, which: int, text: str) -> bool:
+        """Whether SQLite reads a rewritten text, which is barred and limited as any other."""
+        try:
+            self.look(which, text)
+        except Refused:
+            return False
+        return True
+
+    def look(self, which: int, text: str) -> None:
+        """Refuses a text that is wrong over any rows, or does something else than to read them."""
         if len(text.encode("utf-8", "replace")) > MOST_TEXT:
             raise TooMuch(which, "size of a value")
         if "\0" in text:
@@ -313,74 +341,6 @@ class Sqlite:
     def close(self) -> None:
         for stored in self.stored:
             stored.close()
-
-
-def words(statement: str) -> list[tuple[str, str]]:
-    return [
-        ("gap" if token.kind in GAPS else token.kind, token.text) for token in pieces(statement)
-    ]
-
-
-def with_rowid(statement: str) -> str:
-    """The statement without WITHOUT ROWID, since rows are known by their rowid."""
-    return re.sub(r"(?is)\bWITHOUT\s+ROWID\b\s*,?(?=[^)]*\Z)", "", statement).rstrip(" \t\r\n,")
-
-
-def turned(statement: str) -> str:
-    """The statement of a table that stores its rows the other way round: no column is the rowid
-    (INT for INTEGER), keys of several columns and primary keys go down, and a UNIQUE at a column is
-    left out; the rows meet it."""
-    found = words(with_rowid(statement))
-    made: list[str] = []
-    solid = [at for at, (kind, _) in enumerate(found) if kind != "gap"]
-    after = {at: [found[later][1].upper() for later in solid if later > at][:2] for at in solid}
-    before = ""
-    depth, key_depth, in_key = 0, -1, False
-    for at, (kind, text) in enumerate(found):
-        word = text.upper() if kind == "word" else text
-        if kind == "gap":
-            made.append(text)
-            continue
-        if kind == "word" and word == "INTEGER":
-            text = "INT"
-        elif kind == "word" and word == "AUTOINCREMENT":
-            text = ""
-        elif kind == "word" and word in ("ASC", "DESC") and (in_key or before == "KEY"):
-            text = ""
-        elif kind == "word" and word == "UNIQUE":
-            if after[at][:1] == ["("]:
-                in_key, key_depth = True, depth
-            else:
-                text = unnamed(made)
-        elif kind == "word" and word == "KEY" and before == "PRIMARY":
-            if after[at][:1] == ["("]:
-                in_key, key_depth = True, depth
-            else:
-                text += " DESC"
-        elif text == "(":
-            depth += 1
-        elif text in (",", ")") and in_key and depth == key_depth + 1:
-            text = f" DESC{text}"
-        if text.endswith(")"):
-            depth -= 1
-            in_key = in_key and depth > key_depth
-        made.append(text)
-        before = word
-    return without_conflict("".join(made))
-
-
-def unnamed(made: list[str]) -> str:
-    """Takes away CONSTRAINT NAME before a rule that is left out."""
-    solid = [
-        at for at, text in enumerate(made) if text.strip() and not text.startswith(("--", "/*"))
-    ]
-    if len(solid) > 1 and made[solid[-2]].upper() == "CONSTRAINT":
-        made[solid[-2]] = made[solid[-1]] = ""
-    return ""
-
-
-def without_conflict(statement: str) -> str:
-    return re.sub(r"(?i)\bON\s+CONFLICT\s+(ROLLBACK|ABORT|FAIL|IGNORE|REPLACE)\b", "", statement)
 
 
 def quoted_text(text: str) -> str:

@@ -19,11 +19,22 @@ def for_sqlite(query: str) -> str:
     return " ".join([text, *rest])
 
 
+def with_sets(query: str, is_read: bool = False) -> str | None:
+    """A query with its operands and INTERSECT as SQLite wants them; None of one that has them so,
+    and, where SQLite reads it as it is, of one whose operators it takes in the right order."""
+    if not MAY_NEED.search(query):
+        return None
+    made = _Writer(query, tokens(query))
+    made.chain(0)
+    return for_sqlite(query) if made.is_regrouped or made.is_opened and not is_read else None
+
+
 class _Writer:
     def __init__(self, text: str, found: list[Token]) -> None:
         self.text = text
         self.found = found
         self.queries = self.found_queries()
+        self.is_regrouped = self.is_opened = False
 
     def word(self, at: int) -> str:
         return self.found[at].word if at < len(self.found) else ""
@@ -65,6 +76,7 @@ class _Writer:
         place = 1
         while place < len(signs):
             if signs[place].lower() == "intersect" and signs[place - 1].lower() != "intersect":
+                self.is_regrouped = True
                 last = place
                 while last < len(signs) and signs[last].lower() == "intersect":
                     last += 1
@@ -86,6 +98,7 @@ class _Writer:
 
     def operand(self, at: int) -> tuple[str, int]:
         if self.word(at) == "(":
+            self.is_opened = True
             inner, at = self.chain(at + 1)
             return f"SELECT * FROM ({inner})", at + 1
         return self.select(at)

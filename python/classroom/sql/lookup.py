@@ -5,6 +5,8 @@ from collections.abc import Collection
 
 from classroom.sql.tokens import Token, tokens
 
+# Behind these something has to come, which sqlglot doesn't ask for.
+OPEN_ENDS = frozenset("group order by having where on from and or not in like union".split())
 CLOCKS = {"date": 0, "time": 0, "datetime": 0, "julianday": 0, "unixepoch": 0, "strftime": 1}
 
 
@@ -12,6 +14,14 @@ def begins_as_query(text: str) -> bool:
     """Whether the first word is SELECT, WITH or VALUES, in parentheses or not."""
     first = next((token for token in tokens(text) if token.text != "("), None)
     return first is not None and first.text.lower() in ("select", "with", "values")
+
+
+def is_cut(text: str) -> bool:
+    """Whether it ends, or a list in it, where something has to come: sqlglot reads over that."""
+    words = [token.text.lower() for token in tokens(text)]
+    return bool(words and words[-1] in OPEN_ENDS | {","}) or any(
+        one == "," and two in ("from", "where", ")", ",") for one, two in zip(words, words[1:])
+    )
 
 
 def clock(text: str) -> str:

@@ -15,7 +15,8 @@ from sqlglot.errors import SqlglotError
 
 from classroom.sql import rewrite_queries as queries
 from classroom.sql import rewrite_values as values
-from classroom.sql.dialect import for_sqlite
+from classroom.sql.dialect import for_sqlite, with_sets
+from classroom.sql.lookup import is_cut
 from classroom.sql.rewrite_parts import MOST, Cannot, Columns, Names, is_star, sql, value
 from classroom.sql.tokens import Dialect, tokens
 from classroom.sql.tree import COMPARISONS, SETS, Node
@@ -60,12 +61,13 @@ class SqliteOrder(Postgres):
 def rewritten(text: str, columns: Columns) -> str | None:
     """The text in SQLite's words; None where nothing in it has a rewriting that is the same for
     certain."""
-    if len(text) > MOST:
+    if len(text) > MOST or is_cut(text):
         return None
     try:
-        return _Rewriter(text, columns).text()
+        made = _Rewriter(text, columns).text()
     except FAULTS:
-        return None
+        made = None
+    return made or with_sets(text)
 
 
 class _Rewriter:
