@@ -502,12 +502,12 @@ def test_import_names_the_engine(roles: Roles, tmp_path: Path) -> None:
 
 
 def test_wrong_sql_is_told_where_the_reference_can_not_be_tried(beers: Path) -> None:
-    """SQLite knows no parentheses around an operand. What it says of the reference is in no
-    student's file."""
+    """SQLite takes COMMIT for its own word. What it says of the reference is in no student's
+    file."""
     add(
         beers,
         "6",
-        "(SELECT name FROM bar) EXCEPT (SELECT bar FROM serves)",
+        "SELECT commit.name FROM bar commit EXCEPT SELECT bar FROM serves",
         wrong="SELECT nosuch FROM bar",
         count="SELECT count(*) FROM bar",
     )
@@ -523,11 +523,34 @@ def test_wrong_sql_is_told_where_the_reference_can_not_be_tried(beers: Path) -> 
     ] == [("wrong SQL", "0", ENGINE), ("not read", "", "")]
     assert found["6/count"]["fault"] == (
         f"not supported: count; reference.sql: PostgreSQL reads it, and {ENGINE} doesn't: near"
-        ' "(": syntax error'
+        ' "commit": syntax error'
     )
     assert classroom("feedback", beers).returncode == 0
     told = {path.name: path.read_text() for path in (beers / "results/feedback").glob("*.md")}
     assert "**not read: not supported: count**" in told["count.md"]
     assert not [
         name for name, text in told.items() if "reference.sql" in text or "syntax error" in text
+    ]
+
+
+def test_parentheses_around_an_operand_are_no_fault(beers: Path) -> None:
+    """SQLite has none: it gets the answers rewritten, and the reference too."""
+    parts = "(SELECT name FROM bar)", "(SELECT bar FROM serves WHERE price > 2)"
+    add(
+        beers,
+        "6",
+        f"{parts[0]} EXCEPT {parts[1]}",
+        same=f"SELECT q.name FROM ({parts[0]} EXCEPT {parts[1]}) q GROUP BY q.name",
+        other=f"{parts[0]} UNION {parts[1]} ORDER BY name",
+        plain="SELECT name FROM bar GROUP BY name",
+    )
+    assert grade(beers).returncode == 0
+    found = lines(beers)
+    assert [
+        (found[f"6/{name}"]["grade"], found[f"6/{name}"]["decided_by"])
+        for name in ("same", "other", "plain")
+    ] == [
+        ("no difference found", f"{ENGINE} after rewriting both"),
+        ("differs", f"{ENGINE} after rewriting both"),
+        ("differs", f"{ENGINE} after rewriting the reference"),
     ]

@@ -204,12 +204,14 @@ def test_names_that_sqlite_takes_for_texts(ratest: Path, empty: Path) -> None:
         nosuch='SELECT "nosuch" FROM bar',
         alias='SELECT "x" FROM (SELECT name AS "x" FROM bar) b WHERE "x" LIKE \'a\'',
         table='SELECT name FROM "nosuch"',
-        cast="SELECT name::text FROM bar",
+        cast="SELECT name::int FROM bar",
+        rewritten="SELECT name::text FROM bar",
     )
     assert found["nosuch"] == ("wrong SQL", "0", "no such column: nosuch (line 1, column 8)")
     assert found["alias"][:2] == ("differs", "0")
     assert found["table"] == ("wrong SQL", "0", "no such table: nosuch (line 1, column 18)")
     assert found["cast"][:2] == ("not read", "")
+    assert found["rewritten"][:2] == ("differs", "0")
 
 
 def test_hostile_text_that_compiles_for_ever(ratest: Path, empty: Path) -> None:
