@@ -14,7 +14,7 @@ from roles import Roles  # noqa: E402
 
 from classroom.base.errors import Fault  # noqa: E402
 from classroom.engines.postgres_sample import Tables  # noqa: E402
-from classroom.exercise.rows import Held, Pool  # noqa: E402
+from classroom.exercise.rows import Cells, Held, Pool  # noqa: E402
 from classroom.exercise.typed_rows import POSTGRESQL, SQLITE, of_schema  # noqa: E402
 from classroom.hints.repairs import Ground, Search  # noqa: E402
 from classroom.sql.schema import tables_of  # noqa: E402
@@ -31,7 +31,7 @@ def roles_or_none(request: pytest.FixtureRequest) -> Roles | None:
 @contextlib.contextmanager
 def ground(work: Path, cities: str, roles: Roles | None) -> Iterator[Ground]:
     """Over an item of each of these cities."""
-    rows = [(at, f"n{at}", city, at) for at, city in enumerate(cities)]
+    rows: list[Cells] = [(at, f"n{at}", city, at) for at, city in enumerate(cities)]
     pool = Pool(SCHEMA.encode(), [Held(tables_of(SCHEMA)[0], rows, [(0,)], [])])
     with contextlib.ExitStack() as stack:
         if roles is None:
