@@ -14,11 +14,10 @@ from typing import NamedTuple
 
 import sqlglot
 from sqlglot import exp
-from sqlglot.errors import SqlglotError
 
 from classroom.engines.join_conditions import COMPARISONS, Schema, Writer, column
 from classroom.engines.tables_read import READERS, found, mentions, name_of
-from classroom.sql.tree import Node
+from classroom.sql.tree import UNREAD, Node
 from classroom.sql.tokens import Dialect, tokens
 
 MOST_TABLES = 8  # in one tuple
@@ -75,7 +74,7 @@ def understood(queries: Sequence[str], schema: Schema, dialect: str) -> Understo
             for name in no_tables(tree):
                 if name in numbers:
                     seen[numbers[name]] = seen.get(numbers[name], 0) - 1
-        except (SqlglotError, RecursionError, ValueError, AttributeError):
+        except UNREAD:
             made.alone |= set(mentions(text, numbers, READERS[dialect]))
             continue
         # A name that is no table of a FROM that was read may be one in a place that isn't known.
@@ -250,7 +249,7 @@ def is_ordered(text: str, dialect: str) -> bool:
     """Whether a query has an ORDER BY at its top."""
     try:
         tree = sqlglot.parse_one(text, read=dialect)
-    except (SqlglotError, RecursionError):
+    except UNREAD:
         return ordered_by_tokens(text, READERS[dialect])
     while isinstance(tree, (exp.Paren, exp.Subquery)):
         if tree.args.get("order"):

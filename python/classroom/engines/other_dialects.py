@@ -59,8 +59,15 @@ def reader_of(text: str, product: str) -> str:
                 return name
         except RecursionError:
             raise
-        except (sqlglot.errors.SqlglotError, RuntimeError):
-            pass  # RuntimeError where a text or a comment has no end
+        except (
+            sqlglot.errors.SqlglotError,
+            RuntimeError,  # where a text or a comment has no end
+            LookupError,
+            ValueError,
+            TypeError,
+            AttributeError,
+        ):
+            pass
     return ""
 
 

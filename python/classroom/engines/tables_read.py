@@ -5,11 +5,10 @@ from collections.abc import Mapping, Sequence
 
 import sqlglot
 from sqlglot import exp
-from sqlglot.errors import SqlglotError
 
 from classroom.exercise.typed_rows import Material
 from classroom.sql.tokens import Dialect, tokens
-from classroom.sql.tree import Node, nodes
+from classroom.sql.tree import UNREAD, Node, nodes
 
 # By sqlglot's names.
 READERS = {"sqlite": Dialect.SQLITE, "postgres": Dialect.POSTGRESQL}
@@ -45,7 +44,7 @@ def named(text: str, numbers: Mapping[str, int], dialect: str) -> frozenset[int]
             name_of(node.args["field"]) for node in found(tree, exp.In) if node.args.get("field")
         ]
         return frozenset(numbers[name] for name in names if name in numbers)
-    except (SqlglotError, RecursionError, ValueError, AttributeError):
+    except UNREAD:
         return frozenset(mentions(text, numbers, READERS[dialect]))
 
 

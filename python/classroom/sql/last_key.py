@@ -3,7 +3,8 @@ from __future__ import annotations
 
 import sqlglot
 from sqlglot import exp
-from sqlglot.errors import SqlglotError
+
+from classroom.sql.tree import UNREAD
 
 from classroom.sql.ranks import is_star, shown
 from classroom.sql.ties import chooses, unaliased
@@ -28,5 +29,5 @@ def last_keys(query: str, dialect: str) -> str:
         return ", ".join(
             item.alias if isinstance(item, exp.Alias) else str(item.sql(dialect)) for item in left
         )
-    except (SqlglotError, RecursionError, ValueError, AttributeError, TypeError, IndexError):
+    except UNREAD:
         return ""

@@ -4,11 +4,10 @@ from __future__ import annotations
 
 import sqlglot
 from sqlglot import exp
-from sqlglot.errors import SqlglotError
 
 from classroom.sql.ties import MOST_WORDS, is_kept, unaliased
 from classroom.sql.tokens import tokens
-from classroom.sql.tree import SETS, Node, nodes
+from classroom.sql.tree import SETS, UNREAD, Node, nodes
 
 RANK, ROWS = "ratest_rank", "ratest_rows"
 
@@ -38,7 +37,7 @@ def ranked(query: str, dialect: str) -> str | None:
             return None
         made = inside(tree, order) if isinstance(tree, exp.Select) else None
         return str(made.sql(dialect, comments=False)) if made else around(query, tree, dialect)
-    except (SqlglotError, RecursionError, ValueError, AttributeError, TypeError, IndexError):
+    except UNREAD:
         return None
 
 

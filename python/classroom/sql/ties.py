@@ -9,10 +9,9 @@ from collections.abc import Callable, Mapping, Sequence
 
 import sqlglot
 from sqlglot import exp
-from sqlglot.errors import SqlglotError
 
 from classroom.sql.tokens import tokens
-from classroom.sql.tree import SETS, Node, nodes
+from classroom.sql.tree import SETS, UNREAD, Node, nodes
 
 # The text of a key, of the expressions by which rows are known.
 KeyOf = Callable[[Sequence[str]], str]
@@ -52,7 +51,7 @@ def untied(
         writer = _Writer(dialect, columns, key_of, is_down)
         made = writer.written(tree)
         return str(made.sql(dialect, comments=False)) if writer.count else None
-    except (SqlglotError, RecursionError, ValueError, AttributeError, TypeError, IndexError):
+    except UNREAD:
         return None
 
 

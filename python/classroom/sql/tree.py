@@ -10,6 +10,9 @@ from sqlglot.errors import SqlglotError
 from classroom.base.errors import Fault
 
 Node = exp.Expression
+# What sqlglot raises at odd texts: IndexError where an escape is at the end of a text in quotes,
+# RuntimeError where a text has no end or is too deep, the others by its trees.
+UNREAD = (SqlglotError, RuntimeError, LookupError, ValueError, TypeError, AttributeError)
 SETS = (exp.Union, exp.Except, exp.Intersect)
 COMPARISONS = (exp.EQ, exp.NEQ, exp.LT, exp.LTE, exp.GT, exp.GTE)
 
@@ -18,7 +21,7 @@ def parsed(text: str) -> Node:
     """The tree of a query; a Fault where sqlglot doesn't read it."""
     try:
         tree: Node = sqlglot.parse_one(text)
-    except (SqlglotError, RecursionError):
+    except UNREAD:
         raise Fault("sqlglot does not read the query") from None
     if not isinstance(tree, (exp.Select, exp.Subquery, *SETS)):
         raise Fault("sqlglot reads the query as something else")
