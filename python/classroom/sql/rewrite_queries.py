@@ -20,7 +20,7 @@ from classroom.sql.rewrite_parts import (
     value,
     width,
 )
-from classroom.sql.tree import SETS, Node, chain, combined
+from classroom.sql.tree import SETS, Node, intersect_first
 
 # Arguments of a node of a set operator that are no modifiers of the whole.
 OPERATOR = ("this", "expression", "distinct", "by_name")
@@ -49,17 +49,7 @@ def grouped(tree: Node) -> Node:
                 if last.args.get(key):
                     kept[key] = last.args[key]
                     last.set(key, None)
-        operands, kinds = chain(root)
-        at = 0
-        while at < len(kinds):
-            if kinds[at][0] is exp.Intersect:
-                operands[at : at + 2] = [combined(kinds[at], operands[at], operands[at + 1])]
-                del kinds[at]
-            else:
-                at += 1
-        made = operands[0]
-        for kind, one in zip(kinds, operands[1:]):
-            made = combined(kind, made, one)
+        made = intersect_first(root)
         for key, held in kept.items():
             made.set(key, held)
         if root is tree:

@@ -70,6 +70,12 @@ def regrouped(tree: Node) -> Node:
         return of_conditions(tree)
     if not isinstance(tree, SETS) or isinstance(tree.parent, SETS) and tree.arg_key == "expression":
         return tree
+    return intersect_first(tree)
+
+
+def intersect_first(tree: Node) -> Node:
+    """A chain of set operators as SQL groups it: INTERSECT before the others, these from the
+    left."""
     operands, kinds = chain(tree)
     at = 0
     while at < len(kinds):
