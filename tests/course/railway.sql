@@ -16,3 +16,4 @@ INSERT INTO ticket VALUES (1, 11, '2024-05-01', 10, 'first'), (2, 11, '2024-05-0
   (4, 12, '2024-05-02', NULL, 'second'), (5, 12, '2024-05-03', 12.5, 'first'), (6, 21, '2024-05-01', 7.25, NULL), (7, 21, '2024-05-06', 7, 'second'),
   (8, 31, '2024-05-06', 3, 'second'), (9, 31, '2024-06-01', 3, 'second'), (10, 32, '2024-06-02', 20, 'first'), (11, 13, '2024-06-02', 6, 'second'),
   (12, 22, '2024-05-31', 10, 'first'), (13, 13, '2024-05-12', 8, 'second');
+CREATE VIEW service AS SELECT t.no, l.name AS line, t.leaves, t.seats FROM train t JOIN line l ON l.id = t.line;

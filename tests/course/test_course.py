@@ -1,4 +1,4 @@
-"""A course over two databases: forty tasks and 160 answers, of which each has a verdict and none a
+"""A course over two databases: sixty tasks and 240 answers, of which each has a verdict and none a
 wrong one."""
 from __future__ import annotations
 
@@ -11,7 +11,9 @@ from pathlib import Path
 import products
 import pytest
 import tasks_library
+import tasks_library_words
 import tasks_railway
+import tasks_railway_words
 from products import classroom
 from roles import Roles
 
@@ -57,7 +59,7 @@ def check(
         for name, line in found.items()
         if line["grade"] not in GRADES[wanted[name]]
     }
-    assert not wrong and len(found) == len(wanted) == 80, (wrong, ran.stderr)
+    assert not wrong and len(found) == len(wanted) == 120, (wrong, ran.stderr)
     tried = [
         from_json(json.loads(path.read_bytes())).outcome
         for path in (folder / "results/runs").glob("*.trial.json")
@@ -80,7 +82,8 @@ def test_library(ratest: Path, tmp_path: Path, capsys: pytest.CaptureFixture[str
     database.close()
     made = classroom("import", tmp_path / "library.db", tmp_path / "class")
     assert made.returncode == 0, made.stderr
-    check(tmp_path / "class", fill(tmp_path / "class", tasks_library.TASKS), capsys)
+    tasks = tasks_library.TASKS + tasks_library_words.TASKS
+    check(tmp_path / "class", fill(tmp_path / "class", tasks), capsys)
 
 
 def test_railway(
@@ -106,4 +109,5 @@ def test_railway(
     assert done.returncode == 0, done.stderr
     made = classroom("import", owner, tmp_path / "class")
     assert made.returncode == 0, made.stderr
-    check(tmp_path / "class", fill(tmp_path / "class", tasks_railway.TASKS), capsys)
+    tasks = tasks_railway.TASKS + tasks_railway_words.TASKS
+    check(tmp_path / "class", fill(tmp_path / "class", tasks), capsys)

@@ -3,7 +3,9 @@ doesn't decide a database tries: both queries run on parts of the rows.
 
 EXERCISE is a folder with schema.sql, a CSV file a table, and one folder a task, which has
 reference.sql and the folder answers with one file NAME.sql an answer; or with reference.sql and
-answers at the top. Its exercise.toml, where there is one, says points and limits.
+answers at the top. Beside reference.sql there may be further right queries, reference-2.sql to
+reference-9.sql: what agrees with one of them is right, and else the nearest is compared with. The
+file exercise.toml, where there is one, says points and limits.
 
 Into EXERCISE/results go grades.csv, class.csv with a line a student, results.json for an autograder
 as Gradescope reads it, page.html, for each answer tasks/TASK/ANSWER.txt with its status and what
@@ -19,8 +21,8 @@ from __future__ import annotations
 import argparse
 import logging
 import sys
-from collections.abc import Sequence
-from dataclasses import dataclass
+from collections.abc import Iterable, Sequence
+from dataclasses import dataclass, replace
 from pathlib import Path
 
 from classroom.views import for_teacher as classpage
@@ -35,12 +37,16 @@ from classroom.marks.gradebook import Gradebook, check_marks
 from classroom.people import roster as students
 from classroom.base import log as telling
 from classroom.grading import trials as tried
+from classroom.exercise import same_rows
 from classroom.exercise.exercise import Answer, Exercise, Task, digest
 from classroom.base.errors import Fault, Missing, shown
 from classroom.grading.open import Opened
 from classroom.base.files import write
+from classroom.grading.graded import Graded
+from classroom.grading.nearest import nearest
 from classroom.grading.store import Results, trial_name
 from classroom.grading.trials import Trial
+from classroom.sql.clean import CleanText
 from ratest.draw import counted
 
 SUMMARY = "grade the answers of a class"
@@ -66,7 +72,7 @@ def add_arguments(parser: argparse.ArgumentParser) -> None:
 class Entry:
     """An answer with the key of its run; empty where it isn't run."""
 
-    task: Task
+    task: Task  # by one of its references
     answer: Answer
     key: str
 
@@ -79,7 +85,13 @@ def run(arguments: argparse.Namespace) -> int:
             "%s is not graded: its name is not that of an answer, NAME.sql",
             shown(str(path.relative_to(given.folder))),
         )
-    entries = entries_of(opened)
+    if given.tables and not any(same_rows.rows_of(given.files, given.tables).values()):
+        log.warning(
+            "no table has a row: whatever returns nothing agrees with a reference that returns nothing"
+        )
+    answers = entries_of(opened, given.tasks)
+    references = entries_of(opened, map(against_others, given.tasks))
+    entries = [*answers, *references]
     trial = tried.wanted(arguments, given, opened.limits.seconds)
     listed = students.read(given.folder / given.settings.students)
     check_marks(given)
@@ -88,17 +100,42 @@ def run(arguments: argparse.Namespace) -> int:
         means = parallel.Means(opened.limits, arguments.jobs, arguments.hosts, sys.stderr.isatty())
         run_all(opened, entries, results, means, work)
         trials = try_all(trial, given, entries, results, means.jobs) if trial else {}
-        graded = [
-            results.graded_one(of.task, of.answer, given, of.key, trials.get(id(of), ""))
-            for of in entries
-        ]
+
+        def graded_of(some: Sequence[Entry]) -> list[Graded]:
+            return [
+                results.graded_one(of.task, of.answer, given, of.key, trials.get(id(of), ""))
+                for of in some
+            ]
+
+        graded, between = nearest_of(graded_of(answers)), graded_of(references)
         book = book_of(given, graded, listed)
-        results.publish(given, graded, mark_files.tables(book))
+        results.publish(given, graded, mark_files.tables(book), between)
         publish_page(results, book)
+    for line in grades_files.differing(between):
+        log.warning("%s", line)
     return tell(book)
 
 
-def entries_of(opened: Opened) -> list[Entry]:
+def against_others(task: Task) -> Task:
+    """The task with its further references as answers to its first."""
+    further = tuple(
+        Answer(other.source, CleanText(other.reference, other.reference))
+        for other in task.others
+        if other.reference
+    )
+    return replace(task, answers=further, others=())
+
+
+def nearest_of(graded: Sequence[Graded]) -> list[Graded]:
+    """The grade of each answer, of those against each reference."""
+    found: dict[tuple[str, str], list[Graded]] = {}
+    for of in graded:
+        found.setdefault((of.task.name, of.answer.name), []).append(of)
+    return list(map(nearest, found.values()))
+
+
+def entries_of(opened: Opened, tasks: Iterable[Task]) -> list[Entry]:
+    """The answers to these tasks, each with every reference of its task."""
     common = digest(
         FORMAT,
         opened.ratest.read_bytes(),
@@ -107,16 +144,17 @@ def entries_of(opened: Opened) -> list[Entry]:
     )
     return [
         Entry(
-            task,
+            by,
             answer,
             (
                 ""
-                if task.fault or answer.fault
-                else digest(common.encode(), task.reference, answer.text.query)
+                if by.fault or answer.fault
+                else digest(common.encode(), by.reference, answer.text.query)
             ),
         )
-        for task in opened.given.tasks
+        for task in tasks
         for answer in task.answers
+        for by in task.references
     ]
 
 
@@ -130,13 +168,14 @@ def run_all(
     pending = {key: of for key, of in keys.items() if not results.is_final(key, opened.limits)}
     if len(pending) < len(keys):
         log.info("%d of the runs are kept from before", len(keys) - len(pending))
-    references = {task.name: f"{number}.reference" for number, task in enumerate(given.tasks)}
+    asked = [by for task in given.tasks for by in task.references]
+    references = {(by.name, by.source): f"{at}.reference" for at, by in enumerate(asked)}
     jobs = []
     for key, of in pending.items():
-        files = (references[of.task.name], f"{key}.answer")
+        files = (references[of.task.name, of.task.source], f"{key}.answer")
         jobs.append(parallel.Job(key, ("schema.sql", ".", *files, *opened.options), files))
     texts = {
-        **{references[task.name]: task.reference for task in given.tasks},
+        **{references[by.name, by.source]: by.reference for by in asked},
         **{f"{key}.answer": of.answer.text.query for key, of in pending.items()},
     }
     for key, ran in parallel.run(jobs, {"ratest": opened.ratest}, given.files, texts, means, work):

@@ -82,8 +82,11 @@ def run(arguments: argparse.Namespace) -> int:
         for task in by_trying:
             try:
                 assert trial
-                made += trying.mutants(trial, task, given.settings, results, arguments.jobs)
+                tried_task = trying.mutants(trial, task, given.settings, results, arguments.jobs)
+                made += tried_task.judged
                 asked[task.label] = []
+                for line in tried_task.doubts:
+                    log.warning("task %s: %s", shown(task.label), shown(line))
             except Fault as fault:
                 log.warning("%s", fault)
         write(results.folder / "mutants.csv", told.csv_of(made))

@@ -256,7 +256,11 @@ def served(
         trial = None if arguments.only_proved else trial_of(found, arguments.engine)
         trier = trier_of(trial, work / f"{number}.trial", processes) if trial else None
         by_trying = tried_tasks(found.given.tasks, trier, jobs) if trier else frozenset()
-        if all(task.fault and task.label not in by_trying for task in found.given.tasks):
+        if all(
+            by.fault and (by.label, by.source) not in by_trying
+            for task in found.given.tasks
+            for by in task.references
+        ):
             if name:
                 log.error("%s is not offered: no task can be graded", shown(name))
                 continue
@@ -328,12 +332,13 @@ def trier_of(trial: Trial, folder: Path, processes: Mapping[str, Forks]) -> Trie
     return Trier(trial.material, folder, trial.options, processes[trial.material.product])
 
 
-def tried_tasks(tasks: Sequence[Task], trier: Trier, jobs: int) -> frozenset[str]:
-    """The labels of those whose reference `ratest` refuses and the database answers."""
-    left = [task for task in tasks if task.fault and task.reference]
+def tried_tasks(tasks: Sequence[Task], trier: Trier, jobs: int) -> frozenset[tuple[str, str]]:
+    """The references that `ratest` refuses and the database answers, by the labels of their tasks
+    and their files."""
+    left = [by for task in tasks for by in task.references if by.fault and by.reference]
     with ThreadPoolExecutor(jobs) as threads:
         return frozenset(
-            task.label
+            (task.label, task.source)
             for task, answers in zip(left, threads.map(lambda task: is_answered(task, trier), left))
             if answers
         )
@@ -350,7 +355,7 @@ def is_answered(task: Task, trier: Trier) -> bool:
         if not isinstance(found.outcome, Refusal):
             return True
         why = words.refusal(found.outcome, found.engine)
-    log.error("task %s is not offered: reference.sql: %s", shown(task.name), why)
+    log.error("task %s is not offered: %s: %s", shown(task.name), task.source, why)
     return False
 
 

@@ -86,7 +86,14 @@ def has_function(name: str) -> str:
 def is_of_syntax(message: str) -> bool:
     """Whether an engine's message says that it can't parse a text."""
     return any(
-        word in message for word in ("syntax error", "incomplete input", "unrecognized token")
+        word in message
+        # The last is PostgreSQL's, of LIMIT 0, 2.
+        for word in (
+            "syntax error",
+            "incomplete input",
+            "unrecognized token",
+            "syntax is not supported",
+        )
     )
 
 

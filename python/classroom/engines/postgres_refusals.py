@@ -29,4 +29,4 @@ def look(which: int, text: str) -> None:
     if "\0" in text:
         raise Refused(which, "a byte that is no character of a text", text.index("\0"))
     if not begins_as_query(text):
-        raise Bars(which, "it is no query, which begins with SELECT, WITH or VALUES")
+        raise Bars(which, "it is no query, which begins with SELECT, WITH, VALUES or TABLE")

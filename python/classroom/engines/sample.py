@@ -184,7 +184,7 @@ class Database:
             marks = ", ".join("?" * len(held.table.columns))
             self.puts.append(f"INSERT INTO {quoted(held.table.name)} VALUES ({marks})")
         bound(self.connection)
-        tie_keys.add_function(self.connection)
+        tie_keys.add_functions(self.connection)
         self.connection.set_authorizer(self.may)
         self.connection.set_progress_handler(self.step, STEPS)
 

@@ -207,7 +207,7 @@ class Sqlite:
         self.rewritten: set[int] = set()
         self.check_both()
         self.label = sqlite_words.label(sqlite3.sqlite_version, self.rewritten)
-        tie_keys.add_function(self.stored[0].db)
+        tie_keys.add_functions(self.stored[0].db)
         self.ways = [[*tie_keys.untied_texts(text, parts.pool, "sqlite")] for text in self.queries]
         self.ranked = [ranks.ranked(text, "sqlite") for text in self.queries]
 
@@ -263,7 +263,7 @@ class Sqlite:
         if "\0" in text:
             raise Refused(which, "a byte that is no character of a text", text.index("\0"))
         if not begins_as_query(text):
-            raise Bars(which, "it is no query, which begins with SELECT, WITH or VALUES")
+            raise Bars(which, "it is no query, which begins with SELECT, WITH, VALUES or TABLE")
         found = clock(text)
         if found:
             raise Bars(which, f"it asks the clock: {found}")

@@ -28,6 +28,8 @@ from classroom.exercise.typed_rows import POSTGRESQL, SQLITE, product_of
 
 RESULTS = "results"
 REFERENCE, ANSWERS = "reference.sql", "answers"
+# Further right queries of a task, reference-2.sql to reference-9.sql.
+OTHER_REFERENCE = re.compile(r"reference-([2-9])\.sql")
 # One byte more than `ratest` reads of a text: what is longer is as long.
 MOST_BYTES = 4_194_305
 
@@ -58,6 +60,17 @@ class Task:
     limit: str = ""  # that the reference alone passes over these rows
     settings: TaskSettings = TaskSettings()
     remarks: tuple[str, ...] = ()  # on the text of the reference
+    source: str = REFERENCE  # the file of the reference
+    others: tuple[Task, ...] = ()  # the task with each further reference, and without answers
+
+    @property
+    def references(self) -> tuple[Task, ...]:
+        """The task by each of its right queries, in the order of their files."""
+        return (self, *self.others)
+
+    def with_settings(self, said: TaskSettings) -> Task:
+        others = tuple(replace(other, settings=said) for other in self.others)
+        return replace(self, settings=said, others=others)
 
     @property
     def label(self) -> str:
@@ -107,7 +120,7 @@ def load(folder: Path) -> Exercise:
     if not tasks:
         raise Fault(f"{shown(str(folder))}: no task: neither reference.sql nor a folder with one")
     said = settings.read(folder, [task.name for task in tasks])
-    tasks = tuple(replace(task, settings=said.of_task(task.name)) for task in tasks)
+    tasks = tuple(task.with_settings(said.of_task(task.name)) for task in tasks)
     schema = read(folder / "schema.sql")
     try:
         tables = tables_of(schema.decode("utf-8", "replace"))
@@ -185,15 +198,13 @@ def _tasks(folder: Path, top: Folder, ignored: list[Path], dialect: Dialect) -> 
 
 
 def _task(name: str, folder: Path, own: Folder, ignored: list[Path], dialect: Dialect) -> Task:
-    fault, reference, answers = "", CleanText(), []
-    try:
-        reference = _reference(read(folder / REFERENCE), dialect)
-    except FileNotFoundError:
-        fault = f"no file {REFERENCE}"
-    except OSError as why:
-        fault = f"{REFERENCE}: {why.strerror}"
-    except NotRead as why:
-        fault = f"{REFERENCE}: {why}"
+    task, answers = _with_reference(name, folder, REFERENCE, dialect), []
+    others = tuple(
+        _with_reference(name, folder, file, dialect)
+        for file in sorted(own.names())
+        if OTHER_REFERENCE.fullmatch(file)
+    )
+    fault = task.fault
     if own.holds(ANSWERS):
         try:
             with own.folder(ANSWERS) as place:
@@ -204,7 +215,21 @@ def _task(name: str, folder: Path, own: Folder, ignored: list[Path], dialect: Di
                         ignored.append(folder / ANSWERS / file)
         except NotRead as why:
             fault = fault or f"{ANSWERS}: {why}"
-    return Task(name, folder, tuple(answers), reference.query, fault, remarks=reference.remarks)
+    return replace(task, answers=tuple(answers), fault=fault, others=others)
+
+
+def _with_reference(name: str, folder: Path, file: str, dialect: Dialect) -> Task:
+    """The task by the reference in one file."""
+    fault, text = "", CleanText()
+    try:
+        text = _reference(read(folder / file), dialect)
+    except FileNotFoundError:
+        fault = f"no file {file}"
+    except OSError as why:
+        fault = f"{file}: {why.strerror}"
+    except NotRead as why:
+        fault = f"{file}: {why}"
+    return Task(name, folder, (), text.query, fault, remarks=text.remarks, source=file)
 
 
 def _reference(raw: bytes, dialect: Dialect) -> CleanText:

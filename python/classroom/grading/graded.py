@@ -31,6 +31,7 @@ class Graded:
     key: str = ""  # of the record of its run
     trial: Verdict | None = None  # what a database said of it
     trial_key: str = ""  # of the record of that
+    others: tuple[Graded, ...] = ()  # the same answer against the task's other references
 
     @property
     def grade(self) -> Grade:
@@ -101,7 +102,9 @@ class Graded:
     def whole_fault(self) -> str:
         """The fault with what is of the reference, for the teacher."""
         return "; ".join(
-            filter(None, (self.fault, self.of_reference and f"reference.sql: {self.of_reference}"))
+            filter(
+                None, (self.fault, self.of_reference and f"{self.task.source}: {self.of_reference}")
+            )
         )
 
     @property

@@ -1,13 +1,14 @@
 """What is told of each answer: the text of its verdict, and how many have which."""
 from __future__ import annotations
 
-from collections.abc import Iterator, Sequence
+from collections.abc import Iterable, Iterator, Sequence
 
 from classroom.base.errors import shown
 from classroom.grading.graded import Graded
 from classroom.verdict import sentences
 from classroom.verdict.decision import Grade
-from classroom.verdict.verdict import Doubt
+from classroom.verdict.verdict import Verdict
+from classroom.verdict.witness import Undecided
 from ratest.draw import counted
 
 
@@ -35,13 +36,28 @@ def summary(graded: Sequence[Graded]) -> str:
     return f"{counted(len(graded), 'answer')}: {', '.join(told)}" if told else "no answers"
 
 
+def differing(references: Sequence[Graded]) -> Iterator[str]:
+    """Of each further reference that answers otherwise than the first one of its task, on which
+    rows."""
+    for of in references:
+        if of.grade != Grade.DIFFERS:
+            continue
+        rows = of.tried_witness or of.outcome
+        kept = rows.best if isinstance(rows, Undecided) else getattr(rows, "kept", None)
+        named = sentences.rows_named(kept or ())
+        yield (
+            f"task {shown(of.task.label)}: {of.task.source} and {of.answer.name} answer differently"
+            f" on {named}; an answer that agrees with either is right"
+        )
+
+
 def doubts(graded: Sequence[Graded]) -> Iterator[str]:
-    """What the trials showed of references alone, each once a task with the fewest rows."""
-    least: dict[tuple[str, bool], Doubt] = {}
-    for of in graded:
-        for doubt in of.trial.doubts if of.trial else ():
-            key = of.task.label, bool(doubt.failure)
-            if key not in least or len(doubt.rows) < len(least[key].rows):
-                least[key] = doubt
-    for (task, _), doubt in least.items():
-        yield f"task {shown(task)}: reference.sql {shown(sentences.doubt(doubt))}"
+    """What the trials showed of references alone, once a task."""
+    for task in dict.fromkeys(of.task.label for of in graded):
+        for told in sentences.doubts(trials(of for of in graded if of.task.label == task)):
+            yield f"task {shown(task)}: {shown(told)}"
+
+
+def trials(graded: Iterable[Graded]) -> Iterator[tuple[str, Verdict | None]]:
+    """Those of answers, each with the file of the reference."""
+    return ((one.task.source, one.trial) for of in graded for one in (of, *of.others))

@@ -77,18 +77,24 @@ def opened(arguments: argparse.Namespace, seconds: float, conflicts: int | None 
         is_proved,
     )
     for task in made.given.tasks:
-        for remark in task.remarks:
-            log.warning("task %s: reference.sql: %s", shown(task.name), remark)
-        if task.fault:
-            is_tried = tries and task.reference
-            log.log(
-                logging.INFO if is_tried else logging.WARNING,
-                "task %s is not %s: %s",
-                shown(task.name),
-                "proved" if is_tried else "graded",
-                shown(task.fault),
-            )
+        for one in task.references:
+            tell(one, tries)
     return made
+
+
+def tell(task: Task, tries: bool) -> None:
+    """Tells what is to be said of a reference."""
+    for remark in task.remarks:
+        log.warning("task %s: %s: %s", shown(task.name), task.source, remark)
+    if task.fault:
+        is_tried = tries and task.reference
+        log.log(
+            logging.INFO if is_tried else logging.WARNING,
+            "task %s is not %s: %s",
+            shown(task.name),
+            "proved" if is_tried else "graded",
+            shown(task.fault),
+        )
 
 
 def asked(
@@ -101,14 +107,16 @@ def asked(
         work = Path(name)
         for file, text in given.files.items():
             fill(work / file, text)
-        tasks = []
-        for task in given.tasks:
+
+        def one(task: Task) -> Task:
             # Not the name of a table's file.
             fill(work / "reference", task.reference)
             ran = program.run(
                 ratest, ["schema.sql", ".", "reference", "reference", *options], limits, work
             )
-            tasks.append(found(given, task, ran, options, goes_on))
+            return found(given, task, ran, options, goes_on)
+
+        tasks = [replace(one(task), others=tuple(map(one, task.others))) for task in given.tasks]
     return replace(given, tasks=tuple(tasks))
 
 
@@ -131,11 +139,11 @@ def found(given: Exercise, task: Task, ran: Ran, options: Sequence[str], goes_on
     if task.fault:
         return task
     if isinstance(outcome, witness.Refused):
-        return replace(task, fault=f"reference.sql: {outcome.fault}")
+        return replace(task, fault=f"{task.source}: {outcome.fault}")
     if isinstance(outcome, witness.Limit):
         return replace(task, limit=outcome.fault)
     if ran.passed:
         return replace(task, limit=f"the limit of {ran.passed}")
     if ran.status == printed.FILE_FAULT:
-        return replace(task, fault=f"reference.sql: {line}")
+        return replace(task, fault=f"{task.source}: {line}")
     return task

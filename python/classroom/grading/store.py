@@ -27,10 +27,11 @@ from typing import Any
 from classroom.grading import graded as graded_answers
 from classroom.grading import grades_files
 from classroom.process import remote as worker
-from classroom.exercise.exercise import Answer, Exercise, Task, digest
+from classroom.exercise.exercise import REFERENCE, Answer, Exercise, Task, digest
 from classroom.base.errors import Fault, shown
 from classroom.base.files import UNFINISHED, write
 from classroom.grading.graded import Graded
+from classroom.grading.nearest import nearest
 from classroom.process.limits import Limits, Ran
 from classroom.verdict import verdict
 from classroom.verdict.verdict import Verdict
@@ -149,16 +150,21 @@ class Results:
                 write(self.folder / name, content)
 
     def publish(
-        self, given: Exercise, graded: Sequence[Graded], tables: Mapping[str, bytes]
+        self,
+        given: Exercise,
+        graded: Sequence[Graded],
+        tables: Mapping[str, bytes],
+        references: Sequence[Graded] = (),
     ) -> None:
         """Writes what is made of all records and the tables of the marks, and removes what was
-        written before and belongs to no answer any more. What else there is in the folder is left
-        alone."""
+        written before and belongs to no answer any more, nor to a pair of references. What else
+        there is in the folder is left alone."""
         texts = {f"tasks/{of.task.name}/{of.answer.name}.txt": of for of in graded}
+        each = [*references, *(one for of in graded for one in (of, *of.others))]
         wanted = {
             *texts,
-            *(f"runs/{of.key}.json" for of in graded if of.key),
-            *(trial_name(of.trial_key) for of in graded if of.trial_key),
+            *(f"runs/{of.key}.json" for of in each if of.key),
+            *(trial_name(of.trial_key) for of in each if of.trial_key),
         }
         written = self._written()
         self.will_write(wanted)
@@ -168,25 +174,8 @@ class Results:
             _json(
                 {
                     "shared": given.digest,
-                    "references": {
-                        task.name: {
-                            "text": digest(task.reference),
-                            "fault": task.fault,
-                            "limit": task.limit,
-                        }
-                        for task in given.tasks
-                    },
-                    "answers": [
-                        {
-                            "task": of.task.name,
-                            "answer": of.answer.name,
-                            "text": digest(of.answer.text.whole),
-                            "fault": of.answer.fault,
-                            "run": of.key,
-                            "trial": of.trial_key,
-                        }
-                        for of in graded
-                    ],
+                    "references": {task.name: _references(task) for task in given.tasks},
+                    "answers": list(map(_answer, graded)),
                 }
             ),
         )
@@ -249,8 +238,9 @@ class Results:
             kept = json.loads((self.folder / "answers.json").read_bytes())
             known = {(of["task"], of["answer"]): of for of in kept["answers"]}
             references = {
-                name: (of["text"], of["fault"], of["limit"])
+                (name, source): (by["text"], by["fault"], by["limit"])
                 for name, of in kept["references"].items()
+                for source, by in {REFERENCE: of, **of.get("others", {})}.items()
             }
             shared = kept["shared"]
         except (OSError, ValueError, KeyError, TypeError, AttributeError):
@@ -260,25 +250,45 @@ class Results:
         again = "has changed since it was graded: classroom grade grades it anew"
         if shared != given.digest:
             raise Fault(f"{shown(str(given.folder))}: the schema or a row {again}")
-        tasks, found = [], []
-        for task in given.tasks:
-            text, fault, limit = references.get(task.name, ("", "", ""))
+
+        def as_found(task: Task) -> Task:
+            text, fault, limit = references.pop((task.name, task.source), ("", "", ""))
             if text != digest(task.reference):
-                raise Fault(f"task {shown(task.name)}: reference.sql {again}")
-            tasks.append(replace(task, fault=fault, limit=limit))
+                raise Fault(f"task {shown(task.name)}: {task.source} {again}")
+            return replace(task, fault=fault, limit=limit)
+
+        tasks, found = [], []
+        for given_task in given.tasks:
+            others = tuple(map(as_found, given_task.others))
+            task = replace(as_found(given_task), others=others)
+            tasks.append(task)
+            for name, source in references:
+                if name == task.name:
+                    raise Fault(f"task {shown(name)}: {shown(source)} {again}")
             for answer in task.answers:
                 of = known.pop((task.name, answer.name), None)
-                key = str(of["run"]) if of else ""
+                records = {REFERENCE: of, **of.get("others", {})} if of else {}
+                keys = {source: str(record["run"]) for source, record in records.items()}
                 if (
                     not of
                     or of["text"] != digest(answer.text.whole)
                     or of["fault"] != answer.fault
-                    or key
-                    and not self.run(key)
+                    or any(key and not self.run(key) for key in keys.values())
                 ):
                     raise Fault(f"task {shown(task.name)}: the answer {shown(answer.name)} {again}")
                 found.append(
-                    self.graded_one(tasks[-1], answer, given, key, str(of.get("trial", "")))
+                    nearest(
+                        [
+                            self.graded_one(
+                                by,
+                                answer,
+                                given,
+                                keys.get(by.source, ""),
+                                str(records.get(by.source, {}).get("trial", "")),
+                            )
+                            for by in task.references
+                        ]
+                    )
                 )
         return replace(given, tasks=tuple(tasks)), found
 
@@ -307,6 +317,30 @@ class Results:
             key = path.name.removesuffix(".json").removesuffix(".trial")
             if re.fullmatch("[0-9a-f]{64}", key) and path.suffix == ".json" and key not in keys:
                 path.unlink()
+
+
+def _references(task: Task) -> dict[str, object]:
+    """What was found of the references of a task."""
+    first, *others = (
+        {"text": digest(by.reference), "fault": by.fault, "limit": by.limit}
+        for by in task.references
+    )
+    if not others:
+        return dict(first)
+    return {**first, "others": {by.source: one for by, one in zip(task.others, others)}}
+
+
+def _answer(of: Graded) -> dict[str, object]:
+    """An answer with the keys of its records, by each reference."""
+    each = {one.task.source: {"run": one.key, "trial": one.trial_key} for one in (of, *of.others)}
+    return {
+        "task": of.task.name,
+        "answer": of.answer.name,
+        "text": digest(of.answer.text.whole),
+        "fault": of.answer.fault,
+        **each.pop(REFERENCE),
+        **({"others": each} if each else {}),
+    }
 
 
 def trial_name(key: str) -> str:

@@ -137,12 +137,12 @@ class Mistakes:
 
     def batches(self, left: Mapping[str, Graded]) -> Iterator[Batch]:
         """Some answers of one task each, in as many processes as there may be."""
-        by_task: dict[tuple[str, Looked], dict[str, Graded]] = {}
+        by_task: dict[tuple[str, str, Looked], dict[str, Graded]] = {}
         for key, of in left.items():
             how = self.how(of)
             if how:
-                by_task.setdefault((of.task.name, how), {})[key] = of
-        for (_, how), group in by_task.items():
+                by_task.setdefault((of.task.name, of.task.source, how), {})[key] = of
+        for (_, _, how), group in by_task.items():
             keys = list(group)
             size = min(IN_BATCH, max(1, len(left) // (2 * parallel.cores())))
             for start in range(0, len(keys), size):

@@ -3,6 +3,7 @@ from __future__ import annotations
 
 from collections.abc import Iterable, Mapping, Sequence
 from dataclasses import replace
+from typing import NamedTuple
 
 from classroom.exercise.exercise import Task, digest
 from classroom.base.errors import Fault, shown
@@ -16,18 +17,26 @@ from classroom.sql.schema import Table
 from classroom.exercise.settings import Settings
 from classroom.verdict import verdict
 from classroom.verdict import sentences as words
-from classroom.verdict.verdict import Cause, Differs, NoDifference
+from classroom.verdict.verdict import Cause, Differs, NoDifference, NotDetermined
 from classroom.grading.trials import Pair, Trial, verdicts
 
 
-def mutants(
-    trial: Trial, task: Task, said: Settings, results: Results, jobs: int | None
-) -> list[Judged]:
-    """The mutants of a task with their verdicts; a Fault where they can't be made or tried."""
+class OfTask(NamedTuple):
+    """The mutants of a task with their verdicts, and what is told of its reference alone."""
+
+    judged: list[Judged]
+    doubts: list[str]
+
+
+def mutants(trial: Trial, task: Task, said: Settings, results: Results, jobs: int | None) -> OfTask:
+    """A Fault where the mutants of a task can't be made or tried."""
     back, made = of_task(task, [held.table for held in trial.material.pool.held], said)
-    check_back(task, asked(trial, [back], results, jobs).get(back))
+    same = asked(trial, [back], results, jobs).get(back)
+    check_back(task, same)
     found = asked(trial, made, results, jobs)
-    return told(made, found)
+    return OfTask(
+        told(made, found), words.doubts((task.source, one) for one in (same, *found.values()))
+    )
 
 
 def of_task(task: Task, tables: Sequence[Table], said: Settings) -> tuple[Question, list[Question]]:
@@ -51,7 +60,7 @@ def check_back(task: Task, found: verdict.Verdict | None) -> None:
     """A Fault where the reference can't be tried, or sqlglot doesn't write it back as it means."""
     if found and isinstance(found.outcome, Differs):
         raise Fault(f"task {shown(task.name)}: sqlglot writes reference.sql back as another query")
-    if not found or not isinstance(found.outcome, NoDifference):
+    if not found or not isinstance(found.outcome, (NoDifference, NotDetermined)):
         of = told_of(found)
         raise Fault(f"task {shown(task.name)}: reference.sql: {of.why or of.kind}")
 
@@ -90,7 +99,7 @@ def told_of(found: verdict.Verdict | None) -> Verdict:
         return Verdict(TOLD, len(of.kept), engine=found.engine)
     if isinstance(of, NoDifference):
         return Verdict(NOT_FOUND, engine=found.engine)
-    if isinstance(of, verdict.NotDetermined):
+    if isinstance(of, NotDetermined):
         return Verdict(NOT_DETERMINED, engine=found.engine)
     return Verdict(
         OPEN if of.cause == Cause.LIMIT else REFUSED, why=words.refusal(of, found.engine)

@@ -11,9 +11,9 @@ CLOCKS = {"date": 0, "time": 0, "datetime": 0, "julianday": 0, "unixepoch": 0, "
 
 
 def begins_as_query(text: str) -> bool:
-    """Whether the first word is SELECT, WITH or VALUES, in parentheses or not."""
+    """Whether the first word is SELECT, WITH, VALUES or TABLE, in parentheses or not."""
     first = next((token for token in tokens(text) if token.text != "("), None)
-    return first is not None and first.text.lower() in ("select", "with", "values")
+    return first is not None and first.text.lower() in ("select", "with", "values", "table")
 
 
 def is_cut(text: str) -> bool:

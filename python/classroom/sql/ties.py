@@ -10,28 +10,38 @@ from collections.abc import Callable, Mapping, Sequence
 import sqlglot
 from sqlglot import exp
 
+from classroom.sql.tie_windows import quote_names, with_key, without_names
 from classroom.sql.tokens import tokens
 from classroom.sql.tree import SETS, UNREAD, Node, nodes
 
 # The text of a key, of the expressions by which rows are known.
 KeyOf = Callable[[Sequence[str]], str]
-# Whatever the frame is, the order of tied rows counts; the others see the frame's peers alike.
-NUMBERED = frozenset({"ROW_NUMBER", "NTILE", "LAG", "LEAD", "FIRST_VALUE"})
-RANKED = frozenset({"RANK", "DENSE_RANK", "PERCENT_RANK", "CUME_DIST"})
+# What SQLite calls in place of GROUP_CONCAT: it orders texts of a sign, which is 0 for up and 1
+# for down, a key of so many characters and what is joined.
+JOINED, KEY_LENGTH = "ratest_joined", 16
+JSON = frozenset({"json_agg", "jsonb_agg"})
 MOST_WORDS = 2_000  # of a query that is looked at
 # Without one of these words no order chooses rows.
-CHOOSING = frozenset({"limit", "fetch", "offset", "over", "on", "string_agg", "array_agg"})
+CHOOSING = JSON | {"limit", "fetch", "offset", "over", "on"}
+CHOOSING |= {"string_agg", "array_agg", "group_concat"}
 
 
 def chooses(tree: Node) -> bool:
     """Whether an order in the query may choose rows."""
     return any(
-        isinstance(node, (exp.Limit, exp.Fetch, exp.Offset, exp.Window, exp.ArrayAgg))
-        or isinstance(node, exp.GroupConcat)
+        isinstance(node, (exp.Limit, exp.Fetch, exp.Offset, exp.Window))
+        or is_joining(node)
         or isinstance(node, exp.Distinct)
         and bool(node.args.get("on"))
         for node in nodes(tree)
     )
+
+
+def is_joining(node: Node) -> bool:
+    """Whether an aggregate puts values one behind the other."""
+    if isinstance(node, exp.Anonymous):
+        return str(node.this).lower() in JSON
+    return isinstance(node, (exp.GroupConcat, exp.ArrayAgg))
 
 
 def untied(
@@ -46,7 +56,10 @@ def untied(
         return None
     try:
         tree = sqlglot.parse_one(query, read=dialect)
-        if tree is None or not chooses(tree) or not is_kept(query, tree, dialect):
+        if tree is None or not chooses(tree):
+            return None
+        quote_names(tree)
+        if not is_kept(query, tree, dialect):
             return None
         writer = _Writer(dialect, columns, key_of, is_down)
         made = writer.written(tree)
@@ -71,6 +84,8 @@ class _Writer:
     ) -> None:
         self.dialect, self.key_of, self.is_down = dialect, key_of, is_down
         self.columns: dict[str, Sequence[str]] = dict(columns)
+        self.common: dict[str, Node] = {}  # the queries of WITH
+        self.sorted: set[int] = set()  # subqueries whose order has a key
         self.count = 0  # of the keys that were put
 
     def written(self, tree: Node) -> Node:
@@ -78,6 +93,7 @@ class _Writer:
             alias = cte.args["alias"]
             names = [self.spelled(one) for one in alias.args.get("columns") or []]
             self.columns[str(cte.alias).lower()] = names or self.names(cte.this)
+            self.common[str(cte.alias).lower()] = cte.this
         for select in [node for node in nodes(tree) if isinstance(node, exp.Select)]:
             self.select(select)
         for union in [node for node in nodes(tree) if isinstance(node, SETS)]:
@@ -93,13 +109,12 @@ class _Writer:
         known = self.known(select)
         if not known:
             return
+        without_names(select)
         for node in [one for one in nodes(select) if isinstance(one, exp.Window)]:
-            if node.find_ancestor(exp.Select) is select and self.is_open(node):
-                self.put(node, known)
-        if self.dialect != "sqlite" and not select.args.get("group"):
-            self.aggregates(select, known)
-        elif self.dialect != "sqlite":
-            self.aggregates(select, self.from_columns(select))
+            if node.find_ancestor(exp.Select) is select:
+                inner = node.this.this if isinstance(node.this, exp.Filter) else node.this
+                with_key(node, lambda: self.key(known), is_joining(inner))
+        self.aggregates(select)
         distinct = select.args.get("distinct")
         if distinct and distinct.args.get("on"):
             if not select.args.get("order"):
@@ -120,24 +135,68 @@ class _Writer:
                     select.set("group", exp.Group(expressions=groups))
             self.put(select, known)
 
-    def aggregates(self, select: Node, known: list[str]) -> None:
-        for node in [
-            one for one in nodes(select) if isinstance(one, (exp.GroupConcat, exp.ArrayAgg))
-        ]:
-            if node.find_ancestor(exp.Select) is not select or not known:
-                continue
-            name = "separator" if isinstance(node, exp.GroupConcat) else "this"
-            inner = node.args.get(name)
-            if isinstance(node.this, exp.Order):
-                inner, name = node.this, "this"
-            if isinstance(inner, exp.Distinct) or isinstance(node.this, exp.Distinct):
-                continue
+    def aggregates(self, select: Node) -> None:
+        """Gives what joins values an order: its own, that of the subquery that it reads, or one of
+        the key alone."""
+        found = [
+            one
+            for one in nodes(select)
+            if is_joining(one)
+            and one.find_ancestor(exp.Select) is select
+            and not isinstance(outer_of(one), exp.Window)
+        ]
+        source = self.ordered_source(select)
+        known = self.from_columns(select) if found else []
+        for node in found:
+            inner = joined_values(node)
             if isinstance(inner, exp.Order):
-                inner.append("expressions", self.key(known))
-            elif inner is not None and name == "this":
-                node.set("this", exp.Order(this=inner.copy(), expressions=[self.key(known)]))
-            else:
-                node.set("this", exp.Order(this=node.this.copy(), expressions=[self.key(known)]))
+                if known and not isinstance(inner.this, exp.Distinct):  # whose values never tie
+                    inner.append("expressions", self.key(known))
+            elif source is not None:
+                self.order_source(source)
+            elif known and self.dialect == "sqlite":
+                self.join(node, inner, known)
+            elif known and not isinstance(inner, exp.Distinct):
+                order = exp.Order(this=inner.copy(), expressions=[self.key(known)])
+                inner.replace(order)
+
+    def order_source(self, source: Node) -> None:
+        """Puts a key behind the order of a subquery, once; one that is cut has its own."""
+        if self.is_cut(source) or id(source) in self.sorted:
+            return
+        self.sorted.add(id(source))
+        is_distinct = bool(source.args.get("distinct"))
+        items = [self.sql(unaliased(item)) for item in source.expressions]
+        known = items if is_distinct else self.known(source)
+        if known:
+            self.put(source, known)
+
+    def join(self, node: Node, inner: Node, known: list[str]) -> None:
+        """SQLite's GROUP_CONCAT as a function that orders its values."""
+        is_distinct = isinstance(inner, exp.Distinct)
+        value = inner.expressions[0] if is_distinct else inner
+        key = self.key([self.sql(value)] if is_distinct else known).this
+        text = exp.Cast(this=value.copy(), to=exp.DataType.build("text"))
+        signed = exp.DPipe(this=exp.Literal.string(str(int(self.is_down))), expression=key)
+        made: Node = exp.DPipe(this=signed, expression=text)
+        if is_distinct:
+            made = exp.Distinct(expressions=[made])
+        separator = node.args.get("separator")
+        rest = [separator.copy()] if separator is not None else []
+        node.replace(exp.Anonymous(this=JOINED, expressions=[made, *rest]))
+
+    def ordered_source(self, select: Node) -> Node | None:
+        """The ordered SELECT whose rows are all that a SELECT reads: engines join values in its
+        order, which is the usual way to give them one."""
+        found = sources(select)
+        if len(found) != 1:
+            return None
+        inner: Node | None = found[0]
+        if isinstance(inner, exp.Table):
+            inner = self.common.get(str(inner.name).lower())
+        while isinstance(inner, exp.Subquery):
+            inner = inner.this
+        return inner if isinstance(inner, exp.Select) and inner.args.get("order") else None
 
     def compound(self, union: Node) -> Node:
         """A compound of SELECTs that LIMIT cuts, as a table whose rows are ordered."""
@@ -176,19 +235,6 @@ class _Writer:
         key = sqlglot.parse_one(f"SELECT {self.key_of(known)}", read=self.dialect).expressions[0]
         is_first = (self.dialect == "sqlite") != self.is_down
         return exp.Ordered(this=key, desc=self.is_down, nulls_first=is_first)
-
-    def is_open(self, window: Node) -> bool:
-        """Whether the value depends on the order of tied rows, in a way that a key can show."""
-        if window.args.get("alias") or isinstance(window.this, exp.Identifier):
-            return False
-        inner = window.this.this if isinstance(window.this, exp.Filter) else window.this
-        name = inner.name if isinstance(inner, exp.Anonymous) else inner.sql_name()
-        name, spec = str(name).upper(), window.args.get("spec")
-        if name in RANKED:
-            return False
-        if spec is None:
-            return name in NUMBERED
-        return name in NUMBERED - {"FIRST_VALUE"} or str(spec.args.get("kind")).upper() == "ROWS"
 
     def is_cut(self, select: Node) -> bool:
         return bool(select.args.get("limit") or select.args.get("offset"))
@@ -269,6 +315,22 @@ class _Writer:
 def is_last(select: Node) -> bool:
     """Whether what stands behind a SELECT is of the compound that it ends."""
     return isinstance(select.parent, SETS) and select.arg_key == "expression"
+
+
+def outer_of(aggregate: Node) -> Node | None:
+    """What stands around an aggregate with its FILTER."""
+    outer: Node | None = aggregate.parent
+    return outer.parent if isinstance(outer, exp.Filter) else outer
+
+
+def joined_values(aggregate: Node) -> Node:
+    """What is joined, with DISTINCT or the order before it."""
+    if isinstance(aggregate, exp.Anonymous):
+        made: Node = aggregate.expressions[0]
+        return made
+    inner: Node = aggregate.this
+    separator = aggregate.args.get("separator")
+    return separator if isinstance(separator, exp.Order) else inner
 
 
 def unaliased(item: Node) -> Node:

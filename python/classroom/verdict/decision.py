@@ -66,6 +66,7 @@ class NoteKind(Enum):
     SLIGHT_SAME = 6  # no difference was found as a set; the value is a Remark
     OTHERWISE = 7  # it agrees, and the database answers otherwise; the value is a Remark
     NOT_LOOKED = 8  # what counts as wrong was looked at by no database; the value names it
+    OTHER_REFERENCE = 9  # it is compared with another of several references; the value is its file
 
 
 class Note(NamedTuple):

@@ -1,6 +1,8 @@
 """What is told of a tried verdict, in the same words wherever it is shown."""
 from __future__ import annotations
 
+from collections.abc import Iterable, Sequence
+
 from classroom.sql.schema import literal
 from classroom.verdict.compare import COLUMNS, DUPLICATES, FAILURE, LEFT_OPEN, ORDER, ROWS
 from classroom.exercise.cells import Cells
@@ -18,7 +20,9 @@ from classroom.verdict.verdict import (
     Remark,
     Side,
     Verdict,
+    WitnessRow,
 )
+from classroom.verdict.witness import Kept
 
 DIFFERS, NO_DIFFERENCE, NOT_DETERMINED = "differs", "no difference found", "not determined"
 TRIED = "A database found this by trying ({engine}); it is not proved."
@@ -95,15 +99,32 @@ def remark(of: Remark, tells_rows: bool = True) -> str:
     )
 
 
+def rows_named(rows: Sequence[WitnessRow | Kept]) -> str:
+    """As `the rows bar 1, beer 2 and others`."""
+    named = ", ".join(f"{row.table} {row.number}" for row in rows[:MOST_ROWS])
+    more = " and others" if len(rows) > MOST_ROWS else ""
+    return f"the rows {named}{more}" if named else "no rows"
+
+
 def doubt(of: Doubt) -> str:
     """What a teacher is told of a reference, in words behind its name."""
-    named = ", ".join(f"{row.table} {row.number}" for row in of.rows[:MOST_ROWS])
-    more = " and others" if len(of.rows) > MOST_ROWS else ""
-    on = f"the rows {named}{more}" if named else "no rows"
+    on = rows_named(of.rows)
     if of.failure:
         return f"fails on {on}: {of.failure}; such rows tell nothing of an answer"
     advice = f"; with {of.keys} as last keys of its ORDER BY it is determined" if of.keys else ""
     return f"has ties, for example on {on}; such rows tell nothing of an answer{advice}"
+
+
+def doubts(found: Iterable[tuple[str, Verdict | None]]) -> list[str]:
+    """What trials showed of references alone, of each file with the fewest rows: its ties, and that
+    it fails."""
+    least: dict[tuple[str, bool], Doubt] = {}
+    for source, verdict in found:
+        for of in verdict.doubts if verdict else ():
+            known = least.get((source, bool(of.failure)))
+            if known is None or len(of.rows) < len(known.rows):
+                least[source, bool(of.failure)] = of
+    return [f"{source} {doubt(of)}" for (source, _), of in least.items()]
 
 
 def row(cells: Cells) -> str:
@@ -181,6 +202,7 @@ NOTES = {
     NoteKind.PERHAPS_FEWER: "perhaps on fewer rows",
     NoteKind.OTHER_COLUMNS: "other columns",
     NoteKind.TEXT: "{value}",
+    NoteKind.OTHER_REFERENCE: "compared with {value}",
     NoteKind.NOT_LOOKED: "agrees as a set; no database looked at {value}, which counts as wrong",
 }
 REFUSALS = {

@@ -127,7 +127,9 @@ def part(
     mistakes: Mapping[str, Mistake] = {},
     unplaced: Sequence[str] = (),
 ) -> Part:
-    reference = classpage.text_of(task.reference) if shows_references else None
+    # Of several the one that the answer was compared with.
+    by = of.task if of else task
+    reference = classpage.text_of(by.reference) if shows_references else None
     points = points_of_part(task, mark)
     late = mark.late if mark else ""
     comment = tuple(mark.comment.splitlines()) if mark else ()

@@ -7,6 +7,7 @@ from dataclasses import dataclass
 from classroom.views import draw
 from classroom.verdict import witness
 from classroom.views.draw import Drawing, counted
+from classroom.exercise.exercise import Task
 from classroom.grading import grades_files
 from classroom.grading.graded import Graded
 from classroom.verdict.decision import Grade, NoteKind
@@ -60,6 +61,7 @@ class TaskPart:
     reference: str | None  # None where it is left out
     counts: tuple[int, ...]  # of answers, by the grades of the page
     groups: tuple[Group, ...]
+    doubts: tuple[str, ...]  # of the reference
 
 
 @dataclass(frozen=True)
@@ -109,9 +111,10 @@ def page(book: Gradebook, showing: Showing, mistakes: Mapping[str, Mistake]) -> 
         parts.append(
             TaskPart(
                 task.title,
-                text_of(task.reference) if showing.solutions else None,
+                references_of(task) if showing.solutions else None,
                 tuple(sum(of.grade == grade for of in own) for grade in present),
                 tuple(groups),
+                (tuple(trial_words.doubts(grades_files.trials(own))) if showing.solutions else ()),
             )
         )
         drawn |= {
@@ -122,6 +125,12 @@ def page(book: Gradebook, showing: Showing, mistakes: Mapping[str, Mistake]) -> 
     return Page(
         given.title, grades_files.summary(graded), tuple(map(str, present)), tuple(parts), whole
     )
+
+
+def references_of(task: Task) -> str:
+    """All right queries of a task, each further one below the name of its file."""
+    further = [f"-- {other.source}\n{text_of(other.reference)}" for other in task.others]
+    return "\n\n".join([text_of(task.reference), *further])
 
 
 def drawn_mark(of: Graded, mark: Mark, group: Group) -> Shown:
@@ -209,7 +218,7 @@ def remarks(members: Sequence[Graded], showing: Showing) -> tuple[str, ...]:
     found: dict[str, list[str]] = {}
     for of in members:
         for note in of.decision.notes:
-            if note.is_slight or note.kind == NoteKind.NOT_LOOKED:
+            if note.is_slight or note.kind in (NoteKind.NOT_LOOKED, NoteKind.OTHER_REFERENCE):
                 found.setdefault(trial_words.note(note), []).append(of.answer.label)
     return tuple(
         f"{', '.join(names) if showing.names else counted(len(names), 'answer')}: {remark}."

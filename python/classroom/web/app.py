@@ -7,16 +7,12 @@ Content-Security-Policy tells the browser too. """
 from __future__ import annotations
 
 from dataclasses import dataclass, replace
-from pathlib import Path
 from typing import NamedTuple
 
 import flask
 from werkzeug.exceptions import Forbidden, HTTPException, NotFound, Unauthorized
 
 from classroom.views import draw
-from classroom.exercise.exercise import Answer as SubmittedAnswer
-from classroom.exercise.exercise import Task
-from classroom.grading.graded import grade
 from classroom.hints.target import looked
 from classroom.web import codemirror as editor
 from classroom.web.about import About
@@ -220,7 +216,6 @@ class Pages:
             answered = served.asker.ask(task, query, visitor)
             hinted = self.hinted(
                 served,
-                task,
                 query,
                 answered,
                 visitor,
@@ -236,7 +231,7 @@ class Pages:
             busy.headers["Retry-After"] = "3"
             return busy
         if fields["do"] != "hint":
-            self.keep(served, task, clean, answered)
+            self.keep(served, clean, answered)
         answer = answer_of(
             answered.outcome,
             query,
@@ -256,7 +251,6 @@ class Pages:
     def hinted(
         self,
         served: Served,
-        task: Offered,
         text: str,
         answered: Answered,
         visitor: Visitor,
@@ -274,28 +268,16 @@ class Pages:
             return Hinted(button=BUTTONS[0])
         if not self.visitors.may_see(visitor, f"{answered.key} hint {step}"):
             return Hinted((NO_MORE,))
-        return shown(hinter.steps(answered.key, task, text, visitor, how), int(step), text)
+        return shown(hinter.steps(answered.key, answered.task, text, visitor, how), int(step), text)
 
-    def keep(self, served: Served, task: Offered, clean: CleanText, answered: Answered) -> None:
-        told = grade(
-            Task(
-                task.name,
-                Path(),
-                reference=b"",
-                fault="its reference is refused" if task.is_tried else "",
-            ),
-            SubmittedAnswer("", clean),
-            served.material.tables,
-            served.material.settings,
-            answered.ran,
-            trial=answered.trial,
-        )
+    def keep(self, served: Served, clean: CleanText, answered: Answered) -> None:
+        told = served.asker.graded(answered, clean)
         served.log.keep(
             Question(
                 answered.key,
                 served.material.digest,
-                task.digest,
-                task.name,
+                answered.task.digest,
+                answered.task.name,
                 clean.query.decode(),
                 told.grade,
                 answered.ran,

@@ -19,7 +19,12 @@ from classroom.web.cache import Recent
 from classroom.web.queue import Places
 from classroom.engines.run_child import Failed, Trier
 from classroom.verdict.verdict import Differs, Refusal, Verdict, is_of_limit, to_json
+from classroom.exercise.exercise import Answer as SubmittedAnswer
+from classroom.exercise.exercise import Task
 from classroom.grading.decide import is_open
+from classroom.grading.graded import Graded, grade
+from classroom.grading.nearest import distance
+from classroom.sql.clean import CleanText
 from classroom.grading.trials import Trial, text_of
 from classroom.verdict.witness import Died, Outcome, Refused, Undecided
 from ratest import printed
@@ -41,6 +46,7 @@ log = logging.getLogger(__name__)
 class Answered:
     """A question's outcome, and the call that gave it."""
 
+    task: Offered  # by the reference that it was compared with
     key: str  # of the text, and of all that its verdict rests on
     outcome: Outcome
     ran: Ran
@@ -96,7 +102,33 @@ class Asker:
         self.is_proved = not limited.has_checks(self.words)
 
     def ask(self, task: Offered, text: str, visitor: Visitor) -> Answered:
-        """The answer to a query of at most MOST_BYTES bytes; Busy where too many ask."""
+        """The answer to a query of at most MOST_BYTES bytes, by the reference that speaks most for
+        it; Busy where too many ask."""
+        best = self._ask_by(task, text, visitor)
+        for other in task.others:
+            if self.distance(best)[0] == 0:
+                break
+            best = min(best, self._ask_by(other, text, visitor), key=self.distance)
+        return best
+
+    def distance(self, answered: Answered) -> tuple[int, int]:
+        """As of `nearest`."""
+        return distance(self.graded(answered, CleanText()))
+
+    def graded(self, answered: Answered, text: CleanText) -> Graded:
+        """The grade that an answer with this text would get."""
+        task = answered.task
+        fault = "its reference is refused" if task.is_tried else ""
+        return grade(
+            Task(task.name, Path(), fault=fault),
+            SubmittedAnswer("", text),
+            self.material.tables,
+            self.material.settings,
+            answered.ran,
+            trial=answered.trial,
+        )
+
+    def _ask_by(self, task: Offered, text: str, visitor: Visitor) -> Answered:
         key = key_of(self.foundation, task.name, task.digest, text)
         told = self.kept.get(key)
         if told is None:
@@ -106,7 +138,9 @@ class Asker:
             ):
                 # Another may have asked the same meanwhile.
                 told = self.kept.get(key) or self._asked(key, task, text)
-        return Answered(key, witness.read(told.ran, self.material.tables), told.ran, told.trial)
+        return Answered(
+            task, key, witness.read(told.ran, self.material.tables), told.ran, told.trial
+        )
 
     def _asked(self, key: str, task: Offered, text: str) -> Decided:
         """What `ratest` says, and where that is open a database."""

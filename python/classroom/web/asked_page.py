@@ -12,6 +12,7 @@ from classroom.views.for_teacher import Showing
 from classroom.views.draw import Drawing, counted
 from classroom.exercise.exercise import Answer, Exercise, Task, digest
 from classroom.grading.graded import Graded, grade
+from classroom.verdict import sentences
 from classroom.verdict.decision import Grade
 from classroom.sql.schema import Table
 from classroom.web import questions as asked
@@ -50,6 +51,7 @@ class TaskPart:
     reference: str | None
     count: int  # of questions
     mistakes: tuple[Mistake, ...]
+    doubts: tuple[str, ...]  # of the reference
 
 
 @dataclass(frozen=True)
@@ -65,18 +67,14 @@ def page_of(given: Exercise, log: Path, showing: Showing) -> bytes:
     found = list(asked.texts(log))
     parts = []
     for task in given.tasks:
-        own = [
-            text
-            for text in found
-            if (text.task, text.exercise, text.reference)
-            == (task.label, given.digest, digest(task.reference))
-        ]
+        texts = own(found, task, given)
         parts.append(
             TaskPart(
                 task.title,
-                classpage.text_of(task.reference) if showing.solutions else None,
-                sum(text.count for text in own),
-                mistakes(task, own, given, showing),
+                classpage.references_of(task) if showing.solutions else None,
+                sum(text.count for text in texts),
+                mistakes(task, texts, given, showing),
+                doubts(texts, task) if showing.solutions else (),
             )
         )
     known = sum(part.count for part in parts)
@@ -89,6 +87,22 @@ def page_of(given: Exercise, log: Path, showing: Showing) -> bytes:
     return (
         draw.environment().get_template("asked.html").render(page=page).encode("utf-8", "replace")
     )
+
+
+def own(texts: Sequence[Text], task: Task, given: Exercise) -> list[Text]:
+    """Those of a task as it and its rows are now."""
+    references = {digest(by.reference) for by in task.references}
+    return [
+        text
+        for text in texts
+        if (text.task, text.exercise) == (task.label, given.digest) and text.reference in references
+    ]
+
+
+def doubts(texts: Sequence[Text], task: Task) -> tuple[str, ...]:
+    """What the trials of a task's texts showed of its references alone."""
+    sources = {digest(by.reference): by.source for by in task.references}
+    return tuple(sentences.doubts((sources[text.reference], text.trial) for text in texts))
 
 
 def mistakes(

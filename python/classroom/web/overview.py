@@ -52,6 +52,7 @@ class Part:
     questions: int
     hours: Sequence[tuple[str, int]]  # the newest first
     refused: Sequence[tuple[str, int]]  # what was not read, the most frequent first
+    doubts: Sequence[str]  # of references, by trials
 
 
 @dataclass(frozen=True)
@@ -75,7 +76,17 @@ def part(name: str, watched: Watched) -> Part:
         sum(text.count for text in texts),
         asked.by_hour(watched.log, HOURS),
         faults.most_common(MOST_FAULTS),
+        doubts(texts, watched.given),
     )
+
+
+def doubts(texts: Sequence[Text], given: Exercise) -> list[str]:
+    """What trials showed of references alone, once a task."""
+    return [
+        f"Task {task.title}: {told}"
+        for task in given.tasks
+        for told in askedpage.doubts(askedpage.own(texts, task, given), task)
+    ]
 
 
 def refused(text: Text, given: Exercise) -> str:

@@ -8,13 +8,14 @@ from __future__ import annotations
 import csv
 import io
 from collections.abc import Collection, Sequence
-from dataclasses import dataclass
+from dataclasses import dataclass, replace
 from pathlib import Path
 
 from classroom.exercise import exercise
 from classroom.exercise.exercise import Exercise, Task, digest
 from classroom.base.errors import Missing, library
 from classroom.sql.schema import Table
+from classroom.views.for_teacher import references_of
 from classroom.web import schema_drawing as relations
 from classroom.exercise.window import Window
 from classroom.exercise.settings import Settings
@@ -33,8 +34,14 @@ class Offered:
     question: str  # as HTML; empty where there is none
     reference: str  # the name of the reference query's copy
     digest: str  # of the reference query
-    solution: str  # the reference query; empty where it is never shown
+    solution: str  # the reference queries; empty where they are never shown
     is_tried: bool = False  # `ratest` refuses the reference, so a database alone answers
+    others: tuple[Offered, ...] = ()  # the same by each further reference
+
+    @property
+    def references(self) -> tuple[Offered, ...]:
+        """The task by each of its references."""
+        return (self, *self.others)
 
 
 @dataclass(frozen=True)
@@ -67,18 +74,23 @@ class Material:
         return next((task for task in self.tasks if task.name == name), None)
 
 
-def copied(given: Exercise, folder: Path, tried: Collection[str] = ()) -> Material:
+def copied(given: Exercise, folder: Path, tried: Collection[tuple[str, str]] = ()) -> Material:
     """Copies what is needed of an exercise into an empty folder: of the tasks those that can be
-    graded, or whose labels are among those that a database tries."""
+    graded, by each reference that `ratest` reads or a database tries. `tried` are the latter, by
+    the labels of their tasks and their files."""
     for name, text in given.files.items():
         (folder / name).write_bytes(text)
     settings = given.settings
     window = Window(settings.opens, settings.last_moment, settings.after_close == "reference")
-    tasks = tuple(
-        offered(task, f"{number}.reference", folder, window)
-        for number, task in enumerate(given.tasks)
-        if not task.fault or task.label in tried
-    )
+    tasks = []
+    for number, task in enumerate(given.tasks):
+        usable = [by for by in task.references if not by.fault or (by.label, by.source) in tried]
+        if usable:
+            first, *others = (
+                offered(by, f"{number}.{at}.reference", folder, window)
+                for at, by in enumerate(usable)
+            )
+            tasks.append(replace(first, others=tuple(others)))
     schema = given.files["schema.sql"].decode("utf-8", "replace")
     rows = tuple(
         rows_of(table, given.files.get(f"{table.name}.csv", b"")) for table in given.tables
@@ -86,7 +98,7 @@ def copied(given: Exercise, folder: Path, tried: Collection[str] = ()) -> Materi
     return Material(
         given.title,
         folder,
-        tasks,
+        tuple(tasks),
         given.tables,
         schema,
         given.digest,
@@ -100,7 +112,7 @@ def copied(given: Exercise, folder: Path, tried: Collection[str] = ()) -> Materi
 
 def offered(task: Task, name: str, folder: Path, window: Window) -> Offered:
     (folder / name).write_bytes(task.reference)
-    solution = task.reference.decode("utf-8", "replace") if window.shows_references else ""
+    solution = references_of(task) if window.shows_references else ""
     return Offered(
         task.label,
         task.title,

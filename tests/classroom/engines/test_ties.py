@@ -112,6 +112,58 @@ QUERIES = [
 ]
 
 
+# Windows by name, and values of a frame, by hand: of the price 5 are c in X, a in Y and b in X.
+OVER = "PARTITION BY city ORDER BY price"
+WHOLE = "BETWEEN UNBOUNDED PRECEDING AND UNBOUNDED FOLLOWING"
+WINDOWS = [
+    (f"SELECT name, ROW_NUMBER() OVER w FROM item WINDOW w AS ({OVER})", True),
+    (f"SELECT name, ROW_NUMBER() OVER w FROM item WINDOW w AS ({OVER}, name)", False),
+    (f"SELECT name, RANK() OVER w, COUNT(*) OVER w FROM item WINDOW w AS ({OVER})", False),
+    (
+        "SELECT name, LAG(name) OVER (w ORDER BY price) FROM item WINDOW w AS (PARTITION BY city)",
+        True,
+    ),
+    (
+        "SELECT name, LAG(name) OVER (w ORDER BY name) FROM item WINDOW w AS (PARTITION BY city)",
+        False,
+    ),
+    (
+        f"SELECT name, SUM(id) OVER (w ROWS UNBOUNDED PRECEDING) FROM item WINDOW w AS ({OVER})",
+        True,
+    ),
+    # The last of all peers, of which one has another city than the others.
+    ("SELECT name, LAST_VALUE(name) OVER (ORDER BY price) FROM item", True),
+    ("SELECT name, LAST_VALUE(price) OVER (ORDER BY price) FROM item", False),
+    ("SELECT name, LAST_VALUE(city) OVER (ORDER BY price, name) FROM item", False),
+    ("SELECT name, LAST_VALUE(name) OVER (PARTITION BY city) FROM item", True),
+    (f"SELECT name, LAST_VALUE(name) OVER (ORDER BY price RANGE {WHOLE}) FROM item", False),
+    (f"SELECT name, LAST_VALUE(name) OVER (ORDER BY price DESC ROWS {WHOLE}) FROM item", True),
+    ("SELECT name, FIRST_VALUE(name) OVER (ORDER BY price) FROM item", True),
+    ("SELECT name, FIRST_VALUE(name) OVER (ORDER BY price DESC) FROM item", False),
+    ("SELECT FIRST_VALUE(city) OVER (PARTITION BY city) FROM item", False),
+    (
+        "SELECT name, FIRST_VALUE(name) OVER (ORDER BY price RANGE BETWEEN CURRENT ROW AND"
+        " UNBOUNDED FOLLOWING) FROM item",
+        True,
+    ),
+    ("SELECT name, NTH_VALUE(name, 2) OVER (ORDER BY price) FROM item", True),
+    ("SELECT name, NTH_VALUE(price, 2) OVER (ORDER BY price) FROM item", False),
+    # Of d alone the frame has four rows.
+    ("SELECT name, NTH_VALUE(name, 4) OVER (ORDER BY price) FROM item", False),
+    ("SELECT name, NTH_VALUE(name, 1) OVER (ORDER BY price DESC) FROM item", False),
+    (f"SELECT name, NTH_VALUE(name, 2) OVER (ORDER BY price RANGE {WHOLE}) FROM item", True),
+    ("SELECT name, NTILE(2) OVER (ORDER BY price) FROM item", True),
+    ("SELECT name, NTILE(2) OVER (ORDER BY price, name) FROM item", False),
+    ("SELECT name, NTILE(1) OVER (ORDER BY price) FROM item", False),
+    (
+        "SELECT x FROM (SELECT LAST_VALUE(name) OVER (ORDER BY price) AS x, id FROM item) AS q"
+        " WHERE id = 4",
+        False,
+    ),
+]
+QUERIES += WINDOWS
+
+
 @pytest.mark.parametrize("query, wanted", QUERIES, ids=range(len(QUERIES)))
 def test_ties_are_seen(query: str, wanted: bool, product: tuple[str, Roles | None]) -> None:
     assert is_tied(THREE, query, product) == wanted
@@ -126,10 +178,70 @@ def test_ties_are_seen(query: str, wanted: bool, product: tuple[str, Roles | Non
         ("SELECT city, string_agg(name, ',' ORDER BY name) FROM item GROUP BY city", False),
         ("SELECT city, array_agg(name ORDER BY price) FROM item GROUP BY city", True),
         ("SELECT string_agg(DISTINCT city, ',') FROM item", False),
+        ("SELECT string_agg(DISTINCT city, ',' ORDER BY city) FROM item", False),
+        ("SELECT json_agg(name) FROM item", True),
+        ("SELECT json_agg(city ORDER BY city) FROM item", False),
+        ("SELECT string_agg(name, ',') FROM (SELECT name FROM item ORDER BY name) AS q", False),
+        ("SELECT string_agg(name, ',') FROM (SELECT * FROM item ORDER BY price) AS q", True),
+        ("SELECT string_agg(name, ',') FILTER (WHERE price > 5) FROM item", False),
+        ("SELECT DISTINCT string_agg(name, ',') OVER (PARTITION BY city) FROM item", True),
     ],
 )
 def test_ties_of_postgresql_alone(query: str, wanted: bool, roles: Roles) -> None:
     assert is_tied(THREE, query, (POSTGRESQL, roles)) == wanted
+
+
+@pytest.mark.parametrize(
+    "query, wanted",
+    [
+        ("SELECT city, group_concat(name) FROM item GROUP BY city", True),
+        ("SELECT city, group_concat(price, '; ') FROM item GROUP BY city", True),
+        ("SELECT city, group_concat(city) FROM item GROUP BY city", False),
+        ("SELECT group_concat(name) FROM item WHERE price > 5", False),
+        ("SELECT group_concat(name) FILTER (WHERE price > 5) FROM item", False),
+        ("SELECT group_concat(name, '; ') FILTER (WHERE price = 5) FROM item", True),
+        # X, Y, X comes either way round as the same text; but an engine may begin with Y.
+        ("SELECT group_concat(DISTINCT city) FROM item WHERE price = 5", True),
+        ("SELECT group_concat(DISTINCT city) FROM item WHERE city = 'X'", False),
+        ("SELECT LENGTH(group_concat(name)), COUNT(*) FROM item", False),
+        # SQLite 3.40 has no other way to order what is joined.
+        ("SELECT group_concat(name) FROM (SELECT name FROM item ORDER BY name)", False),
+        ("SELECT group_concat(name) FROM (SELECT name FROM item ORDER BY price)", True),
+        (
+            "SELECT group_concat(name) FROM (SELECT name FROM item ORDER BY price, id LIMIT 3)",
+            False,
+        ),
+        ("SELECT group_concat(c) FROM (SELECT DISTINCT city AS c FROM item ORDER BY city)", False),
+        (
+            "WITH q AS (SELECT * FROM item ORDER BY id) SELECT city, group_concat(name) FROM q"
+            " GROUP BY city",
+            False,
+        ),
+        ("SELECT DISTINCT group_concat(name) OVER (PARTITION BY city) FROM item", True),
+    ],
+)
+def test_ties_of_sqlite_alone(query: str, wanted: bool) -> None:
+    assert is_tied(THREE, query, (SQLITE, None)) == wanted
+
+
+def test_joined_values_are_those_of_sqlite() -> None:
+    """But for their order, of which one row leaves none."""
+    query = (
+        "SELECT group_concat(price), group_concat(price * 1.5, 'x'), group_concat(NULL),"
+        " group_concat(DISTINCT name), LENGTH(group_concat(city, NULL)) FROM item WHERE id = "
+    )
+    for number in (1, 4, 7):
+        text = f"{query}{number}"
+        of = material(THREE, SQLITE)
+        engine = opened(of, text, text, None)
+        whole = (1 << len(THREE)) - 1
+        plain = engine.answers(whole)[0].lines
+        assert engine.ties(0) == 16
+        assert all(
+            (found := engine.tied_answer(0, way, whole)) and found.lines == plain
+            for way in range(16)
+        )
+        engine.close()
 
 
 MOST = "SELECT city FROM item GROUP BY city ORDER BY COUNT(*) DESC"

@@ -170,6 +170,21 @@ def test_mutants_of_proved_and_tried_tasks(beers: Path) -> None:
     } == kept
 
 
+def test_ties_of_a_reference_are_told_once_a_task(beers: Path) -> None:
+    most = "SELECT beer FROM serves GROUP BY beer ORDER BY COUNT(*) DESC"
+    (beers / "6/reference.sql").write_text(f"{most} LIMIT 1")
+    ran = classroom("mutants", beers, "--task", "6")
+    assert ran.returncode == 0, ran.stderr
+    told = [line for line in ran.stderr.splitlines() if "reference.sql" in line]
+    assert len(told) == 1 and "task 6: reference.sql has ties, for example on the rows" in told[0]
+    assert told[0].endswith("with beer as last keys of its ORDER BY it is determined")
+    # A mutant is told by rows on which neither has ties.
+    found = {line["mistake"]: line["verdict"] for line in lines(beers)}
+    assert found["ASC for DESC of COUNT(*)"] == "told", found
+    (beers / "6/reference.sql").write_text(f"{most}, beer LIMIT 1")
+    assert "reference.sql" not in classroom("mutants", beers, "--task", "6").stderr
+
+
 def test_nothing_is_tried_where_only_proofs_are_wanted(beers: Path) -> None:
     ran = classroom("mutants", beers, "--only-proved")
     assert ran.returncode == 1 and {line["task"] for line in lines(beers)} == {"2"}
@@ -208,7 +223,7 @@ def mutants_of(folder: Path, monkeypatch: pytest.MonkeyPatch, what: str) -> list
         Settings(),
         results,
         2,
-    )
+    ).judged
 
 
 def test_a_crash_loses_one_mutant(

@@ -257,6 +257,23 @@ def test_a_task_that_nothing_can_try_is_named(ratest: Path, exercise: Path, tmp_
     assert "classroom: task 6 is not offered: " in told
 
 
+def test_ties_of_a_reference_are_on_the_page_of_the_teacher(ratest: Path, exercise: Path) -> None:
+    most = "SELECT beer FROM serves GROUP BY beer ORDER BY COUNT(*) DESC"
+    (exercise / "8").mkdir()
+    (exercise / "8/reference.sql").write_text(f"{most} LIMIT 1")
+    told = "reference.sql has ties, for example on the rows"
+    with serving(
+        exercise, "--hourly", "0", "--teacher-port", "0", ratest=ratest, tries=True
+    ) as made:
+        teacher = Server(made.process, made.teacher, made.errors)
+        assert told not in teacher.send("GET", "/").body
+        for answer in (f"{most}, beer LIMIT 1", f"{most}, beer DESC LIMIT 1"):
+            assert told not in made.ask("8", answer).body
+        assert teacher.send("GET", "/").body.count(f"Task 8: {told}") == 1
+        assert teacher.send("GET", "/mistakes/").body.count(told) == 1
+    shutil.rmtree(exercise / "8")
+
+
 class Refuses:
     """In place of what tries: it ends as it is told."""
 
