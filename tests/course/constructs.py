@@ -28,8 +28,7 @@ def constructs() -> Iterator[Construct]:
             group = line[3:]
         elif line and not line.startswith("# "):
             signs, name, query = line.split(" | ", 2)
-            ratest, sqlite, postgresql = signs
-            yield Construct(group, name, query, ratest, sqlite, postgresql)
+            yield Construct(group, name, query, signs[0], signs[1], signs[2])
 
 
 def table() -> str:

@@ -183,13 +183,13 @@ def test_the_reference_is_never_sent(ratest: Path, marked: Path) -> None:
         "1/reference.sql",
         "results/asked.db",
         "schema.sql",
-        "0.reference",
+        "0.0.reference",
         "..%2f1%2freference.sql",
         "1/../1/reference.sql",
-        "%2e%2e/0.reference",
+        "%2e%2e/0.0.reference",
         "static/ask.js",
         "?task=../1/reference.sql",
-        "//0.reference",
+        "//0.0.reference",
     )
     with serving(marked) as server:
         got = [server.send("GET", f"/{name}") for name in files]
@@ -210,7 +210,7 @@ def test_the_reference_is_never_sent(ratest: Path, marked: Path) -> None:
         ]
         got += [
             server.ask(task, "SELECT 1")
-            for task in ("0", "../1", "0.reference", "1/../1", "\0", "1\n")
+            for task in ("0", "../1", "0.0.reference", "1/../1", "\0", "1\n")
         ]
         texts = [reply.body + str(reply.headers) for reply in got]
     texts.append(server.errors.read_text())
@@ -434,7 +434,7 @@ def test_a_call_has_no_environment_and_no_network(beers: Path, stand_in: Path) -
     assert [word for word in words if "question" not in word] == [
         "schema.sql",
         ".",
-        "0.reference",
+        "0.0.reference",
         "--conflicts",
         "2000",
         "--work",
