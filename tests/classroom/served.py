@@ -71,6 +71,7 @@ class Server:
             is_tls,
             socket_path,
         )
+        self.tokens: dict[tuple[object, ...], str] = {}
 
     def connection(self) -> http.client.HTTPConnection:
         if self.socket_path:
@@ -95,19 +96,32 @@ class Server:
         finally:
             connection.close()
 
+    def token(self, headers: Mapping[str, str] = {}, at: str = "/") -> str:
+        """That of the forms of a page, which is asked for once for the same visitor."""
+        key = (at, *sorted(headers.items()))
+        if key not in self.tokens:
+            found = re.search(
+                'name="token" value="([^"]*)"', self.send("GET", at, None, headers).body
+            )
+            if not found:
+                return ""
+            self.tokens[key] = found[1]
+        return self.tokens[key]
+
+    def post(self, headers: Mapping[str, str] = {}, at: str = "/", **fields: str | int) -> Reply:
+        """The answer to a form of the page."""
+        body = urllib.parse.urlencode({"token": self.token(headers, at), **fields}).encode()
+        return self.send("POST", at, body, {**FORM, **headers})
+
     def ask(
         self, task: str, query: str, headers: Mapping[str, str] = {}, at: str = "/", do: str = "ask"
     ) -> Reply:
-        body = urllib.parse.urlencode({"task": task, "query": query, "do": do}).encode()
-        return self.send("POST", at, body, {**FORM, **headers})
+        return self.post(headers, at, task=task, query=query, do=do)
 
     def hint(
         self, task: str, query: str, step: int, headers: Mapping[str, str] = {}, at: str = "/"
     ) -> Reply:
-        body = urllib.parse.urlencode(
-            {"task": task, "query": query, "do": "hint", "step": step}
-        ).encode()
-        return self.send("POST", at, body, {**FORM, **headers})
+        return self.post(headers, at, task=task, query=query, do="hint", step=step)
 
     # The port of the teacher's page, where there is one.
     teacher = 0
@@ -171,8 +185,9 @@ def serving(
     errors: str | None = "",
     socket_path: Path | None = None,
     tries: bool = False,
+    port: int = 0,
 ) -> Iterator[Server]:
-    """Serves a course at a free port, or at a socket, and stops; then standard error has to be just
+    """Serves a course at a free port, at this one or at a socket, and stops; then standard error has to be just
     `errors`, unless the test looks at it itself (None). Nothing is tried by a database, unless the test says so.
     """
     words = words if tries else ("--only-proved", *words)
@@ -184,7 +199,7 @@ def serving(
         "TMPDIR": str(exercise.parent),
         **({"RATEST": str(ratest)} if ratest else {}),
     }
-    place = ["--socket", str(socket_path)] if socket_path else ["--port", "0"]
+    place = ["--socket", str(socket_path)] if socket_path else ["--port", str(port)]
     with open(path, "w") as file:
         process = subprocess.Popen(
             [str(TOP / "classroom"), "serve", str(exercise), *place, *words],

@@ -6,25 +6,28 @@ for, and make an editor of the field. No page asks for anything from elsewhere, 
 Content-Security-Policy tells the browser too. """
 from __future__ import annotations
 
-from dataclasses import dataclass, replace
-from typing import NamedTuple
+import logging
+from dataclasses import replace
 
 import flask
 from werkzeug.exceptions import Forbidden, HTTPException, NotFound, Unauthorized
 
+from classroom.base.errors import Fault
 from classroom.views import draw
 from classroom.hints.target import looked
 from classroom.web import codemirror as editor
 from classroom.web.about import About
-from classroom.views.answer import REST, Answer, answer_of
+from classroom.views.answer import REST, answer_of
 from classroom.web.questions import Question
 from classroom.web.ask import MOST_BYTES, Answered, is_mistake, shows_rows
 from classroom.web.course import Course, Served
-from classroom.web.hand_ins import Receipt
+from classroom.web.exercise_page import Page, View, by_task
+from classroom.web.form_tokens import TOKEN, FormTokens, is_of_this_site
+from classroom.web.hand_in_form import ACTIONS, done
+from classroom.web.hand_ins import Kept
 from classroom.web.health import health
 from classroom.web.hint_buttons import BUTTONS, Hinted, shown
 from classroom.web.hint_buttons import REST as NO_MORE
-from classroom.web.served_exercise import Offered
 from classroom.web.showing import Showing
 from classroom.web.visitors import Visitor, Visitors
 from classroom.web.queue import Busy
@@ -36,38 +39,8 @@ from classroom.web.login import Behind, Front, login, network
 # A form in which every byte of a query takes three.
 MOST_FORM = 4 * MOST_BYTES
 COOKIE = "visitor"
-
-
-class View(NamedTuple):
-    """What the page of an exercise shows beside it."""
-
-    chosen: str = ""
-    text: str = ""
-    fault: str = ""
-    answer: Answer | None = None
-    receipt: Receipt | None = None
-    hinted: Hinted | None = None  # None where no hint may be asked for
-
-
-@dataclass(frozen=True)
-class Page:
-    """The page of an exercise."""
-
-    served: Served
-    view: View
-    visitor: Visitor
-    course: Course
-    top: str  # the way to the top of the course, for links
-    state: str  # before, open or after
-    has_editor: bool
-
-    @property
-    def title(self) -> str:
-        return self.served.material.title
-
-    @property
-    def may_hand_in(self) -> bool:
-        return bool(self.served.hand_ins and self.visitor.login) and self.state == "open"
+OLD_PAGE = "This page was older than the server: nothing was done with the text. Send it again."
+log = logging.getLogger(__name__)
 
 
 class Pages:
@@ -81,6 +54,7 @@ class Pages:
         self.front = front
         self.showing = showing
         self.about_page = about
+        self.tokens = FormTokens()
         environment = draw.environment()
         self.templates = {
             name: environment.get_template(f"{name}.html") for name in ("ask", "course", "about")
@@ -159,10 +133,22 @@ class Pages:
             "../../" if served.name else "",
             served.material.window.state(),
             editor.is_there(),
+            self.tokens.token(visitor),
+            by_task(served.material, self.handed_in(served, visitor)),
         )
         return flask.Response(
             self.templates["ask"].render(page=page).encode("utf-8", "replace"), status
         )
+
+    def handed_in(self, served: Served, visitor: Visitor) -> dict[str, list[Kept]]:
+        """What the visitor handed in; nothing where the file can't be read at this moment."""
+        if served.hand_ins is None or not visitor.login:
+            return {}
+        try:
+            return served.hand_ins.kept(visitor.login)
+        except Fault as fault:
+            log.error("%s", fault)
+            return {}
 
     def about(self) -> flask.Response:
         text = self.templates["about"].render(page=self.about_page, course=self.course)
@@ -178,19 +164,14 @@ class Pages:
 
     def ask(self, name: str) -> flask.Response:
         """The answer to the form that was sent."""
-        # A browser says so of a form that another site sends, with whatever login it holds: as a
-        # hand-in for somebody.
-        if flask.request.headers.get("Sec-Fetch-Site", "same-origin") not in (
-            "same-origin",
-            "none",
-        ):
+        if not is_of_this_site(flask.request):
             raise Forbidden
         visitor = self.visitor()
         served = self.served(name)
         # A form is sent with lines that end with two characters.
         fields = {
             field: flask.request.form.get(field, "").replace("\r\n", "\n")
-            for field in ("task", "query", "do", "step")
+            for field in ("task", "query", "do", "step", "number", TOKEN)
         }
         task = served.material.task(fields["task"])
         if task is None or served.material.window.state() == "before":
@@ -203,8 +184,14 @@ class Pages:
                 413,
                 View(task.name, "", f"The query has more than {MOST_BYTES} bytes."),
             )
-        if fields["do"] == "hand in":
-            return self.hand_in(served, visitor, task, text)
+        if not self.tokens.is_valid(fields[TOKEN], visitor):
+            old = self.page(served, visitor, 409, View(task.name, text, OLD_PAGE))
+            return self.with_cookie(old, visitor)
+        if fields["do"] in ACTIONS:
+            if served.hand_ins is None or not visitor.login:
+                raise NotFound
+            status, view = done(served, visitor, task, fields["do"], text, fields["number"])
+            return self.page(served, visitor, status, view)
         try:
             clean = text_of(text.encode("utf-8", "replace"), served.material.dialect)
         except NotRead as fault:
@@ -231,7 +218,7 @@ class Pages:
             busy.headers["Retry-After"] = "3"
             return busy
         if fields["do"] != "hint":
-            self.keep(served, clean, answered)
+            self.keep(served, clean, answered, visitor)
         answer = answer_of(
             answered.outcome,
             query,
@@ -270,7 +257,10 @@ class Pages:
             return Hinted((NO_MORE,))
         return shown(hinter.steps(answered.key, answered.task, text, visitor, how), int(step), text)
 
-    def keep(self, served: Served, clean: CleanText, answered: Answered) -> None:
+    def keep(self, served: Served, clean: CleanText, answered: Answered, visitor: Visitor) -> None:
+        size = len(clean.query) + len(answered.ran.stdout) + len(answered.ran.stderr)
+        if not self.visitors.may_keep(visitor, size):
+            return
         told = served.asker.graded(answered, clean)
         served.log.keep(
             Question(
@@ -294,17 +284,6 @@ class Pages:
         ):
             return None
         return REST
-
-    def hand_in(self, served: Served, visitor: Visitor, task: Offered, text: str) -> flask.Response:
-        """Keeps the text as the answer of a login, and shows the receipt."""
-        if served.hand_ins is None or not visitor.login:
-            raise NotFound
-        if served.material.window.state() != "open":
-            return self.page(
-                served, visitor, 403, View(task.name, text, "It is too late to hand in.")
-            )
-        receipt = served.hand_ins.put(visitor.login, task.name, text)
-        return self.page(served, visitor, 200, View(task.name, text, receipt=receipt))
 
     def fault(self, fault: HTTPException) -> flask.Response:
         """A request that can't be answered, by its status alone."""

@@ -8,6 +8,7 @@ from pathlib import Path
 
 from classroom.views.draw import counted
 from classroom.base.errors import Fault, shown
+from classroom.web.hand_ins import choices
 from classroom.web.questions import drop_before, rows
 
 # Behind every time that is written.
@@ -67,6 +68,11 @@ def forget(files: Files, before: str | None, with_hand_ins: bool) -> None:
     if with_hand_ins and files.hand_ins.is_file():
         with _opened(files.hand_ins) as database:
             database.execute("DELETE FROM handed_in WHERE time < ?", (end,))
+            if choices(files.hand_ins):
+                database.execute(
+                    "DELETE FROM chosen WHERE time < ? OR id NOT IN (SELECT id FROM handed_in)",
+                    (end,),
+                )
         _emptied(files.hand_ins)
 
 

@@ -1,4 +1,5 @@
-"""How the server is, for a monitor: numbers alone, no text and no name."""
+"""How the server is, for a monitor: numbers and what SQLite says of a file, no text of a student and
+no name."""
 from __future__ import annotations
 
 import shutil
@@ -18,16 +19,17 @@ def health(course: Course) -> flask.Response:
         run, wait = places.state()
         running, waiting = running + run, waiting + wait
     free = min(shutil.disk_usage(one.log.path.parent).free for one in course.served)
-    kept = all(not one.log.is_full for one in course.served)
-    is_well = kept and free >= LEAST_FREE
+    faults = sorted({why for one in course.served if (why := one.log.why_not_kept())})
+    if free < LEAST_FREE:
+        faults.append("the disk is nearly full")
     found = {
-        "status": "ok" if is_well else "not kept",
+        "status": "; ".join(faults) or "ok",
         "running": running,
         "waiting": waiting,
         "exercises": len(course.served),
         "free_bytes": free,
-        "kept": kept,
+        "kept": not faults,
     }
     response = flask.jsonify(found)
-    response.status_code = 200 if is_well else 503
+    response.status_code = 503 if faults else 200
     return response

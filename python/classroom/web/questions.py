@@ -104,15 +104,17 @@ class Question:
 
 
 class Log:
-    """The file, written by many threads; it never grows past a bound."""
+    """The file, written by many threads; it never grows past a bound: where it is full the oldest
+    questions go."""
 
     def __init__(self, path: Path, megabytes: int, days: int | None = None) -> None:
         """`days` that questions are kept; None where they stay."""
         self.path = path
         self.days = days
         self._lock = threading.Lock()
-        self._is_closed = self._is_full = False
+        self._is_closed = False
         self._hour = ""
+        self._failures: list[sqlite3.Error] = []  # since a question was kept
         try:
             self._database = opened(path, "NORMAL")
             self._database.execute(
@@ -121,11 +123,6 @@ class Log:
             self._begin()
         except sqlite3.Error as fault:
             raise Fault(f"{shown(str(path))}: {fault}") from None
-
-    @property
-    def is_full(self) -> bool:
-        """Whether a question could not be kept."""
-        return self._is_full
 
     def _begin(self) -> None:
         (version,) = self._database.execute("PRAGMA user_version").fetchone()
@@ -137,63 +134,118 @@ class Log:
         self._database.execute(f"PRAGMA user_version = {VERSION}")
 
     def keep(self, question: Question) -> None:
-        """Keeps one question; where the file is full or fails, that is told once. Of one text the
-        newest verdict counts."""
-        hour = time.strftime("%Y-%m-%dT%H:00Z", time.gmtime())
-        ran = question.ran
+        """Keeps one question; where the file fails, that is told once. Of one text the newest
+        verdict counts."""
         with self._lock:
             if self._is_closed:
                 return
-            try:
-                self._database.execute("BEGIN IMMEDIATE")
-                if hour != self._hour:
-                    self._drop_old()
-                    self._hour = hour
-                self._database.execute(
-                    (
-                        "INSERT INTO text (key, exercise, reference, task, text, verdict, status,"
-                        " passed, stdout, stderr, trial) VALUES (?, ?, ?, ?, ?, ?, ?, ?, ?, ?, ?)"
-                        " ON CONFLICT (key) DO UPDATE SET verdict = excluded.verdict, status ="
-                        " excluded.status, passed = excluded.passed, stdout = excluded.stdout,"
-                        " stderr = excluded.stderr, trial = excluded.trial"
-                    ),
-                    (
-                        question.key,
-                        question.exercise,
-                        question.reference,
-                        question.task,
-                        question.text,
-                        question.verdict,
-                        ran.status,
-                        ran.passed,
-                        ran.stdout,
-                        ran.stderr,
-                        json.dumps(to_json(question.trial)) if question.trial else "",
-                    ),
-                )
-                self._database.execute(
-                    "INSERT INTO question (time, text) SELECT ?, id FROM text WHERE key = ?",
-                    (hour, question.key),
-                )
-                self._database.execute("COMMIT")
-            except sqlite3.Error as fault:
-                if self._database.in_transaction:
-                    self._database.execute("ROLLBACK")
-                if not self._is_full:
-                    log.error(
-                        "%s: questions are not kept any more: %s", shown(str(self.path)), fault
-                    )
-                self._is_full = True
+            for is_last in (False, True):
+                try:
+                    self._write(question)
+                    self._is_kept()
+                    return
+                except sqlite3.Error as fault:
+                    self._undo()
+                    if is_last or not is_full(fault) or not self._make_room():
+                        self._fails(fault)
+                        return
+
+    def _write(self, question: Question) -> None:
+        hour = time.strftime("%Y-%m-%dT%H:00Z", time.gmtime())
+        ran = question.ran
+        self._database.execute("BEGIN IMMEDIATE")
+        if hour != self._hour:
+            self._drop_old()
+            self._hour = hour
+        self._database.execute(
+            "INSERT INTO text (key, exercise, reference, task, text, verdict, status, passed,"
+            " stdout, stderr, trial) VALUES (?, ?, ?, ?, ?, ?, ?, ?, ?, ?, ?) ON CONFLICT (key) DO"
+            " UPDATE SET verdict = excluded.verdict, status = excluded.status, passed ="
+            " excluded.passed, stdout = excluded.stdout, stderr = excluded.stderr, trial ="
+            " excluded.trial",
+            (
+                question.key,
+                question.exercise,
+                question.reference,
+                question.task,
+                question.text,
+                question.verdict,
+                ran.status,
+                ran.passed,
+                ran.stdout,
+                ran.stderr,
+                json.dumps(to_json(question.trial)) if question.trial else "",
+            ),
+        )
+        self._database.execute(
+            "INSERT INTO question (time, text) SELECT ?, id FROM text WHERE key = ?",
+            (hour, question.key),
+        )
+        self._database.execute("COMMIT")
 
     def _drop_old(self) -> None:
         if self.days is not None:
             before = time.strftime("%Y-%m-%dT%H:00Z", time.gmtime(time.time() - self.days * DAY))
             drop_before(self._database, before)
 
+    def _make_room(self) -> bool:
+        """Takes the oldest questions out, a tenth of all; whether that could be done."""
+        try:
+            self._database.execute("BEGIN IMMEDIATE")
+            self._database.execute(
+                "DELETE FROM question WHERE id IN (SELECT id FROM question ORDER BY id LIMIT"
+                " (SELECT count(*) / 10 + 1 FROM question))"
+            )
+            drop_unasked(self._database)
+            self._database.execute("COMMIT")
+        except sqlite3.Error:
+            self._undo()
+            return False
+        return True
+
+    def _undo(self) -> None:
+        if self._database.in_transaction:
+            self._database.execute("ROLLBACK")
+
+    def _fails(self, fault: sqlite3.Error) -> None:
+        if not self._failures:
+            log.error("%s: a question is not kept: %s", shown(str(self.path)), fault)
+        self._failures.append(fault)
+
+    def _is_kept(self) -> None:
+        if self._failures:
+            log.warning("%s: questions are kept again", shown(str(self.path)))
+            self._failures.clear()
+
+    def why_not_kept(self) -> str:
+        """What keeps questions from being kept at this moment; empty where nothing does. One lock
+        of a moment is nothing wrong."""
+        with self._lock:
+            if not self._failures or self._is_closed:
+                return ""
+            try:
+                self._database.execute("BEGIN IMMEDIATE")
+                self._database.execute(
+                    "INSERT INTO text (key, task, text, verdict, status, passed, stdout, stderr)"
+                    " VALUES ('', '', '', '', 0, '', zeroblob(?), '')",
+                    (8 * PAGE,),
+                )
+                self._undo()
+            except sqlite3.Error as fault:
+                self._undo()
+                return str(fault)
+            self._is_kept()
+            return ""
+
     def close(self) -> None:
         with self._lock:
             self._is_closed = True
             self._database.close()
+
+
+def is_full(fault: sqlite3.Error) -> bool:
+    """Whether the file, or its disk, has no room."""
+    return getattr(fault, "sqlite_errorcode", 0) == sqlite3.SQLITE_FULL
 
 
 def opened(path: Path, synchronous: str) -> sqlite3.Connection:
@@ -210,8 +262,13 @@ def drop_before(database: sqlite3.Connection, hour: str) -> int:
     gives the number of questions."""
     gone = database.execute("DELETE FROM question WHERE time < ?", (hour,)).rowcount
     if gone:
-        database.execute("DELETE FROM text WHERE id NOT IN (SELECT text FROM question)")
+        drop_unasked(database)
     return gone
+
+
+def drop_unasked(database: sqlite3.Connection) -> None:
+    """Removes the texts that no question has any more."""
+    database.execute("DELETE FROM text WHERE id NOT IN (SELECT text FROM question)")
 
 
 def texts(path: Path) -> Iterator[Text]:

@@ -20,6 +20,8 @@ from limits.strategies import MovingWindowRateLimiter
 
 # Visitors of one network: a room of computers behind one router.
 SHARING = 30
+# What is kept of one visitor's questions within an hour, in units of so many bytes that are begun.
+KEPT_HOURLY, UNIT = 250, 4096
 
 
 @dataclass(frozen=True)
@@ -68,11 +70,7 @@ class Visitors:
         shown within the hour counts no second time."""
         if self.hourly is None:
             return True
-        bounds = [
-            (key, limits.RateLimitItemPerHour(times * self.hourly))
-            for key, times in ((visitor.key, 1), (visitor.network, SHARING))
-            if key
-        ]
+        bounds = hourly(visitor, self.hourly)
         once = limits.RateLimitItemPerHour(1)
         with self._lock:
             new = [(key, most) for key, most in bounds if self._limiter.test(once, key, shown)]
@@ -83,7 +81,25 @@ class Visitors:
                 self._limiter.hit(most, key)
         return True
 
+    def may_keep(self, visitor: Visitor, size: int) -> bool:
+        """Whether a question of so many bytes is kept for a visitor, which then counts."""
+        units = size // UNIT + 1
+        with self._lock:
+            return all(
+                self._limiter.hit(most, "kept", key, cost=units)
+                for key, most in hourly(visitor, KEPT_HOURLY)
+            )
+
     def _digest(self, kind: str, text: str) -> str:
         return hmac.new(
             self._secret, f"{kind} {text}".encode("utf-8", "replace"), hashlib.sha256
         ).hexdigest()[:32]
+
+
+def hourly(visitor: Visitor, most: int) -> list[tuple[str, limits.RateLimitItemPerHour]]:
+    """The bounds of a visitor, and of all from the same network, by their keys."""
+    return [
+        (key, limits.RateLimitItemPerHour(times * most))
+        for key, times in ((visitor.key, 1), (visitor.network, SHARING))
+        if key
+    ]

@@ -11,6 +11,7 @@ import sqlite3
 import threading
 import time
 from collections.abc import Iterator
+from contextlib import closing
 from pathlib import Path
 from typing import Any
 
@@ -302,18 +303,29 @@ def test_nothing_was_asked(beers: Path) -> None:
     )
 
 
-def test_the_file_is_full(ratest: Path, beers: Path) -> None:
-    told = (
-        f"classroom: {beers}/results/asked.db: questions are not kept any more: database or disk is"
-        " full\n"
-    )
-    with serving(beers, "--asked-size", "1", errors=told) as server:
+def test_where_the_file_is_full_the_oldest_questions_go(ratest: Path, beers: Path) -> None:
+    with serving(beers, "--asked-size", "1") as server:
         for number in range(24):
             assert server.ask(
                 "1", f"SELECT name FROM bar -- {number}{'x' * 60_000}"
             ).verdict.startswith("differs on ")
+        assert server.send("GET", "/health").status == 200
     assert (beers / "results/asked.db").stat().st_size <= 1_000_000
+    with closing(sqlite3.connect(beers / "results/asked.db")) as database:
+        kept = [text[24:26].strip("x") for (text,) in database.execute("SELECT text FROM asked")]
+    assert len(kept) > 8 and kept == [str(number) for number in range(24 - len(kept), 24)]
     assert classroom("page", beers, "--asked").returncode == 0
+
+
+def test_one_visitor_fills_no_file(ratest: Path, beers: Path) -> None:
+    """What is kept of each within an hour is bounded, and so is what is kept of a network."""
+    with serving(beers, "--proxy", "127.0.0.1", "--user-header", "X-User") as server:
+        for number in range(20):
+            server.ask("1", f"SELECT name FROM bar -- {number}{'x' * 60_000}", {"X-User": "ann"})
+        server.ask("1", "SELECT name FROM bar", {"X-User": "ben"})
+    with closing(sqlite3.connect(beers / "results/asked.db")) as database:
+        kept = [len(text) for (text,) in database.execute("SELECT text FROM asked")]
+    assert sum(kept) < 1_100_000 and len(kept) == 17 and kept[-1] == 20
 
 
 # How much is shown.
@@ -666,8 +678,11 @@ def test_hostile_texts(server: Server) -> None:
         ("PUT", "/", b"x", 405),
         ("POST", "/ask.js", b"", 405),
         ("POST", "/", b"", 404),
-        ("POST", "/", b"task=1", 200),
-        ("POST", "/", b"task=1&query=%ff%fe%00", 200),
+        ("POST", "/", b"task=1", 409),
+        ("POST", "/", b"task=1&token=TOKEN", 200),
+        ("POST", "/", b"task=1&token=TOKEN&query=%ff%fe%00", 200),
+        ("POST", "/", b"task=1&token=%ff%fe%00&query=SELECT", 409),
+        ("POST", "/", b"task=1&token=" + b"x" * 65_537 + b"&query=SELECT", 409),
         ("POST", "/", b"task=1&query=" + b"x" * 65_537, 413),
         ("POST", "/", b"task=1&query=" + b"%20" * 65_537, 413),
         ("POST", "/", b"task=1&query=" + b"x" * 400_000, 413),
@@ -678,7 +693,9 @@ def test_hostile_texts(server: Server) -> None:
     ],
 )
 def test_requests(server: Server, method: str, path: str, body: bytes | None, status: int) -> None:
-    assert server.send(method, path, body, FORM).status == status
+    token = server.token().encode()
+    sent = body.replace(b"TOKEN", token) if body else body
+    assert server.send(method, path, sent, FORM).status == status
     assert server.ask("3", RIGHT).verdict == "agrees"
 
 
@@ -690,7 +707,7 @@ def test_other_forms_and_headers(server: Server) -> None:
     )
     assert (
         server.send("POST", "/", parts, {"Content-Type": "multipart/form-data; boundary=x"}).status
-        == 200
+        == 409
     )
     assert server.send("GET", "/", None, {"X-Long": "x" * 20_000}).status == 431
     assert (

@@ -48,6 +48,7 @@
       editor.focus();
     },
     value: () => editor.getValue(),
+    set: (text) => editor.setValue(text),
     on: (name, act) => editor.on(name, act),
     ask: (act) => editor.addKeyMap({ "Ctrl-Enter": act, "Cmd-Enter": act }),
   };
