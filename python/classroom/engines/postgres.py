@@ -17,7 +17,8 @@ from classroom.sql.schema import quoted
 from classroom.engines import left_schemas, tie_keys
 from classroom.engines.asker_rights import LOADER_RIGHTS, RIGHTS
 from classroom.engines.own_words import own_words
-from classroom.engines.postgres_refusals import cause_of, is_of_rows, look
+from classroom.engines.moment_types import moment
+from classroom.engines.postgres_refusals import cause_of, is_of_rows, look, look_for_clock
 from classroom.verdict.compare import Answer
 from classroom.verdict.verdict import Cause
 from classroom.engines.engine import (
@@ -185,7 +186,7 @@ class Postgres(Server):
         self.queries = (reference, answer)
         try:
             for which in (REFERENCE, ANSWER):
-                look(which, self.queries[which])
+                look(which, *with_views([self.queries[which]], material))
             self.askers = [self.connected(asker, "engine_asker", seconds) for _ in self.queries]
             self.make_tables()
             self.values = [
@@ -221,6 +222,7 @@ class Postgres(Server):
             told = self.stopped(which, fault)
             cause = cause_of(fault.sqlstate or "")
             raise told or Refused(which, self.words(which, fault), place, cause) from None
+        look_for_clock(which, moment(self.askers[which], self.queries[which]))
         # Over no rows; of the reference first, so that its text stands nowhere any more.
         answer = self.ask(which)
         if answer.failure and not is_of_rows(self.state):

@@ -33,7 +33,8 @@ from classroom.exercise.part_masks import Mask, Parts, bits
 from classroom.engines.tables_read import places, with_views
 from classroom.sql.dialect import with_sets
 from classroom.sql import ranks
-from classroom.sql.lookup import begins_as_query, clock, unknown_name
+from classroom.sql.clock import asked_in_sqlite
+from classroom.sql.lookup import begins_as_query, unknown_name
 
 # Steps of SQLite's machine between two looks at the time.
 STEPS = 200
@@ -264,9 +265,10 @@ class Sqlite:
             raise Refused(which, "a byte that is no character of a text", text.index("\0"))
         if not begins_as_query(text):
             raise Bars(which, "it is no query, which begins with SELECT, WITH, VALUES or TABLE")
-        found = clock(text)
-        if found:
-            raise Bars(which, f"it asks the clock: {found}")
+        for one in with_views([text], self.material):
+            found = asked_in_sqlite(one)
+            if found:
+                raise Bars(which, f"it asks the clock: {found}")
         first = self.stored[0]
         answer = first.ask(which, text)
         if answer.failure:

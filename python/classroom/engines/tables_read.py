@@ -20,17 +20,14 @@ def places(material: Material) -> dict[str, int]:
 
 
 def with_views(queries: Sequence[str], material: Material) -> list[str]:
-    """The queries; where one names a view, those of all views too."""
+    """The queries, and those of the views that they name, by themselves or in views."""
     dialect = Dialect(material.product)
-    views = {view.name.lower(): at for at, view in enumerate(material.views)}
-    return [
-        *queries,
-        *(
-            view.query
-            for view in material.views
-            if any(mentions(text, views, dialect) for text in queries)
-        ),
-    ]
+    made, left = list(queries), list(material.views)
+    for text in made:
+        for view in [one for one in left if mentions(text, {one.name.lower(): 0}, dialect)]:
+            left.remove(view)
+            made.append(view.query)
+    return made
 
 
 def named(text: str, numbers: Mapping[str, int], dialect: str) -> frozenset[int]:

@@ -7,7 +7,6 @@ from classroom.sql.tokens import Token, tokens
 
 # Behind these something has to come, which sqlglot doesn't ask for.
 OPEN_ENDS = frozenset("group order by having where on from and or not in like union".split())
-CLOCKS = {"date": 0, "time": 0, "datetime": 0, "julianday": 0, "unixepoch": 0, "strftime": 1}
 
 
 def begins_as_query(text: str) -> bool:
@@ -22,33 +21,6 @@ def is_cut(text: str) -> bool:
     return bool(words and words[-1] in OPEN_ENDS | {","}) or any(
         one == "," and two in ("from", "where", ")", ",") for one, two in zip(words, words[1:])
     )
-
-
-def clock(text: str) -> str:
-    """What asks for the time, which is another at each call; "" where nothing does."""
-    found = tokens(text)
-    for at, token in enumerate(found):
-        if token.kind == "text" and token.name.strip().lower() == "now":
-            return token.text
-        if (
-            token.kind == "word"
-            and token.text.lower() in CLOCKS
-            and [of.text for of in found[at + 1 : at + 2]] == ["("]
-        ):
-            if arguments(found, at + 1) <= CLOCKS[token.text.lower()]:
-                return f"{token.text}()"
-    return ""
-
-
-def arguments(found: list[Token], at: int) -> int:
-    """How many arguments stand in the parentheses that begin at a token."""
-    depth, count = 0, 0
-    for number, token in enumerate(found[at:]):
-        depth += (token.text == "(") - (token.text == ")")
-        if depth == 0:
-            return count + (number > 1)
-        count += token.text == "," and depth == 1
-    return count + 1
 
 
 def unknown_name(text: str, names: Collection[str]) -> tuple[str, int] | None:
