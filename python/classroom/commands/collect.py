@@ -38,11 +38,11 @@ from classroom.views.draw import counted
 from classroom.base.errors import Fault, shown
 from classroom.platforms import archive
 from classroom.platforms import collect as collecting
-from classroom.platforms import forms
 from classroom.platforms import place as placing
 from classroom.platforms import placed_by_hand
+from classroom.platforms import registry
 from classroom.platforms.archive import Member
-from classroom.platforms.forms import Handed
+from classroom.platforms.handed import Handed
 from classroom.platforms.placed_by_hand import label_key
 from classroom.web import hand_ins as handedin
 from classroom.web.questions import LOG
@@ -65,7 +65,7 @@ def add_arguments(parser: argparse.ArgumentParser) -> None:
     )
     parser.add_argument(
         "--form",
-        choices=sorted(forms.FORMS),
+        choices=sorted(one.name for one in registry.PLATFORMS if one.names),
         help="the form of the archive, where its names don't tell it",
     )
     parser.add_argument("--task", metavar="T", help="all files are answers to this task")
@@ -177,9 +177,10 @@ def of_archive(
     fixed = placed_so(readable, listed, by_hand)
     known = {one.handed.member for one in fixed}
     left = [one for one in readable if one not in known]
-    handed, others = forms.handed(left, arguments.form or forms.form_of(readable))
+    form = registry.BY_NAME[arguments.form] if arguments.form else registry.form_of(readable)
+    reading = form.read(left)
     answers, rest = placing.placed(
-        handed, placing.Rules(tasks, listed, arguments.task, arguments.task_pattern)
+        reading.found, placing.Rules(tasks, listed, arguments.task, arguments.task_pattern)
     )
     taken = {(one.task, key(one.student)): one for one in fixed}
     passed = [one for one in answers if (one.task, key(one.student)) in taken]
@@ -191,7 +192,7 @@ def of_archive(
         *unread,
         *(
             placing.NotPlaced(one.label, "its name has not the form of the others")
-            for one in others
+            for one in reading.others
         ),
     ]
 

@@ -27,6 +27,7 @@ import argparse
 import hashlib
 import logging
 from datetime import datetime, timezone
+from functools import partial
 from pathlib import Path
 
 from classroom.views import draw
@@ -39,9 +40,11 @@ from classroom.people.identity import MOST_ID, key
 from classroom.exercise.exercise import Exercise
 from classroom.base.errors import Fault, shown
 from classroom.views import markdown
-from classroom.platforms import grade_tables as platforms
+from classroom.platforms import back as returning
+from classroom.platforms import registry
+from classroom.platforms.back import Back, Wanted
+from classroom.platforms.gradescope import VISIBILITIES
 from classroom.views import for_student as sheet
-from classroom.platforms.grade_tables import Back
 from classroom.hints.find_mistakes import Mistakes
 from classroom.grading.store import Results
 from classroom.base.files import Written
@@ -67,14 +70,14 @@ def add_arguments(parser: argparse.ArgumentParser) -> None:
     )
     parser.add_argument(
         "--zip",
-        choices=sorted(platforms.FOLDERS),
+        choices=sorted(one.name for one in registry.PLATFORMS if one.place),
         action="append",
         default=[],
         help="the pages in an archive for this platform",
     )
     parser.add_argument(
         "--for",
-        choices=[*sorted(platforms.TABLES), platforms.GRADESCOPE],
+        choices=sorted(one.name for one in registry.PLATFORMS if one.table),
         action="append",
         default=[],
         dest="tables",
@@ -82,7 +85,7 @@ def add_arguments(parser: argparse.ArgumentParser) -> None:
     )
     parser.add_argument(
         "--visibility",
-        choices=platforms.VISIBILITIES,
+        choices=VISIBILITIES,
         default="visible",
         help="of the tests at Gradescope (visible)",
     )
@@ -152,19 +155,15 @@ def add_platforms(
     files: dict[str, bytes], backs: list[Back], arguments: argparse.Namespace, assignment: str
 ) -> int:
     """Adds the files for platforms; gives how many students are missing in one."""
-    made = {
-        f"{name}.csv": platforms.TABLES[name](backs, assignment)
-        for name in arguments.tables
-        if name in platforms.TABLES
-    }
-    if platforms.GRADESCOPE in arguments.tables:
-        made[f"{platforms.GRADESCOPE}.json"] = platforms.gradescope_json(
-            backs, assignment, arguments.visibility
-        )
-    made |= {
-        f"{name}.zip": platforms.archive(backs, platforms.FOLDERS[name], assignment)
-        for name in arguments.zip
-    }
+    wanted = Wanted(assignment, arguments.visibility)
+    made = {}
+    for platform in registry.PLATFORMS:
+        if platform.table and platform.name in arguments.tables:
+            made[platform.table_file] = platform.table(backs, wanted)
+    for platform in registry.PLATFORMS:
+        if platform.place and platform.name in arguments.zip:
+            place = partial(platform.place, wanted=wanted)
+            made[f"{platform.name}.zip"] = returning.archive(backs, place)
     for name, one in made.items():
         files[name] = one.content
         if one.without:

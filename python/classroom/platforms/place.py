@@ -13,7 +13,7 @@ from dataclasses import dataclass
 from classroom.base.errors import shown
 from classroom.exercise import collected
 from classroom.exercise.collected import OLDER, SAME, UNPLACED
-from classroom.platforms.forms import Handed
+from classroom.platforms.handed import Handed
 from classroom.platforms.html import text_of
 from classroom.people.identity import composed, fault_of_id, key
 from classroom.people.roster import ClassList
