@@ -50,6 +50,7 @@ from classroom.web.course import (
     Served,
     check_apart,
     folders,
+    held,
     place_of_hand_ins,
     place_of_log,
 )
@@ -143,7 +144,7 @@ def add_arguments(parser: argparse.ArgumentParser) -> None:
     parser.add_argument(
         "--proxy",
         metavar="ADDRESS",
-        help="the address of a web server in front, whose X-Forwarded-For is believed",
+        help="the address, or name, of a web server in front, whose X-Forwarded-For is believed",
     )
     parser.add_argument(
         "--user-header",
@@ -196,9 +197,9 @@ def run(arguments: argparse.Namespace) -> int:
     ):
         library(name, package)
     from classroom.web.server import Address, Running, serve
-    from classroom.web.login import SOCKET_PEER, Front
+    from classroom.web.login import SOCKET_PEER, Front, addresses
 
-    peers = {SOCKET_PEER} if arguments.socket else {arguments.proxy} if arguments.proxy else set()
+    peers = {SOCKET_PEER} if arguments.socket else addresses(arguments.proxy or "")
     if arguments.user_header and not peers:
         raise Fault(
             "--user-header needs --socket or --proxy: from anybody else the header is not believed"
@@ -288,6 +289,7 @@ def served(
             trier,
         )
         path = place_of_log(name, folder, arguments.asked_file)
+        stack.enter_context(held(path))
         kept_in = stack.enter_context(
             contextlib.closing(Log(path, arguments.asked_size, arguments.keep_days or None))
         )

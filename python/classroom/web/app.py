@@ -15,7 +15,6 @@ from werkzeug.exceptions import Forbidden, HTTPException, NotFound, Unauthorized
 from classroom.base.errors import Fault
 from classroom.views import draw
 from classroom.hints.target import looked
-from classroom.web import codemirror as editor
 from classroom.web.about import About
 from classroom.views.answer import REST, answer_of
 from classroom.web.questions import Question
@@ -30,6 +29,7 @@ from classroom.web.hint_buttons import BUTTONS, Hinted, shown
 from classroom.web.hint_buttons import REST as NO_MORE
 from classroom.web.showing import Showing
 from classroom.web.visitors import Visitor, Visitors
+from classroom.web.page_files import page_files
 from classroom.web.queue import Busy
 from classroom.sql.clean import CleanText, text_of
 from classroom.base.files import NotRead
@@ -59,11 +59,7 @@ class Pages:
         self.templates = {
             name: environment.get_template(f"{name}.html") for name in ("ask", "course", "about")
         }
-        self.style = f"{environment.globals['style']}{(draw.TEMPLATES / 'ask.css').read_text(encoding='utf-8')}"
-        self.scripts = {
-            name: (draw.TEMPLATES / name).read_text(encoding="utf-8")
-            for name in ("ask.js", "editor.js")
-        }
+        self.files = page_files(str(environment.globals["style"]))
 
     # ---- who asks
 
@@ -80,13 +76,14 @@ class Pages:
 
     def with_cookie(self, response: flask.Response, visitor: Visitor) -> flask.Response:
         if visitor.cookie:
+            path = f"{flask.request.script_root}/"
             if self.showing.is_framed:
                 # Werkzeug can't write the last word, by which a browser keeps the cookie to the
                 # platform around.
                 response.headers.add(
                     "Set-Cookie",
                     (
-                        f"{COOKIE}={visitor.cookie}; Path=/; HttpOnly; Secure; SameSite=None;"
+                        f"{COOKIE}={visitor.cookie}; Path={path}; HttpOnly; Secure; SameSite=None;"
                         " Partitioned"
                     ),
                 )
@@ -94,6 +91,7 @@ class Pages:
                 response.set_cookie(
                     COOKIE,
                     visitor.cookie,
+                    path=path,
                     httponly=True,
                     samesite="Strict",
                     secure=flask.request.is_secure,
@@ -109,7 +107,9 @@ class Pages:
             return self.form("")
         visitor = self.visitor()
         states = [(one, one.material.window.state()) for one in self.course.served]
-        text = self.templates["course"].render(page=self.course, exercises=states)
+        text = self.templates["course"].render(
+            page=self.course, exercises=states, top="", files=self.files
+        )
         return self.with_cookie(flask.Response(text.encode("utf-8", "replace")), visitor)
 
     def served(self, name: str) -> Served:
@@ -131,8 +131,8 @@ class Pages:
             visitor,
             self.course,
             "../../" if served.name else "",
+            self.files,
             served.material.window.state(),
-            editor.is_there(),
             self.tokens.token(visitor),
             by_task(served.material, self.handed_in(served, visitor)),
         )
@@ -151,8 +151,14 @@ class Pages:
             return {}
 
     def about(self) -> flask.Response:
-        text = self.templates["about"].render(page=self.about_page, course=self.course)
-        return flask.Response(text.encode("utf-8", "replace"))
+        return flask.Response(self.about_text(self.about_page))
+
+    def about_text(self, page: About) -> bytes:
+        """The page about this one, or of a fault, with links that hold at any address and below any
+        prefix."""
+        top = "../" * (flask.request.path.count("/") - 1)
+        text = self.templates["about"].render(page=page, top=top or "./", files=self.files)
+        return text.encode("utf-8", "replace")
 
     def drawing(self, name: str) -> flask.Response:
         served = self.served(name)
@@ -295,10 +301,7 @@ class Pages:
             405: "This is not how the page is asked.",
             413: f"The query has more than {MOST_BYTES} bytes.",
         }.get(status, "This request can't be answered.")
-        text = self.templates["about"].render(
-            page=replace(self.about_page, fault=told), course=self.course
-        )
-        page = flask.Response(text.encode("utf-8", "replace"), status)
+        page = flask.Response(self.about_text(replace(self.about_page, fault=told)), status)
         if status == 405:
             page.headers["Allow"] = "GET, HEAD, POST"
         return page
@@ -328,12 +331,8 @@ def application(
     )
     app.add_url_rule("/about", "about", pages.about)
     app.add_url_rule("/health", "health", lambda: health(course))
-    app.add_url_rule("/ask.css", "style", lambda: flask.Response(pages.style, mimetype="text/css"))
-    for name, text in pages.scripts.items():
-        app.add_url_rule(
-            f"/{name}", name, lambda text=text: flask.Response(text, mimetype="text/javascript")
-        )
-    app.add_url_rule("/codemirror/<path:name>", "codemirror", editor.file)
+    for file in pages.files.values():
+        app.add_url_rule(f"/{file.name}", file.name, file.response)
     app.register_error_handler(HTTPException, pages.fault)
 
     @app.after_request

@@ -1,32 +1,32 @@
-"""CodeMirror, as Debian has it: its files are served from their folder, by their names alone."""
+"""CodeMirror, as Debian has it."""
 from __future__ import annotations
 
 from pathlib import Path
 
-import flask
-from werkzeug.exceptions import NotFound
-
 FOLDER = Path("/usr/share/javascript/codemirror")
-FILES = {
-    "lib/codemirror.js": "text/javascript",
-    "lib/codemirror.css": "text/css",
-    "mode/sql/sql.js": "text/javascript",
-    "addon/hint/show-hint.js": "text/javascript",
-    "addon/hint/show-hint.css": "text/css",
-    "addon/hint/sql-hint.js": "text/javascript",
-    "addon/edit/matchbrackets.js": "text/javascript",
-}
+SCRIPTS = (
+    "lib/codemirror.js",
+    "mode/sql/sql.js",
+    "addon/hint/show-hint.js",
+    "addon/hint/sql-hint.js",
+    "addon/edit/matchbrackets.js",
+)
+STYLES = ("lib/codemirror.css", "addon/hint/show-hint.css")
 
 
 def is_there() -> bool:
-    return all((FOLDER / name).is_file() for name in FILES)
+    return all((FOLDER / name).is_file() for name in (*SCRIPTS, *STYLES))
 
 
-def file(name: str) -> flask.Response:
-    """One of its files."""
-    if name not in FILES or not (FOLDER / name).is_file():
-        raise NotFound
-    response = flask.Response((FOLDER / name).read_bytes(), mimetype=FILES[name])
-    # It changes with the package alone.
-    response.headers["Cache-Control"] = "public, max-age=86400"
-    return response
+def script() -> str:
+    """All of its scripts in one; empty where it is not there."""
+    return _joined(SCRIPTS, ";\n")
+
+
+def style() -> str:
+    return _joined(STYLES, "\n")
+
+
+def _joined(names: tuple[str, ...], between: str) -> str:
+    texts = [(FOLDER / name).read_text(encoding="utf-8") for name in names] if is_there() else []
+    return "".join(f"{text}{between}" for text in texts)

@@ -1,8 +1,10 @@
 """A course: an exercise, or a folder with some, each with its own file of what was asked."""
 from __future__ import annotations
 
+import fcntl
 import os
-from collections.abc import Sequence
+from collections.abc import Iterator, Sequence
+from contextlib import contextmanager
 from dataclasses import dataclass
 from pathlib import Path
 from typing import TYPE_CHECKING
@@ -98,6 +100,20 @@ def check_apart(names: Sequence[str], asked: Path) -> None:
                     f"--asked-file: the exercises {shown(other)} and {shown(name)} would share"
                     f" {shown(path.name)}: rename one of them"
                 )
+
+
+@contextmanager
+def held(log: Path) -> Iterator[None]:
+    """Holds what is kept of an exercise against a second server; a Fault where there is one."""
+    lock = os.open(log.with_name(f"{log.name}.lock"), os.O_CREAT | os.O_RDWR | os.O_CLOEXEC, 0o600)
+    try:
+        try:
+            fcntl.flock(lock, fcntl.LOCK_EX | fcntl.LOCK_NB)
+        except BlockingIOError:
+            raise Fault(f"{shown(str(log))}: another server is at work here") from None
+        yield
+    finally:
+        os.close(lock)
 
 
 def place_of_hand_ins(log: Path) -> Path:

@@ -9,6 +9,7 @@ from classroom.views.answer import Answer
 from classroom.web.course import Course, Served
 from classroom.web.hand_ins import Kept, Receipt
 from classroom.web.hint_buttons import Hinted
+from classroom.web.page_files import PageFile
 from classroom.web.served_exercise import Material
 from classroom.web.visitors import Visitor
 
@@ -58,8 +59,8 @@ class Page:
     visitor: Visitor
     course: Course
     top: str  # the way to the top of the course, for links
+    files: Mapping[str, PageFile]
     state: str  # before, open or after
-    has_editor: bool
     token: str  # of its forms
     handed_in: tuple[HandedIn, ...]
 

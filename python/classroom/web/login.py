@@ -6,11 +6,14 @@ dropped before anything reads them. """
 from __future__ import annotations
 
 import ipaddress
+import socket
 from collections.abc import Callable, Iterable, Mapping
 from dataclasses import dataclass
 from typing import Any
 
 from werkzeug.middleware.proxy_fix import ProxyFix
+
+from classroom.base.errors import Fault, shown
 
 # What waitress calls the peer of a Unix socket.
 SOCKET_PEER = "localhost"
@@ -50,7 +53,7 @@ class Behind:
         self.application = application
         self.front = front
         self.fixed: Application = ProxyFix(
-            application, x_for=1, x_proto=1, x_host=0, x_port=0, x_prefix=0
+            application, x_for=1, x_proto=1, x_host=0, x_port=0, x_prefix=1
         )
 
     def __call__(
@@ -61,6 +64,17 @@ class Behind:
         for name in (*FORWARDED, self.front.user_key):
             environ.pop(name, None)
         return self.application(environ, start_response)
+
+
+def addresses(name: str) -> set[str]:
+    """Those of a machine by its name, or the address itself; none where nothing is named."""
+    if not name:
+        return set()
+    try:
+        found = socket.getaddrinfo(name, None, type=socket.SOCK_STREAM)
+    except (OSError, UnicodeError):
+        raise Fault(f"--proxy: {shown(name)}: no address, and no machine of this name") from None
+    return {str(address[0]) for *_, address in found}
 
 
 def login(environ: Mapping[str, Any], front: Front) -> str:

@@ -67,6 +67,23 @@ def test_a_login_header_needs_somebody_who_sends_it(beers: Path, ratest: Path) -
     )
 
 
+def test_the_server_in_front_by_its_name(ratest: Path, beers: Path) -> None:
+    with serving(beers, "--proxy", "localhost", "--user-header", "X-User") as server:
+        assert server.ask("3", RIGHT, user("ann")).verdict == "agrees"
+    for name in ("no-such-machine.invalid", "127.0.0.1/8", "a b", "x" * 300):
+        ran = classroom("serve", beers, "--port", "0", "--proxy", name)
+        assert ran.returncode == 1 and "no address, and no machine of this name" in ran.stderr
+
+
+def test_a_second_server_of_an_exercise_ends(ratest: Path, beers: Path) -> None:
+    with serving(beers):
+        ran = classroom("serve", beers, "--port", "0", "--only-proved")
+        told = f"classroom: {beers}/results/asked.db: another server is at work here\n"
+        assert (ran.returncode, ran.stderr) == (1, told)
+    with serving(beers):
+        pass
+
+
 def test_the_header_of_another_peer_is_dropped(ratest: Path, beers: Path) -> None:
     """The proxy is elsewhere, so nobody here has a login, whatever is sent."""
     with serving(beers, "--proxy", "192.0.2.1", "--user-header", "X-User") as server:
@@ -782,19 +799,19 @@ def test_in_a_frame_of_a_platform(ratest: Path, beers: Path) -> None:
         assert classroom("serve", beers, "--frame-ancestors", word).returncode == 2
 
 
-def test_the_editor_comes_from_its_folder_alone(ratest: Path, beers: Path) -> None:
+def test_a_page_is_three_requests(ratest: Path, beers: Path) -> None:
+    """Itself, one style and one script, which has the editor where that is installed."""
     with serving(beers) as server:
         there = Path("/usr/share/javascript/codemirror").is_dir()
-        assert (server.send("GET", "/codemirror/lib/codemirror.js").status == 200) == there
-        for name in (
-            "package.json",
-            "../jquery/jquery.js",
-            "..%2f..%2f..%2fetc/passwd",
-            "lib",
-            "lib/",
-            "mode/xml/xml.js",
-            "%00",
-        ):
+        links = re.findall(r'(?:href|src)="([^"#]*)"', server.send("GET", "/").body)
+        files = [link for link in links if link.startswith("ask.")]
+        assert [link.partition("?")[0] for link in files] == ["ask.css", "ask.js"]
+        assert not [link for link in links if link.endswith((".js", ".css"))]
+        for link in files:
+            got = server.send("GET", f"/{link}")
+            assert got.status == 200 and ("CodeMirror" in got.body) == there
+            assert got.headers["Cache-Control"].startswith("public, max-age=")
+        for name in ("package.json", "../jquery/jquery.js", "lib/codemirror.js", "%00"):
             assert server.send("GET", f"/codemirror/{name}").status == 404, name
 
 

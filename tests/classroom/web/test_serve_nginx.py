@@ -2,14 +2,18 @@
 from __future__ import annotations
 
 import base64
+import http.client
 import os
 import re
 import shutil
 import socket
+import ssl
 import subprocess
 import tempfile
 import time
-from collections.abc import Iterator
+import urllib.parse
+from collections.abc import Iterator, Sequence
+from concurrent.futures import ThreadPoolExecutor
 from contextlib import contextmanager
 from pathlib import Path
 
@@ -26,10 +30,13 @@ RIGHT = (TOP / "examples/beers/3/reference.sql").read_text()
 
 @contextmanager
 def nginx(
-    socket_path: Path, folder: Path, users: str = "ann:{PLAIN}one\njoe:{PLAIN}two\n"
+    socket_path: Path,
+    folder: Path,
+    users: str = "ann:{PLAIN}one\njoe:{PLAIN}two\n",
+    edits: Sequence[tuple[str, str]] = (),
 ) -> Iterator[Server]:
     """An nginx with the example's lines in front of a socket, its names and its certificate those
-    of the test."""
+    of the test, and what `edits` replaces."""
     path = shutil.which("nginx", path=f"{os.environ['PATH']}:/usr/sbin")
     openssl = shutil.which("openssl")
     if not path or not openssl:
@@ -56,8 +63,11 @@ def nginx(
     )
     (folder / "users").write_text(users)
     lines = (EXAMPLES / "nginx.conf").read_text()
+    for old, new in edits:
+        assert lines.count(old) == 1, old
+        lines = lines.replace(old, new)
     for old, new, count in (
-        (r"http://unix:/run/classroom/page\.sock", f"http://unix:{socket_path}", 2),
+        (r"http://unix:/run/classroom/page\.sock", f"http://unix:{socket_path}", 3),
         (r"listen 443 ssl;", f"listen 127.0.0.1:{front} ssl;", 1),
         (r"    listen \[::\]:(443 ssl|80);\n", "", 2),
         (r"listen 80;", f"listen unix:{folder}/plain;", 1),
@@ -159,6 +169,95 @@ def test_a_login_is_that_of_the_web_server(behind: tuple[Server, Path]) -> None:
     for path in folder.iterdir():
         if path.name in ("access", "errors", "log"):
             assert not re.search(r"ann|joe|POST|GET", path.read_text()), path
+
+
+def test_a_room_behind_one_address(ratest: Path, beers: Path, tmp_path: Path) -> None:
+    """Forty students at one address work at once, while somebody at another one floods the page."""
+    names = [f"student{number}" for number in range(40)]
+    users = "".join(f"{name}:{{PLAIN}}word\n" for name in names)
+    context = ssl._create_unverified_context()
+    statuses: list[int] = []
+
+    def flood() -> None:
+        for _ in range(250):
+            connection = http.client.HTTPSConnection(
+                "127.0.0.1",
+                front.port,
+                timeout=30,
+                context=context,
+                source_address=("127.0.0.2", 0),
+            )
+            connection.request("GET", "/")
+            statuses.append(connection.getresponse().status)
+            connection.close()
+
+    def student(name: str) -> list[int]:
+        login = basic(f"{name}:word")
+        page = front.send("GET", "/", None, login)
+        links = re.findall(r'(?:href|src)="(ask\.[^"]*)"', page.body)
+        assert len(links) == 2
+        got = [page, *(front.send("GET", f"/{link}", None, login) for link in links)]
+        got += [front.ask("3", RIGHT, login) for _ in range(3)]
+        return [one.status for one in got]
+
+    with tempfile.TemporaryDirectory(prefix="page") as short:
+        place = Path(short) / "page.sock"
+        with serving(beers, "--user-header", "X-User", socket_path=place), nginx(
+            place, tmp_path / "nginx", users
+        ) as front, ThreadPoolExecutor(42) as threads:
+            floods = [threads.submit(flood) for _ in range(2)]
+            assert {status for got in threads.map(student, names) for status in got} == {200}
+            for one in floods:
+                one.result()
+    assert set(statuses) == {401, 429}
+    # One name or cookie, made up or not, has few requests a second.
+    with tempfile.TemporaryDirectory(prefix="page") as short:
+        place = Path(short) / "page.sock"
+        with serving(beers, "--user-header", "X-User", socket_path=place), nginx(
+            place, tmp_path / "again", users
+        ) as front:
+            login = basic("student1:word")
+            got = {front.send("GET", "/", None, login).status for _ in range(400)}
+            assert got == {200, 429}
+            assert front.send("GET", "/", None, basic("student2:word")).status == 200
+
+
+def test_what_a_browser_keeps(behind: tuple[Server, Path]) -> None:
+    front, _ = behind
+    for name in ("ask.css", "ask.js"):
+        got = front.send("GET", f"/{name}")
+        assert got.status == 200 and got.headers["Cache-Control"] == "max-age=2592000"
+    assert front.send("GET", "/", None, basic("ann:one")).headers["Cache-Control"] == "no-store"
+
+
+def test_below_a_prefix(ratest: Path, beers: Path, tmp_path: Path) -> None:
+    """Each link of each page leads somewhere, and the cookie is not for what else is there."""
+    below = (
+        ("    location / {", "    location /sql/ {"),
+        (
+            "page.sock;\n        proxy_read_timeout",
+            "page.sock:/;\n        proxy_set_header X-Forwarded-Prefix /sql;\n        proxy_read_timeout",
+        ),
+    )
+    course = tmp_path / "course"
+    course.mkdir()
+    for name in ("one", "two"):
+        shutil.copytree(beers, course / name)
+    with tempfile.TemporaryDirectory(prefix="page") as short:
+        place = Path(short) / "page.sock"
+        with serving(course, socket_path=place), nginx(
+            place, tmp_path / "nginx", edits=below
+        ) as front:
+            ann = basic("ann:one")
+            for page in ("", "about", "e/one/", "nowhere", "e/one/no/such", "e//x"):
+                got = front.send("GET", f"/sql/{page}", None, ann)
+                for link in re.findall(r'(?:href|src|action)="([^"]*)"', got.body):
+                    if not link.startswith("data:"):
+                        at = urllib.parse.urljoin(f"/sql/{page}", link)
+                        assert front.send("GET", at, None, ann).status == 200, (page, link)
+            joe = basic("joe:two")  # of whom nginx has seen no request yet
+            assert front.ask("3", RIGHT, joe, at="/sql/e/one/").verdict == "agrees"
+            assert "Path=/sql/" in front.send("GET", "/sql/", None, joe).cookies[0]
 
 
 def test_plain_http_is_sent_on(behind: tuple[Server, Path]) -> None:

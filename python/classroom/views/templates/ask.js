@@ -1,7 +1,7 @@
-"use strict";
 // For comfort alone: the page stays while the answer is looked for, the place of a fault is selected, and the answer is
 // where one reads on.
 (() => {
+  "use strict";
   const form = document.getElementById("ask");
   if (!form) return;
   const query = document.getElementById("query");

@@ -1,7 +1,7 @@
-"use strict";
 // An editor of the field, by CodeMirror: colours, line numbers, and completion of the names of tables and columns. The
 // field stays what is sent, and what is used where this script doesn't run.
 (() => {
+  "use strict";
   const field = document.getElementById("query");
   if (!field || typeof CodeMirror === "undefined") return;
   const tables = {};
