@@ -5,8 +5,10 @@ Each folder of others is opened below the one that has it, so no link, device or
 put among the answers is ever opened, whatever happens meanwhile. """
 from __future__ import annotations
 
+import fcntl
 import json
 import os
+import shutil
 import stat
 from collections.abc import Iterator, Mapping
 from contextlib import contextmanager
@@ -129,6 +131,43 @@ def write(path: Path, content: bytes) -> None:
     except OSError as fault:
         unfinished.unlink(missing_ok=True)
         raise Fault(f"{shown(str(path))} could not be written: {fault.strerror}") from None
+
+
+@contextmanager
+def locked(folder: Path) -> Iterator[None]:
+    """Holds a folder against every other process that does so, for which it waits."""
+    descriptor = os.open(folder, FLAGS | os.O_DIRECTORY)
+    try:
+        fcntl.flock(descriptor, fcntl.LOCK_EX)
+        yield
+    finally:
+        os.close(descriptor)
+
+
+def replace(path: Path, before: bytes | None, content: bytes) -> bool:
+    """Writes a file through to the disk, as a whole or not at all, where it still has the bytes
+    `before`, None where there is none; tells whether it had. Its folder has to be locked."""
+    unfinished = path.parent / f"{UNFINISHED}{path.name}"
+    try:
+        with open(unfinished, "wb") as file:
+            file.write(content)
+            file.flush()
+            os.fsync(file.fileno())
+        if path.exists():
+            shutil.copymode(path, unfinished)
+        if (path.read_bytes() if path.exists() else None) != before:
+            unfinished.unlink()
+            return False
+        os.replace(unfinished, path)
+        folder = os.open(path.parent, FLAGS | os.O_DIRECTORY)
+        try:
+            os.fsync(folder)
+        finally:
+            os.close(folder)
+    except OSError as fault:
+        unfinished.unlink(missing_ok=True)
+        raise Fault(f"{shown(str(path))} could not be written: {fault.strerror}") from None
+    return True
 
 
 def fill(path: Path, content: bytes) -> None:

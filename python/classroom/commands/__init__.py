@@ -5,6 +5,7 @@ COMMANDS = {
     "collect": "classroom.commands.collect",
     "grade": "classroom.commands.grade",
     "mistakes": "classroom.commands.mistakes",
+    "mark": "classroom.commands.mark",
     "page": "classroom.commands.page",
     "feedback": "classroom.commands.feedback",
     "serve": "classroom.commands.serve",

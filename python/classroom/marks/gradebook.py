@@ -8,7 +8,7 @@ import csv
 import hashlib
 import io
 from collections.abc import Callable, Iterable, Iterator, Mapping, Sequence
-from dataclasses import dataclass
+from dataclasses import dataclass, field
 from decimal import Decimal
 
 from classroom.base.csvcells import safe
@@ -57,6 +57,11 @@ class Gradebook:
     standings: tuple[Standing, ...]
     marks: Mapping[tuple[str, str], Mark]  # by the names of tasks and answers
     notes: tuple[str, ...] = ()  # lines of class/marks.csv that don't count, and why
+    mistakes: Mapping[str, str] = field(default_factory=dict)  # their names, by records of answers
+    # The lines that apply to an answer, by the names of tasks and answers; the first decides.
+    lines: Mapping[tuple[str, str], tuple[hand.Line, ...]] = field(default_factory=dict)
+    # By the labels of tasks and the keys of students, the line that was for an earlier text.
+    earlier: Mapping[tuple[str, str], hand.Line] = field(default_factory=dict)
 
     def mark(self, of: Graded) -> Mark:
         return self.marks[of.task.name, of.answer.name]
@@ -86,7 +91,7 @@ def gradebook(
     """The marks of these answers; `mistakes` are the names of those that are known, by the keys of
     the answers' records. Where `is_by_files`, students have the names of their files, and who has
     none is not there. A Fault where class/marks.csv has one."""
-    most = {task.label: most_points(task) for task in given.tasks}
+    most = most_of(given)
     lines = Lines(check_marks(given))
     handed = read_collected(given.folder)
 
@@ -98,12 +103,16 @@ def gradebook(
         own = student.closing(closes) if student else closes
         return late(given.settings.late, line.late if line else "", own)
 
+    applied = {
+        (one.task.name, one.answer.name): tuple(lines.about(one, mistakes.get(one.record, "")))
+        for one in graded
+    }
     marks = {
         (one.task.name, one.answer.name): mark(
             most[one.task.label],
             None if one.share is None else exact(one.share),
             one.decided_by,
-            [line.given for line in lines.about(one, mistakes.get(one.record, ""))],
+            [line.given for line in applied[one.task.name, one.answer.name]],
             late_of(one),
         )
         for one in graded
@@ -111,13 +120,26 @@ def gradebook(
     standings = tuple(
         _standings(given, graded, ClassList() if is_by_files else listed, marks, lines, most)
     )
-    return Gradebook(given, tuple(graded), standings, marks, tuple(lines.unused()))
+    return Gradebook(
+        given,
+        tuple(graded),
+        standings,
+        marks,
+        tuple(lines.unused()),
+        mistakes,
+        applied,
+        lines.earlier,
+    )
 
 
 def check_marks(given: Exercise) -> tuple[hand.Line, ...]:
     """The lines of class/marks.csv; a Fault where one is wrong."""
-    most = {task.label: most_points(task) for task in given.tasks}
-    return hand.read(given.folder / hand.FILE, most)
+    return hand.read(given.folder / hand.FILE, most_of(given))
+
+
+def most_of(given: Exercise) -> dict[str, Decimal]:
+    """The points of the tasks, by their labels."""
+    return {task.label: most_points(task) for task in given.tasks}
 
 
 def _standings(
@@ -164,7 +186,7 @@ class Lines:
         for line in lines:
             self._lines.setdefault((line.task, line.given.about), []).append(line)
         self._used: set[int] = set()
-        self._earlier: set[int] = set()  # whose student has another text now
+        self.earlier: dict[tuple[str, str], hand.Line] = {}  # whose student has another text now
 
     def about(self, of: Graded, mistake: str) -> Iterator[hand.Line]:
         """The lines that apply to an answer."""
@@ -182,7 +204,7 @@ class Lines:
         for line in self._lines.get((task.label, about), ()):
             if fits(line):
                 if text is not None and not text.startswith(line.text):
-                    self._earlier.add(line.number)
+                    self.earlier[task.label, line.value] = line
                 else:
                     self._used.add(line.number)
                     yield line
@@ -203,7 +225,7 @@ class Lines:
         for line in sorted(lines, key=lambda line: line.number):
             if line.number in self._used:
                 continue
-            if line.number in self._earlier:
+            if self.earlier.get((line.task, line.value)) is line:
                 why = f"{shown(line.student)}, task {shown(line.task)}: the mark was for an earlier"
                 why += " text"
             elif line.given.about == About.STUDENT:

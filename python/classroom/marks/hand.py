@@ -11,7 +11,7 @@ import io
 import os
 import re
 from collections.abc import Mapping, Sequence
-from dataclasses import dataclass
+from dataclasses import dataclass, field
 from decimal import Decimal
 from pathlib import Path
 
@@ -53,12 +53,33 @@ class Line:
     given: Given
     student: str = ""  # as it is written
     text: str = ""  # the beginning of the digest that the mark is for; empty for any text
+    cells: tuple[str, ...] = field(default=(), compare=False)  # by COLUMNS
+
+    def is_about_the_same(self, other: Line) -> bool:
+        """Whether not both may stand in one file; a longer beginning of one text is the same."""
+        if (self.task, self.given.about) != (other.task, other.given.about):
+            return False
+        if self.given.about != About.TEXT:
+            return self.value == other.value
+        return self.value.startswith(other.value) or other.value.startswith(self.value)
+
+    @property
+    def by(self) -> str:
+        return self.cells[COLUMNS.index("by")] if self.cells else ""
+
+    @property
+    def time(self) -> str:
+        return self.cells[COLUMNS.index("time")] if self.cells else ""
 
 
 def read(path: Path, most: Mapping[str, Decimal]) -> tuple[Line, ...]:
     """The lines of a file, none where there is no file; `most` are the points of the tasks. A Fault
     names the line and the column that is wrong."""
-    raw = reading.bounded(path, MOST_BYTES)
+    return lines_of_file(reading.bounded(path, MOST_BYTES), path, most)
+
+
+def lines_of_file(raw: bytes | None, path: Path, most: Mapping[str, Decimal]) -> tuple[Line, ...]:
+    """The lines of a file of these bytes, which stands at the path."""
     if raw is None:
         return ()
     try:
@@ -72,9 +93,7 @@ def read(path: Path, most: Mapping[str, Decimal]) -> tuple[Line, ...]:
 
 
 def lines_of(text: str, most: Mapping[str, Decimal]) -> tuple[Line, ...]:
-    head = text.partition("\n")[0]
-    parts = ";" if ";" in head and "," not in head else ","
-    rows = csv.reader(io.StringIO(text, newline=""), delimiter=parts, strict=True)
+    rows = csv.reader(io.StringIO(text, newline=""), delimiter=delimiter(text), strict=True)
     begin, found = 1, []
     try:
         check_header(next(rows, []))
@@ -89,8 +108,15 @@ def lines_of(text: str, most: Mapping[str, Decimal]) -> tuple[Line, ...]:
     return tuple(found)
 
 
+def delimiter(text: str) -> str:
+    """What parts the cells, by the first line."""
+    head = text.partition("\n")[0]
+    return ";" if ";" in head and "," not in head else ","
+
+
 def wrong(line: int, column: str, why: str) -> Fault:
-    return Fault(f"line {line}, column {column}: {why}")
+    """`line` is 0 for one that stands in no file yet."""
+    return Fault(f"line {line}, column {column}: {why}" if line else f"{column}: {why}")
 
 
 def check_header(cells: Sequence[str]) -> None:
@@ -122,6 +148,7 @@ def line_of(number: int, cells: Sequence[str], most: Mapping[str, Decimal]) -> L
         given,
         values["student"],
         values["text"],
+        tuple(values[name] for name in COLUMNS),
     )
 
 
@@ -158,8 +185,6 @@ def check_each_once(lines: Sequence[Line]) -> None:
     """A Fault where two lines are about one thing; a longer beginning of one text is the same."""
     ordered = sorted(lines, key=lambda line: (line.task, line.given.about, line.value, line.number))
     for one, other in zip(ordered, ordered[1:]):
-        same = (one.task, one.given.about) == (other.task, other.given.about)
-        is_text = one.given.about == About.TEXT
-        if same and (other.value.startswith(one.value) if is_text else other.value == one.value):
+        if one.is_about_the_same(other):
             first, second = sorted((one.number, other.number))
             raise wrong(second, one.given.about.name.lower(), f"line {first} is about the same")
