@@ -31,10 +31,9 @@ from classroom.engines.engine import (
     Stopped,
     TooMuch,
 )
-from classroom.engines.tables_read import mentions
+from classroom.engines.tables_read import in_one_schema, mentions, places, with_views
 from classroom.exercise.typed_rows import Material
 from classroom.exercise.part_masks import Mask, Parts, bits
-from classroom.engines.tables_read import places, with_views
 from classroom.sql.tokens import Dialect
 
 SCHEMA = "ratest_trial_"
@@ -183,7 +182,7 @@ class Postgres(Server):
     ) -> None:
         super().__init__(material, loader)
         self.parts, self.seconds = parts, seconds
-        self.queries = (reference, answer)
+        self.queries = in_one_schema(reference, material), in_one_schema(answer, material)
         try:
             for which in (REFERENCE, ANSWER):
                 look(which, *with_views([self.queries[which]], material))

@@ -13,6 +13,7 @@ from classroom.engines.engine import ANSWER, Stopped
 from classroom.exercise.typed_rows import Material
 from classroom.engines.postgres import Server, literal
 from classroom.engines.postgres_refusals import look
+from classroom.engines.tables_read import in_one_schema
 
 QUERY_SECONDS = 1.0
 STEPS = 250_000  # that a second counts as
@@ -62,10 +63,10 @@ class Database:
         return f"{self.tables.begins[rows[0].table]}{values}"
 
     def written(self, query: str) -> str:
-        return query
+        return in_one_schema(query, self.tables.material)
 
     def untied(self, query: str) -> list[str]:
-        return list(tie_keys.untied_texts(query, self.pool, "postgres"))
+        return list(tie_keys.untied_texts(self.written(query), self.pool, "postgres"))
 
     def load(self, part: frozenset[Row], backwards: bool = False) -> None:
         if self.tables.held == (self, part, backwards):

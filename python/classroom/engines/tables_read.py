@@ -7,6 +7,7 @@ import sqlglot
 from sqlglot import exp
 
 from classroom.exercise.typed_rows import Material
+from classroom.sql.public_names import meant, without_public
 from classroom.sql.tokens import Dialect, tokens
 from classroom.sql.tree import UNREAD, Node, nodes
 
@@ -17,6 +18,20 @@ READERS = {"sqlite": Dialect.SQLITE, "postgres": Dialect.POSTGRESQL}
 def places(material: Material) -> dict[str, int]:
     """The numbers of the tables by their names in small letters."""
     return {name.lower(): at for at, name in enumerate(material.names())}
+
+
+def in_one_schema(query: str, material: Material) -> str:
+    """A query of PostgreSQL whose tables, views and types are in the schema of the trial."""
+    made = tokens(material.before, Dialect.POSTGRESQL)
+    words = [token.word for token in made]
+    types = {
+        meant(made[at + 2])
+        for at in range(len(made) - 2)
+        if words[at] == "create" and words[at + 1] in ("type", "domain")
+    }
+    return without_public(
+        query, {*material.names(), *(view.name for view in material.views), *types}
+    )
 
 
 def with_views(queries: Sequence[str], material: Material) -> list[str]:

@@ -17,6 +17,7 @@ from classroom.sql import rewrite_queries as queries
 from classroom.sql import rewrite_values as values
 from classroom.sql.dialect import for_sqlite, with_sets
 from classroom.sql.lookup import is_cut
+from classroom.sql.public_names import PUBLIC
 from classroom.sql.rewrite_parts import MOST, Cannot, Columns, Names, is_star, sql, value
 from classroom.sql.tokens import Dialect, tokens
 from classroom.sql.tree import COMPARISONS, SETS, Node
@@ -160,16 +161,24 @@ class _Rewriter:
             if node.args.get("offset") and not node.args.get("limit"):
                 return with_limit(node.copy())
             return None
+        if isinstance(node, exp.Dot) and isinstance(node.this, exp.Column):
+            # Of a schema's table a column.
+            self.look_for_schema(node.this.args.get("table"), node.this.name)
+            return exp.Column(this=node.expression.copy(), table=node.this.this.copy())
         if isinstance(node, exp.Table):
             schema = node.args.get("db")
-            if schema and (schema.name.lower() != "public" or node.name.lower() in self.ctes):
-                raise Cannot("another schema")
+            if schema:
+                self.look_for_schema(schema, node.name)
             copy = node.copy()
             copy.set("db", None)
             return self.with_names(copy, node) or (copy if schema else None)
         if isinstance(node, (exp.Subquery, exp.Values)):
             return self.with_names(node, node)
         return None
+
+    def look_for_schema(self, schema: Any, table: str) -> None:
+        if schema is None or schema.name.lower() != PUBLIC or table.lower() in self.ctes:
+            raise Cannot("another schema")
 
     def with_names(self, node: Any, old: Any) -> Node | None:
         alias = node.args.get("alias")
