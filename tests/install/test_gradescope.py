@@ -33,7 +33,7 @@ def autograder(packages: Path, top: Path, tmp_path: Path) -> Path:
     shutil.copytree(
         top / "examples/beers",
         place / "source/exercise",
-        ignore=shutil.ignore_patterns("results", "page.html"),
+        ignore=shutil.ignore_patterns("results", "teacher.html"),
     )
     (place / "submission").mkdir()
     shutil.copy(top / "examples/beers/3/answers/b.sql", place / "submission/3.sql")

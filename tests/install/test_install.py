@@ -98,8 +98,8 @@ def test_classroom(prefix: Path, top: Path, tmp_path: Path) -> None:
     shutil.copytree(top / "examples/beers", exercise, ignore=shutil.ignore_patterns("results"))
     ran = run(prefix / "bin/classroom", "grade", exercise)
     assert (ran.returncode, ran.stderr) == (0, "") and "15 answers: 15 differ\n" in ran.stdout
-    assert (exercise / "results/page.html").read_text() == (
-        top / "examples/beers/page.html"
+    assert (exercise / "results/teacher.html").read_text() == (
+        top / "examples/beers/teacher.html"
     ).read_text()
     page = gzip.decompress((prefix / "share/man/man1/classroom.1.gz").read_bytes())
     assert b"classroom" in page and b"grade" in page

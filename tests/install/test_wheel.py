@@ -102,13 +102,13 @@ def test_a_class_is_graded(environment: Path, top: Path, tmp_path: Path) -> None
     shutil.copytree(top / "examples/beers", exercise, ignore=shutil.ignore_patterns("results"))
     ran = run(environment / "bin/classroom", "grade", exercise)
     assert ran.returncode == 0 and "15 answers: 15 differ\n" in ran.stdout
-    assert "page.html is not written" in ran.stderr
+    assert "teacher.html is not written" in ran.stderr
     # In a virtual environment, which sees nothing of Debian's.
     assert "pip install 'ratest[page]'" in ran.stderr
     with open(exercise / "results/grades.csv", encoding="utf-8", newline="") as file:
         rows = list(csv.DictReader(file))
     assert len(rows) == 15 and {row["grade"] for row in rows} == {"differs"}
-    assert not (exercise / "results/page.html").exists()
+    assert not (exercise / "results/teacher.html").exists()
 
 
 @pytest.mark.parametrize("words", [["bin/classroom"], ["bin/python", "-m", "classroom"]])

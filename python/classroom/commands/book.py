@@ -4,6 +4,8 @@ from __future__ import annotations
 import logging
 from collections.abc import Mapping, Sequence
 
+from classroom.base.errors import shown
+from classroom.base.files import write
 from classroom.exercise.exercise import Exercise
 from classroom.grading.graded import Graded
 from classroom.grading.store import Results
@@ -12,7 +14,10 @@ from classroom.hints.mistake import Mistake
 from classroom.marks import mark_files
 from classroom.marks.gradebook import Gradebook, gradebook
 from classroom.people.roster import ClassList
+from classroom.views import for_class, for_teacher
 
+# The page of earlier versions, which was for the teacher or for students.
+OLD_PAGE = "page.html"
 log = logging.getLogger(__name__)
 
 
@@ -33,6 +38,19 @@ def renew(results: Results, book: Gradebook) -> None:
     """Writes the tables of the marks anew, and tells which lines of class/marks.csv don't count."""
     results.write_tables(mark_files.tables(book))
     tell_notes(book)
+
+
+def write_pages(results: Results, book: Gradebook, found: Mapping[str, Mistake] = {}) -> None:
+    """Writes the page of the teacher and that of the students; `found` are the mistakes of answers,
+    by the keys of their records."""
+    write(results.folder / "teacher.html", for_teacher.page_of(book, found))
+    write(results.folder / "students.html", for_class.page_of(book))
+    old = results.folder / OLD_PAGE
+    if old.is_file():
+        old.unlink()
+        log.warning(
+            "%s is removed: the pages are teacher.html and students.html now", shown(str(old))
+        )
 
 
 def tell_notes(book: Gradebook) -> None:

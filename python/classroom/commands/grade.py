@@ -8,7 +8,7 @@ reference-9.sql: what agrees with one of them is right, and else the nearest is 
 file exercise.toml, where there is one, says points and limits.
 
 Into EXERCISE/results go grades.csv, class.csv with a line a student, results.json for an autograder
-as Gradescope reads it, page.html, for each answer tasks/TASK/ANSWER.txt with its status and what
+as Gradescope reads it, teacher.html, students.html, for each answer tasks/TASK/ANSWER.txt with its status and what
 was printed, and in runs the record of each call. Answers whose bytes are the same are run once.
 What is stopped, or killed, goes on where it was: a record that is there is not made again, unless
 the answer, the reference, the schema, a row, the program, --work or --conflicts is another.
@@ -25,12 +25,11 @@ from collections.abc import Iterable, Sequence
 from dataclasses import dataclass, replace
 from pathlib import Path
 
-from classroom.views import for_teacher as classpage
 from classroom.grading import graded as graded_answers
 from classroom.grading import grades_files
 from classroom.grading import open as opening
 from classroom.commands import options
-from classroom.commands.book import book_of, tell_notes
+from classroom.commands.book import book_of, tell_notes, write_pages
 from classroom.process import pool as parallel
 from classroom.marks import mark_files
 from classroom.marks.gradebook import Gradebook, check_marks
@@ -41,7 +40,6 @@ from classroom.exercise import same_rows
 from classroom.exercise.exercise import Answer, Exercise, Task, digest
 from classroom.base.errors import Fault, Missing, shown
 from classroom.grading.open import Opened
-from classroom.base.files import write
 from classroom.grading.graded import Graded
 from classroom.grading.nearest import nearest
 from classroom.grading.store import Results, trial_name
@@ -110,7 +108,7 @@ def run(arguments: argparse.Namespace) -> int:
         graded, between = nearest_of(graded_of(answers)), graded_of(references)
         book = book_of(given, graded, listed)
         results.publish(given, graded, mark_files.tables(book), between)
-        publish_page(results, book)
+        publish_pages(results, book)
     for line in grades_files.differing(between):
         log.warning("%s", line)
     return tell(book)
@@ -208,12 +206,12 @@ def try_all(
     return {entry: of.key for entry, of in questions.items() if of}
 
 
-def publish_page(results: Results, book: Gradebook) -> None:
-    """The page, but where its library is missing."""
+def publish_pages(results: Results, book: Gradebook) -> None:
+    """The pages, but where their library is missing."""
     try:
-        write(results.folder / "page.html", classpage.page_of(book))
+        write_pages(results, book)
     except Missing as missing:
-        log.warning("page.html is not written: %s", missing)
+        log.warning("teacher.html and students.html are not written: %s", missing)
 
 
 def tell(book: Gradebook) -> int:

@@ -22,10 +22,9 @@ import argparse
 import logging
 import sys
 
-from classroom.views import for_teacher as classpage
 from classroom.exercise import exercise
 from classroom.commands import options
-from classroom.commands.book import book_of, renew
+from classroom.commands.book import book_of, renew, write_pages
 from classroom.people import roster as students
 from classroom.base.errors import Fault, library, shown
 from classroom.base.files import write
@@ -66,7 +65,7 @@ def run(arguments: argparse.Namespace) -> int:
         listed = students.read(given.folder / given.settings.students)
         book = book_of(given, graded, listed, found)
         renew(results, book)
-        write(results.folder / "page.html", classpage.page_of(book, found=found))
+        write_pages(results, book, found)
     for line in table.told([one for one in made if one.task in {of.task.label for of in some}]):
         print(line)
     print(f"see {shown(str(results.folder / 'mistakes.csv'))}")

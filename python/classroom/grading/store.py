@@ -5,7 +5,7 @@
     tasks/TASK/ANSWER.txt   for each answer its status and what was printed, to be read by people
     answers.json            which record each answer has, and of which texts it was made
     written.json            which texts and records were written: what else stands there is never removed
-    grades.csv, results.json, page.html
+    grades.csv, results.json, teacher.html, students.html
 
 A record's key is a digest of all that decides the outcome: the program, the schema, the rows, the
 reference, the answer's bytes and the options. So an answer that changed has no record, and one with

@@ -9,7 +9,7 @@ from collections.abc import Mapping, Sequence
 from dataclasses import dataclass
 from decimal import Decimal
 
-from classroom.views import for_teacher as classpage
+from classroom.views import outcomes
 from classroom.marks import gradebook as standing
 from classroom.views.draw import Drawing, counted
 from classroom.base.errors import shown
@@ -24,6 +24,7 @@ from classroom.verdict import sentences as trial_words
 from classroom.verdict.verdict import Remark
 from classroom.sql.clean import CleanText
 from classroom.marks.gradebook import Standing
+from classroom.views.task_question import question
 from ratest.places import Place
 
 NOTHING = "nothing was handed in"
@@ -64,6 +65,7 @@ class Part:
     """An answer to a task; without a text where none was handed in."""
 
     title: str
+    question: str  # as HTML; empty where there is none
     kind: str  # of the style sheet
     words: str  # the verdict
     told: str  # what it means
@@ -129,13 +131,14 @@ def part(
 ) -> Part:
     # Of several the one that the answer was compared with.
     by = of.task if of else task
-    reference = classpage.text_of(by.reference) if shows_references else None
+    reference = outcomes.text_of(by.reference) if shows_references else None
     points = points_of_part(task, mark)
     late = mark.late if mark else ""
     comment = tuple(mark.comment.splitlines()) if mark else ()
     if of is None:
         return Part(
             task.title,
+            question(task),
             "none",
             UNPLACED.format(shown(*unplaced)) if unplaced else NOTHING,
             "",
@@ -148,13 +151,14 @@ def part(
         )
     return Part(
         task.title,
-        classpage.css(of),
-        classpage.words(of, False),
+        question(task),
+        outcomes.css(of),
+        outcomes.words(of),
         told(of),
         points,
         standing.most_points(task),
-        classpage.text_of(of.answer.text.whole),
-        classpage.drawing_of(of, given.tables),
+        outcomes.text_of(of.answer.text.whole),
+        outcomes.drawing_of(of, given.tables),
         reference,
         hints(given, of, mistakes),
         late,
@@ -200,7 +204,7 @@ def told_of_verdict(of: Graded) -> str:
         if note.is_slight and isinstance(note.value, Remark)
     )
     if of.trial and of.is_tried:
-        return f"{classpage.told_of_trial(of.trial)}{slight}"
+        return f"{outcomes.told_of_trial(of.trial)}{slight}"
     if of.grade == Grade.AGREES and slight:
         return f"{TOLD[Grade.AGREES]}{slight}"
     kinds = {note.kind for note in of.decision.notes}

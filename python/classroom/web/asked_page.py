@@ -6,10 +6,10 @@ from collections.abc import Sequence
 from dataclasses import dataclass
 from pathlib import Path
 
-from classroom.views import for_teacher as classpage
 from classroom.views import draw
-from classroom.views.for_teacher import Showing
 from classroom.views.draw import Drawing, counted
+from classroom.views.for_teacher import references_of
+from classroom.views.outcomes import STUDENTS, TEACHER, Reader, css, drawing_of, text_of
 from classroom.exercise.exercise import Answer, Exercise, Task, digest
 from classroom.grading.graded import Graded, grade
 from classroom.verdict import sentences
@@ -47,11 +47,17 @@ class Mistake:
 
 @dataclass(frozen=True)
 class TaskPart:
+    """As students may see it."""
+
     name: str
-    reference: str | None
     count: int  # of questions
     mistakes: tuple[Mistake, ...]
-    doubts: tuple[str, ...]  # of the reference
+
+
+@dataclass(frozen=True)
+class TeacherTask(TaskPart):
+    reference: str
+    doubts: tuple[str, ...]  # of it
 
 
 @dataclass(frozen=True)
@@ -62,31 +68,37 @@ class Page:
     tasks: tuple[TaskPart, ...]
 
 
-def page_of(given: Exercise, log: Path, showing: Showing) -> bytes:
+def page_for_teacher(given: Exercise, log: Path) -> bytes:
     """The page as HTML, of the questions in a file."""
     found = list(asked.texts(log))
-    parts = []
-    for task in given.tasks:
-        texts = own(found, task, given)
-        parts.append(
-            TaskPart(
-                task.title,
-                classpage.references_of(task) if showing.solutions else None,
-                sum(text.count for text in texts),
-                mistakes(task, texts, given, showing),
-                doubts(texts, task) if showing.solutions else (),
-            )
-        )
+
+    def part(task: Task) -> TeacherTask:
+        seen = part_of(given, task, own(found, task, given), TEACHER)
+        doubtful = doubts(own(found, task, given), task)
+        return TeacherTask(**vars(seen), reference=references_of(task), doubts=doubtful)
+
+    return drawn("asked_teacher.html", given, found, [part(task) for task in given.tasks])
+
+
+def page_for_students(given: Exercise, log: Path) -> bytes:
+    """The same without what speaks of the references."""
+    found = list(asked.texts(log))
+    parts = [part_of(given, task, own(found, task, given), STUDENTS) for task in given.tasks]
+    return drawn("asked.html", given, found, parts)
+
+
+def drawn(
+    template: str, given: Exercise, found: Sequence[Text], parts: Sequence[TaskPart]
+) -> bytes:
     known = sum(part.count for part in parts)
-    page = Page(
-        given.title,
-        counted(known, "question"),
-        sum(text.count for text in found) - known,
-        tuple(parts),
-    )
-    return (
-        draw.environment().get_template("asked.html").render(page=page).encode("utf-8", "replace")
-    )
+    left = sum(text.count for text in found) - known
+    page = Page(given.title, counted(known, "question"), left, tuple(parts))
+    return draw.environment().get_template(template).render(page=page).encode("utf-8", "replace")
+
+
+def part_of(given: Exercise, task: Task, texts: Sequence[Text], reader: Reader) -> TaskPart:
+    count = sum(text.count for text in texts)
+    return TaskPart(task.title, count, mistakes(task, texts, given, reader))
 
 
 def own(texts: Sequence[Text], task: Task, given: Exercise) -> list[Text]:
@@ -106,7 +118,7 @@ def doubts(texts: Sequence[Text], task: Task) -> tuple[str, ...]:
 
 
 def mistakes(
-    task: Task, texts: Sequence[Text], given: Exercise, showing: Showing
+    task: Task, texts: Sequence[Text], given: Exercise, reader: Reader
 ) -> tuple[Mistake, ...]:
     """By their outcomes, the most frequent first and what agrees last."""
     groups: dict[object, list[tuple[Text, Graded]]] = {}
@@ -128,24 +140,24 @@ def mistakes(
             ),
         )
         groups.setdefault(same, []).append((text, one))
-    made = [mistake(members, given.tables, showing) for members in groups.values()]
+    made = [mistake(members, given.tables, reader) for members in groups.values()]
     return tuple(sorted(made, key=lambda of: (of.kind == Grade.AGREES.css, -of.count)))
 
 
 def mistake(
-    members: Sequence[tuple[Text, Graded]], tables: Sequence[Table], showing: Showing
+    members: Sequence[tuple[Text, Graded]], tables: Sequence[Table], reader: Reader
 ) -> Mistake:
     first = members[0][1]
-    shown = members[:MOST_TEXTS] if classpage.shows_text(first, showing) else []
+    shown = members[:MOST_TEXTS] if reader.shows_text(first) else []
     return Mistake(
-        classpage.css(first),
-        classpage.words(first, showing.solutions),
-        classpage.printed_of(first) if showing.solutions else "",
+        css(first),
+        reader.words(first),
+        reader.printed(first),
         sum(text.count for text, _ in members),
         len(members),
         tuple(
-            Shown(f"Asked {counted(text.count, 'time')}", classpage.text_of(of.answer.text.whole))
+            Shown(f"Asked {counted(text.count, 'time')}", text_of(of.answer.text.whole))
             for text, of in shown
         ),
-        classpage.drawing_of(first, tables),
+        drawing_of(first, tables),
     )

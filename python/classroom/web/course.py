@@ -105,7 +105,11 @@ def check_apart(names: Sequence[str], asked: Path) -> None:
 @contextmanager
 def held(log: Path) -> Iterator[None]:
     """Holds what is kept of an exercise against a second server; a Fault where there is one."""
-    lock = os.open(log.with_name(f"{log.name}.lock"), os.O_CREAT | os.O_RDWR | os.O_CLOEXEC, 0o600)
+    place = log.with_name(f"{log.name}.lock")
+    try:
+        lock = os.open(place, os.O_CREAT | os.O_RDWR | os.O_CLOEXEC, 0o600)
+    except OSError as fault:
+        raise Fault(f"{shown(str(log))}: {fault.strerror}") from None
     try:
         try:
             fcntl.flock(lock, fcntl.LOCK_EX | fcntl.LOCK_NB)

@@ -13,7 +13,6 @@ from werkzeug.exceptions import BadRequest, NotFound
 
 from classroom.views import draw
 from classroom.verdict import witness
-from classroom.views.for_teacher import Showing
 from classroom.exercise.exercise import Exercise
 from classroom.web import questions as asked
 from classroom.web import asked_page as askedpage
@@ -119,7 +118,7 @@ def application(course: Course, watched: Mapping[str, Watched]) -> flask.Flask:
     def mistakes(name: str = "") -> flask.Response:
         if name not in watched:
             raise NotFound
-        return flask.Response(askedpage.page_of(watched[name].given, watched[name].log, Showing()))
+        return flask.Response(askedpage.page_for_teacher(watched[name].given, watched[name].log))
 
     app.add_url_rule("/", "top", top)
     app.add_url_rule("/mistakes/", "mistakes of the only one", mistakes)

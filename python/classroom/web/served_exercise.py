@@ -11,17 +11,15 @@ from collections.abc import Collection, Sequence
 from dataclasses import dataclass, replace
 from pathlib import Path
 
-from classroom.exercise import exercise
 from classroom.exercise.exercise import Exercise, Task, digest
-from classroom.base.errors import Missing, library
 from classroom.sql.schema import Table
 from classroom.views.for_teacher import references_of
+from classroom.views.task_question import question
 from classroom.web import schema_drawing as relations
 from classroom.exercise.window import Window
 from classroom.exercise.settings import Settings
 from classroom.sql.tokens import Dialect
 
-MOST_QUESTION = 10_000  # characters that are shown of one
 MOST_ROWS = 100  # of a table that are shown
 
 
@@ -116,33 +114,12 @@ def offered(task: Task, name: str, folder: Path, window: Window) -> Offered:
     return Offered(
         task.label,
         task.title,
-        question(task.folder / task.settings.question),
+        question(task),
         name,
         digest(task.reference),
         solution,
         bool(task.fault),
     )
-
-
-def question(path: Path) -> str:
-    """The question as HTML, of Markdown without tags of its own and without pictures; empty where
-    there is none."""
-    try:
-        text = exercise.read(path).decode("utf-8", "replace")[:MOST_QUESTION].strip()
-    except OSError:
-        return ""
-    return markdown(text) if text else ""
-
-
-def markdown(text: str) -> str:
-    from ratest.draw import escaped, pictures
-
-    try:
-        found = library("markdown_it", "python3-markdown-it")
-    except Missing:
-        return f'<p class="plain">{escaped(text)}</p>'
-    reader = found.MarkdownIt("commonmark", {"html": False}).enable("table").disable("image")
-    return str(reader.render(pictures(text)))
 
 
 def rows_of(table: Table, content: bytes) -> Rows:

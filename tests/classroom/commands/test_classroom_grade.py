@@ -238,10 +238,11 @@ def test_killed_at_any_moment(ratest: Path, tmp_path: Path) -> None:
         "answers.json",
         "class.csv",
         "grades.csv",
-        "page.html",
         "results.json",
         "runs",
+        "students.html",
         "tasks",
+        "teacher.html",
         "written.json",
     ]
 
@@ -561,7 +562,7 @@ def test_without_jinja2(ratest: Path, beers: Path, tmp_path: Path) -> None:
     assert (ran.returncode, ran.stderr) == (
         0,
         (
-            "classroom: page.html is not written: the library jinja2 is not there: "
+            "classroom: teacher.html and students.html are not written: the library jinja2 is not there: "
             "apt-get install python3-jinja2\n"
         ),
     )

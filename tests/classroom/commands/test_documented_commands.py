@@ -98,7 +98,7 @@ def test_the_first_class_of_the_readme(clone: Path) -> None:
     told = re.search(r"`grade` prints `([^`]*)`", section)
     assert told and told[1] in ran.stdout
     results = clone / "trial/class/results"
-    for name in ("page.html", "grades.csv", "class.csv", "feedback/moodle.csv"):
+    for name in ("teacher.html", "grades.csv", "class.csv", "feedback/moodle.csv"):
         assert (results / name).is_file(), name
 
 

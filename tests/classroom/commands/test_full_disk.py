@@ -52,7 +52,7 @@ def contents(folder: Path) -> dict[str, bytes]:
         for path in sorted(folder.rglob("*"))
         if path.is_file()
         and not {"runs", "tasks"} & set(path.parts)
-        and path.name not in ("grades.csv", "results.json", "graded.json", "page.html")
+        and path.name not in ("grades.csv", "results.json", "graded.json", "teacher.html")
     }
 
 

@@ -135,7 +135,7 @@ def test_effects(ratest: Path, beers: Path) -> None:
     ran = classroom("grade", beers)
     assert (ran.returncode, ran.stderr) == (0, "")
     assert "\n3,right,agrees,2,proved,," in (beers / "results/grades.csv").read_text()
-    page = (beers / "results/page.html").read_text()
+    page = (beers / "results/teacher.html").read_text()
     assert "<h1>Beers</h1>" in page and "Task 3: Bars of one beer" in page
     (beers / "exercise.toml").write_text("work = 1\n")
     ran = classroom("grade", "--only-proved", beers)

@@ -12,7 +12,7 @@ from pathlib import Path
 import pytest
 from products import classroom
 
-from classroom.views import for_teacher as classpage
+from classroom.views import outcomes
 from classroom.exercise.exercise import Answer, Task
 from classroom.base.csvcells import restored, safe
 from classroom.verdict.decision import Decision, Grade
@@ -119,7 +119,7 @@ def test_one_mistake_that_is_proved_and_tried_is_two_lines() -> None:
         graded[1], trial=tried, decision=Decision(Grade.DIFFERS, "sqlite 3", is_tried=True)
     )
     assert [
-        [of.answer.name for of in members] for members in classpage.grouped(graded, answers)
+        [of.answer.name for of in members] for members in outcomes.grouped(graded, answers)
     ] == [["ann", "zoe"], ["ben"]]
 
 

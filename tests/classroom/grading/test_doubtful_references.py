@@ -61,12 +61,11 @@ def test_ties_and_failures_are_told_once_a_task(exercise: Path) -> None:
     assert "task 2: reference.sql fails on the rows item" in told[1] and "overflow" in told[1]
     found = grades(exercise)
     assert found["1", "right"] == "not determined" and found["3", "right"] == "no difference found"
-    page = (exercise / "results/page.html").read_text(encoding="utf-8")
+    page = (exercise / "results/teacher.html").read_text(encoding="utf-8")
     assert page.count("reference.sql has ties, for example on the rows item") == 1
     assert page.count("reference.sql fails on the rows item") == 1
     # Not on a page for students, whose texts name nothing of the reference.
-    classroom("page", exercise, "--no-reference", "--output", exercise / "students.html")
-    page = (exercise / "students.html").read_text(encoding="utf-8")
+    page = (exercise / "results/students.html").read_text(encoding="utf-8")
     assert "Task 1" in page and "reference.sql" not in page
     # What is kept from before is told as it was.
     again = classroom("grade", exercise)

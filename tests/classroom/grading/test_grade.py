@@ -48,7 +48,7 @@ def beers(ratest: Path, tmp_path: Path) -> Path:
         shutil.copytree(
             TOP / "examples/beers",
             tmp_path / "beers",
-            ignore=shutil.ignore_patterns("results", "[2-5]", "page.html"),
+            ignore=shutil.ignore_patterns("results", "[2-5]", "teacher.html"),
         )
     )
 
@@ -93,7 +93,7 @@ def test_what_ratest_does_not_read_is_tried(beers: Path) -> None:
         f"differs (tried, {ENGINE}): other rows\nrows: 1\ndrinker 1: 'Amy', 'Durham'\n"
     )
     assert text.endswith("No smaller lawful part of the rows differs: the only one was tried.\n")
-    page = (beers / "results/page.html").read_text()
+    page = (beers / "results/teacher.html").read_text()
     assert (
         "differs (tried) on 1 row: other rows" in page
         and f"A database found this by trying ({ENGINE}); it is not proved." in page
@@ -176,7 +176,7 @@ def test_duplicates(
         assert [found[name]["fault"] for name in ("6/answer", "7/answer")] == (
             [f"agrees {told}", f"the same {told}"] if remark else ["", ""]
         )
-        page = (beers / "results/page.html").read_text()
+        page = (beers / "results/teacher.html").read_text()
         assert ("answer: agrees as a set; returns Joe&#39;s twice" in page) == remark
 
 
@@ -226,10 +226,10 @@ def test_a_trial_is_kept(beers: Path) -> None:
     assert {
         path.name: path.stat().st_mtime_ns for path in (beers / "results/runs").glob("*.trial.json")
     } == kept
-    page = (beers / "results/page.html").read_bytes()
+    page = (beers / "results/teacher.html").read_bytes()
     assert (
         classroom("page", beers).returncode == 0
-        and (beers / "results/page.html").read_bytes() == page
+        and (beers / "results/teacher.html").read_bytes() == page
     )
     (beers / "6/answers/star.sql").write_text(COUNT)
     grade(beers)
@@ -277,9 +277,7 @@ def test_nothing_of_the_reference_in_what_a_database_says(beers: Path) -> None:
     assert lines(beers)["6/answer"]["grade"] == "not graded"
     add(beers, "7", f"{COUNT} HAVING COUNT(*) < 987654", star=COUNT.replace("l.beer", "*"))
     grade(beers)
-    page = products.classroom("page", beers, "--no-reference", "--output", beers / "public.html")
-    assert page.returncode == 0, page.stderr
-    public = (beers / "public.html").read_text()
+    public = (beers / "results/students.html").read_text()
     assert (
         "987654" not in public
         and "nosuch_in_it" not in public

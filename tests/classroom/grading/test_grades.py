@@ -394,18 +394,19 @@ def test_no_solution_is_published(ratest: Path, empty: Path) -> None:
                 (TOP / f"examples/beers/{task}/answers/{name}.sql").read_text()
             )
     classroom("grade", empty)
-    for words in (["--no-reference"], ["--no-reference", "--no-names"]):
-        ran = classroom("page", empty, *words, "--output", empty / "page.html")
+    choices: list[list[str]] = [[], ["--names"]]
+    for words in choices:
+        ran = classroom("page", empty, *words)
         assert (ran.returncode, ran.stderr) == (0, "")
-        page = html.unescape((empty / "page.html").read_text())
+        page = html.unescape((empty / "results/students.html").read_text())
         differing = [path.read_text() for path in empty.glob("*/answers/[abc].sql")]
         assert "by Ann" not in page and "ORDER BY 1" not in page and "nosuch," not in page
         for line in {line for text in right.values() for line in text.splitlines() if line.strip()}:
             assert line not in page or any(line in text for text in differing), line
         assert all(text.rstrip("\n") in page for text in differing)
-        assert ("ann" in page, "zoe" in page) == (len(words) == 1, len(words) == 1)
+        assert ("ann" in page, "zoe" in page) == (bool(words), bool(words))
         assert '<td class="number">1</td>' in page and "agrees</span>" in page
-    assert "by Ann" in (empty / "results/page.html").read_text()
+    assert "by Ann" in (empty / "results/teacher.html").read_text()
 
 
 def test_what_a_reference_is_refused_for_is_not_told_to_students(ratest: Path, empty: Path) -> None:
@@ -413,8 +414,8 @@ def test_what_a_reference_is_refused_for_is_not_told_to_students(ratest: Path, e
     (empty / "2/reference.sql").write_text("SELECT secret_of_the_teacher FROM bar")
     (empty / "2/answers/a.sql").write_text("SELECT name FROM bar")
     classroom("grade", empty)
-    assert classroom("page", empty, "--no-reference").returncode == 0
-    assert "secret_of_the_teacher" not in (empty / "results/page.html").read_text()
+    assert "secret_of_the_teacher" in (empty / "results/teacher.html").read_text()
+    assert "secret_of_the_teacher" not in (empty / "results/students.html").read_text()
 
 
 # One picture, and what else stands in the folder of the results.

@@ -109,7 +109,7 @@ def test_a_reference_that_is_refused_leaves_open_what_differs_from_the_others(
 def test_pages_show_them_and_miss_none_that_changed(exercise: Path) -> None:
     task(exercise, "1", [STRICT, LOOSE], ann="SELECT name FROM item WHERE price IN (5, 6)")
     assert classroom("grade", exercise).returncode == 0
-    page = (exercise / "results/page.html").read_text()
+    page = (exercise / "results/teacher.html").read_text()
     assert "-- reference-2.sql" in page and "compared with reference-2.sql" in page
     made = classroom("feedback", exercise, "--reference")
     assert made.returncode == 0, made.stderr

@@ -152,7 +152,7 @@ def test_the_mistakes_of_a_class(ratest: Path, beers: Path) -> None:
     (beers / "5/answers/e.sql").write_text("SELECT s.bar, s.beer FROM serves s")
     assert classroom("mistakes", beers).returncode == 1  # not graded
     classroom("grade", beers)
-    before = (beers / "results/page.html").read_text()
+    before = (beers / "results/teacher.html").read_text()
     ran = classroom("mistakes", beers)
     assert (ran.returncode, ran.stderr) == (0, "")
     lines = list(
@@ -175,7 +175,7 @@ def test_the_mistakes_of_a_class(ratest: Path, beers: Path) -> None:
         "  2 answers: as the reference with <= for < in the inner query's WHERE (the inner query's"
         " WHERE)" in ran.stdout
     )
-    page = html.unescape((beers / "results/page.html").read_text())
+    page = html.unescape((beers / "results/teacher.html").read_text())
     assert (
         page != html.unescape(before)
         and "The mistake: as the reference with <= for < in the inner query's WHERE" in page
@@ -187,11 +187,7 @@ def test_the_mistakes_of_a_class(ratest: Path, beers: Path) -> None:
     assert {
         path: path.stat().st_mtime_ns for path in (beers / "results/mistakes").iterdir()
     } == kept
-    assert (
-        classroom("page", beers, "--no-reference", "--output", beers / "students.html").returncode
-        == 0
-    )
-    text = html.unescape((beers / "students.html").read_text())
+    text = html.unescape((beers / "results/students.html").read_text())
     assert "as the reference with" not in text and "with which it agrees" not in text
     assert classroom("mistakes", beers, "--task", "9").stderr == "classroom: there is no task 9\n"
 

@@ -40,7 +40,7 @@ def exercise(ratest: Path, ratest_plus: Path, roles: Roles, tmp_path: Path) -> P
         shutil.copytree(
             TOP / "examples/beers",
             tmp_path / "beers",
-            ignore=shutil.ignore_patterns("results", "[1-5]", "page.html"),
+            ignore=shutil.ignore_patterns("results", "[1-5]", "teacher.html"),
         )
     )
     for task, answer in (("6", ANSWER), ("7", TWICE)):

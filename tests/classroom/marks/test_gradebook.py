@@ -89,7 +89,8 @@ def test_each_line_holds_for_what_it_is_about(graded: Path) -> None:
         assert (ran.returncode, ran.stderr) == (0, "")
         assert {key: value for key, value in points(folder).items() if key in made} == made
     assert (
-        f"The outcome in class/marks.csv: {outcome}" in (folder / "results/page.html").read_text()
+        f"The outcome in class/marks.csv: {outcome}"
+        in (folder / "results/teacher.html").read_text()
     )
 
 

@@ -161,12 +161,13 @@ def test_late_answers_from_hand_in_to_feedback(graded: Path) -> None:
     (folder / "class/marks.csv").write_text(
         "task,student,text,mistake,outcome,points,comment,rule,by,time\n1,a,,,,1.5,,,,\n1,c,,,,1,,,,\n"
     )
-    assert classroom("page", folder, "--no-reference").returncode == 0
+    assert classroom("page", folder).returncode == 0
     points = {row["id"]: row["1"] for row in table(folder / "results/class.csv")}
     assert points == {"a": "1.5", "b": "2", "c": "1", "d": "2"}
-    page = (folder / "results/page.html").read_text()
+    page = (folder / "results/teacher.html").read_text()
     assert page.count('aria-label="2: agrees"') == 2 and 'aria-label="1.5: agrees"' in page
-    assert "Ben" not in page
+    students = (folder / "results/students.html").read_text()
+    assert "Ben" in page and "Ben" not in students and "aria-label" not in students
 
 
 def test_a_late_hand_in_at_the_page_is_taken_until_the_last_moment(beers: Path) -> None:

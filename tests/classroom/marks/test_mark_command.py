@@ -81,7 +81,7 @@ def test_one_line_is_one_mark(left: Path) -> None:
 
 
 def test_a_mark_for_all_with_the_same(left: Path) -> None:
-    words = [left, "1", "a", "0.5", "--same"]
+    words: list[str | Path] = [left, "1", "a", "0.5", "--same"]
     assert classroom("mark", *words, "text").stdout == "task 1: 0.5 of 1 for 2 answers\n"
     assert {key: table(left)[key]["1"] for key in "abd"} == {"a": "0.5", "b": "by hand", "d": "0.5"}
     assert classroom("mark", left, "1", "d", "1", "--by", "").returncode == 0

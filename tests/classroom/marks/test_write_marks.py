@@ -3,7 +3,7 @@ from __future__ import annotations
 
 import stat
 import threading
-from collections.abc import Iterable, Sequence
+from collections.abc import Callable, Iterable, Iterator, Sequence
 from decimal import Decimal
 from pathlib import Path
 
@@ -89,7 +89,9 @@ def test_an_edit_meanwhile_is_not_lost(tmp_path: Path) -> None:
 
 def test_a_file_that_is_made_or_removed_meanwhile(tmp_path: Path) -> None:
     path = tmp_path / "marks.csv"
-    steps = iter([lambda: path.write_text(HEADER + "1,ben,,,,1,,,,\n"), path.unlink, None])
+    steps: Iterator[Callable[[], object] | None] = iter(
+        [lambda: path.write_text(HEADER + "1,ben,,,,1,,,,\n"), path.unlink, None]
+    )
 
     def how(before: Sequence[Line]) -> Iterable[Line]:
         step = next(steps)

@@ -133,7 +133,7 @@ def beers(ratest: Path, ratest_plus: Path, tmp_path: Path) -> Path:
         shutil.copytree(
             TOP / "examples/beers",
             tmp_path / "beers",
-            ignore=shutil.ignore_patterns("results", "[1345]", "page.html"),
+            ignore=shutil.ignore_patterns("results", "[1345]", "teacher.html"),
         )
     )
     (folder / "6").mkdir()

@@ -68,7 +68,7 @@ def beers(folder: Path) -> Path:
     shutil.copytree(
         TOP / "examples/beers",
         folder,
-        ignore=shutil.ignore_patterns("results", "answers", "page.html"),
+        ignore=shutil.ignore_patterns("results", "answers", "teacher.html"),
     )
     return folder
 
@@ -234,7 +234,7 @@ def test_the_archive_for_moodle_has_the_folders_of_the_submissions(course: Path)
 
 
 def test_the_page_is_small(course: Path) -> None:
-    assert (course / "results/page.html").stat().st_size < 2_000_000
+    assert (course / "results/teacher.html").stat().st_size < 2_000_000
 
 
 @pytest.fixture

@@ -143,7 +143,7 @@ def odd(tmp_path_factory: pytest.TempPathFactory) -> Path:
 
 
 def test_odd_class(odd: Path) -> None:
-    page = checked((odd / "results/page.html").read_text())
+    page = checked((odd / "results/teacher.html").read_text())
     assert page.title == f"odd, {SUMMARY}"
     assert page.grades == KINDS
     assert list(page.grades)[:2] == ["9 spent", "10 agrees"]
@@ -161,13 +161,13 @@ def test_odd_class(odd: Path) -> None:
 
 def test_example(ratest: Path, graded: Path) -> None:
     """The page in the repository is what is made today."""
-    text = (graded / "results/page.html").read_text()
+    text = (graded / "results/teacher.html").read_text()
     page = checked(text)
     assert page.title == "beers, 15 answers: 15 differ"
     assert page.counts == [["Task", "differs", "answers"]] + [[task, "3", "3"] for task in "12345"]
     assert [["only here", "Joe's"]] in page.tables["Answers on these rows: Answer: 1 row"]
     assert page.grades["3/b"] == "differs on 5 rows"
-    assert text == (TOP / "examples/beers/page.html").read_text()
+    assert text == (TOP / "examples/beers/teacher.html").read_text()
 
 
 def test_groups(ratest: Path, tmp_path: Path) -> None:
@@ -176,7 +176,7 @@ def test_groups(ratest: Path, tmp_path: Path) -> None:
     assert classroom("grade", "--only-proved", tmp_path / "class").stderr == made_class.left(
         tmp_path / "class"
     )
-    page = checked((tmp_path / "class/results/page.html").read_text())
+    page = checked((tmp_path / "class/results/teacher.html").read_text())
     assert sum(int(row[-1]) for row in page.counts[1:]) == 100
     differing = [
         [
@@ -201,8 +201,8 @@ def split(groups: list[str]) -> list[list[str]]:
 
 
 def test_without_reference(graded: Path, tmp_path: Path) -> None:
-    page = tmp_path / "page.html"
-    ran = classroom("page", graded, "--no-reference", "--output", page)
+    page = tmp_path / "students.html"
+    ran = classroom("page", graded, "--for", "students", "--output", page)
     assert (ran.returncode, ran.stdout, ran.stderr) == (0, "", "")
     text = page.read_text()
     checked(text)
@@ -215,8 +215,54 @@ def test_without_reference(graded: Path, tmp_path: Path) -> None:
             ), line
 
 
+def test_a_page_for_students(graded: Path, tmp_path: Path) -> None:
+    """Neither points nor names, unless the teacher wants names; no table of students."""
+    text = (graded / "results/students.html").read_text()
+    page = checked(text)
+    assert page.counts and not page.grades and "class/marks.csv" not in text
+    assert ">points<" not in text and "Reference<" not in text
+    assert not re.search(r'class="names"', text)
+    named = tmp_path / "named.html"
+    words = ("--for", "students", "--names", "--output", named)
+    assert classroom("page", graded, *words).returncode == 0
+    assert checked(named.read_text()).groups == page.groups
+    assert re.search(r'<p class="names">a, ', named.read_text())
+    wrong: list[tuple[str | Path, ...]] = [("--output", named), ("--for", "teacher")]
+    for one in wrong:
+        ran = classroom("page", graded, *one)
+        assert ran.returncode == 1 and "--output and --for are wanted together" in ran.stderr
+    for gone in ("--no-reference", "--no-names"):
+        ran = classroom("page", graded, gone)
+        assert ran.returncode == 1 and f"{graded}/results/students.html has neither" in ran.stderr
+        assert len(ran.stderr.splitlines()) == 1
+
+
+def test_the_old_page_goes(graded: Path, tmp_path: Path) -> None:
+    """It has references, and would be of another grading."""
+    shutil.copytree(graded, tmp_path / "class")
+    old = tmp_path / "class/results/page.html"
+    old.write_text("of an earlier version")
+    ran = classroom("page", tmp_path / "class")
+    assert (ran.returncode, ran.stderr) == (
+        0,
+        f"classroom: {old} is removed: the pages are teacher.html and students.html now\n",
+    )
+    assert not old.exists()
+
+
+def test_the_question_stands_above_the_answers(graded: Path, tmp_path: Path) -> None:
+    shutil.copytree(graded, tmp_path / "class")
+    (tmp_path / "class/1/question.txt").write_text("Which **bars** are <there>?")
+    assert classroom("page", tmp_path / "class").returncode == 0
+    assert classroom("feedback", tmp_path / "class").returncode == 0
+    pages = [tmp_path / "class/results" / f"{name}.html" for name in ("teacher", "students")]
+    for page in (*pages, *(tmp_path / "class/results/feedback").glob("*.html")):
+        text = page.read_text()
+        assert "Which <strong>bars</strong> are &lt;there&gt;?" in text, page
+
+
 def test_page_is_made_again(graded: Path) -> None:
-    page = graded / "results/page.html"
+    page = graded / "results/teacher.html"
     text = page.read_bytes()
     page.unlink()
     assert classroom("page", graded).returncode == 0
@@ -282,7 +328,7 @@ def test_in_a_browser(browser: Any, odd: Path, graded: Path) -> None:
                 "Emulation.setDeviceMetricsOverride",
                 {"width": width, "height": 2000, "deviceScaleFactor": 1, "mobile": width < 500},
             )
-            browser.get((folder / "results/page.html").as_uri())
+            browser.get((folder / "results/teacher.html").as_uri())
             assert (
                 browser.execute_script("return document.documentElement.scrollWidth") == width
             ), folder
@@ -295,7 +341,7 @@ def test_in_a_browser(browser: Any, odd: Path, graded: Path) -> None:
 
 
 def test_filter(browser: Any, odd: Path, graded: Path) -> None:
-    browser.get((graded / "results/page.html").as_uri())
+    browser.get((graded / "results/teacher.html").as_uri())
     assert (
         len(visible(browser, ".matrix tbody tr")) == 3
         and len(visible(browser, ".matrix tbody td > a")) == 15
@@ -304,7 +350,7 @@ def test_filter(browser: Any, odd: Path, graded: Path) -> None:
     assert len(visible(browser, ".matrix tbody td > a")) == 12
     assert visible(browser, ".counts tbody th") == ["1", "3", "4", "5"]
     assert visible(browser, "section.task h2") == ["Task 1", "Task 3", "Task 4", "Task 5"]
-    browser.get((odd / "results/page.html").as_uri())
+    browser.get((odd / "results/teacher.html").as_uri())
     assert len(visible(browser, ".matrix tbody tr")) == 15
     before = visible(browser, "section.answer h3 .grade")
     browser.find_element("xpath", "//label[contains(., 'agrees')]/input").click()
@@ -319,7 +365,7 @@ def test_dark_and_paper(browser: Any, graded: Path) -> None:
         told: str = browser.execute_script("return getComputedStyle(document.body).backgroundColor")
         return told
 
-    browser.get((graded / "results/page.html").as_uri())
+    browser.get((graded / "results/teacher.html").as_uri())
     browser.execute_cdp_cmd(
         "Emulation.setEmulatedMedia",
         {"features": [{"name": "prefers-color-scheme", "value": "dark"}]},

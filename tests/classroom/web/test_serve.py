@@ -53,7 +53,7 @@ HOSTILE = (
 def beers_once(tmp_path_factory: pytest.TempPathFactory) -> Path:
     folder = tmp_path_factory.mktemp("served") / "beers"
     shutil.copytree(
-        TOP / "examples/beers", folder, ignore=shutil.ignore_patterns("results", "page.html")
+        TOP / "examples/beers", folder, ignore=shutil.ignore_patterns("results", "teacher.html")
     )
     (folder / "3/question.txt").write_text("Which bars serve <exactly> one beer?\n")
     return folder
@@ -276,12 +276,8 @@ def test_what_is_asked(ratest: Path, beers: Path) -> None:
     )
     assert len(found) == 4 and "Asked 3 times" in page and "1 more text" in page
     assert "exactly one beer" in page  # the remark in the reference
-    assert (
-        classroom(
-            "page", beers, "--asked", "--no-reference", "--output", beers / "students.html"
-        ).returncode
-        == 0
-    )
+    words = ("--asked", "--for", "students", "--output", beers / "students.html")
+    assert classroom("page", beers, *words).returncode == 0
     # Of the texts those alone that differ are shown to students.
     students = html.unescape((beers / "students.html").read_text())
     assert "exactly one beer" not in students and WRONG.rstrip("\n") in students

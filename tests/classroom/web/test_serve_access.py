@@ -51,7 +51,7 @@ def server(ratest: Path, tmp_path_factory: pytest.TempPathFactory) -> Iterator[S
 
     folder = tmp_path_factory.mktemp("access") / "beers"
     shutil.copytree(
-        TOP / "examples/beers", folder, ignore=shutil.ignore_patterns("results", "page.html")
+        TOP / "examples/beers", folder, ignore=shutil.ignore_patterns("results", "teacher.html")
     )
     (folder / "3/question.txt").write_text("Which bars serve *exactly* one beer?\n")
     with serving(folder, "--hourly", "0") as made:

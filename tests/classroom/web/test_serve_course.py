@@ -414,7 +414,7 @@ def course(tmp_path: Path) -> Path:
         shutil.copytree(
             TOP / "examples/beers",
             place / name,
-            ignore=shutil.ignore_patterns("results", "page.html", "answers"),
+            ignore=shutil.ignore_patterns("results", "teacher.html", "answers"),
         )
         if title:
             (place / name / "exercise.toml").write_text(

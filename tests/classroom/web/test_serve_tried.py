@@ -44,7 +44,7 @@ def exercise(tmp_path_factory: pytest.TempPathFactory) -> Path:
     shutil.copytree(
         TOP / "examples/beers",
         folder,
-        ignore=shutil.ignore_patterns("results", "page.html", "[1245]"),
+        ignore=shutil.ignore_patterns("results", "teacher.html", "[1245]"),
     )
     (folder / "6").mkdir()
     (folder / "6/reference.sql").write_text(f"{COUNT} -- the secret of the reference\n")
@@ -197,8 +197,11 @@ def test_what_was_asked_is_shown_with_it(server: Server, exercise: Path) -> None
     assert "differs (tried) on 1 row: other rows" in page and "grade differs tried" in page
 
 
-def test_the_rows_are_hidden_where_only_verdicts_are_shown(ratest: Path, exercise: Path) -> None:
-    with serving(exercise, "--only-verdict", ratest=ratest, tries=True) as made:
+def test_the_rows_are_hidden_where_only_verdicts_are_shown(
+    ratest: Path, exercise: Path, tmp_path: Path
+) -> None:
+    shutil.copytree(exercise, tmp_path / "beers")
+    with serving(tmp_path / "beers", "--only-verdict", ratest=ratest, tries=True) as made:
         got = made.ask("6", COUNT.replace("l.beer", "*"))
         assert got.verdict == "differs (tried)" and "Amy" not in got.answer
         # A remark names no row either.
@@ -257,7 +260,10 @@ def test_a_task_that_nothing_can_try_is_named(ratest: Path, exercise: Path, tmp_
     assert "classroom: task 6 is not offered: " in told
 
 
-def test_ties_of_a_reference_are_on_the_page_of_the_teacher(ratest: Path, exercise: Path) -> None:
+def test_ties_of_a_reference_are_on_the_page_of_the_teacher(
+    ratest: Path, exercise: Path, tmp_path: Path
+) -> None:
+    exercise = Path(shutil.copytree(exercise, tmp_path / "beers"))
     most = "SELECT beer FROM serves GROUP BY beer ORDER BY COUNT(*) DESC"
     (exercise / "8").mkdir()
     (exercise / "8/reference.sql").write_text(f"{most} LIMIT 1")
@@ -271,7 +277,6 @@ def test_ties_of_a_reference_are_on_the_page_of_the_teacher(ratest: Path, exerci
             assert told not in made.ask("8", answer).body
         assert teacher.send("GET", "/").body.count(f"Task 8: {told}") == 1
         assert teacher.send("GET", "/mistakes/").body.count(told) == 1
-    shutil.rmtree(exercise / "8")
 
 
 class Refuses:

@@ -7,7 +7,7 @@ from pathlib import Path
 
 import pytest
 
-from classroom.views import for_teacher as classpage
+from classroom.views import outcomes
 from classroom.grading import grades_files
 from classroom.verdict import witness
 from classroom.exercise.exercise import Answer, Task
@@ -77,10 +77,15 @@ def test_why_a_database_refuses_the_reference_is_for_the_teacher(
 ) -> None:
     of = tried(Verdict(ENGINE, outcome), proof=proof)
     assert (of.grade, of.share) == (grade, None)
-    assert SECRET not in classpage.words(of, False)
+    assert SECRET not in outcomes.words(of)
     assert all(
         SECRET in text
-        for text in (classpage.words(of), of.why, of.reason, grades_files.answer_text(of).decode())
+        for text in (
+            outcomes.whole_words(of),
+            of.why,
+            of.reason,
+            grades_files.answer_text(of).decode(),
+        )
     )
 
 
@@ -114,8 +119,8 @@ def test_how_the_reference_fails_is_for_the_teacher() -> None:
         for text in (
             shown.words,
             shown.told,
-            classpage.words(of, False),
-            classpage.told(of),
+            outcomes.words(of),
+            outcomes.told(of),
             grades_files.output(of),
         )
     )
@@ -147,5 +152,5 @@ def test_a_text_that_is_right_as_a_set_is_in_no_page_for_students(
 ) -> None:
     of = tried(Verdict(ENGINE, differs(difference)), Settings(duplicates="wrong", order="wrong"))
     assert of.grade == Grade.DIFFERS
-    assert classpage.shows_text(of, classpage.Showing(solutions=False)) == is_shown
-    assert classpage.shows_text(of, classpage.Showing())
+    assert outcomes.STUDENTS.shows_text(of) == is_shown
+    assert outcomes.TEACHER.shows_text(of)
