@@ -287,6 +287,7 @@ def served(
             ),
             trial,
             trier,
+            trier or runner_of(found, work / f"{number}.run", processes),
         )
         path = place_of_log(name, folder, arguments.asked_file)
         stack.enter_context(held(path))
@@ -326,6 +327,14 @@ def trial_of(found: opening.Opened, engine: str | None) -> Trial | None:
         return tried.trial_of(found.given, TRIAL_SECONDS, engine)
     except Fault as fault:
         log.warning("%s: nothing is tried: %s", shown(str(found.given.folder)), fault)
+        return None
+
+
+def runner_of(found: opening.Opened, folder: Path, processes: Mapping[str, Forks]) -> Trier | None:
+    """What runs a student's query by itself, where nothing is tried; None where that can't be."""
+    try:
+        return trier_of(tried.trial_of(found.given, TRIAL_SECONDS), folder, processes)
+    except Fault:
         return None
 
 

@@ -4,7 +4,8 @@ material, a file of JSON.
 The material is what `classroom.exercise.typed_rows` writes. A question, JSON too, has `reference`,
 `answer`, `seconds`, `looks`, `duplicates`, `order`, `agrees`, and for PostgreSQL `engine` and
 `asker`, the two connections. What comes back is a verdict, as `classroom.verdict.verdict` writes
-it, or `{"fault": TEXT}` where the engine can't be had. """
+it; with `run` what the answer alone returns, as `own_answer` writes it; or `{"fault": TEXT}` where
+the engine can't be had. """
 from __future__ import annotations
 
 import contextlib
@@ -13,6 +14,7 @@ import json
 import math
 import resource
 import sys
+from dataclasses import replace
 from pathlib import Path
 from typing import Any
 
@@ -23,7 +25,7 @@ from classroom.process import forkserver as forking
 from classroom.base.errors import Fault, Missing
 from classroom.exercise import typed_rows as materials
 from classroom.verdict import verdict
-from classroom.engines import other_dialects
+from classroom.engines import other_dialects, own_answer
 from classroom.engines.engine import REFERENCE, Engine, Refused, Stopped, TooMuch
 from classroom.exercise.typed_rows import POSTGRESQL, SQLITE, Material
 from classroom.exercise.part_masks import Parts
@@ -61,7 +63,10 @@ def answer(of: tuple[Material, Parts], text: bytes) -> bytes:
     most = math.ceil(float(question.get("seconds", 10.0)) + MORE_SECONDS)
     resource.setrlimit(resource.RLIMIT_CPU, (most, most + 1))
     try:
-        found = verdict.to_json(tried(material, question, parts))
+        if question.get("run"):
+            found = own_answer.as_json(run(material, question, parts))
+        else:
+            found = verdict.to_json(tried(material, question, parts))
     except Fault as fault:
         found = {"fault": str(fault)}
     return json.dumps(found).encode("ascii")
@@ -89,6 +94,23 @@ def tried(material: Material, question: dict[str, Any], parts: Parts | None = No
             return Verdict(label, outcome, search.remarks(), search.doubts())
         except Stopped as stopped:
             return Verdict(stopped.engine or label, refusal_of(stopped, question, material))
+    finally:
+        if engine:
+            engine.close()
+
+
+def run(material: Material, question: dict[str, Any], parts: Parts | None = None) -> own_answer.Run:
+    """What the answer returns over all rows; no reference is needed."""
+    parts = parts or Parts(material.pool)
+    alone = {**question, "reference": question["answer"]}
+    label, engine = label_of(material), None
+    try:
+        engine = opened(material, parts, alone)
+        label = engine.label
+        return own_answer.own_answer(engine, parts)
+    except Stopped as stopped:
+        own = refusal_of(stopped, alone, material)
+        return Verdict(stopped.engine or label, replace(own, is_reference=False))
     finally:
         if engine:
             engine.close()

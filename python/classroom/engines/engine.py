@@ -62,6 +62,9 @@ class Engine(Protocol):
         """What both queries answer on a part, whose rows are stored in their order or the other way
         round."""
 
+    def columns(self, which: int) -> tuple[str, ...]:
+        """The names of the columns that one of the queries returns."""
+
     def ties(self, which: int) -> int:
         """How many ways of breaking ties one of the queries has; 0 where no order in it chooses
         rows, or where the ways aren't known."""

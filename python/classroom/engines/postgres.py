@@ -296,6 +296,11 @@ class Postgres(Server):
             return False
         return bool(text)
 
+    def columns(self, which: int) -> tuple[str, ...]:
+        told = self.askers[which].pgconn.describe_prepared(b"query")
+        names = (told.fname(at) or b"" for at in range(told.nfields))
+        return tuple(name.decode("utf-8", "replace") for name in names)
+
     def ties(self, which: int) -> int:
         return self.ways[which]
 

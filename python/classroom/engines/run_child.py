@@ -6,21 +6,25 @@ import os
 import signal
 import sys
 import tempfile
-from collections.abc import Iterator, Sequence
+from collections.abc import Callable, Iterator, Mapping, Sequence
 from concurrent.futures import ThreadPoolExecutor
 from contextlib import closing, contextmanager
 from dataclasses import dataclass
 from pathlib import Path
+from typing import Any, TypeVar
 
 from classroom.process import pool as parallel
 from classroom.base.errors import Fault, shown
 from classroom.process.forkserver import Ended, Forks
 from classroom.process.limits import Limits
+from classroom.engines import own_answer
+from classroom.engines.own_answer import Run
 from classroom.exercise import typed_rows as materials
 from classroom.verdict import verdict
 from classroom.exercise.typed_rows import Material
 from classroom.verdict.verdict import Cause, Refusal, Verdict
 
+Found = TypeVar("Found")
 CHILD = Path(__file__).with_name("child.py")
 # What a process may take by the clock, so that a busy machine changes no verdict: that of its
 # processor is bounded by the process itself.
@@ -79,27 +83,45 @@ class Trier:
         question = {
             "reference": reference,
             "answer": answer,
-            "seconds": self.options.seconds,
             "looks": self.options.looks,
             "duplicates": self.options.counts_duplicates,
             "order": self.options.counts_order,
+            "agrees": agrees,
+        }
+        found = self._asked(question, verdict.from_json)
+        if isinstance(found, Verdict):
+            return found
+        return Verdict(self.product, found)
+
+    def run(self, query: str) -> Run:
+        """What one query returns over all rows, or a verdict that it is refused; faults as of
+        `ask`."""
+        found = self._asked({"answer": query, "run": True}, own_answer.read)
+        return Verdict(self.product, found) if isinstance(found, Refusal) else found
+
+    def _asked(
+        self, question: Mapping[str, object], read: Callable[[dict[str, Any]], Found]
+    ) -> Found | Refusal:
+        """What came back, or the limit that the process passed."""
+        whole = {
+            **question,
+            "seconds": self.options.seconds,
             "engine": self.options.engine,
             "asker": self.options.asker,
-            "agrees": agrees,
         }
         try:
             ran = self.processes.ask(
-                os.fspath(self.material.absolute()), json.dumps(question).encode("ascii")
+                os.fspath(self.material.absolute()), json.dumps(whole).encode("ascii")
             )
         except (Ended, OSError) as fault:
             raise Failed("its process could not be begun", str(fault)) from None
         if ran.passed or ran.status == -signal.SIGXCPU:
-            return Verdict(self.product, Refusal(False, Cause.LIMIT, ran.passed or "time"))
+            return Refusal(False, Cause.LIMIT, ran.passed or "time")
         try:
-            read = json.loads(ran.stdout)
-            if "fault" in read:
-                raise Fault(str(read["fault"]))
-            return verdict.from_json(read)
+            told = json.loads(ran.stdout)
+            if "fault" in told:
+                raise Fault(str(told["fault"]))
+            return read(told)
         except (ValueError, KeyError, TypeError):
             last = [ran.stderr.decode("utf-8", "replace")] if ran.stderr else []
             why = f"signal {-ran.status}" if ran.status < 0 else f"status {ran.status}"

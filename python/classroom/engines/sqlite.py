@@ -315,6 +315,14 @@ class Sqlite:
             ANSWER, self.queries[ANSWER]
         )
 
+    def columns(self, which: int) -> tuple[str, ...]:
+        with self.stored[0].strictly():
+            try:
+                found = self.stored[0].db.execute(self.queries[which]).description
+            except sqlite3.Error:
+                return ()  # it fails on these rows
+        return tuple(str(name) for name, *_ in found)
+
     def ties(self, which: int) -> int:
         return len(self.ways[which])
 

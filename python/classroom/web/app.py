@@ -16,17 +16,20 @@ from classroom.base.errors import Fault
 from classroom.views import draw
 from classroom.hints.target import looked
 from classroom.web.about import About
-from classroom.views.answer import REST, answer_of
+from classroom.engines.own_answer import OwnAnswer
+from classroom.exercise.settings import Settings
+from classroom.views.answer import REST, answer_of, tried
 from classroom.web.questions import Question
 from classroom.web.ask import MOST_BYTES, Answered, is_mistake, shows_rows
 from classroom.web.course import Course, Served
-from classroom.web.exercise_page import Page, View, by_task
+from classroom.web.exercise_page import Page, View, by_task, ran_of
 from classroom.web.form_tokens import TOKEN, FormTokens, is_of_this_site
 from classroom.web.hand_in_form import ACTIONS, done
 from classroom.web.hand_ins import Kept
 from classroom.web.health import health
 from classroom.web.hint_buttons import BUTTONS, Hinted, shown
 from classroom.web.hint_buttons import REST as NO_MORE
+from classroom.web.served_exercise import Offered
 from classroom.web.showing import Showing
 from classroom.web.visitors import Visitor, Visitors
 from classroom.web.page_files import page_files
@@ -40,6 +43,7 @@ from classroom.web.login import Behind, Front, login, network
 MOST_FORM = 4 * MOST_BYTES
 COOKIE = "visitor"
 OLD_PAGE = "This page was older than the server: nothing was done with the text. Send it again."
+NOT_RUN = "The query could not be run. Try it again in a few seconds."
 log = logging.getLogger(__name__)
 
 
@@ -206,6 +210,9 @@ class Pages:
             )
         query = clean.query.decode()
         try:
+            if fields["do"] == "run":
+                view = self.ran(served, task, text, query, visitor)
+                return self.with_cookie(self.page(served, visitor, 200, view), visitor)
             answered = served.asker.ask(task, query, visitor)
             hinted = self.hinted(
                 served,
@@ -240,6 +247,15 @@ class Pages:
             self.page(served, visitor, 200, View(task.name, text, "", answer, None, hinted)),
             visitor,
         )
+
+    def ran(self, served: Served, task: Offered, text: str, query: str, visitor: Visitor) -> View:
+        """What the query returns by itself; nothing of a reference is asked for it."""
+        found = served.asker.run(query, visitor)
+        if found is None:
+            return View(task.name, text, NOT_RUN)
+        if isinstance(found, OwnAnswer):
+            return View(task.name, text, ran=ran_of(found))
+        return View(task.name, text, answer=tried(found, query, "", False, Settings()))
 
     def hinted(
         self,

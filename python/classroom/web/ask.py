@@ -17,6 +17,7 @@ from classroom.web.questions import key_of
 from classroom.web.served_exercise import Material, Offered
 from classroom.web.cache import Recent
 from classroom.web.queue import Places
+from classroom.engines.own_answer import Run
 from classroom.engines.run_child import Failed, Trier
 from classroom.verdict.verdict import Differs, Refusal, Verdict, is_of_limit, to_json
 from classroom.exercise.exercise import Answer as SubmittedAnswer
@@ -88,9 +89,10 @@ class Asker:
         foundation: str,
         trial: Trial | None = None,
         trier: Trier | None = None,
+        runner: Trier | None = None,
     ) -> None:
         """`words` call the program; `foundation` is what its verdicts rest on, as a digest. What it
-        leaves open the trier tries, if there is one."""
+        leaves open the trier tries, and a query alone the runner runs, if there is one."""
         self.material = material
         self.words = tuple(words)
         self.limits = limits
@@ -98,7 +100,7 @@ class Asker:
         self.places = places
         self.kept = kept
         self.foundation = foundation
-        self.trial, self.trier = trial, trier
+        self.trial, self.trier, self.runner = trial, trier, runner
         self.is_proved = not limited.has_checks(self.words)
 
     def ask(self, task: Offered, text: str, visitor: Visitor) -> Answered:
@@ -141,6 +143,19 @@ class Asker:
         return Answered(
             task, key, witness.read(told.ran, self.material.tables), told.ran, told.trial
         )
+
+    def run(self, text: str, visitor: Visitor) -> Run | None:
+        """What a query returns by itself; None where no database can be asked. Busy where too many
+        ask."""
+        if self.runner is None:
+            return None
+        who = visitor.key if visitor.is_known else visitor.network
+        try:
+            with self.places.one(who, visitor.network):
+                return self.runner.run(text_of(text.encode("utf-8", "replace")))
+        except Fault as fault:
+            log.error("a query is not run: %s", fault.how if isinstance(fault, Failed) else fault)
+            return None
 
     def _asked(self, key: str, task: Offered, text: str) -> Decided:
         """What `ratest` says, and where that is open a database."""

@@ -5,13 +5,16 @@ from collections.abc import Mapping, Sequence
 from dataclasses import dataclass
 from typing import NamedTuple
 
+from classroom.engines.own_answer import OwnAnswer
 from classroom.views.answer import Answer
+from classroom.views.draw_tried import drawn
 from classroom.web.course import Course, Served
 from classroom.web.hand_ins import Kept, Receipt
 from classroom.web.hint_buttons import Hinted
 from classroom.web.page_files import PageFile
 from classroom.web.served_exercise import Material
 from classroom.web.visitors import Visitor
+from ratest.draw import Cell
 
 
 class View(NamedTuple):
@@ -24,6 +27,22 @@ class View(NamedTuple):
     receipt: Receipt | None = None
     hinted: Hinted | None = None  # None where no hint may be asked for
     told: str = ""  # of what was handed in
+    ran: Ran | None = None  # what the query returns by itself
+
+
+class Ran(NamedTuple):
+    """What a query returns by itself, ready to be drawn."""
+
+    engine: str
+    total: int  # of its rows
+    columns: tuple[str, ...]
+    rows: tuple[tuple[Cell, ...], ...]  # the first ones
+    failure: str
+
+
+def ran_of(found: OwnAnswer) -> Ran:
+    rows = tuple(tuple(map(drawn, row)) for row in found.rows)
+    return Ran(found.engine, found.count, found.columns, rows, found.failure)
 
 
 class HandedIn(NamedTuple):
@@ -67,6 +86,10 @@ class Page:
     @property
     def title(self) -> str:
         return self.served.material.title
+
+    @property
+    def may_run(self) -> bool:
+        return self.served.asker.runner is not None
 
     @property
     def may_hand_in(self) -> bool:

@@ -31,7 +31,7 @@
   };
 
   const waits = {
-    ask: "Looks for the fewest rows …", hint: "Looks for the mistake …", "take back": "Is taken back …",
+    ask: "Looks for the fewest rows …", run: "Runs …", hint: "Looks for the mistake …", "take back": "Is taken back …",
     count: "Is handed in again …",
   };
   const send = async (event) => {
