@@ -9,6 +9,7 @@ from dataclasses import dataclass, field, fields
 from datetime import datetime
 from pathlib import Path, PurePosixPath
 from typing import Any
+from zoneinfo import ZoneInfo, ZoneInfoNotFoundError
 
 from classroom.base import files as reading
 from classroom.base.errors import Fault, shown
@@ -54,6 +55,7 @@ class Settings:
     opens: datetime | None = None
     closes: datetime | None = None
     after_close: str = "nothing"
+    timezone: ZoneInfo | None = None  # in which pages show times; None: the machine's
     late: LateRule | None = None
     task: Mapping[str, TaskSettings] = field(default_factory=dict)  # by the names of tasks
     said: frozenset[str] = frozenset()  # the keys that the file has
@@ -180,6 +182,13 @@ def moment(value: Any, key: str) -> datetime:
     return value
 
 
+def zone(value: Any, key: str) -> ZoneInfo:
+    try:
+        return ZoneInfo(text(value, key))
+    except (ZoneInfoNotFoundError, ValueError, OSError):
+        raise Fault(f"{shown(key)}: the name of a time zone is wanted, as Europe/Berlin") from None
+
+
 def path(value: Any, key: str) -> str:
     """Of a file below the folder: it names nothing outside of it."""
     said = PurePosixPath(text(value, key))
@@ -205,6 +214,7 @@ EXERCISE: dict[str, Callable[[Any, str], Any]] = {
     "opens": moment,
     "closes": moment,
     "after_close": one_of("reference", "nothing"),
+    "timezone": zone,
 }
 TASK: dict[str, Callable[[Any, str], Any]] = {
     "title": text,

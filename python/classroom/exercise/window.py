@@ -2,7 +2,7 @@
 from __future__ import annotations
 
 from dataclasses import dataclass
-from datetime import datetime, timezone
+from datetime import datetime, timezone, tzinfo
 
 
 @dataclass(frozen=True)
@@ -12,6 +12,7 @@ class Window:
     opens: datetime | None = None
     closes: datetime | None = None
     shows_references: bool = False  # after it closes
+    zone: tzinfo | None = None  # in which its times are shown; None: the machine's
 
     def state(self, now: datetime | None = None) -> str:
         """before, open or after."""

@@ -4,6 +4,7 @@ Every text goes through jinja2's escaping and through `pictures`. Templates that
 witness import the macros of `witness.html`. """
 from __future__ import annotations
 
+from datetime import datetime, tzinfo
 from pathlib import Path
 from typing import TYPE_CHECKING, Any
 
@@ -73,5 +74,13 @@ def environment() -> jinja2.Environment:
         drawn(of)
     )
     made.filters["counted"] = counted
-    made.filters["moment"] = lambda of: of.strftime("%Y-%m-%d at %H:%M %Z")
+    made.filters["moment"] = moment
     return made
+
+
+def moment(of: datetime, zone: tzinfo | None) -> str:
+    """As `2026-11-20 at 08:00 UTC+01:00`, in a time zone, or in the machine's."""
+    local = of.astimezone(zone)
+    offset = local.strftime("%z")
+    away = f"{offset[:3]}:{offset[3:5]}" if local.utcoffset() else ""
+    return f"{local:%Y-%m-%d at %H:%M} UTC{away}"

@@ -79,7 +79,9 @@ def copied(given: Exercise, folder: Path, tried: Collection[tuple[str, str]] = (
     for name, text in given.files.items():
         (folder / name).write_bytes(text)
     settings = given.settings
-    window = Window(settings.opens, settings.last_moment, settings.after_close == "reference")
+    window = Window(
+        settings.opens, settings.last_moment, settings.after_close == "reference", settings.timezone
+    )
     tasks = []
     for number, task in enumerate(given.tasks):
         usable = [by for by in task.references if not by.fault or (by.label, by.source) in tried]

@@ -646,6 +646,25 @@ def test_so_many_hand_ins_are_kept(tmp_path: Path) -> None:
         ).fetchone() == (handedin.MOST, 5)
 
 
+def test_times_are_those_of_the_exercise(ratest: Path, beers: Path) -> None:
+    (beers / "exercise.toml").write_text(
+        'timezone = "Asia/Kathmandu"\ncloses = 2999-01-01T12:00:00+00:00\n'
+    )
+    with serving(beers, *PROXY) as server:
+        page = server.send("GET", "/", None, user("ann")).body
+        assert "Closes on 2999-01-01 at 17:45 UTC+05:45." in page
+        got = server.ask("3", RIGHT, user("ann"), do="hand in")
+        told = re.search(r"was handed in on (\S+ at \S+) UTC\+05:45\.", got.answer)
+        assert told
+        local = datetime.strptime(told[1], "%Y-%m-%d at %H:%M") - timedelta(hours=5, minutes=45)
+        assert abs(local - datetime.now(timezone.utc).replace(tzinfo=None)) < timedelta(minutes=10)
+    for wrong in ("Europe/Nowhere", "../etc/passwd", "/etc/localtime", ""):
+        (beers / "exercise.toml").write_text(f'timezone = "{wrong}"\n')
+        ran = classroom("serve", beers, "--port", "0")
+        told_wrong = "timezone: the name of a time zone is wanted, as Europe/Berlin"
+        assert ran.returncode == 1 and told_wrong in ran.stderr, wrong
+
+
 def test_without_a_login_nothing_is_handed_in(ratest: Path, beers: Path) -> None:
     with serving(beers) as server:
         assert "Hand in" not in server.send("GET", "/").body
