@@ -260,6 +260,35 @@ def test_below_a_prefix(ratest: Path, beers: Path, tmp_path: Path) -> None:
             assert "Path=/sql/" in front.send("GET", "/sql/", None, joe).cookies[0]
 
 
+def test_a_backup_while_it_runs(ratest: Path, beers: Path, tmp_path: Path) -> None:
+    """The lines of docs/SERVER.md, in a root of their own; what came later isn't in the copy."""
+    lines = (TOP / "docs/SERVER.md").read_text(encoding="utf-8")
+    blocks = re.findall(r"```\n(.*?)```", lines.partition("## Back up")[2], re.DOTALL)
+    root = tmp_path / "root"
+    (root / "var/lib/classroom/asked").mkdir(parents=True)
+    (root / "opt/course").mkdir(parents=True)
+    shutil.copytree(beers, root / "opt/course/beers")
+
+    def called(block: str) -> None:
+        words = re.sub("systemctl [a-z]+ classroom", "true", block)
+        ran = run("bash", "-e", "-c", words.replace("/var/", f"{root}/var/"))
+        assert ran.returncode == 0, ran.stderr
+
+    ann = {"X-User": "ann"}
+    asked = ("--asked-file", str(root / "var/lib/classroom/asked"))
+    words = ("--proxy", "127.0.0.1", "--user-header", "X-User", *asked)
+    with serving(root / "opt/course", *words) as server:
+        server.ask("3", RIGHT, ann, at="/e/beers/", do="hand in")
+        called(blocks[0])
+        server.ask("3", "SELECT 1", ann, at="/e/beers/", do="hand in")
+        assert "SELECT 1" in server.send("GET", "/e/beers/", None, ann).body
+    called(blocks[1])
+    with serving(root / "opt/course", *words) as server:
+        page = server.send("GET", "/e/beers/", None, ann).body
+        assert "SELECT 1" not in page and "This text counts." in page
+        assert server.ask("3", RIGHT, ann, at="/e/beers/").verdict == "agrees"
+
+
 def test_plain_http_is_sent_on(behind: tuple[Server, Path]) -> None:
     _, folder = behind
     with socket.socket(socket.AF_UNIX) as connection:
@@ -283,7 +312,13 @@ def test_the_unit(tmp_path: Path) -> None:
     words = re.findall(r"--[a-z-]+", text.split("ExecStart=")[1].split("\n")[0])
     told = run(TOP / "classroom", "serve", "--help").stdout
     assert words and all(word in told for word in words)
-    for setting in ("MemoryMax=", "TasksMax=", "DynamicUser=yes", "ProtectSystem=strict"):
+    for setting in (
+        "SupplementaryGroups=classroom",
+        "MemoryMax=",
+        "TasksMax=",
+        "DynamicUser=yes",
+        "ProtectSystem=strict",
+    ):
         assert setting in text
     ran = run("systemd-analyze", "security", "--offline=true", tmp_path / "classroom.service")
     found = re.search(r"Overall exposure level for classroom\.service: ([0-9.]+)", ran.stdout)
