@@ -102,7 +102,7 @@ def test_a_class_is_graded(environment: Path, top: Path, tmp_path: Path) -> None
     shutil.copytree(top / "examples/beers", exercise, ignore=shutil.ignore_patterns("results"))
     ran = run(environment / "bin/classroom", "grade", exercise)
     assert ran.returncode == 0 and "15 answers: 15 differ\n" in ran.stdout
-    assert "teacher.html is not written" in ran.stderr
+    assert "teacher.html and students.html are not written" in ran.stderr
     # In a virtual environment, which sees nothing of Debian's.
     assert "pip install 'ratest[page]'" in ran.stderr
     with open(exercise / "results/grades.csv", encoding="utf-8", newline="") as file:

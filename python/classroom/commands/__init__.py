@@ -10,6 +10,7 @@ COMMANDS = {
     "feedback": "classroom.commands.feedback",
     "serve": "classroom.commands.serve",
     "asked": "classroom.commands.asked",
+    "forget": "classroom.commands.forget",
     "mutants": "classroom.commands.mutants",
     "pick": "classroom.commands.pick",
 }

@@ -64,7 +64,7 @@ def forget(files: Files, before: str | None, with_hand_ins: bool) -> None:
     end = before or EVER
     with _opened(files.log) as database:
         drop_before(database, end)
-    _emptied(files.log)
+    emptied(files.log)
     if with_hand_ins and files.hand_ins.is_file():
         with _opened(files.hand_ins) as database:
             database.execute("DELETE FROM handed_in WHERE time < ?", (end,))
@@ -73,7 +73,7 @@ def forget(files: Files, before: str | None, with_hand_ins: bool) -> None:
                     "DELETE FROM chosen WHERE time < ? OR id NOT IN (SELECT id FROM handed_in)",
                     (end,),
                 )
-        _emptied(files.hand_ins)
+        emptied(files.hand_ins)
 
 
 def _opened(path: Path) -> sqlite3.Connection:
@@ -85,7 +85,7 @@ def _opened(path: Path) -> sqlite3.Connection:
         raise Fault(f"{shown(str(path))}: {fault}") from None
 
 
-def _emptied(path: Path) -> None:
+def emptied(path: Path) -> None:
     """Takes what was removed out of the file and of what is written ahead of it."""
     database = _opened(path)
     try:
