@@ -1,9 +1,14 @@
 """Gives marks to answers that a verdict leaves open, or other ones than the verdict's.
 
+Without further words it serves a page at 127.0.0.1 on which answers are marked group by group: those
+with one mistake, as `classroom mistakes` names it, else with one outcome, else with one text; what
+is open first, then the most frequent. It prints the address, with a key that lets one browser in,
+and opens it where there is a browser. Each mark is a line of EXERCISE/class/marks.csv, on the disk
+before the page says so.
+
 With a task, a student and points it writes one line of EXERCISE/class/marks.csv: for the student's
 answer as it is now, or by --same for all answers with the same text, mistake or outcome. A line
-about the same is replaced. With --list it prints the groups of answers that are open, one a line:
-those with one mistake, as `classroom mistakes` names it, else with one outcome, else with one text.
+about the same is replaced. With --list it prints the groups of answers that are open, one a line.
 
 The exercise has to be graded. class.csv and the other tables of marks are written anew.
 
@@ -15,7 +20,6 @@ import argparse
 import getpass
 from collections.abc import Mapping
 from datetime import datetime, timezone
-from decimal import Decimal
 
 from classroom.base.errors import Fault, shown
 from classroom.commands import options
@@ -23,6 +27,8 @@ from classroom.commands.book import book_of, renew
 from classroom.exercise import exercise
 from classroom.exercise.exercise import Task
 from classroom.grading.store import Results
+from classroom.hints.find_mistakes import Mistakes
+from classroom.hints.mistake import Mistake
 from classroom.marks import hand, mark_groups, write_marks
 from classroom.marks.gradebook import Gradebook, most_of
 from classroom.marks.mark import About, Mark, Rule
@@ -31,6 +37,7 @@ from classroom.marks.mark_groups import Member
 from classroom.people import roster
 from classroom.people.identity import key
 from classroom.people.roster import ClassList
+from classroom.web.marker import Marker
 from ratest.draw import counted
 
 SUMMARY = "give marks by hand"
@@ -65,29 +72,62 @@ def add_arguments(parser: argparse.ArgumentParser) -> None:
     parser.add_argument(
         "--list", action="store_true", help="print the groups of answers that are open"
     )
+    parser.add_argument(
+        "--task", dest="only", metavar="T", help="list or show the answers to this task alone"
+    )
+    page = parser.add_argument_group("the page")
+    page.add_argument("--names", action="store_true", help="show whose answers they are")
+    page.add_argument("--no-browser", action="store_true", help="open no browser")
+    page.add_argument(
+        "--port", metavar="N", type=options.port, default=0, help="the port (0: a free one)"
+    )
     parser.set_defaults(refuse=parser.error)
 
 
 def run(arguments: argparse.Namespace) -> int:
-    words = (arguments.task, arguments.student, arguments.points)
-    if arguments.list == (None not in words) or None in words and any(words):
-        arguments.refuse("either --list is wanted, or TASK, STUDENT and POINTS")
+    words = [arguments.task, arguments.student, arguments.points]
+    if 0 < words.count(None) < 3 or arguments.list and any(words):
+        arguments.refuse("TASK, STUDENT and POINTS are wanted, or none of them")
     results = Results((loaded := exercise.load(arguments.exercise)).results)
     given, graded = results.graded(loaded)
     listed = roster.read(given.folder / given.settings.students)
-    book = book_of(given, graded, listed)
+    mistakes = Mistakes(given).of(graded)
+
+    def made() -> Gradebook:
+        return book_of(given, graded, listed, mistakes)
+
+    book = made()
+    task = task_named(book, arguments.only) if arguments.only else None
+    by = getpass.getuser() if arguments.by is None else arguments.by
     if arguments.list:
         for group in mark_groups.groups(book):
-            if group.open:
+            if group.open and task in (None, group.task):
                 print(group.told())
         return 0
-    task = task_named(book, arguments.task)
-    member = member_named(book, listed, task, arguments.student)
-    line = line_for(book, member, arguments, most_of(given))
+    if not any(words):
+        return serve_page(arguments, results, Marker(made, task, by), mistakes)
+    member = member_named(book, listed, task_named(book, arguments.task), arguments.student)
+    line = line_for(book, member, arguments, by)
     write_marks.change(given.folder / hand.FILE, most_of(given), write_marks.putting([line]))
-    after = book_of(given, graded, listed)
+    after = made()
     renew(results, after)
     print(told_of(after, line))
+    return 0
+
+
+def serve_page(
+    arguments: argparse.Namespace,
+    results: Results,
+    marker: Marker,
+    mistakes: Mapping[str, Mistake],
+) -> int:
+    """Until it is stopped; then the tables are those of the marks."""
+    from classroom.web import mark_server
+
+    if not marker.groups:
+        raise Fault("nothing was handed in")
+    mark_server.serve(marker, mistakes, arguments.names, arguments.port, not arguments.no_browser)
+    renew(results, marker.state().book)
     return 0
 
 
@@ -110,9 +150,7 @@ def member_named(book: Gradebook, listed: ClassList, task: Task, word: str) -> M
     raise Fault(f"there is no student {shown(word)}")
 
 
-def line_for(
-    book: Gradebook, member: Member, arguments: argparse.Namespace, most: Mapping[str, Decimal]
-) -> hand.Line:
+def line_for(book: Gradebook, member: Member, arguments: argparse.Namespace, by: str) -> hand.Line:
     about = SAME[arguments.same] if arguments.same else About.STUDENT
     values = {
         "task": member.task.label,
@@ -120,12 +158,12 @@ def line_for(
         "points": arguments.points,
         "comment": arguments.comment,
         "rule": arguments.rule,
-        "by": getpass.getuser() if arguments.by is None else arguments.by,
+        "by": by,
         "time": datetime.now(timezone.utc).isoformat(timespec="seconds"),
     }
     if about == About.STUDENT:
         values["text"] = member.text
-    return write_marks.line_of(values, most)
+    return write_marks.line_of(values, most_of(book.given))
 
 
 def told_of(book: Gradebook, line: hand.Line) -> str:

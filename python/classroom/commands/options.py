@@ -22,6 +22,12 @@ def seconds(word: str) -> float:
     return value
 
 
+def port(word: str) -> int:
+    if not word.isascii() or not word.isdigit() or int(word) > 65535:
+        raise argparse.ArgumentTypeError("a number from 0 to 65535 is wanted")
+    return int(word)
+
+
 def exercise(parser: argparse.ArgumentParser, note: str = "") -> None:
     parser.add_argument(
         "exercise", metavar="EXERCISE", type=Path, help=f"the folder of the exercise{note}"

@@ -82,7 +82,11 @@ def add_arguments(parser: argparse.ArgumentParser) -> None:
         help="the folder of an exercise, or one with exercises",
     )
     parser.add_argument(
-        "--port", metavar="N", type=port, default=8000, help="the port (8000); 0 for a free one"
+        "--port",
+        metavar="N",
+        type=options.port,
+        default=8000,
+        help="the port (8000); 0 for a free one",
     )
     parser.add_argument(
         "--host",
@@ -162,15 +166,9 @@ def add_arguments(parser: argparse.ArgumentParser) -> None:
     parser.add_argument(
         "--teacher-port",
         metavar="N",
-        type=port,
+        type=options.port,
         help="the teacher's page, at this port of 127.0.0.1 alone",
     )
-
-
-def port(word: str) -> int:
-    if not word.isascii() or not word.isdigit() or int(word) > 65535:
-        raise argparse.ArgumentTypeError("a number from 0 to 65535 is wanted")
-    return int(word)
 
 
 def whole(word: str) -> int:
