@@ -18,7 +18,7 @@ from products import TOP, classroom
 
 FORM = {"Content-Type": "application/x-www-form-urlencoded"}
 HEADER = "task,student,text,mistake,outcome,points,comment,rule,by,time\n"
-# For each task of examples/beers the reference, three wrong answers, and four texts that nothing reads.
+# Each is a group of its own.
 NOT_READ = tuple(f"What is meant by question {at}?" for at in range(4))
 
 
@@ -91,7 +91,10 @@ def marking(folder: Path, *words: str) -> Iterator[Page]:
 def texts_of(task: str) -> list[str]:
     """Eight, each of another group."""
     source = TOP / "examples/beers" / task
-    wrong = [(source / f"answers/{name}.sql").read_text() for name in "abc"]
+    # Of tasks 1 and 3 two wrong answers make the same mistake.
+    names = ("a", "c") if task in "13" else ("a", "b", "c")
+    wrong = [(source / f"answers/{name}.sql").read_text() for name in names]
+    wrong += ["SELECT name FROM drinker"] * (task in "13")
     return [(source / "reference.sql").read_text(), *wrong, *NOT_READ]
 
 

@@ -54,5 +54,5 @@ def write_pages(results: Results, book: Gradebook, found: Mapping[str, Mistake] 
 
 
 def tell_notes(book: Gradebook) -> None:
-    for note in book.notes:
+    for note in (*book.notes, *book.gone):
         log.warning("%s", note)

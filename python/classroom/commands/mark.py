@@ -10,7 +10,8 @@ With a task, a student and points it writes one line of EXERCISE/class/marks.csv
 answer as it is now, or by --same for all answers with the same text, mistake or outcome. A line
 about the same is replaced. With --list it prints the groups of answers that are open, one a line.
 
-The exercise has to be graded. class.csv and the other tables of marks are written anew.
+The exercise has to be graded. class.csv and the other tables of marks are written anew, and so are
+the pages of the class.
 
 Exit status: 0 where it is listed or written, 1 where something is missing or wrong, which standard
 error tells, 2 for words that can't be read. """
@@ -23,7 +24,7 @@ from datetime import datetime, timezone
 
 from classroom.base.errors import Fault, shown
 from classroom.commands import options
-from classroom.commands.book import book_of, renew
+from classroom.commands.book import book_of, renew, write_pages
 from classroom.exercise import exercise
 from classroom.exercise.exercise import Task
 from classroom.grading.store import Results
@@ -98,7 +99,7 @@ def run(arguments: argparse.Namespace) -> int:
 
     book = made()
     task = task_named(book, arguments.only) if arguments.only else None
-    by = getpass.getuser() if arguments.by is None else arguments.by
+    by = login() if arguments.by is None else arguments.by
     if arguments.list:
         for group in mark_groups.groups(book):
             if group.open and task in (None, group.task):
@@ -110,9 +111,24 @@ def run(arguments: argparse.Namespace) -> int:
     line = line_for(book, member, arguments, by)
     write_marks.change(given.folder / hand.FILE, most_of(given), write_marks.putting([line]))
     after = made()
-    renew(results, after)
+    renew_all(results, after, mistakes)
     print(told_of(after, line))
     return 0
+
+
+def login() -> str:
+    """The name of who is logged in, empty where the system knows none."""
+    try:
+        return getpass.getuser()
+    except (KeyError, OSError):
+        return ""
+
+
+def renew_all(results: Results, book: Gradebook, mistakes: Mapping[str, Mistake]) -> None:
+    """The tables, and the pages of the class where there are some."""
+    renew(results, book)
+    if (results.folder / "teacher.html").is_file():
+        write_pages(results, book, mistakes)
 
 
 def serve_page(
@@ -127,7 +143,7 @@ def serve_page(
     if not marker.groups:
         raise Fault("nothing was handed in")
     mark_server.serve(marker, mistakes, arguments.names, arguments.port, not arguments.no_browser)
-    renew(results, marker.state().book)
+    renew_all(results, marker.state().book, mistakes)
     return 0
 
 

@@ -7,13 +7,14 @@ from __future__ import annotations
 import csv
 import hashlib
 import io
-from collections.abc import Callable, Iterable, Iterator, Mapping, Sequence
+from collections import Counter
+from collections.abc import Callable, Container, Iterable, Iterator, Mapping, Sequence
 from dataclasses import dataclass, field
 from decimal import Decimal
 
 from classroom.base.csvcells import safe
 from classroom.base.errors import shown
-from classroom.exercise.collected import read_collected, unplaced_files
+from classroom.exercise.collected import PLACED, Collected, read_collected, unplaced_files
 from classroom.exercise.exercise import Exercise, Task
 from classroom.grading.graded import Graded
 from classroom.marks import hand
@@ -23,6 +24,7 @@ from classroom.marks.mark import shown as shown_points
 from classroom.people.identity import key
 from classroom.people.roster import ClassList, Student
 from classroom.verdict.decision import Grade
+from ratest.draw import counted
 
 BY_HAND = "by hand"
 
@@ -62,6 +64,7 @@ class Gradebook:
     lines: Mapping[tuple[str, str], tuple[hand.Line, ...]] = field(default_factory=dict)
     # By the labels of tasks and the keys of students, the line that was for an earlier text.
     earlier: Mapping[tuple[str, str], hand.Line] = field(default_factory=dict)
+    gone: tuple[str, ...] = ()  # tasks that answers were placed in and that are not there, told
 
     def mark(self, of: Graded) -> Mark:
         return self.marks[of.task.name, of.answer.name]
@@ -129,7 +132,19 @@ def gradebook(
         mistakes,
         applied,
         lines.earlier,
+        tuple(gone_tasks(handed.values(), most)),
     )
+
+
+def gone_tasks(handed: Iterable[Collected], known: Container[str]) -> Iterator[str]:
+    """A line for each task that was renamed or removed after answers were placed in it."""
+    counts = Counter(one.task for one in handed if one.state == PLACED and one.task not in known)
+    for task, count in counts.items():
+        yield (
+            f"there is no task {shown(task)}: {counted(count, 'answer')} of class/collected.csv"
+            f" {'belongs' if count == 1 else 'belong'} to it, and {'has' if count == 1 else 'have'}"
+            " no mark"
+        )
 
 
 def check_marks(given: Exercise) -> tuple[hand.Line, ...]:

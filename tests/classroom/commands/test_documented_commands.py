@@ -21,6 +21,7 @@ NEEDS_PLUS = (
     "beers.cert",
     "classroom mutants",
     "classroom mistakes",
+    "--same mistake",
     "classroom pick",
     "cat few/",
 )

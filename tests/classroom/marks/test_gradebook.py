@@ -139,6 +139,27 @@ def test_a_line_that_no_longer_fits_does_not_count_and_is_named(graded: Path) ->
     assert {key: value for key, value in points(folder).items() if key[0] != "d"} == before
 
 
+def test_a_task_that_is_renamed_after_answers_were_placed_is_named(graded: Path) -> None:
+    folder = marked(graded)
+    (folder / "class/collected.csv").write_text(
+        "task,answer,source,member,late,sha256,state,why\n"
+        "1,a,all.zip,a/1.sql,,,placed,\n"
+        "one,b,all.zip,b/one.sql,,,placed,\n"
+        "7,a,all.zip,a/7.sql,,,placed,\n"
+        "7,c,all.zip,c/7.sql,,,placed,\n"
+        "9,c,all.zip,c/9.sql,,,empty,\n"
+    )
+    for command in ("grade", "page", "feedback"):
+        ran = classroom(command, folder)
+        assert ran.returncode == 0
+        assert ran.stderr.splitlines() == [
+            "classroom: there is no task one: 1 answer of class/collected.csv belongs to it, and has"
+            " no mark",
+            "classroom: there is no task 7: 2 answers of class/collected.csv belong to it, and have"
+            " no mark",
+        ]
+
+
 def test_what_is_graded_by_hand_has_a_hand(graded: Path) -> None:
     """An answer that nothing reads, and a student whose answer came on paper."""
     folder = marked(graded)

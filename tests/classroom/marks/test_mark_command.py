@@ -73,6 +73,7 @@ def test_one_line_is_one_mark(left: Path) -> None:
     assert marks(left) == [["1", "a", TEXT, "", "", "0.25", "'=so\nso", "", "Ida"]]
     found = table(left)
     assert (found["a"]["1"], found["d"]["1"]) == ("0.25", "by hand")
+    assert 'aria-label="0.25: not read' in (left / "results/teacher.html").read_text()
     # Another text of the student, and the mark counts no more.
     put(left, "a1", NOT_SQL * 2)
     again = classroom("grade", left)

@@ -103,8 +103,7 @@ def test_forms_of_others_change_nothing(beers: Path) -> None:
 def test_a_group_is_marked_at_once_and_an_answer_alone(beers: Path) -> None:
     with marking.marking(beers, "--by", "Ida") as page:
         page.enter()
-        # In tasks 1 and 3 two of the wrong answers share their rows.
-        assert "in 20 of 38 groups" in page.get("/")
+        assert "in 20 of 40 groups" in page.get("/")
         shown = page.get("/group/0")
         text = first_text(shown)
         assert text in NOT_READ and not re.search(r"\bs0\d\d\b", shown)
@@ -211,7 +210,7 @@ def test_an_earlier_mark_stands_beside_an_answer_with_another_text(beers: Path) 
     (beers / "class/marks.csv").write_text(HEADER + f"1,{who},0123456789ab,,,0.5,early,,Ida,noon\n")
     with marking.marking(beers, "--task", "1") as page:
         page.enter()
-        pages = [page.get(f"/group/{at}") for at in range(7)]
+        pages = [page.get(f"/group/{at}") for at in range(8)]
         found = [one for one in pages if "The mark for an earlier text: 0.5" in one]
         assert [first_text(one) for one in found] == [NOT_READ[0]]
         assert "“early”, by Ida, noon." in found[0]
@@ -262,6 +261,7 @@ def test_a_server_that_is_killed_has_lost_nothing(beers: Path) -> None:
     for at, points in enumerate(("0.25", "0.5", "0.75")):
         with marking.marking(beers) as page:
             page.enter()
+            # The first one that is open still.
             assert page.send("/group/0", points=points)[0] == 303
             page.process.send_signal(signal.SIGKILL)
         assert sorted(one["points"] for one in lines(beers)) == ["0.25", "0.5", "0.75"][: at + 1]
