@@ -2,6 +2,7 @@
 use Rattle.std.specs.Prelude.{◌≡◌, ◌<◌, ◌⊎◌, ℕ, IsTrue, length, None, Some, Ok, Err, IfOk}
 use Rattle.rt_io.specs.Command.{command}
 use Rattle.rt_io.specs.Logs.{Log, NoSinkRose, WritesNothing}
+use Rattle.rt_writing.specs.Writing.{Writes}
 use Rattle.rt_input.specs.Accepted.{Accepted}
 use Rattle.rt_input.specs.Judged.{judged}
 use Rattle.rt_input.specs.Reading.{Call, IsTold, LimitRow, ReadFaultRow, RefusedRow, UsageRow}
@@ -63,18 +64,14 @@ pub record AlgebraEnds (c : Call) (out err : Log) (o : RaOutcome) : Type 0 where
 
 -- `rt_tools::tool_run`
 pub record ToolEnds (c : Call) (out err : Log) (o : ToolOutcome) : Type 0 where
-  pub ends : tools.IfText o (tools.EndsWritten c out err o)
+  pub writes : Writes tools.in_tools (tools.Ends c) out err o
   pub exact : IsToldTool c (tool_words.tool_of c.words) → IsAsJudged (refusal_of (tool_words.tool_of c.words) c.files.held) o
   pub usage_exact : tool_words.IsUsage (tool_words.tool_of c.words) → IsUsageOrFault o
   pub complete : NoNamedRose c (tool_words.tool_of c.words) → NoSinkRose out err → HasRoomFor c (tool_words.tool_of c.words) → IsNoFault o
-  pub write_fault : tools.IfWriteFault o ((allowed : ToolOutcome) × tools.EndsBroken c out err allowed)
-  pub no_memory : tools.IfNoMemory o (WritesNothing out err ⊎ ((allowed : ToolOutcome) × tools.EndsBegun c out err allowed))
 
 -- `rt_cert::cert_run`
 pub record CertificateEnds (c : Call) (out err : Log) (o : CertOutcome) : Type 0 where
-  pub ends : cert.IfText o (cert.EndsWritten c out err o)
-  pub write_fault : cert.IfWriteFault o ((allowed : CertOutcome) × cert.EndsBroken c out err allowed)
-  pub no_memory : cert.IfNoMemory o (WritesNothing out err ⊎ ((allowed : CertOutcome) × cert.EndsBegun c out err allowed))
+  pub writes : Writes cert.in_certificates (cert.Ends c) out err o
   pub usage : cert_words.IsUsage (cert_words.asked_by c.words) → cert.IsUsageOrFault o
   pub refused : cert_words.IfEither (cert_words.asked_by c.words) (λ args. IsTold (cert.with_words c args)
       → (refusal : Outcome) → judged args c.files.held ≡ Err refusal → cert.YieldsTo refusal o)

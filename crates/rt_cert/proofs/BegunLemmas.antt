@@ -14,7 +14,7 @@ use Rattle.rt_input.specs.Judged.{command_judged, input_judged}
 use Rattle.rt_input.specs.Source.{IsKnown, Text, source_of}
 use Rattle.rt_input.proofs.BegunLemmas.{some_first, some_then, when_reached}
 use Rattle.rt_cert.specs.Begun.{AskedBegins, ChecksFor}
-use Rattle.rt_cert.specs.Words.{Asked, asked_by, check, prove}
+use Rattle.rt_cert.specs.Words.{Asked, asked_by}
 use Rattle.rt_cert.proofs.SayLemmas.{check_words, prove_words}
 
 module _ (tells : Bool) (held : Holding) (name : Text) (old mid new : List Text) where

@@ -1,10 +1,8 @@
 -- Where an outcome has to come.
-use Rattle.std.proofs.Common.{◌≡◌, ◌∙◌, ◌≤◌, ◌<◌, ◌^◌, ℕ, Bool, List, Result, Ok, Err, length, refl, sym, ap, subst, inl, inr, arith, IsTrue}
+use Rattle.std.proofs.Common.{◌≡◌, ◌∙◌, ◌≤◌, ◌<◌, ◌^◌, ℕ, Bool, List, Result, Ok, Err, length, refl, sym, ap, subst, arith, IsTrue}
 use Rattle.std.specs.Prelude.{Option, None, Some, IsOkAnd, IsSome, IsSomeAnd}
 use Rattle.std.specs.Option.{ForSome}
-use Rattle.rt_io.specs.Logs.{Broke, Log, NoSinkRose, at_place}
-use Rattle.rt_io.specs.declared.place.Place.{Place}
-use Rattle.rt_io.specs.declared.place.Place.TheVariants as at
+use Rattle.rt_io.specs.Logs.{Log, NoSinkRose, at_place}
 use Rattle.rt_schema.specs.Given.{places}
 use Rattle.rt_schema.specs.declared.table.Table.{Table}
 use Rattle.rt_io.specs.Command.{command}
@@ -29,9 +27,10 @@ use Rattle.rt_cert.specs.declared.judgement.Why.{Why}
 use Rattle.rt_cert.specs.declared.judgement.Why.TheVariants as why
 use Rattle.rt_cert.specs.declared.outcome.CertOutcome.{CertOutcome}
 use Rattle.rt_cert.specs.declared.outcome.CertOutcome.TheVariants.{Proved, Valid, Malformed, Wrong, CertLong, CertRead, Verdict}
-use Rattle.rt_cert.specs.Answers.{Ends, EndsVerdict, InCheck, InProve, IsFault, IsJudgedIn, IsMalformed, IsOrFault, IsProvedOrMemory, IsSpentIn, IsUsageOrFault, OverCalm, OverFile, YieldsTo, with_words}
+use Rattle.rt_cert.specs.Answers.{Ends, EndsVerdict, InCheck, InProve, IsFault, IsJudgedIn, IsMalformed, IsOrFault, IsProvedOrMemory, IsSpentIn, IsUsageOrFault, OverCalm, OverFile, YieldsTo, in_certificates, with_words}
 use Rattle.rt_cert.specs.CertFile.{IsBadFile, IsFileOf, IsLongFile, most_bytes}
-use Rattle.rt_cert.specs.Steps.{WritesTo}
+use Rattle.rt_writing.specs.Writing.{WritesTo}
+use Rattle.rt_writing.proofs.WriteLemmas.{no_sink_fault, spoken}
 use Rattle.rt_cert.specs.Texts.{place, verdict_text}
 use Rattle.rt_cert.specs.Words.{Asked, IfCheck, IfEither, IfProve, IsCheckAnd, IsEitherAnd, IsProveAnd, IsUsage, asked_by, check, neither, prove}
 
@@ -98,23 +97,6 @@ no_read_fault c part row knows calm = by_command (command c.words) refl row
 no_room : (conflicts : Option ℕ) (budget most : ℕ) → conflicts ≡ Some budget → budget < most → ForSome conflicts (λ b. most ≤ b) → ⊥
 no_room None budget most is small room = cc
 no_room (Some b) budget most is small room = let same : b ≡ budget = cc in omega (arith, same, small, room)
-
-no_sink_fault : (out err : Log) (p : Place) → NoSinkRose out err → Broke (at_place p out err) → ⊥
-no_sink_fault out err at.Out calm broke = calm.out_rose broke
-no_sink_fault out err at.Err calm broke = calm.err_rose broke
-
--- ---- from the outcome that may come to the one that does
-
--- what holds of it, of a sink that fails and of out of memory holds of the outcome
-spoken : (P : CertOutcome → Type 0) (sink : Log) (o : CertOutcome) (said : Text) (result : CertOutcome) → (Broke sink → P (Verdict outcome.WriteFault)) → P (Verdict outcome.NoMemory)
-    → P o → WritesTo sink o said result → P result
-spoken P sink o said result broke memory is wrote = elim wrote [
-  | inl h ↦ subst P (sym h.0) is
-  | inr h ↦ elim h [
-    | inl f ↦ subst P (sym f.0) (broke f.1)
-    | inr m ↦ subst P (sym m.0) memory
-  ]
-]
 
 -- ---- arguments that are no command
 
@@ -342,16 +324,16 @@ check_all (prove args) P p = tt
 check_all (check name args) P p = p name args
 check_all neither P p = tt
 
-module _ (c : Call) (out err : Log) (o : CertOutcome) (said : Text) (result : CertOutcome) (ends : Ends c o said) (wrote : WritesTo (at_place (place o) out err) o said result) where
+module _ (c : Call) (out err : Log) (o : CertOutcome) (said : Text) (result : CertOutcome) (ends : Ends c o said) (wrote : WritesTo in_certificates (at_place (place o) out err) o said result) where
   pub usage_told : IsUsage (asked_by c.words) → IsUsageOrFault result
-  usage_told usage = spoken IsUsageOrFault (at_place (place o) out err) o said result (λ b. tt) tt (usage_row c usage o said ends) wrote
+  usage_told usage = spoken in_certificates IsUsageOrFault (at_place (place o) out err) o said result (λ b. tt) tt (usage_row c usage o said ends) wrote
 
   pub refusal_told : IfEither (asked_by c.words) (λ args. IsTold (with_words c args) → (refusal : Outcome) → judged args c.files.held ≡ Err refusal → YieldsTo refusal result)
   refusal_told = by_case (asked_by c.words) refl
     where
       by_case : (a : Asked) → asked_by c.words ≡ a → IfEither a (λ args. IsTold (with_words c args) → (refusal : Outcome) → judged args c.files.held ≡ Err refusal → YieldsTo refusal result)
-      by_case (prove args) is = λ knows refusal e. spoken (YieldsTo refusal) (at_place (place o) out err) o said result (λ b. tt) tt (prove_yields c args is refusal knows e o said ends) wrote
-      by_case (check name args) is = λ knows refusal e. spoken (YieldsTo refusal) (at_place (place o) out err) o said result (λ b. tt) tt (check_yields c name args is refusal knows e o said ends) wrote
+      by_case (prove args) is = λ knows refusal e. spoken in_certificates (YieldsTo refusal) (at_place (place o) out err) o said result (λ b. tt) tt (prove_yields c args is refusal knows e o said ends) wrote
+      by_case (check name args) is = λ knows refusal e. spoken in_certificates (YieldsTo refusal) (at_place (place o) out err) o said result (λ b. tt) tt (check_yields c name args is refusal knows e o said ends) wrote
       by_case neither is = tt
 
   pub long_told : OverFile c (λ input bytes. most_bytes < length bytes → IsOrFault CertLong result)
@@ -359,7 +341,7 @@ module _ (c : Call) (out err : Log) (o : CertOutcome) (said : Text) (result : Ce
     where
       by_case : (a : Asked) → asked_by c.words ≡ a → IfCheck a (λ name args. (input : Accepted) → judged args c.files.held ≡ Ok input → most_bytes < length (c.files.held name) → IsOrFault CertLong result)
       by_case (prove args) is = tt
-      by_case (check name args) is = λ input ok long. spoken (IsOrFault CertLong) (at_place (place o) out err) o said result (λ b. tt) tt (long_row c name args is tells input ok o said long ends) wrote
+      by_case (check name args) is = λ input ok long. spoken in_certificates (IsOrFault CertLong) (at_place (place o) out err) o said result (λ b. tt) tt (long_row c name args is tells input ok o said long ends) wrote
       by_case neither is = tt
 
   pub bad_told : OverFile c (λ input bytes. (line : ℕ) → IsBadFile bytes line → IsOrFault (Malformed (reading.BadLine line)) result)
@@ -368,7 +350,7 @@ module _ (c : Call) (out err : Log) (o : CertOutcome) (said : Text) (result : Ce
       by_case : (a : Asked) → asked_by c.words ≡ a → IfCheck a (λ name args. (input : Accepted) → judged args c.files.held ≡ Ok input → (line : ℕ) → IsBadFile (c.files.held name) line → IsOrFault (Malformed (reading.BadLine line)) result)
       by_case (prove args) is = tt
       by_case (check name args) is = λ input ok line bad.
-          spoken (IsOrFault (Malformed (reading.BadLine line))) (at_place (place o) out err) o said result (λ b. tt) tt (bad_row c name args is tells input ok line bad o said ends) wrote
+          spoken in_certificates (IsOrFault (Malformed (reading.BadLine line))) (at_place (place o) out err) o said result (λ b. tt) tt (bad_row c name args is tells input ok line bad o said ends) wrote
       by_case neither is = tt
 
   pub claim_told : OverFile c (λ input bytes. (cert : Cert) → IsFileOf bytes cert → (cause : Why) → claim_fault input cert.keep ≡ Some cause → IsOrFault (Wrong cause) result)
@@ -378,7 +360,7 @@ module _ (c : Call) (out err : Log) (o : CertOutcome) (said : Text) (result : Ce
           → (cert : Cert) → IsFileOf (c.files.held name) cert → (cause : Why) → claim_fault input cert.keep ≡ Some cause → IsOrFault (Wrong cause) result)
       by_case (prove args) is = tt
       by_case (check name args) is = λ input ok cert file cause fault.
-          spoken (IsOrFault (Wrong cause)) (at_place (place o) out err) o said result (λ b. tt) tt (claim_row c name args is tells input ok cert file cause fault o said ends) wrote
+          spoken in_certificates (IsOrFault (Wrong cause)) (at_place (place o) out err) o said result (λ b. tt) tt (claim_row c name args is tells input ok cert file cause fault o said ends) wrote
       by_case neither is = tt
 
   pub proved_told : OverCalm c (NoSinkRose out err → IsProvedOrMemory result)
@@ -387,6 +369,6 @@ module _ (c : Call) (out err : Log) (o : CertOutcome) (said : Text) (result : Ce
       by_case : (a : Asked) → asked_by c.words ≡ a → IfProve a (λ args. IsTold (with_words c args) → NoFileRose (with_words c args)
           → (input : Accepted) → judged args c.files.held ≡ Ok input → HasRoom input → NoSinkRose out err → IsProvedOrMemory result)
       by_case (prove args) is = λ knows calm input ok room sinks.
-          spoken IsProvedOrMemory (at_place (place o) out err) o said result (λ b. no_sink_fault out err (place o) sinks b) tt (proved_row c args is knows calm input ok room o said ends) wrote
+          spoken in_certificates IsProvedOrMemory (at_place (place o) out err) o said result (λ b. no_sink_fault out err (place o) sinks b) tt (proved_row c args is knows calm input ok room o said ends) wrote
       by_case (check name args) is = tt
       by_case neither is = tt

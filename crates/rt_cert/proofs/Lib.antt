@@ -8,4 +8,3 @@ mod InputLemmas
 mod ExactLemmas
 mod FileLemmas
 mod SayLemmas
-mod WriteLemmas

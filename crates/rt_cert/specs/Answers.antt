@@ -1,8 +1,8 @@
 -- When each outcome of a call comes, and what the call writes.
 use Rattle.std.specs.Prelude.{◌≡◌, IsTrue, List, Some, Ok, ⊤}
 use Rattle.rt_io.specs.Edge.{Rose}
-use Rattle.rt_io.specs.Logs.{Broke, Grew, GrewPartly, IsKept, Log, at_place, other_place}
 use Rattle.rt_io.specs.Command.{command}
+use Rattle.rt_writing.specs.Writing.{Ways}
 use Rattle.rt_recorder.specs.Certificate.{cert_text}
 use Rattle.rt_recorder.specs.declared.cert.Cert.{Cert}
 use Rattle.rt_recorder.specs.declared.fault.CertFault.{CertFault}
@@ -84,38 +84,9 @@ Ends c (Verdict o) said = EndsVerdict c o said
 
 -- ---- what is written
 
--- of an outcome that has a text
-abbrev pub IfText : CertOutcome → Type 0 → Type 0
-IfText (Verdict outcome.WriteFault) P = ⊤
-IfText (Verdict outcome.NoMemory) P = ⊤
-IfText _ P = P
-
-abbrev pub IfWriteFault : CertOutcome → Type 0 → Type 0
-IfWriteFault (Verdict outcome.WriteFault) P = P
-IfWriteFault _ P = ⊤
-
-abbrev pub IfNoMemory : CertOutcome → Type 0 → Type 0
-IfNoMemory (Verdict outcome.NoMemory) P = P
-IfNoMemory _ P = ⊤
-
--- the outcome may come; its whole text went to its sink, and nothing to the other
-pub record EndsWritten (c : Call) (out err : Log) (o : CertOutcome) : Type 0 where
-  pub said : Text
-  pub ends : Ends c o said
-  pub whole : Grew (at_place (place o) out err) said
-  pub kept : IsKept (other_place (place o) out err)
-
--- the outcome may come; a prefix of its text went to its sink, and nothing to the other
-pub record EndsBegun (c : Call) (out err : Log) (o : CertOutcome) : Type 0 where
-  pub said : Text
-  pub ends : Ends c o said
-  pub begun : GrewPartly (at_place (place o) out err) said
-  pub kept : IsKept (other_place (place o) out err)
-
--- the same, where that sink failed
-pub record EndsBroken (c : Call) (out err : Log) (o : CertOutcome) : Type 0 where
-  pub begun : EndsBegun c out err o
-  pub broke : Broke (at_place (place o) out err)
+-- the sink of each outcome's text, and the two outcomes of a text that isn't written whole
+abbrev pub in_certificates : Ways CertOutcome
+in_certificates = record { place = place; write_fault = Verdict outcome.WriteFault; no_memory = Verdict outcome.NoMemory }
 
 -- ---- where an outcome has to come
 

@@ -1,6 +1,5 @@
 -- What the steps of a call say.
 use Rattle.std.specs.Prelude.{◌≡◌, ◌≢◌, ◌⊎◌, IsTrue, List}
-use Rattle.rt_io.specs.Logs.{Broke, Grew, GrewPartly, Log}
 use Rattle.rt_io.specs.Command.{command}
 use Rattle.rt_recorder.specs.Certificate.{cert_text}
 use Rattle.rt_recorder.specs.declared.cert.Cert.{Cert}
@@ -59,10 +58,3 @@ ChecksIn s name input result said =
 
 abbrev pub SaysCheck : Call → Text → CertOutcome → Text → Type 0
 SaysCheck c name result said = SaysOver c (λ input. ChecksIn c.files name input result said) result said
-
--- ---- what is written
-
--- how the writing of a text ended: all of it was taken, the sink failed, or it is out of memory
-abbrev pub WritesTo : Log → CertOutcome → Text → CertOutcome → Type 0
-WritesTo sink o said result =
-    ((result ≡ o) × Grew sink said) ⊎ (((result ≡ Verdict outcome.WriteFault) × Broke sink × GrewPartly sink said) ⊎ ((result ≡ Verdict outcome.NoMemory) × GrewPartly sink said))

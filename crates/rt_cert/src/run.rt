@@ -2,7 +2,8 @@
 
 ghost use Rattle.std.specs.Prelude.{◌≡◌, ◌<◌, ◌⊎◌, ℕ, length, Some, Err, IfOk};
 ghost use Rattle.rt_io.specs.Edge.{NoneFell};
-ghost use Rattle.rt_io.specs.Logs.{IsKept, NoSinkRose, WritesNothing, at_place, log, other_place};
+ghost use Rattle.rt_io.specs.Logs.{IsKept, NoSinkRose, at_place, log, other_place};
+ghost use Rattle.rt_writing.specs.Writing.{Writes, WritesTo};
 ghost use Rattle.rt_cert.specs.Begun.{Begins};
 ghost use Rattle.rt_cert.specs.Certified.{claim_fault};
 ghost use Rattle.rt_cert.specs.declared.judgement.Why.{Why};
@@ -11,9 +12,8 @@ ghost use Rattle.rt_recorder.specs.declared.fault.CertFault.TheVariants.{BadLine
 ghost use Rattle.rt_input.specs.Reading.{IsTold, call};
 ghost use Rattle.rt_input.specs.Judged.{judged};
 ghost use Rattle.rt_input.specs.declared.outcome.Outcome.{Outcome};
-ghost use Rattle.rt_cert.specs.Answers.{Ends, EndsBegun, EndsBroken, EndsWritten, IfNoMemory, IfText, IfWriteFault, IsOrFault, IsProvedOrMemory, IsUsageOrFault, OverCalm, OverFile, YieldsTo};
+ghost use Rattle.rt_cert.specs.Answers.{Ends, IsOrFault, IsProvedOrMemory, IsUsageOrFault, OverCalm, OverFile, YieldsTo, in_certificates};
 ghost use Rattle.rt_cert.specs.CertFile.{IsBadFile, IsFileOf, most_bytes};
-ghost use Rattle.rt_cert.specs.Steps.{WritesTo};
 ghost use Rattle.rt_cert.specs.Texts.{place};
 ghost use Rattle.rt_cert.specs.Words.{IfEither, IsUsage, asked_by};
 ghost use Rattle.rt_cert.specs.declared.outcome.CertOutcome.{CertOutcome};
@@ -50,7 +50,7 @@ fn prepare<F: Files>(alloc: Global, words: &[Txt], files: &mut F) -> Result<Told
 
 // Writes the text of an answer to its sink.
 fn speak<O: Sink, E: Sink>(out: &mut O, err: &mut E, told: Told) -> CertOutcome
-    ensures ends { WritesTo (at_place (place told.outcome) (log O.Sink out.old out.new) (log E.Sink err.old err.new)) told.outcome told.text result }
+    ensures ends { WritesTo in_certificates (at_place (place told.outcome) (log O.Sink out.old out.new) (log E.Sink err.old err.new)) told.outcome told.text result }
     ensures kept { IsKept (other_place (place told.outcome) (log O.Sink out.old out.new) (log E.Sink err.old err.new)) }
 {
     let place = told.outcome.place();
@@ -72,13 +72,9 @@ pub fn cert_run<F: Files, O: Sink, E: Sink>(
     err: &mut E,
 ) -> CertOutcome
     // Each outcome comes only where it may; its whole text went to its sink, and nothing to the
-    // other.
-    ensures ends { IfText result (EndsWritten (call F.Files words.now files.old files.new) (log O.Sink out.old out.new) (log E.Sink err.old err.new) result) }
-    // Only if the sink of an outcome that may come failed in this call.
-    ensures write_fault { IfWriteFault result ((allowed : CertOutcome) × EndsBroken (call F.Files words.now files.old files.new) (log O.Sink out.old out.new) (log E.Sink err.old err.new) allowed) }
-    // Out of memory may come anywhere; at most a prefix of such a text was written.
-    ensures no_memory { let o = log O.Sink out.old out.new in let e = log E.Sink err.old err.new in
-        IfNoMemory result (WritesNothing o e ⊎ ((allowed : CertOutcome) × EndsBegun (call F.Files words.now files.old files.new) o e allowed)) }
+    // other. The error of writing comes only if the sink of an outcome that may come failed in this
+    // call. Out of memory may come anywhere; at most a prefix of such a text was written.
+    ensures writes { Writes in_certificates (Ends (call F.Files words.now files.old files.new)) (log O.Sink out.old out.new) (log E.Sink err.old err.new) result }
     // For arguments that are no command, the answer is that. If the input is refused, it is the
     // first refusal.
     ensures usage { IsUsage (asked_by words.now) → IsUsageOrFault result }

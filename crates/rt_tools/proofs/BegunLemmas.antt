@@ -8,7 +8,7 @@ use Rattle.rt_input.specs.Begun.{BeginsFor}
 use Rattle.rt_input.specs.Held.{Holding}
 use Rattle.rt_input.specs.Source.{Text}
 use Rattle.rt_tools.specs.Begun.{ToolBegins}
-use Rattle.rt_tools.specs.Words.{Tool, row, tool_of}
+use Rattle.rt_tools.specs.Words.{Tool, tool_of}
 use Rattle.rt_tools.proofs.EndLemmas.{row_words}
 
 -- the arguments after the name of the tool

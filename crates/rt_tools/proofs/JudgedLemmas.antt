@@ -1,11 +1,9 @@
 -- The outcome of a tool is the one that is judged, and over files and sinks that don't fail there
 -- is no error.
-use Rattle.std.proofs.Common.{◌≡◌, ◌∙◌, Bool, List, Result, Ok, Err, refl, sym, ap, subst, inl, inr, arith}
+use Rattle.std.proofs.Common.{◌≡◌, ◌∙◌, Bool, List, Result, Ok, Err, refl, ap, inl, inr, arith}
 use Rattle.std.specs.Prelude.{◌<◌, ◌≤◌, ◌^◌, ℕ, IsOk, IsSome, IsSomeAnd, IsTrue, Option, None, Some, ⊤}
 use Rattle.std.specs.Option.{ForSome}
-use Rattle.rt_io.specs.Logs.{Broke, Log, NoSinkRose, at_place}
-use Rattle.rt_io.specs.declared.place.Place.{Place}
-use Rattle.rt_io.specs.declared.place.Place.TheVariants as at
+use Rattle.rt_io.specs.Logs.{Log, NoSinkRose, at_place}
 use Rattle.rt_schema.specs.Given.{places}
 use Rattle.rt_io.specs.Command.{command}
 use Rattle.rt_io.specs.Ranges.{Command}
@@ -23,7 +21,7 @@ use Rattle.rt_input.specs.Faults.{placeless}
 use Rattle.rt_input.specs.declared.part.Part.TheVariants as parts
 use Rattle.rt_input.specs.declared.source.Source.{Source}
 use Rattle.rt_input.specs.Held.{Holding}
-use Rattle.rt_input.specs.Judged.{Reaches, ReachesFirst, command_judged, judged}
+use Rattle.rt_input.specs.Judged.{Reaches, ReachesFirst, command_judged}
 use Rattle.rt_input.proofs.RowLemmas.{named_from_reached}
 use Rattle.rt_io.specs.Edge.{Rose}
 use Rattle.rt_input.specs.Source.{IsKnown, Text, file_of, source_from, source_of}
@@ -39,7 +37,9 @@ use Rattle.rt_grade.specs.declared.grade_fault.GradeFault.TheVariants as faults
 use Rattle.rt_grade.specs.declared.grade_words.GradeWords.{GradeWords}
 use Rattle.rt_tools.specs.declared.outcome.ToolOutcome.{ToolOutcome}
 use Rattle.rt_tools.specs.declared.outcome.ToolOutcome.TheVariants.{RowWitness, RowNever, RowSpent, RowRefused, BadList, TooManyPaths, ListLong, FileRead, Grades, Verdict}
-use Rattle.rt_tools.specs.Answers.{Ends, EndsGrades, StopsTool, WritesTo, with_words}
+use Rattle.rt_tools.specs.Answers.{Ends, EndsGrades, StopsTool, in_tools, with_words}
+use Rattle.rt_writing.specs.Writing.{WritesTo}
+use Rattle.rt_writing.proofs.WriteLemmas.{no_sink_fault, spoken}
 use Rattle.rt_tools.specs.Judged.{HasRoomFor, IsAsJudged, IsNoFault, IsToldTool, IsUsageOrFault, NamesPart, NoNamedRose, IsGradeFile, cells_refusal, grade_refusal, list_refusal, paths_refusal, refusal_of, row_refusal}
 use Rattle.rt_tools.specs.Outcomes.{of_fault}
 use Rattle.rt_tools.specs.Texts.{fault_line, place}
@@ -306,36 +306,15 @@ no_fault c (Verdict (outcome.ReadFault part)) said ends calm room = not_failed c
 no_fault c (Verdict outcome.WriteFault) said ends calm room = ends
 no_fault c (Verdict outcome.NoMemory) said ends calm room = tt
 
-no_sink_fault : (out err : Log) (p : Place) → NoSinkRose out err → Broke (at_place p out err) → ⊥
-no_sink_fault out err at.Out calm broke = calm.out_rose broke
-no_sink_fault out err at.Err calm broke = calm.err_rose broke
-
 -- ---- what was written of it
 
-module _ (c : Call) (out err : Log) (o : ToolOutcome) (said : Text) (result : ToolOutcome) (ends : Ends c o said) (wrote : WritesTo (at_place (place o) out err) o said result) where
+module _ (c : Call) (out err : Log) (o : ToolOutcome) (said : Text) (result : ToolOutcome) (ends : Ends c o said) (wrote : WritesTo in_tools (at_place (place o) out err) o said result) where
   pub written_as_judged : IsToldTool c (tool_of c.words) → IsAsJudged (refusal_of (tool_of c.words) c.files.held) result
-  written_as_judged told = elim wrote [
-    | inl h ↦ subst (IsAsJudged (refusal_of (tool_of c.words) c.files.held)) (sym h.0) (as_judged c o said ends told)
-    | inr h ↦ elim h [
-      | inl f ↦ subst (IsAsJudged (refusal_of (tool_of c.words) c.files.held)) (sym f.0) tt
-      | inr m ↦ subst (IsAsJudged (refusal_of (tool_of c.words) c.files.held)) (sym m.0) tt
-    ]
-  ]
+  written_as_judged told = spoken in_tools (IsAsJudged (refusal_of (tool_of c.words) c.files.held)) (at_place (place o) out err) o said result (λ b. tt) tt (as_judged c o said ends told) wrote
 
   pub written_usage : IsUsage (tool_of c.words) → IsUsageOrFault result
-  written_usage none = elim wrote [
-    | inl h ↦ subst IsUsageOrFault (sym h.0) (usage_ends c o said ends none)
-    | inr h ↦ elim h [
-      | inl f ↦ subst IsUsageOrFault (sym f.0) tt
-      | inr m ↦ subst IsUsageOrFault (sym m.0) tt
-    ]
-  ]
+  written_usage none = spoken in_tools IsUsageOrFault (at_place (place o) out err) o said result (λ b. tt) tt (usage_ends c o said ends none) wrote
 
   pub written_complete : NoNamedRose c (tool_of c.words) → NoSinkRose out err → HasRoomFor c (tool_of c.words) → IsNoFault result
-  written_complete calm sinks room = elim wrote [
-    | inl h ↦ subst IsNoFault (sym h.0) (no_fault c o said ends calm room)
-    | inr h ↦ elim h [
-      | inl f ↦ absurd (no_sink_fault out err (place o) sinks f.1)
-      | inr m ↦ subst IsNoFault (sym m.0) tt
-    ]
-  ]
+  written_complete calm sinks room =
+      spoken in_tools IsNoFault (at_place (place o) out err) o said result (λ b. absurd (no_sink_fault out err (place o) sinks b)) tt (no_fault c o said ends calm room) wrote

@@ -2,5 +2,4 @@ mod BegunLemmas
 mod EndLemmas
 mod JudgedLemmas
 mod LineLemmas
-mod WriteLemmas
 mod OneGradingLemmas

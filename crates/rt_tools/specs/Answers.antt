@@ -1,7 +1,7 @@
 -- When each outcome of a tool comes, and what the call writes.
 use Rattle.std.specs.Prelude.{◌≡◌, ◌≢◌, ◌⊎◌, List, ⊤}
-use Rattle.rt_io.specs.Logs.{Broke, Grew, GrewPartly, IsKept, Log, at_place, other_place}
 use Rattle.rt_io.specs.Command.{command}
+use Rattle.rt_writing.specs.Writing.{Ways}
 use Rattle.rt_input.specs.declared.outcome.Outcome.{Outcome}
 use Rattle.rt_input.specs.declared.outcome.Outcome.TheVariants as outcome
 use Rattle.rt_input.specs.Reading.{Call, Stop, limit_of}
@@ -71,45 +71,11 @@ Ends c (Verdict o) said = EndsVerdict c o said
 
 -- ---- what is written
 
--- of an outcome that has a text
-abbrev pub IfText : ToolOutcome → Type 0 → Type 0
-IfText (Verdict outcome.WriteFault) P = ⊤
-IfText (Verdict outcome.NoMemory) P = ⊤
-IfText _ P = P
-
-abbrev pub IfWriteFault : ToolOutcome → Type 0 → Type 0
-IfWriteFault (Verdict outcome.WriteFault) P = P
-IfWriteFault _ P = ⊤
-
-abbrev pub IfNoMemory : ToolOutcome → Type 0 → Type 0
-IfNoMemory (Verdict outcome.NoMemory) P = P
-IfNoMemory _ P = ⊤
-
--- the outcome may come; its whole text went to its sink, and nothing to the other
-pub record EndsWritten (c : Call) (out err : Log) (o : ToolOutcome) : Type 0 where
-  pub said : Text
-  pub ends : Ends c o said
-  pub whole : Grew (at_place (place o) out err) said
-  pub kept : IsKept (other_place (place o) out err)
-
--- the outcome may come; a prefix of its text went to its sink, and nothing to the other
-pub record EndsBegun (c : Call) (out err : Log) (o : ToolOutcome) : Type 0 where
-  pub said : Text
-  pub ends : Ends c o said
-  pub begun : GrewPartly (at_place (place o) out err) said
-  pub kept : IsKept (other_place (place o) out err)
-
--- the same, where that sink failed
-pub record EndsBroken (c : Call) (out err : Log) (o : ToolOutcome) : Type 0 where
-  pub begun : EndsBegun c out err o
-  pub broke : Broke (at_place (place o) out err)
+-- the sink of each outcome's text, and the two outcomes of a text that isn't written whole
+abbrev pub in_tools : Ways ToolOutcome
+in_tools = record { place = place; write_fault = Verdict outcome.WriteFault; no_memory = Verdict outcome.NoMemory }
 
 -- ---- steps
-
--- how the writing of a text ended: all of it was taken, the sink failed, or it is out of memory
-abbrev pub WritesTo : Log → ToolOutcome → Text → ToolOutcome → Type 0
-WritesTo sink o said result =
-    ((result ≡ o) × Grew sink said) ⊎ (((result ≡ Verdict outcome.WriteFault) × Broke sink × GrewPartly sink said) ⊎ ((result ≡ Verdict outcome.NoMemory) × GrewPartly sink said))
 
 -- an outcome of `ratest` other than out of memory, and its text
 abbrev pub SaysVerdict : List Text → Outcome → ToolOutcome → Text → Type 0

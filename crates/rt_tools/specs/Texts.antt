@@ -4,7 +4,6 @@ use Rattle.rt_io.specs.declared.place.Place.{Place}
 use Rattle.rt_io.specs.declared.place.Place.TheVariants as at
 use Rattle.rt_value.specs.Keep.{size}
 use Rattle.rt_input.specs.declared.outcome.Outcome.{Outcome}
-use Rattle.rt_input.specs.declared.outcome.Outcome.TheVariants as outcome
 use Rattle.rt_input.specs.Source.{Text}
 use Rattle.rt_input.specs.Texts.{fault_text, stopped_text, status_of as status_of_outcome}
 use Rattle.rt_grade.specs.declared.grade.Grade.{Grade}

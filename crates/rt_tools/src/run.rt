@@ -2,11 +2,12 @@
 
 ghost use Rattle.std.specs.Prelude.{◌≡◌, ◌⊎◌, IfOk};
 ghost use Rattle.rt_io.specs.Edge.{NoneFell};
-ghost use Rattle.rt_io.specs.Logs.{IsKept, NoSinkRose, WritesNothing, at_place, log, other_place};
+ghost use Rattle.rt_io.specs.Logs.{IsKept, NoSinkRose, at_place, log, other_place};
+ghost use Rattle.rt_writing.specs.Writing.{Writes, WritesTo};
 ghost use Rattle.rt_input.specs.Begun.{BeginsFor};
 ghost use Rattle.rt_input.specs.Reading.{call};
 ghost use Rattle.rt_io.specs.Command.{command};
-ghost use Rattle.rt_tools.specs.Answers.{Ends, EndsBegun, EndsBroken, EndsWritten, IfNoMemory, IfText, IfWriteFault, SaysGrade, SaysRow, SaysVerdict, WritesTo};
+ghost use Rattle.rt_tools.specs.Answers.{Ends, SaysGrade, SaysRow, SaysVerdict, in_tools};
 ghost use Rattle.rt_grade.specs.Begun.{GradesFor};
 ghost use Rattle.rt_tools.specs.Begun.{Begins};
 ghost use Rattle.rt_grade.specs.GradeWords.{grade_words};
@@ -110,7 +111,7 @@ fn prepare<F: Files>(alloc: Global, words: &[Txt], files: &mut F) -> Result<Tool
 
 // Writes the text of an answer to its sink.
 fn speak<O: Sink, E: Sink>(out: &mut O, err: &mut E, answer: ToolAnswer) -> ToolOutcome
-    ensures ends { WritesTo (at_place (place answer.outcome) (log O.Sink out.old out.new) (log E.Sink err.old err.new)) answer.outcome answer.text result }
+    ensures ends { WritesTo in_tools (at_place (place answer.outcome) (log O.Sink out.old out.new) (log E.Sink err.old err.new)) answer.outcome answer.text result }
     ensures kept { IsKept (other_place (place answer.outcome) (log O.Sink out.old out.new) (log E.Sink err.old err.new)) }
 {
     match write_at(out, err, answer.outcome.place(), answer.text.as_slice()) {
@@ -131,8 +132,9 @@ pub fn tool_run<F: Files, O: Sink, E: Sink>(
     err: &mut E,
 ) -> ToolOutcome
     // Each outcome comes only where it may; its whole text went to its sink, and nothing to the
-    // other.
-    ensures ends { IfText result (EndsWritten (call F.Files words.now files.old files.new) (log O.Sink out.old out.new) (log E.Sink err.old err.new) result) }
+    // other. The error of writing comes only if the sink of an outcome that may come failed in this
+    // call. Out of memory may come anywhere; at most a prefix of such a text was written.
+    ensures writes { Writes in_tools (Ends (call F.Files words.now files.old files.new)) (log O.Sink out.old out.new) (log E.Sink err.old err.new) result }
     // A refusal comes exactly if it is the first, and an answer only if there is none.
     ensures exact { let c = call F.Files words.now files.old files.new in IsToldTool c (tool_of words.now) → IsAsJudged (refusal_of (tool_of words.now) (F.held files.old)) result }
     // The usage text comes exactly for arguments that are those of no tool.
@@ -141,11 +143,6 @@ pub fn tool_run<F: Files, O: Sink, E: Sink>(
     // For a row, that is without a budget that a search can spend.
     ensures complete { let c = call F.Files words.now files.old files.new in
         NoNamedRose c (tool_of words.now) → NoSinkRose (log O.Sink out.old out.new) (log E.Sink err.old err.new) → HasRoomFor c (tool_of words.now) → IsNoFault result }
-    // Only if the sink of an outcome that may come failed in this call.
-    ensures write_fault { IfWriteFault result ((allowed : ToolOutcome) × EndsBroken (call F.Files words.now files.old files.new) (log O.Sink out.old out.new) (log E.Sink err.old err.new) allowed) }
-    // Out of memory may come anywhere; at most a prefix of such a text was written.
-    ensures no_memory { let o = log O.Sink out.old out.new in let e = log E.Sink err.old err.new in
-        IfNoMemory result (WritesNothing o e ⊎ ((allowed : ToolOutcome) × EndsBegun (call F.Files words.now files.old files.new) o e allowed)) }
     // The files that are begun are first ones of those that the tool names, in the order of the
     // reading, and none after the first refusal.
     ensures begun { Begins F.Files (tool_of words.now) files.old files.new }

@@ -6,9 +6,7 @@ returns-clause-ends c = (
   c.cert_run-outcome.result,
   c.status-status.ensures,
   certificate_ended _ c.cert_run-outcome.result c.new-out.result.held.items c.cert_run-outcome.new.out.held.items c.new-err.result.held.items c.cert_run-outcome.new.err.held.items c.new-out.ensures c.new-err.ensures (record {
-    ends = c.cert_run-outcome.ensures.ends;
-    write_fault = c.cert_run-outcome.ensures.write_fault;
-    no_memory = c.cert_run-outcome.ensures.no_memory;
+    writes = c.cert_run-outcome.ensures.writes;
     usage = c.cert_run-outcome.ensures.usage;
     refused = c.cert_run-outcome.ensures.refused;
     long = c.cert_run-outcome.ensures.long;

@@ -6,11 +6,9 @@ returns-clause-ends c = (
   c.tool_run-outcome.result,
   c.status-status.ensures,
   tool_ended _ c.tool_run-outcome.result c.new-out.result.held.items c.tool_run-outcome.new.out.held.items c.new-err.result.held.items c.tool_run-outcome.new.err.held.items c.new-out.ensures c.new-err.ensures (record {
-    ends = c.tool_run-outcome.ensures.ends;
+    writes = c.tool_run-outcome.ensures.writes;
     exact = c.tool_run-outcome.ensures.exact;
     usage_exact = c.tool_run-outcome.ensures.usage_exact;
     complete = c.tool_run-outcome.ensures.complete;
-    write_fault = c.tool_run-outcome.ensures.write_fault;
-    no_memory = c.tool_run-outcome.ensures.no_memory;
   }),
 )

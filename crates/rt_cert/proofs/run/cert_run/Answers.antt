@@ -1,27 +1,15 @@
 use Rattle.rt_io.specs.Logs.{log}
 use Rattle.rt_input.specs.Reading.{call}
 use Rattle.rt_cert.proofs.ExactLemmas.{bad_told, check_all, claim_told, either_all, long_told, prove_all, proved_told, refusal_told, usage_told}
-use Rattle.rt_cert.proofs.WriteLemmas.{broken, wanting, written}
+use Rattle.rt_writing.proofs.WriteLemmas.{writes}
+use Rattle.rt_cert.specs.Answers.{Ends, in_certificates}
 use Rattle.rt_cert.specs.Words.{asked_by}
 use Rattle.rt_cert.proofs.run.cert_run.Goals as goal
 
-pub returns-in-Ok-clause-ends : goal.returns-in-Ok-clause-ends
-returns-in-Ok-clause-ends g c = written
-    (call g.F.Files c.args.words.now c.args.files.now c.prepare.new.files)
+pub returns-in-Ok-clause-writes : goal.returns-in-Ok-clause-writes
+returns-in-Ok-clause-writes g c = writes in_certificates (Ends (call g.F.Files c.args.words.now c.args.files.now c.prepare.new.files))
     (log g.O.Sink c.args.out.now c.speak.new.out) (log g.E.Sink c.args.err.now c.speak.new.err)
-    c.in-Ok.told.outcome c.in-Ok.told.text c.speak.result c.in-Ok.ensures.ends c.speak.ensures.ends c.speak.ensures.kept
-
-pub returns-in-Ok-clause-write_fault : goal.returns-in-Ok-clause-write_fault
-returns-in-Ok-clause-write_fault g c = broken
-    (call g.F.Files c.args.words.now c.args.files.now c.prepare.new.files)
-    (log g.O.Sink c.args.out.now c.speak.new.out) (log g.E.Sink c.args.err.now c.speak.new.err)
-    c.in-Ok.told.outcome c.in-Ok.told.text c.speak.result c.in-Ok.ensures.ends c.speak.ensures.ends c.speak.ensures.kept
-
-pub returns-in-Ok-clause-no_memory : goal.returns-in-Ok-clause-no_memory
-returns-in-Ok-clause-no_memory g c = wanting
-    (call g.F.Files c.args.words.now c.args.files.now c.prepare.new.files)
-    (log g.O.Sink c.args.out.now c.speak.new.out) (log g.E.Sink c.args.err.now c.speak.new.err)
-    c.in-Ok.told.outcome c.in-Ok.told.text c.speak.result c.in-Ok.ensures.ends c.speak.ensures.ends c.speak.ensures.kept
+    c.in-Ok.told.outcome c.in-Ok.told.text c.speak.result c.in-Ok.ensures.ends c.speak.ensures.ends c.speak.ensures.kept (λ text h. h) (λ text h. h) (λ e. cc e)
 
 pub returns-in-Ok-clause-usage : goal.returns-in-Ok-clause-usage
 returns-in-Ok-clause-usage g c = usage_told
