@@ -1,11 +1,11 @@
 //! The verdict on a row, over the input of a command.
 
-ghost use Rattle.std.specs.Prelude.{◌≡◌, IfOk, IfErr, Ok, Some};
+ghost use Rattle.std.specs.Prelude.{◌≡◌, IfOk, IfErr, OnOk, Ok, Some};
 ghost use Rattle.rt_io.specs.Edge.{NoneFell};
 ghost use Rattle.rt_schema.specs.Given.{places};
 ghost use Rattle.rt_least.specs.Least.{IsSpentBest};
 ghost use Rattle.rt_io.specs.Command.{command};
-ghost use Rattle.rt_input.specs.Begun.{Begins};
+ghost use Rattle.rt_input.specs.Begun.{BeganFor, Begins};
 ghost use Rattle.rt_input.specs.Reading.{call, Stop};
 ghost use Rattle.rt_row.specs.RowVerdicts.{Finds, HoldsIn, IsRowAnswer, Judges};
 ghost use Rattle.rt_row.specs.Said.{fault_line, row_text};
@@ -105,6 +105,7 @@ pub fn row_answer<F: Files>(
     ensures ok { IfOk result (IsRowAnswer (call F.Files words.now files.old files.new) row.now) }
     ensures err { IfErr result (Stop (call F.Files words.now files.old files.new)) }
     ensures begun { Begins F.Files (command words.now) files.old files.new }
+    ensures begun_ok { OnOk result (BeganFor F.tells (F.held files.old) (command words.now) (F.begun files.old) (F.begun files.new)) }
     ensures has { F.has files.new ≡ F.has files.old }
     ensures held { F.held files.new ≡ F.held files.old }
     ensures rises { NoneFell (F.faults files.old) (F.faults files.new) }

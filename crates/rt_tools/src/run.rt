@@ -4,12 +4,12 @@ ghost use Rattle.std.specs.Prelude.{◌≡◌, ◌⊎◌, IfOk};
 ghost use Rattle.rt_io.specs.Edge.{NoneFell};
 ghost use Rattle.rt_io.specs.Logs.{IsKept, NoSinkRose, at_place, log, other_place};
 ghost use Rattle.rt_writing.specs.Writing.{Writes, WritesTo};
-ghost use Rattle.rt_input.specs.Begun.{BeginsFor};
+ghost use Rattle.rt_input.specs.Begun.{BeganFor, BeginsFor};
 ghost use Rattle.rt_input.specs.Reading.{call};
 ghost use Rattle.rt_io.specs.Command.{command};
 ghost use Rattle.rt_tools.specs.Answers.{Ends, SaysGrade, SaysRow, SaysVerdict, in_tools};
 ghost use Rattle.rt_grade.specs.Begun.{GradesFor};
-ghost use Rattle.rt_tools.specs.Begun.{Begins};
+ghost use Rattle.rt_tools.specs.Begun.{Begins, OnRow, Opens};
 ghost use Rattle.rt_grade.specs.GradeWords.{grade_words};
 ghost use Rattle.rt_tools.specs.Judged.{HasRoomFor, IsAsJudged, IsNoFault, IsToldTool, IsUsageOrFault, NoNamedRose, refusal_of};
 ghost use Rattle.rt_tools.specs.Texts.{place};
@@ -55,6 +55,7 @@ fn row_tool<F: Files>(
 ) -> Result<ToolAnswer, NoMemory>
     ensures says { IfOk result (λ a. SaysRow (call F.Files words.now files.old files.new) row.now a.outcome a.text) }
     ensures begun { BeginsFor F.tells (F.held files.old) (command words.now) (F.begun files.old) (F.begun files.new) }
+    ensures opened { IfOk result (λ a. OnRow a.outcome (BeganFor F.tells (F.held files.old) (command words.now) (F.begun files.old) (F.begun files.new))) }
     ensures has { F.has files.new ≡ F.has files.old }
     ensures held { F.held files.new ≡ F.held files.old }
     ensures rises { NoneFell (F.faults files.old) (F.faults files.new) }
@@ -71,6 +72,7 @@ fn row_tool<F: Files>(
 fn grade_tool<F: Files>(alloc: Global, words: &[Txt], files: &mut F) -> Result<ToolAnswer, NoMemory>
     ensures says { IfOk result (λ a. SaysGrade (call F.Files words.now files.old files.new) a.outcome a.text) }
     ensures begun { GradesFor F.tells (F.held files.old) (grade_words words.now) (F.begun files.old) (F.begun files.new) }
+    ensures opened { IfOk result (λ a. OnRow a.outcome ⊥) }
     ensures has { F.has files.new ≡ F.has files.old }
     ensures held { F.held files.new ≡ F.held files.old }
     ensures rises { NoneFell (F.faults files.old) (F.faults files.new) }
@@ -94,6 +96,7 @@ fn grade_tool<F: Files>(alloc: Global, words: &[Txt], files: &mut F) -> Result<T
 fn prepare<F: Files>(alloc: Global, words: &[Txt], files: &mut F) -> Result<ToolAnswer, NoMemory>
     ensures ends { IfOk result (λ a. Ends (call F.Files words.now files.old files.new) a.outcome a.text) }
     ensures begun { Begins F.Files (tool_of words.now) files.old files.new }
+    ensures opened { IfOk result (λ a. Opens F.Files (tool_of words.now) a.outcome files.old files.new) }
     ensures has { F.has files.new ≡ F.has files.old }
     ensures held { F.held files.new ≡ F.held files.old }
     ensures rises { NoneFell (F.faults files.old) (F.faults files.new) }
@@ -146,6 +149,8 @@ pub fn tool_run<F: Files, O: Sink, E: Sink>(
     // The files that are begun are first ones of those that the tool names, in the order of the
     // reading, and none after the first refusal.
     ensures begun { Begins F.Files (tool_of words.now) files.old files.new }
+    // An answer on a row comes only after all files of the command were begun.
+    ensures opened { Opens F.Files (tool_of words.now) result files.old files.new }
     ensures has { F.has files.new ≡ F.has files.old }
     ensures held { F.held files.new ≡ F.held files.old }
     ensures rises { NoneFell (F.faults files.old) (F.faults files.new) }

@@ -47,8 +47,6 @@ verdict_says c input (outcome.ReadFault part) said read judges = absurd judges
 verdict_says c input outcome.WriteFault said read judges = absurd judges
 verdict_says c input outcome.NoMemory said read judges = absurd judges
 
--- ---- from what stops the reading to the rows
-
 -- ---- which file is the last one
 
 pub verdict_ends : (input : Accepted) (o : Outcome) (said : List ℕ) (k : Option Command) (old new : List (List ℕ)) → Judges input o said → EndsFor k o old new

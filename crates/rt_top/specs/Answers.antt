@@ -60,6 +60,13 @@ abbrev pub IfSpent : Outcome → (Spent → Type 0) → Type 0
 IfSpent (outcome.Spent s) P = P s
 IfSpent _ P = ⊤
 
+-- of a verdict
+abbrev pub OnVerdict : Outcome → Type 0 → Type 0
+OnVerdict outcome.Agree P = P
+OnVerdict (outcome.Witness keep) P = P
+OnVerdict (outcome.Spent s) P = P
+OnVerdict _ P = ⊤
+
 abbrev pub IfUsage : Outcome → Type 0 → Type 0
 IfUsage outcome.Usage P = P
 IfUsage _ P = ⊤

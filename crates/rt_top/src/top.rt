@@ -8,9 +8,9 @@ ghost use Rattle.rt_io.specs.Gave.{Adds};
 ghost use Rattle.rt_input.specs.Judged.{judged};
 ghost use Rattle.rt_input.specs.Accepted.{Accepted};
 ghost use Rattle.rt_io.specs.Logs.{log, NoSinkRose, WritesNothing};
-ghost use Rattle.rt_input.specs.Begun.{Begins, EndsFor};
+ghost use Rattle.rt_input.specs.Begun.{BeganFor, Begins, EndsFor};
 ghost use Rattle.rt_input.specs.Reading.{call, limit_of, IsTold, IsMadeCall, UsageRow, RefusedRow, LimitRow, ReadFaultRow};
-ghost use Rattle.rt_top.specs.Answers.{Row, AgreeRow, WitnessRow, SpentRow, HasRoom, IfAgree, IfWitness, IfUsage, IfRefused, IfSpent, IfLimit, IfReadFault, IfWriteFault, IfNoMemory, IfText, YieldsTo, YieldsToWrite, IsVerdictOrMemory, NoFileRose, IsTextOf, Writes, WritesAll, WritesPart, WritesUntilFault};
+ghost use Rattle.rt_top.specs.Answers.{OnVerdict, Row, AgreeRow, WitnessRow, SpentRow, HasRoom, IfAgree, IfWitness, IfUsage, IfRefused, IfSpent, IfLimit, IfReadFault, IfWriteFault, IfNoMemory, IfText, YieldsTo, YieldsToWrite, IsVerdictOrMemory, NoFileRose, IsTextOf, Writes, WritesAll, WritesPart, WritesUntilFault};
 ghost use Rattle.rt_input.specs.Steps.{is_memory};
 ghost use Rattle.rt_top.specs.Texts.{refusal_text};
 ghost use Rattle.rt_input.specs.declared.outcome.Outcome.{Outcome};
@@ -59,6 +59,7 @@ fn prepare<F: Files>(alloc: Global, words: &[Txt], files: &mut F) -> Result<Answ
     ensures says { IfOk result (λ a. IsTextOf (call F.Files words.now files.old files.new) a.outcome a.text) }
     ensures adds { Adds (F.gave files.old) (F.gave files.new) }
     ensures begun { Begins F.Files (command words.now) files.old files.new }
+    ensures opened { IfOk result (λ a. OnVerdict a.outcome (BeganFor F.tells (F.held files.old) (command words.now) (F.begun files.old) (F.begun files.new))) }
     ensures last { IfOk result (λ a. EndsFor (command words.now) a.outcome (F.begun files.old) (F.begun files.new)) }
     ensures made { IsMadeCall (command words.now) → files.new ≡ files.old }
     ensures has { F.has files.new ≡ F.has files.old }
@@ -137,6 +138,8 @@ pub fn ratest<F: Files, O: Sink, E: Sink>(
     // The files that are begun are first ones of those that the command names, in the order of
     // the reading, and none after the first refusal.
     ensures begun { Begins F.Files (command words.now) files.old files.new }
+    // A verdict comes only after all files of the command were begun.
+    ensures opened { OnVerdict result (BeganFor F.tells (F.held files.old) (command words.now) (F.begun files.old) (F.begun files.new)) }
     // None is begun behind the part that a refusal or an error of reading names.
     ensures last { EndsFor (command words.now) result (F.begun files.old) (F.begun files.new) }
     // A generated input begins no file.
