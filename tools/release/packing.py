@@ -46,6 +46,7 @@ RECOMMENDED = {
     "page": ("python3-jinja2", "python3-markupsafe"),
     "grade --hosts": ("openssh-client", "parallel", "rsync"),
     "import and grade with PostgreSQL": ("postgresql-client", "python3-psycopg"),
+    "collect of Gradescope's export": ("python3-yaml",),
     "grade where a database tries, mutants, pick": ("python3-sqlglot",),
     "serve": (
         "graphviz",

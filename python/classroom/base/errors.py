@@ -39,6 +39,7 @@ EXTRAS = {
     "waitress": "serve",
     "limits": "serve",
     "markdown_it": "serve",
+    "yaml": "gradescope",
     "sqlglot": "mutants",
     "psycopg": "postgresql",
 }

@@ -3,9 +3,13 @@
 SOURCE is a zip file or a folder. Its form is told by the names in it, or by --form:
 
     moodle      Full Name_12345_assignsubmission_file_/FILE.sql, .._onlinetext_/onlinetext.html
-    canvas      lastfirst_123_45678_FILE.sql, lastfirst_LATE_123_45678_FILE.sql
+    canvas      lastfirst_123_45678_FILE.sql, lastfirst_LATE_123_45678_FILE.sql, .._text.html
+    gradescope  assignment_1_export/submission_123/FILE.sql, and submission_metadata.yml
     nbgrader    submitted/ID/ASSIGNMENT/FILE.sql
     folders     ID/FILE.sql
+
+Any other form is told by --form-pattern, or a file's own name says all (--by-name). Notebooks
+(.ipynb) and zip files that were handed in are read, too.
 
 With --asked there is no SOURCE: the last text that each login handed in at the page of `classroom
 serve` before the exercise closed is the answer.
@@ -36,14 +40,15 @@ from classroom.people import roster as students
 from classroom.people.identity import fault_of_id, key
 from classroom.views.draw import counted
 from classroom.base.errors import Fault, shown
-from classroom.platforms import archive
 from classroom.platforms import collect as collecting
 from classroom.platforms import place as placing
 from classroom.platforms import placed_by_hand
 from classroom.platforms import registry
 from classroom.platforms.archive import Member
+from classroom.platforms.file_names import GROUPS
 from classroom.platforms.handed import Handed
 from classroom.platforms.placed_by_hand import label_key
+from classroom.platforms.read_archive import How, read_archive
 from classroom.web import hand_ins as handedin
 from classroom.web.questions import LOG
 from classroom.web.course import place_of_hand_ins
@@ -67,6 +72,25 @@ def add_arguments(parser: argparse.ArgumentParser) -> None:
         "--form",
         choices=sorted(one.name for one in registry.PLATFORMS if one.names),
         help="the form of the archive, where its names don't tell it",
+    )
+    parser.add_argument(
+        "--form-pattern",
+        metavar="RE",
+        type=path_pattern,
+        help=(
+            "the archive has another form: a regular expression of the whole path of a file, with"
+            " the groups `student` and `file`, as '(?P<student>[^/]+)/(?P<file>.+)'"
+        ),
+    )
+    parser.add_argument(
+        "--by-name",
+        action="store_true",
+        help="a file's own name says whose it is and for which task, as anna-1.sql",
+    )
+    parser.add_argument(
+        "--assignment",
+        metavar="NAME",
+        help="the assignment that is this exercise, where the archive has several",
     )
     parser.add_argument("--task", metavar="T", help="all files are answers to this task")
     parser.add_argument(
@@ -126,6 +150,18 @@ def pattern(word: str) -> re.Pattern[str]:
     return made
 
 
+def path_pattern(word: str) -> re.Pattern[str]:
+    try:
+        made = re.compile(word, re.DOTALL)
+    except re.error as fault:
+        raise argparse.ArgumentTypeError(f"no regular expression: {fault}") from None
+    if not set(GROUPS) <= set(made.groupindex):
+        raise argparse.ArgumentTypeError(
+            "the groups (?P<student>..) and (?P<file>..) have to be in it"
+        )
+    return made
+
+
 def run(arguments: argparse.Namespace) -> int:
     given = exercise.load(arguments.exercise)
     tasks = {task.label: task for task in given.tasks}
@@ -134,6 +170,8 @@ def run(arguments: argparse.Namespace) -> int:
     is_asked = bool(arguments.asked or arguments.asked_file)
     if is_asked == (arguments.source is not None):
         raise Fault("either SOURCE or --asked is wanted")
+    if sum(map(bool, (arguments.form, arguments.form_pattern, arguments.by_name))) > 1:
+        raise Fault("only one of --form, --form-pattern and --by-name is wanted")
     listed = students.read(arguments.students or given.folder / given.settings.students)
     if is_asked:
         log_file = arguments.asked_file or given.results / LOG
@@ -171,28 +209,32 @@ def of_archive(
     by_hand: Mapping[str, placed_by_hand.ByHand],
 ) -> tuple[list[placing.Placed], list[placing.NotPlaced]]:
     """The answers in an archive, and what could not be placed. What a teacher placed goes before."""
-    found = list(archive.members(arguments.source))
-    unread = [placing.NotPlaced(one.label, one.fault) for one in found if one.fault]
-    readable = [one for one in found if not one.fault]
-    fixed = placed_so(readable, listed, by_hand)
-    known = {one.handed.member for one in fixed}
-    left = [one for one in readable if one not in known]
-    form = registry.BY_NAME[arguments.form] if arguments.form else registry.form_of(readable)
-    reading = form.read(left)
+    how = How(arguments.form, arguments.form_pattern, arguments.by_name, arguments.assignment)
+    reading, unnamed = read_archive(arguments.source, how, listed, tasks)
+    for note in reading.notes:
+        print(note)
+    members = [*(one.member for one in reading.found), *reading.others, *unnamed]
+    fixed = placed_so([one for one in members if not one.fault], listed, by_hand)
+    known = {one.handed.member.label for one in fixed}
     answers, rest = placing.placed(
-        reading.found, placing.Rules(tasks, listed, arguments.task, arguments.task_pattern)
+        [one for one in reading.found if one.member.label not in known],
+        placing.Rules(tasks, listed, arguments.task, arguments.task_pattern),
     )
     taken = {(one.task, key(one.student)): one for one in fixed}
     passed = [one for one in answers if (one.task, key(one.student)) in taken]
-    for name in sorted(set(by_hand) - {label_key(one.label) for one in found}):
+    for name in sorted(set(by_hand) - {label_key(one.label) for one in members}):
         log.warning("placed by hand, and not in this archive: %s", shown(name))
     return [*(one for one in answers if one not in passed), *fixed], [
         *rest,
         *(placing.passed_over(one, taken[one.task, key(one.student)]) for one in passed),
-        *unread,
         *(
-            placing.NotPlaced(one.label, "its name has not the form of the others")
-            for one in reading.others
+            placing.NotPlaced(
+                one.label,
+                one.fault or "its name has not the form of the others",
+                is_refused=bool(one.fault),
+            )
+            for one in (*reading.others, *unnamed)
+            if one.label not in known
         ),
     ]
 
@@ -211,7 +253,7 @@ def placed_so(
             Handed(member, "id", to.student, to.student, member.path[-1]),
             listed.with_id(to.student) is not None,
         )
-        for member in members
+        for member in {one.label: one for one in members}.values()
         if (to := by_hand.get(label_key(member.label)))
     ]
 
@@ -251,8 +293,15 @@ def tell(
 ) -> int:
     """Prints what was done; gives the exit status."""
     unplaced = [one for one in rest if one.is_open]
+    refused = sum(one.is_refused for one in unplaced)
     for one in sorted(unplaced, key=lambda one: one.label):
         log.warning("not placed: %s: %s", shown(one.label), one.why)
+    if unplaced:
+        log.warning(
+            "who handed in what is not placed gets no 0: the tasks are open. --place FILE STUDENT"
+            " TASK places a file, and so does a line of %s",
+            placed_by_hand.FILE,
+        )
     for answer in done.kept:
         log.warning(
             "kept: the answer of %s to task %s was edited here; --force writes it over",
@@ -275,7 +324,8 @@ def tell(
     print(
         f"{counted(people, 'student')}, {counted(len(answers), 'answer')}: {done.new} new,"
         f" {done.replaced} replaced, {done.same} as they were, {len(done.kept)} kept"
-        + (f", {len(unplaced)} not placed" if unplaced else "")
+        + (f", {len(unplaced) - refused} not placed" if len(unplaced) > refused else "")
+        + (f", {refused} refused" if refused else "")
         + (f", {len(rest) - len(unplaced)} passed over" if len(rest) > len(unplaced) else "")
     )
     return 1 if unplaced or done.kept or strangers else 0

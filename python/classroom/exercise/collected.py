@@ -5,8 +5,8 @@
 `late` has the moment of the hand-in where it is known, and `late` where a platform tells no more.
 
 A line has the state `placed`, with the task and the answer that the file became, or `unplaced`, with
-the student's id in the column `answer` where it is known, and why; a file without a query is `empty`,
-one in whose place a later one of the student counts `older`, and one with the bytes of that `same`. A list of an earlier version has
+the student's id in the column `answer` where it is known, and why; one that is not read (a link, its
+size, its kind) is `refused`, one without a query `empty`, one in whose place a later one of the student counts `older`, and one with the bytes of that `same`. A list of an earlier version has
 the first six columns, and only files that were placed. A name that a spreadsheet would take for a
 formula has a quote in front, which is not read back.
 """
@@ -30,7 +30,10 @@ LIST = Path("class/collected.csv")
 COLUMNS = ("task", "answer", "source", "member", "late", "sha256", "state", "why")
 OLD = COLUMNS[:6]
 LATE = "late"  # not known by how much
-PLACED, UNPLACED, EMPTY, OLDER, SAME = "placed", "unplaced", "empty", "older", "same"
+PLACED, UNPLACED, REFUSED = "placed", "unplaced", "refused"
+EMPTY, OLDER, SAME = "empty", "older", "same"
+# Of files that are no task's answer, and may hold one.
+IN_DOUBT = (UNPLACED, REFUSED)
 # More than any list has.
 MOST_BYTES = 100_000_000
 
@@ -50,8 +53,9 @@ class Collected:
 
     @property
     def of(self) -> tuple[str, str]:
-        """What there is one line of: an answer, or a file that is none."""
-        return (self.task, key(self.answer)) if self.state == PLACED else ("", self.member)
+        """What there is one line of: an answer, or a file of somebody that is none."""
+        own = key(self.answer)
+        return (self.task, own) if self.state == PLACED else ("", f"{self.member}\0{own}")
 
 
 def read_collected(folder: Path) -> dict[tuple[str, str], Collected]:
@@ -105,7 +109,7 @@ def unplaced_files(folder: Path) -> Mapping[str, Unplaced]:
     """The files that are nobody's answer to anything, by the keys of those who handed them in."""
     found: dict[str, Unplaced] = {}
     for line in read_collected(folder).values():
-        if line.state == UNPLACED and line.answer:
+        if line.state in IN_DOUBT and line.answer:
             before = found.get(key(line.answer), Unplaced(line.answer, ()))
             name = line.member.rpartition("/")[2]
             found[key(line.answer)] = Unplaced(before.student, (*before.files, name))

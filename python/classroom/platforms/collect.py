@@ -9,12 +9,13 @@ from __future__ import annotations
 import hashlib
 import os
 from collections.abc import Mapping, Sequence
-from dataclasses import dataclass, field
+from dataclasses import dataclass, field, replace
 from pathlib import Path
 
 from classroom.base.errors import Fault, shown
 from classroom.base.files import write
 from classroom.exercise.collected import (
+    IN_DOUBT,
     LATE,
     PLACED,
     Collected,
@@ -81,6 +82,9 @@ def collect(
             listed[line.of] = line
     for one in rest:
         line = Collected("", one.student, source, one.label, state=one.state, why=one.why)
+        before_it = listed.get(line.of)
+        if before_it and before_it.source == source and one.why not in before_it.why:
+            line = replace(line, why=f"{before_it.why}; {one.why}", state=worst(before_it, line))
         listed[line.of] = line
     members = {answer.handed.member.label for answer in answers} | {one.label for one in rest}
     done.gone += [
@@ -91,6 +95,13 @@ def collect(
     if writes:
         write_collected(folder, listed.values())
     return done
+
+
+def worst(*lines: Collected) -> str:
+    """The state of a file of which several parts are no answer: one that is in doubt, where any
+    is."""
+    states = [line.state for line in lines]
+    return next((state for state in IN_DOUBT if state in states), states[0])
 
 
 def keep_older(folder: Path, answer: Placed, text: bytes) -> None:

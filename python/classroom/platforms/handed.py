@@ -22,6 +22,9 @@ class Handed:
     others: tuple[str, ...] = ()  # other names that the file may have had
     is_online_text: bool = False  # HTML that was typed at the platform
     time: str = ""  # of the hand-in, with its zone, where it is known
+    # Other columns of the class list, each with what the platform has there.
+    more: tuple[tuple[str, str], ...] = ()
+    link: bool = False  # whether an address was handed in, and no file
 
 
 @dataclass
@@ -30,6 +33,7 @@ class Reading:
 
     found: list[Handed] = field(default_factory=list)
     others: list[Member] = field(default_factory=list)  # whose names have not the form
+    notes: list[str] = field(default_factory=list)  # what a teacher has to know of it
 
 
 def each(members: Iterable[Member], of: Callable[[Member], Handed | None]) -> Reading:

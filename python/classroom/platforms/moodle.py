@@ -13,8 +13,10 @@ from __future__ import annotations
 
 import re
 from collections.abc import Sequence
+from dataclasses import replace
 
 from classroom.base.csvcells import safe
+from classroom.people.identity import key
 from classroom.platforms import back as returning
 from classroom.platforms.archive import Member
 from classroom.platforms.back import PAGE, Back, Made, Wanted
@@ -26,6 +28,10 @@ NAME = re.compile(
     r"(?P<name>.+?)_(?P<number>[0-9]+)_assignsubmission_(?P<kind>file|onlinetext)_?(?P<file>.*)"
 )
 ONLINE = "onlinetext.html"
+# The word for a participant in some languages, as a file's name has it.
+PARTICIPANTS = frozenset(
+    ("participant", "participante", "partecipante", "teilnehmer", "teilnehmerin", "deelnemer")
+)
 COLUMNS = ("Identifier", "Full name", "Grade", "Feedback comments")
 
 
@@ -50,7 +56,25 @@ def of_member(member: Member) -> Handed | None:
 
 
 def read(members: Sequence[Member]) -> Reading:
-    return each(members, of_member)
+    reading = each(members, of_member)
+    word = hidden_name(reading.found)
+    reading.found = [
+        replace(one, name=f"{one.name} {one.number}") if key(one.name) == word else one
+        for one in reading.found
+    ]
+    return reading
+
+
+def hidden_name(found: Sequence[Handed]) -> str:
+    """The key of the word that stands for every name where marking is blind; empty where it is
+    not. A language that is not known shows by one word that all have, and no name is."""
+    names = {key(one.name) for one in found}
+    numbers = {one.number for one in found}
+    if len(names) != 1:
+        return ""
+    word = next(iter(names))
+    is_word = word in PARTICIPANTS or len(numbers) > 1 and " " not in word
+    return word if is_word else ""
 
 
 def number(back: Back) -> str:
@@ -90,6 +114,7 @@ PLATFORM = Platform(
     (
         "Full Name_12345_assignsubmission_file_/FILE.sql",
         ".._onlinetext_/onlinetext.html",
+        "Participant_12345_assignsubmission_file_/FILE.sql",
     ),
     "from memory",
     recognises,

@@ -9,10 +9,12 @@ from __future__ import annotations
 import re
 from collections.abc import Iterable, Mapping, Sequence
 from dataclasses import dataclass
+from functools import partial
 
 from classroom.base.errors import shown
 from classroom.exercise import collected
-from classroom.exercise.collected import OLDER, SAME, UNPLACED
+from classroom.exercise.collected import OLDER, REFUSED, SAME, UNPLACED
+from classroom.platforms import notebook
 from classroom.platforms.handed import Handed
 from classroom.platforms.html import text_of
 from classroom.people.identity import composed, fault_of_id, key
@@ -44,11 +46,14 @@ class NotPlaced:
     student: str = ""  # the id of who handed it in; empty where that is not known
     file: str = ""  # its name, as it was handed in
     instead: str = ""  # OLDER or SAME, where another file of the student counts in its place
+    is_refused: bool = False  # it is not read
 
     @property
     def state(self) -> str:
         """As the list of what was collected has it."""
-        return self.instead or (collected.EMPTY if self.why in (EMPTY, NO_QUERY) else UNPLACED)
+        if self.instead or self.is_refused:
+            return self.instead or REFUSED
+        return collected.EMPTY if self.why in (EMPTY, NO_QUERY) else UNPLACED
 
     @property
     def is_open(self) -> bool:
@@ -77,8 +82,13 @@ def placed(found: Iterable[Handed], rules: Rules) -> tuple[list[Placed], list[No
     ids = _ids(names, rules.students)
     for handed in names:
         who = ids[handed.column, handed.number, handed.name]
-        if isinstance(who, str):
-            rest.append(NotPlaced(handed.member.label, who, "", handed.file))
+        fault = handed.member.fault or _fault_of(handed)
+        if isinstance(who, str) or fault:
+            student = "" if isinstance(who, str) else who[0]
+            why = fault or str(who)
+            rest.append(
+                NotPlaced(handed.member.label, why, student, handed.file, is_refused=bool(fault))
+            )
             continue
         parts, faults = _parts(handed, rules)
         rest += [NotPlaced(handed.member.label, why, who[0], handed.file) for why in faults]
@@ -88,12 +98,14 @@ def placed(found: Iterable[Handed], rules: Rules) -> tuple[list[Placed], list[No
             )
     chosen = []
     for same in answers.values():
-        kept = _last(same)
-        if isinstance(kept, Placed):
+        last = _last(same)
+        kept = last[-1]
+        if len({one.content for one in last}) == 1:
             chosen.append(kept)
             rest += [passed_over(one, kept) for one in same if one is not kept]
         else:
-            rest.append(kept)
+            rest += map(partial(_in_doubt, last), last)
+            rest += [passed_over(one, kept) for one in same if one not in last]
     return chosen, rest
 
 
@@ -114,7 +126,8 @@ def _ids(
         numbers.setdefault(key(handed.name), set()).add((handed.column, key(handed.number)))
     ids: dict[tuple[str, str, str], tuple[str, bool] | str] = {}
     for handed in found:
-        known = students.known(handed.column, handed.number)
+        pairs = ((handed.column, handed.number), *handed.more)
+        known = next(filter(None, (students.known(*pair) for pair in pairs)), None)
         name = composed(handed.name)
         if known:
             made: tuple[str, bool] | str = (known.id, True)
@@ -135,9 +148,6 @@ def _ids(
 
 def _parts(handed: Handed, rules: Rules) -> tuple[list[tuple[str, bytes]], list[str]]:
     """The tasks that a file answers, each with its answer; and what of it answers none, and why."""
-    fault = _fault_of(handed)
-    if fault:
-        return [], [fault]
     content = handed.member.content
     if handed.is_online_text:
         try:
@@ -146,6 +156,8 @@ def _parts(handed: Handed, rules: Rules) -> tuple[list[tuple[str, bytes]], list[
             return [], [str(why)]
     if not content.strip():
         return [], [EMPTY]
+    if handed.file.strip().casefold().endswith(notebook.ENDING):
+        return _of_notebook(handed, rules)
     if rules.task is not None:
         return [(rules.task, content)], []
     text = _decoded(content)
@@ -162,6 +174,18 @@ def _parts(handed: Handed, rules: Rules) -> tuple[list[tuple[str, bytes]], list[
     return _split(text, begins, tasks)
 
 
+def _of_notebook(handed: Handed, rules: Rules) -> tuple[list[tuple[str, bytes]], list[str]]:
+    def task_of(name: str) -> str | None:
+        return task_named(name, rules.tasks)
+
+    names = (handed.file, *handed.others)
+    only = rules.task or next(filter(None, map(task_of, names)), None)
+    if only is None and len(rules.tasks) == 1:
+        only = rules.tasks[0]
+    made, faults = notebook.parts(handed.member.content, task_of, rules.pattern, only)
+    return [(task, text.encode("utf-8", "replace")) for task, text in made], faults
+
+
 # The first bytes of files that hold no text of a query.
 KINDS = {
     b"%PDF": "a PDF file",
@@ -176,11 +200,13 @@ KINDS = {
 
 def _fault_of(handed: Handed) -> str:
     """Why a file is no text of a query; empty where it may be one."""
+    if handed.link:
+        return "an address was handed in, and no file"
     for begin, kind in KINDS.items():
         if handed.member.content.startswith(begin):
             return f"it is {kind}, and no text of a query"
-    if not handed.file.strip().casefold().endswith(ENDINGS):
-        return "no text of a query: its name ends neither in .sql nor in .txt"
+    if not handed.file.strip().casefold().endswith((*ENDINGS, notebook.ENDING)):
+        return "no text of a query: its name ends in none of .sql, .txt and .ipynb"
     return ""
 
 
@@ -235,23 +261,20 @@ def _rank(one: Placed) -> int:
     return 2 if one.handed.file.strip().casefold().endswith(".sql") else 1
 
 
-def _last(same: Sequence[Placed]) -> Placed | NotPlaced:
+def _last(same: Sequence[Placed]) -> list[Placed]:
     """The last of the answers of one student to one task, in the platform's own order; of those,
-    the one of the best kind. Where two are left, none is it."""
+    the ones of the best kind. Where their texts differ, none of them is the last."""
     most = max(one.handed.order for one in same)
     last = [one for one in same if one.handed.order == most]
     if len({one.content for one in last}) > 1:
         best = max(map(_rank, last))
         last = [one for one in last if _rank(one) == best]
-    if len({one.content for one in last}) > 1:
-        labels = shown(*(one.handed.member.label for one in last))
-        return NotPlaced(
-            labels,
-            (
-                f"task {shown(last[0].task)} has {len(last)} different answers of"
-                f" {shown(last[0].student)}, and nothing says which came last"
-            ),
-            last[0].student,
-            shown(*(one.handed.file for one in last)),
-        )
-    return last[-1]
+    return last
+
+
+def _in_doubt(last: Sequence[Placed], one: Placed) -> NotPlaced:
+    """One of several different answers, of which nothing says that it is the last."""
+    others = shown(*(other.handed.member.label for other in last if other is not one))
+    why = f"task {shown(one.task)} has {len(last)} different answers of {shown(one.student)}, and"
+    why += f" nothing says which came last; the other is {others}"
+    return NotPlaced(one.handed.member.label, why, one.student, one.handed.file)
