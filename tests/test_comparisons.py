@@ -12,7 +12,7 @@ import pytest
 from hypothesis import HealthCheck, given, settings
 from hypothesis import strategies as st
 
-from compare import by_postgres, by_ties, by_tried, by_z3, steps
+from compare import by_postgres, by_tried, by_z3, steps
 from compare.by_broken import Broken
 from compare.by_plus import AlgebraTexts, Certificates, Grades, Rows
 from compare.by_postgres import ByPostgres
@@ -54,14 +54,6 @@ def test_with_what_is_tried() -> None:
     if by_tried.lack():
         pytest.skip(by_tried.lack() or "")
     compare(ByTried())
-
-
-def test_with_all_answers_that_ties_allow() -> None:
-    if by_ties.lack():
-        pytest.skip(by_ties.lack() or "")
-    outcomes, found = by_ties.differences(0, COUNT // 5)
-    assert not found, found[0]
-    assert outcomes["same"] >= COUNT // 10, outcomes
 
 
 def test_with_postgres() -> None:

@@ -86,6 +86,7 @@ class _Writer:
         self.columns: dict[str, Sequence[str]] = dict(columns)
         self.common: dict[str, Node] = {}  # the queries of WITH
         self.sorted: set[int] = set()  # subqueries whose order has a key
+        self.places: dict[tuple[int, tuple[str, ...]], int] = {}  # of windows
         self.count = 0  # of the keys that were put
 
     def written(self, tree: Node) -> Node:
@@ -113,7 +114,8 @@ class _Writer:
         for node in [one for one in nodes(select) if isinstance(one, exp.Window)]:
             if node.find_ancestor(exp.Select) is select:
                 inner = node.this.this if isinstance(node.this, exp.Filter) else node.this
-                with_key(node, lambda: self.key(known), is_joining(inner))
+                place = self.place(node)
+                with_key(node, lambda: self.key(known, place), is_joining(inner))
         self.aggregates(select)
         distinct = select.args.get("distinct")
         if distinct and distinct.args.get("on"):
@@ -230,9 +232,19 @@ class _Writer:
         else:
             node.set("order", exp.Order(expressions=[self.key(known)]))
 
-    def key(self, known: list[str]) -> Node:
+    def place(self, window: Node) -> int:
+        """A number below 0, the same for the windows of a SELECT that are ordered alike: these see
+        tied rows in one order."""
+        order = window.args.get("order")
+        parts = [*(window.args.get("partition_by") or []), *([order] if order else [])]
+        place = (id(window.find_ancestor(exp.Select)), tuple(map(self.sql, parts)))
+        return -1 - self.places.setdefault(place, len(self.places))
+
+    def key(self, known: list[str], place: int | None = None) -> Node:
+        """A key of its own for each order, since each breaks ties by itself."""
         self.count += 1
-        key = sqlglot.parse_one(f"SELECT {self.key_of(known)}", read=self.dialect).expressions[0]
+        parts = [*known, str(self.count if place is None else place)]
+        key = sqlglot.parse_one(f"SELECT {self.key_of(parts)}", read=self.dialect).expressions[0]
         is_first = (self.dialect == "sqlite") != self.is_down
         return exp.Ordered(this=key, desc=self.is_down, nulls_first=is_first)
 
