@@ -35,10 +35,10 @@ def test_each_extra_is_one_of_the_wheel() -> None:
 
     with open(TOP / "python/pyproject.toml", "rb") as file:
         extras = tomllib.load(file)["project"]["optional-dependencies"]
+    # What pip calls a module's package, where that has another name.
+    packages = {"markdown_it": "markdown-it-py", "yaml": "pyyaml"}
     for name, extra in EXTRAS.items():
-        assert any(
-            one.startswith(name.replace("markdown_it", "markdown-it-py")) for one in extras[extra]
-        )
+        assert any(one.startswith(packages.get(name, name)) for one in extras[extra])
 
 
 def test_another_line_of_sqlglot_is_refused(monkeypatch: pytest.MonkeyPatch) -> None:
