@@ -43,8 +43,8 @@ def ratest_plus() -> Path:
 
 
 @pytest.fixture(scope="session")
-def browser() -> Iterator[Any]:
-    """A chromium without a window."""
+def browser_once() -> Iterator[Any]:
+    """A chromium without a window, for all tests."""
     webdriver = pytest.importorskip("selenium.webdriver")
     path = next(filter(None, map(shutil.which, BROWSERS)), None)
     driver = shutil.which("chromedriver")
@@ -64,6 +64,14 @@ def browser() -> Iterator[Any]:
     opened = webdriver.Chrome(options=options, service=service)
     yield opened
     opened.quit()
+
+
+@pytest.fixture
+def browser(browser_once: Any) -> Any:
+    """The chromium, with nothing left in its log of what an earlier test asked for."""
+    browser_once.get("about:blank")
+    browser_once.get_log("browser")
+    return browser_once
 
 
 @pytest.fixture(scope="session")
